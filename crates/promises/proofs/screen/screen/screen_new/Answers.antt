@@ -1,0 +1,6 @@
+use Rattle.promises.proofs.screen.screen.screen_new.Goals as goal
+use Rattle.promises.proofs.v0_3.screen.Grid.{blank_grid-same}
+use Rattle.std.specs.Prelude.{false, IfOk, ◌≡◌}
+
+pub returns : goal.returns
+returns c = coe 1 0 (ι. IfOk c.new.result (λ screen. screen ≡ (blank_grid-same ι) false)) c.new.ensures

@@ -1,0 +1,23 @@
+use Rattle.promises.proofs.utf8.laws.cuts.Goals as goal
+use Rattle.promises.proofs.v0_3.term.Play.{joined-same}
+use Rattle.promises.proofs.v0_3.utf8.Decoding.{pending_after-same}
+use Rattle.promises.proofs.v0_3.utf8.Play.{play_utf8-same, play_utf8_all-same, translated-same}
+use Rattle.std.specs.Prelude.{[], List, ℕ, ◌++◌, ◌≡◌}
+use Rattle.vt_term.specs.Play.{both}
+use Rattle.vt_term.specs.Sound.{IsSound}
+use Rattle.vt_term.specs.State.{State}
+
+pub returns-clause-none : goal.returns-clause-none
+returns-clause-none c = coe 1 0 (ι. (s : State) (pending : List ℕ) → IsSound s → (play_utf8-same ι) s pending [] ≡ record { state = s; reports = [] }) c.cuts.ensures.none
+
+pub returns-clause-two : goal.returns-clause-two
+returns-clause-two c = coe 1 0 (ι. (s : State) (pending a b : List ℕ) → IsSound s → (play_utf8-same ι) s pending (a ++ b) ≡ both ((play_utf8-same ι) s pending a) ((play_utf8-same ι) ((play_utf8-same ι) s pending a).state ((pending_after-same ι) pending a) b)) c.cuts.ensures.two
+
+pub returns-clause-pending : goal.returns-clause-pending
+returns-clause-pending c = coe 1 0 (ι. (pending a b : List ℕ) → (pending_after-same ι) pending (a ++ b) ≡ (pending_after-same ι) ((pending_after-same ι) pending a) b) c.cuts.ensures.pending
+
+pub returns-clause-translated : goal.returns-clause-translated
+returns-clause-translated c = coe 1 0 (ι. (s : State) (pending a b : List ℕ) → IsSound s → (translated-same ι) s pending (a ++ b) ≡ (translated-same ι) s pending a ++ (translated-same ι) ((play_utf8-same ι) s pending a).state ((pending_after-same ι) pending a) b) c.cuts.ensures.translated
+
+pub returns-clause-all : goal.returns-clause-all
+returns-clause-all c = coe 1 0 (ι. (s : State) (pending : List ℕ) (pieces : List (List ℕ)) → IsSound s → (play_utf8_all-same ι) s pending pieces ≡ (play_utf8-same ι) s pending ((joined-same ι) pieces)) c.cuts.ensures.all

@@ -1,0 +1,4 @@
+pub mod CommandLine
+pub mod Request
+pub mod Source
+pub mod Moment

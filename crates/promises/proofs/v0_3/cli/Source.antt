@@ -1,0 +1,16 @@
+-- 0.3: vt_cli/specs/Source is today's.
+use Rattle.promises.specs.v0_3.cli.Source as frozen
+use Rattle.std.proofs.Common.{refl, ◌≡◌}
+use Rattle.vt_cli.specs.Source as today
+
+pub takes_timing-same : frozen.takes_timing ≡ today.takes_timing
+takes_timing-same = refl
+
+pub has_times-same : frozen.has_times ≡ today.has_times
+has_times-same = refl
+
+pub has_moment-same : frozen.has_moment ≡ today.has_moment
+has_moment-same = refl
+
+pub plays_xterm-same : frozen.plays_xterm ≡ today.plays_xterm
+plays_xterm-same = refl

@@ -1,0 +1,13 @@
+pub mod Asciicast
+pub mod Script
+pub mod Detection
+pub mod Lines
+pub mod Ttyrec
+pub mod Fault
+pub mod Heading
+pub mod Seconds
+pub mod Reading
+pub mod Moment
+pub mod Taken
+pub mod Timing
+pub mod Characters

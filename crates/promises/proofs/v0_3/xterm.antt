@@ -1,0 +1,10 @@
+pub mod Pages
+pub mod Play
+pub mod Front
+pub mod Columns
+pub mod Repeating
+pub mod Tabs
+pub mod Scroll
+pub mod Attributes
+pub mod Log
+pub mod Terminals

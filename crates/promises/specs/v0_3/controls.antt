@@ -1,0 +1,3 @@
+pub mod Spoken
+pub mod Controls
+pub mod Named

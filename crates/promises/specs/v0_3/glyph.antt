@@ -1,0 +1,8 @@
+pub mod Tables
+pub mod Encoding
+pub mod LookUp
+pub mod Spell
+pub mod Invocation
+pub mod GraphicSets
+pub mod Laws
+pub mod Designation

@@ -1,0 +1,5 @@
+pub mod Changes
+pub mod Items
+pub mod Same
+pub mod Pieces
+pub mod Repaint

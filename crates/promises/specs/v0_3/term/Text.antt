@@ -1,0 +1,36 @@
+-- 0.3: vt_term/specs/Text.
+use Rattle.promises.specs.v0_3.glyph.Tables.{space}
+use Rattle.promises.specs.v0_3.screen.Grid.{last_row, row_of}
+use Rattle.std.specs.List.{range_with_len}
+use Rattle.std.specs.Prelude.{[], encode_utf8_all, flat_map, if◌then◌else◌, List, map, ℕ, ◌++◌, ◌==◌, ◌∷◌}
+use Rattle.vt_screen.specs.Grid.{Grid}
+use Rattle.vt_screen.specs.declared.cell.Cell.{Cell}
+use Rattle.vt_term.specs.State.{State}
+
+-- a glyph before others, unless it is a space and nothing is left of them
+abbrev pub before_trimmed : ℕ → List ℕ → List ℕ
+before_trimmed glyph [] = if glyph == space then [] else glyph ∷ []
+before_trimmed glyph (next ∷ rest) = glyph ∷ next ∷ rest
+
+-- the spaces at the end left out
+abbrev pub trimmed : List ℕ → List ℕ
+trimmed [] = []
+trimmed (glyph ∷ glyphs) = before_trimmed glyph (trimmed glyphs)
+
+-- what the cells show
+abbrev pub glyphs_of : List Cell → List ℕ
+glyphs_of cells = map (λ cell. cell.glyph) cells
+
+-- the characters of a row in UTF-8 without the spaces at its end, whatever their attributes, and LF
+abbrev pub line_text : List Cell → List ℕ
+line_text cells = encode_utf8_all (trimmed (glyphs_of cells)) ++ 0x0A ∷ []
+
+-- the lines of the first rows
+unfoldable pub lines_text : ℕ → Grid → List ℕ
+lines_text count g = flat_map (λ r. line_text (row_of g r)) (range_with_len 1 count)
+
+abbrev pub grid_text : Grid → List ℕ
+grid_text g = lines_text last_row g
+
+abbrev pub text : State → List ℕ
+text s = grid_text s.display.grid

@@ -1,0 +1,7 @@
+pub mod Decoding
+pub mod Translation
+pub mod Cells
+pub mod Similar
+pub mod Play
+pub mod Placing
+pub mod Showing

@@ -1,0 +1,3 @@
+//! The calls of vt_cli.
+pub mod command_line;
+pub mod requests;

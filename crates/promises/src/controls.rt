@@ -1,0 +1,4 @@
+//! The calls of vt_controls.
+pub mod bytes;
+pub mod function;
+pub mod modes;

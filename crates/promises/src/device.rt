@@ -1,0 +1,3 @@
+//! The calls of vt_device.
+pub mod watched;
+pub mod writing;

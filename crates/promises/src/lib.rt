@@ -1,0 +1,23 @@
+//! The promises of version 0.3: each public call with its contract, over copies of the definitions that it reaches.
+//!
+//! `tools/freeze` wrote this crate, and no other crate needs it. If it isn't proved, a promise is broken.
+#![tactic(auto)]
+
+pub mod cli;
+pub mod controls;
+pub mod device;
+pub mod glyph;
+pub mod output;
+pub mod paint;
+pub mod picture;
+pub mod recording;
+pub mod replay;
+pub mod screen;
+pub mod syntax;
+pub mod term;
+pub mod trace;
+pub mod update;
+pub mod utf8;
+pub mod vectors;
+pub mod xterm;
+pub mod xterm_paint;

@@ -1,0 +1,2 @@
+//! The calls of vt_output.
+pub mod output;

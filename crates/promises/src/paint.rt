@@ -1,0 +1,5 @@
+//! The calls of vt_paint.
+pub mod changes;
+pub mod compare;
+pub mod laws;
+pub mod paint;

@@ -1,0 +1,3 @@
+//! The calls of vt_picture.
+pub mod document;
+pub mod showing;

@@ -1,0 +1,28 @@
+//! The calls of vt_picture/src/showing.
+ghost use Rattle.promises.specs.v0_3.picture.Show.{show};
+ghost use Rattle.std.specs.Prelude.{IsOk, OnErr, OnOk, vec_capacity, vec_len, ◌++◌, ◌+◌, ◌≡◌, ◌≤◌};
+
+use std::alloc::AllocError;
+use vt_picture::SHOW_LIMIT;
+use vt_term::Terminal;
+
+/// Promises what `vt_picture::show` promises.
+pub fn show(t: &Terminal, out: &mut Vec<u8>) -> Result<(), AllocError>
+    ensures ok { OnOk result (out.new.items ≡ out.old.items ++ show t.now) }
+    ensures err { OnErr result (out.new.items ≡ out.old.items) }
+    ensures has_room { vec_len out.old + SHOW_LIMIT ≤ vec_capacity out.old → IsOk result }
+    ensures bounded { vec_len out.new ≤ vec_len out.old + SHOW_LIMIT }
+    ensures capacity { vec_capacity out.old ≤ vec_capacity out.new }
+{
+    vt_picture::show(t, out)
+}
+
+/// Promises what `vt_picture::show_reserved` promises.
+pub fn show_reserved(t: &Terminal, out: &mut Vec<u8>)
+    requires { vec_len out.old + SHOW_LIMIT ≤ vec_capacity out.old }
+    ensures items { out.new.items ≡ out.old.items ++ show t.now }
+    ensures bounded { vec_len out.new ≤ vec_len out.old + SHOW_LIMIT }
+    ensures capacity { vec_capacity out.old ≤ vec_capacity out.new }
+{
+    vt_picture::show_reserved(t, out)
+}

@@ -1,0 +1,9 @@
+//! The calls of vt_recording.
+pub mod asciicast;
+pub mod content;
+pub mod detection;
+pub mod fault;
+pub mod heading;
+pub mod reading;
+pub mod seconds;
+pub mod taking;

@@ -1,0 +1,19 @@
+//! The calls of vt_recording/src/fault.
+ghost use Rattle.promises.specs.v0_3.recording.Fault.{line_of, status_of};
+ghost use Rattle.std.specs.Prelude.{◌≡◌};
+
+use vt_recording::Fault;
+
+/// Promises what `fault.status` promises.
+pub fn fault_status(fault: &Fault) -> u8
+    ensures { result ≡ status_of fault.now }
+{
+    fault.status()
+}
+
+/// Promises what `fault.line` promises.
+pub fn fault_line(fault: &Fault) -> &'static str
+    ensures { result.now ≡ line_of fault.now }
+{
+    fault.line()
+}

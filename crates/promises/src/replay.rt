@@ -1,0 +1,9 @@
+//! The calls of vt_replay.
+pub mod engine;
+pub mod host;
+pub mod language;
+pub mod laws;
+pub mod logging;
+pub mod output;
+pub mod pages;
+pub mod requests;

@@ -1,0 +1,5 @@
+//! The calls of vt_screen.
+pub mod cell;
+pub mod laws;
+pub mod line;
+pub mod screen;

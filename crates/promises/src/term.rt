@@ -1,0 +1,15 @@
+//! The calls of vt_term.
+pub mod copying;
+pub mod display;
+pub mod feeding;
+pub mod fronts;
+pub mod functions;
+pub mod laws;
+pub mod page;
+pub mod readers;
+pub mod reports;
+pub mod scrolling;
+pub mod state;
+pub mod terminal;
+pub mod text;
+pub mod unseen;

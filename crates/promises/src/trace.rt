@@ -1,0 +1,6 @@
+//! The calls of vt_trace.
+pub mod laws;
+pub mod lines;
+pub mod names;
+pub mod summary;
+pub mod tracing;

@@ -1,0 +1,3 @@
+//! The calls of vt_update.
+pub mod laws;
+pub mod updating;

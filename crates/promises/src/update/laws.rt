@@ -1,0 +1,23 @@
+//! The calls of vt_update/src/laws.
+ghost use Rattle.promises.specs.v0_3.paint.Repaint.{paint};
+ghost use Rattle.promises.specs.v0_3.term.Play.{joined, play};
+ghost use Rattle.promises.specs.v0_3.update.Leads.{last_state, LeadsAlong, silently};
+ghost use Rattle.std.specs.Prelude.{[], List, ℕ, ◌++◌, ◌↔◌, ◌≡◌};
+ghost use Rattle.vt_syntax.specs.declared.held.Held.TheVariants.{Nothing};
+ghost use Rattle.vt_term.specs.Sound.{IsSound};
+ghost use Rattle.vt_term.specs.State.{State};
+ghost use Rattle.vt_update.specs.Leads.{Leads};
+
+/// Promises what `vt_update::laws::leading` promises.
+pub fn leading()
+    ensures played { (s t : State) (bytes : List ℕ) → IsSound s → play s bytes ≡ silently t → Leads s bytes t }
+    ensures nothing { (s t : State) → IsSound s → Leads s [] t ↔ (s ≡ t) }
+    ensures in_turn { (s : State) (updates : List (List ℕ)) (states : List State) → IsSound s
+        → LeadsAlong s updates states
+        → Leads s (joined updates) (last_state s states) }
+    ensures joins_late { (client s t : State) (sent : List ℕ) → IsSound client → IsSound s → s.held ≡ Nothing
+        → Leads s sent t
+        → Leads client (paint s ++ sent) t }
+{
+    vt_update::laws::leading()
+}

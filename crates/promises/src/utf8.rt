@@ -1,0 +1,7 @@
+//! The calls of vt_utf8.
+pub mod ascii;
+pub mod decoder;
+pub mod feeding;
+pub mod laws;
+pub mod showing;
+pub mod translation;

@@ -1,0 +1,128 @@
+//! The calls of vt_utf8/src/laws.
+ghost use Rattle.promises.specs.v0_3.glyph.Tables.{IsGlyph};
+ghost use Rattle.promises.specs.v0_3.screen.Grid.{AllCells};
+ghost use Rattle.promises.specs.v0_3.term.Play.{both, joined, play};
+ghost use Rattle.promises.specs.v0_3.term.Scrolling.{scrolled_off};
+ghost use Rattle.promises.specs.v0_3.term.State.{at_place, last_column, power_up};
+ghost use Rattle.promises.specs.v0_3.term.Text.{text};
+ghost use Rattle.promises.specs.v0_3.term.Writing.{write_glyph};
+ghost use Rattle.promises.specs.v0_3.utf8.Cells.{cells};
+ghost use Rattle.promises.specs.v0_3.utf8.Decoding.{pending_after, read};
+ghost use Rattle.promises.specs.v0_3.utf8.Placing.{placed_text, shows_space};
+ghost use Rattle.promises.specs.v0_3.utf8.Play.{play_utf8, play_utf8_all, translated, translated_all};
+ghost use Rattle.promises.specs.v0_3.utf8.Similar.{shown};
+ghost use Rattle.promises.specs.v0_3.utf8.Translation.{glyph_off, is_at_end, IsPlain, translation, unshifted};
+ghost use Rattle.promises.specs.v0_3.utf8.Translation.{write_wide, written};
+ghost use Rattle.std.specs.Prelude.{[], All, encode_utf8, false, List, None, replicate, ℕ, ◌++◌, ◌+◌, ◌<◌, ◌∷◌, ◌≡◌};
+ghost use Rattle.std.specs.Prelude.{◌≤◌};
+ghost use Rattle.vt_syntax.specs.declared.held.Held.TheVariants.{Nothing};
+ghost use Rattle.vt_term.specs.Sound.{IsSound};
+ghost use Rattle.vt_term.specs.State.{State};
+ghost use Rattle.vt_utf8.specs.Placing.{TakesText};
+
+/// Promises what `vt_utf8::laws::soundness` promises.
+pub fn soundness()
+    ensures { (s : State) (pending bytes : List ℕ) → IsSound s → IsSound (play_utf8 s pending bytes).state }
+{
+    vt_utf8::laws::soundness()
+}
+
+/// Promises what `vt_utf8::laws::cuts` promises.
+pub fn cuts()
+    ensures none { (s : State) (pending : List ℕ) → IsSound s
+        → play_utf8 s pending [] ≡ record { state = s; reports = [] } }
+    ensures two { (s : State) (pending a b : List ℕ) → IsSound s → play_utf8 s pending (a ++ b)
+        ≡ both (play_utf8 s pending a) (play_utf8 (play_utf8 s pending a).state (pending_after pending a) b) }
+    ensures pending { (pending a b : List ℕ)
+        → pending_after pending (a ++ b) ≡ pending_after (pending_after pending a) b }
+    ensures translated { (s : State) (pending a b : List ℕ) → IsSound s → translated s pending (a ++ b)
+        ≡ translated s pending a ++ translated (play_utf8 s pending a).state (pending_after pending a) b }
+    ensures all { (s : State) (pending : List ℕ) (pieces : List (List ℕ)) → IsSound s
+        → play_utf8_all s pending pieces ≡ play_utf8 s pending (joined pieces) }
+{
+    vt_utf8::laws::cuts()
+}
+
+/// Promises what `vt_utf8::laws::one_byte` promises.
+pub fn one_byte()
+    ensures { (s : State) (pending : List ℕ) (b : ℕ) (xs ys : List ℕ) → IsSound s → xs ++ ys ≡ (read pending b).characters
+        → translated s pending (b ∷ [])
+        ≡ translated_all s xs ++ translated_all (play s (translated_all s xs)).state ys }
+{
+    vt_utf8::laws::one_byte()
+}
+
+/// Promises what `vt_utf8::laws::silence` promises.
+pub fn silence()
+    ensures silent { (s : State) (c : ℕ) → IsSound s → 0x80 ≤ c → (play s (translation s c)).reports ≡ [] }
+    ensures plain { (s : State) (c : ℕ) → 0x80 ≤ c → All IsPlain (translation s c) }
+{
+    vt_utf8::laws::silence()
+}
+
+/// Promises what `vt_utf8::laws::ascii` promises.
+pub fn ascii()
+    ensures translated { (s : State) (bytes : List ℕ) → All (λ b. b < 0x80) bytes
+        → translated s [] bytes ≡ bytes }
+    ensures played { (s : State) (bytes : List ℕ) → All (λ b. b < 0x80) bytes
+        → play_utf8 s [] bytes ≡ play s bytes }
+    ensures pending { (bytes : List ℕ) → All (λ b. b < 0x80) bytes → pending_after [] bytes ≡ [] }
+{
+    vt_utf8::laws::ascii()
+}
+
+/// Promises what `vt_utf8::laws::glyphs` promises.
+pub fn glyphs()
+    ensures shown { (c : ℕ) → IsGlyph (shown c) }
+    ensures themselves { (n : ℕ) → IsGlyph n → 0xA0 ≤ n → shown n ≡ n }
+{
+    vt_utf8::laws::glyphs()
+}
+
+/// Promises what `vt_utf8::laws::writes` promises.
+pub fn writes()
+    ensures glyph { (s : State) (n : ℕ) → IsSound s → s.held ≡ Nothing → IsGlyph n
+        → play s (written n s.display.sets)
+        ≡ record { state = record s { display = write_glyph n (unshifted s.display) }; reports = [] } }
+    ensures one { (s : State) (c : ℕ) → IsSound s → s.held ≡ Nothing → 0x80 ≤ c → cells c ≡ 1
+        → play s (translation s c)
+        ≡ record { state = record s { display = write_glyph (shown c) (unshifted s.display) }; reports = [] } }
+    ensures off { (s : State) (c : ℕ) → IsSound s → s.held ≡ Nothing → 0x80 ≤ c → cells c ≡ 1
+        → scrolled_off s (translation s c) ≡ glyph_off s.display }
+    ensures two { (s : State) (c : ℕ) → IsSound s → s.held ≡ Nothing → s.display.sets.pending ≡ None → 0x80 ≤ c → cells c ≡ 2
+        → play s (translation s c)
+        ≡ record { state = record s { display = write_wide (shown c) s.display }; reports = [] } }
+    ensures none { (s : State) (c : ℕ) → s.held ≡ Nothing → 0x80 ≤ c → cells c ≡ 0 → translation s c ≡ [] }
+{
+    vt_utf8::laws::writes()
+}
+
+/// Promises what `vt_utf8::laws::moves` promises.
+pub fn moves()
+    ensures fits { (s : State) (c : ℕ) → IsSound s → s.held ≡ Nothing → s.display.sets.pending ≡ None → 0x80 ≤ c
+        → s.display.cursor.wrap ≡ false → s.display.cursor.col + cells c ≤ last_column s.display
+        → (play s (translation s c)).state.display.cursor
+        ≡ at_place s.display.cursor.row (s.display.cursor.col + cells c) }
+    ensures like_x { (s : State) (c : ℕ) → IsSound s → s.held ≡ Nothing → s.display.sets.pending ≡ None → 0x80 ≤ c
+        → (cells c ≡ 2 → is_at_end s.display ≡ false)
+        → (play s (translation s c)).state.display.cursor ≡ (play s (replicate (cells c) 0x78)).state.display.cursor }
+{
+    vt_utf8::laws::moves()
+}
+
+/// Promises what `vt_utf8::laws::round_trip` promises.
+pub fn round_trip()
+    ensures glyph { (s : State) (n : ℕ) → IsSound s → TakesText s → IsGlyph n
+        → play_utf8 s [] (encode_utf8 n)
+        ≡ record { state = record s { display = write_glyph n s.display }; reports = [] } }
+    ensures text { (s t : State) → IsSound s → IsSound t → TakesText t → AllCells shows_space t.display.grid
+        → last_column t.display ≡ last_column s.display
+        → text (play_utf8 t [] (placed_text s)).state ≡ text s }
+    ensures silent { (s t : State) → IsSound s → IsSound t → TakesText t → AllCells shows_space t.display.grid
+        → last_column t.display ≡ last_column s.display
+        → (play_utf8 t [] (placed_text s)).reports ≡ [] }
+    ensures power_up { (s : State) → IsSound s → last_column s.display ≡ 80
+        → text (play_utf8 power_up [] (placed_text s)).state ≡ text s }
+{
+    vt_utf8::laws::round_trip()
+}

@@ -1,0 +1,116 @@
+//! The calls of vt_xterm/src/laws.
+ghost use Rattle.promises.specs.v0_3.syntax.Reading.{events_of};
+ghost use Rattle.promises.specs.v0_3.term.Pages.{page_of, with_page};
+ghost use Rattle.promises.specs.v0_3.term.Play.{joined, play};
+ghost use Rattle.promises.specs.v0_3.term.Saving.{restore_cursor, save_cursor};
+ghost use Rattle.promises.specs.v0_3.term.Scrolling.{scrolled_off};
+ghost use Rattle.promises.specs.v0_3.term.State.{power_up};
+ghost use Rattle.promises.specs.v0_3.term.Writing.{write_glyph};
+ghost use Rattle.promises.specs.v0_3.utf8.Decoding.{pending_after};
+ghost use Rattle.promises.specs.v0_3.xterm.Front.{into_alternate, is_page_function, is_paste_function};
+ghost use Rattle.promises.specs.v0_3.xterm.Front.{through_alternate, xterm_effect};
+ghost use Rattle.promises.specs.v0_3.xterm.Pages.{show_and_save};
+ghost use Rattle.promises.specs.v0_3.xterm.Play.{behind, both, front_at_power_up, nothing_played, play_bytes};
+ghost use Rattle.promises.specs.v0_3.xterm.Play.{play_xterm, play_xterm_all, xterm_log};
+ghost use Rattle.promises.specs.v0_3.xterm.Repeating.{repeat, room, times};
+ghost use Rattle.promises.specs.v0_3.xterm.Terminals.{PlaysTerminals};
+ghost use Rattle.std.specs.List.{list_any};
+ghost use Rattle.std.specs.Prelude.{[], All, false, if◌then◌else◌, List, min, true, ℕ, ◌++◌, ◌+◌, ◌<◌, ◌≡◌};
+ghost use Rattle.vt_syntax.specs.declared.event.Event.{Event};
+ghost use Rattle.vt_term.specs.Pages.{IsSoundPage};
+ghost use Rattle.vt_term.specs.Sound.{IsSound, IsSoundDisplay};
+ghost use Rattle.vt_term.specs.State.{Display};
+ghost use Rattle.vt_xterm.specs.Pages.{Screens};
+ghost use Rattle.vt_xterm.specs.Play.{IsSoundWhole, Whole};
+
+/// Promises what `vt_xterm::laws::soundness` promises.
+pub fn soundness()
+    ensures power_up { IsSoundWhole (behind power_up front_at_power_up) }
+    ensures event { (event : Event) (s : Screens) → IsSoundDisplay s.display → IsSoundPage s.pages.other
+        → IsSoundDisplay (xterm_effect event s).display × IsSoundPage (xterm_effect event s).pages.other }
+    ensures play { (w : Whole) (pending bytes : List ℕ) → IsSoundWhole w
+        → IsSoundWhole (play_xterm w pending bytes).whole }
+{
+    vt_xterm::laws::soundness()
+}
+
+/// Promises what `vt_xterm::laws::cuts` promises.
+pub fn cuts()
+    ensures none { (w : Whole) (pending : List ℕ) → play_xterm w pending [] ≡ nothing_played w }
+    ensures two { (w : Whole) (pending a b : List ℕ) → play_xterm w pending (a ++ b)
+        ≡ both (play_xterm w pending a) (play_xterm (play_xterm w pending a).whole (pending_after pending a) b) }
+    ensures all { (w : Whole) (pending : List ℕ) (pieces : List (List ℕ))
+        → play_xterm_all w pending pieces ≡ play_xterm w pending (joined pieces) }
+{
+    vt_xterm::laws::cuts()
+}
+
+/// Promises what `vt_xterm::laws::transparent` promises.
+pub fn transparent()
+    ensures ascii { (w : Whole) (bytes : List ℕ) → IsSound w.state → All (λ b. b < 0x80) bytes
+        → play_xterm w [] bytes ≡ play_bytes w bytes }
+    ensures terminals { (w : Whole) (bytes : List ℕ) → PlaysTerminals w.state bytes → play_bytes w bytes ≡ record {
+      whole = record w { state = (play w.state bytes).state };
+      reports = (play w.state bytes).reports;
+      lines = if w.pages.alternate then [] else scrolled_off w.state bytes;
+    } }
+{
+    vt_xterm::laws::transparent()
+}
+
+/// Promises what `vt_xterm::laws::log_cuts` promises.
+pub fn log_cuts()
+    ensures none { (w : Whole) (pending : List ℕ) → xterm_log w pending [] ≡ [] }
+    ensures two { (w : Whole) (pending a b : List ℕ) → xterm_log w pending (a ++ b)
+        ≡ xterm_log w pending a ++ xterm_log (play_xterm w pending a).whole (pending_after pending a) b }
+{
+    vt_xterm::laws::log_cuts()
+}
+
+/// Promises what `vt_xterm::laws::alternate` promises.
+pub fn alternate()
+    ensures { (s : Screens) (t : Display) → s.pages.alternate ≡ false → t.grid.width ≡ s.display.grid.width
+        → show_and_save false (record (show_and_save true s) { display = t }) ≡ record {
+          display = restore_cursor (with_page (page_of (save_cursor s.display)) t);
+          pages = record { other = page_of t; alternate = false; resizes = s.pages.resizes; brackets = s.pages.brackets };
+        } }
+{
+    vt_xterm::laws::alternate()
+}
+
+/// Promises what `vt_xterm::laws::repeats` promises.
+pub fn repeats()
+    ensures { (s : Display) (glyph n : ℕ) → IsSoundDisplay s → s.modes.decawm ≡ true
+        → repeat n (write_glyph glyph s) ≡ times (min n (room (write_glyph glyph s)) + 1) (write_glyph glyph) s }
+{
+    vt_xterm::laws::repeats()
+}
+
+/// Promises what `vt_xterm::laws::pages` promises.
+pub fn pages()
+    ensures stay { (event : Event) (s : Screens) → is_page_function event ≡ false → is_paste_function event ≡ false
+        → ((xterm_effect event s).pages ≡ s.pages)
+        × ((xterm_effect event s).display.grid.width ≡ s.display.grid.width) }
+    ensures brackets { (event : Event) (s : Screens) → is_page_function event ≡ false
+        → ((xterm_effect event s).pages ≡ record s.pages { brackets = (xterm_effect event s).pages.brackets })
+        × ((xterm_effect event s).display.grid.width ≡ s.display.grid.width) }
+{
+    vt_xterm::laws::pages()
+}
+
+/// Promises what `vt_xterm::laws::comes_back` promises.
+pub fn comes_back()
+    ensures display { (w : Whole) (bytes : List ℕ) → IsSoundWhole w → w.pages.alternate ≡ false
+        → list_any is_page_function (events_of bytes) ≡ false
+        → (play_bytes w (through_alternate bytes)).whole.state.display
+        ≡ restore_cursor (with_page (page_of (save_cursor w.state.display)) (play_bytes w (into_alternate bytes)).whole.state.display) }
+    ensures cells { (w : Whole) (bytes : List ℕ) → IsSoundWhole w → w.pages.alternate ≡ false
+        → list_any is_page_function (events_of bytes) ≡ false
+        → (play_bytes w (through_alternate bytes)).whole.state.display.grid ≡ w.state.display.grid }
+    ensures cursor { (w : Whole) (bytes : List ℕ) → IsSoundWhole w → w.pages.alternate ≡ false
+        → list_any is_page_function (events_of bytes) ≡ false → w.state.display.modes.decom ≡ false
+        → ((play_bytes w (through_alternate bytes)).whole.state.display.cursor.row ≡ w.state.display.cursor.row)
+        × ((play_bytes w (through_alternate bytes)).whole.state.display.cursor.col ≡ w.state.display.cursor.col) }
+{
+    vt_xterm::laws::comes_back()
+}

@@ -1,0 +1,3 @@
+//! The calls of vt_xterm_paint.
+pub mod laws;
+pub mod paint;

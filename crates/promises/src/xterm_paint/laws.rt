@@ -1,0 +1,59 @@
+//! The calls of vt_xterm_paint/src/laws.
+ghost use Rattle.promises.specs.v0_3.paint.Repaint.{IsReached};
+ghost use Rattle.promises.specs.v0_3.xterm_paint.Repaint.{IsPart, IsReachedWhole, IsRebuilt, xterm_repaint};
+ghost use Rattle.std.specs.Prelude.{[], length, List, ℕ, ◌++◌, ◌↔◌, ◌≡◌, ◌≤◌};
+ghost use Rattle.std.specs.Str.{IsAscii};
+ghost use Rattle.vt_syntax.specs.declared.held.Held.TheVariants.{Nothing};
+ghost use Rattle.vt_term.specs.Sound.{IsSound};
+ghost use Rattle.vt_xterm.specs.Play.{IsSoundWhole, Whole};
+ghost use Rattle.vt_xterm_paint.specs.Repaint.{Rebuilds};
+
+use vt_xterm_paint::XTERM_PAINT_LIMIT;
+
+/// Promises what `vt_xterm_paint::laws::rebuilds` promises.
+pub fn rebuilds()
+    ensures { (w : Whole) → IsSoundWhole w → w.state.held ≡ Nothing → IsRebuilt w }
+{
+    vt_xterm_paint::laws::rebuilds()
+}
+
+/// Promises what `vt_xterm_paint::laws::pending` promises.
+pub fn pending()
+    ensures { (w u : Whole) (part left : List ℕ) → IsSoundWhole w → w.state.held ≡ Nothing → IsSound u.state → IsPart part
+        → IsPart left → Rebuilds (xterm_repaint w ++ left) w left u part }
+{
+    vt_xterm_paint::laws::pending()
+}
+
+/// Promises what `vt_xterm_paint::laws::canonical` promises.
+pub fn canonical()
+    ensures { (w v : Whole) → IsSoundWhole w → IsSoundWhole v → w.state.held ≡ Nothing → v.state.held ≡ Nothing
+        → (w ≡ v) ↔ (xterm_repaint w ≡ xterm_repaint v) }
+{
+    vt_xterm_paint::laws::canonical()
+}
+
+/// Promises what `vt_xterm_paint::laws::from_power_up` promises.
+pub fn from_power_up()
+    ensures rebuilds { (w u : Whole) (part : List ℕ) → IsReachedWhole w → w.state.held ≡ Nothing → IsReached u.state
+        → IsPart part → Rebuilds (xterm_repaint w) w [] u part }
+    ensures identifies { (w v : Whole) → IsReachedWhole w → IsReachedWhole v → w.state.held ≡ Nothing → v.state.held ≡ Nothing
+        → (w ≡ v) ↔ (xterm_repaint w ≡ xterm_repaint v) }
+{
+    vt_xterm_paint::laws::from_power_up()
+}
+
+/// Promises what `vt_xterm_paint::laws::reached` promises.
+pub fn reached()
+    ensures { (w : Whole) → w.state.held ≡ Nothing → IsSoundWhole w ↔ IsReachedWhole w }
+{
+    vt_xterm_paint::laws::reached()
+}
+
+/// Promises what `vt_xterm_paint::laws::bounded` promises.
+pub fn bounded()
+    ensures len { (w : Whole) → IsSoundWhole w → length (xterm_repaint w) ≤ XTERM_PAINT_LIMIT }
+    ensures ascii { (w : Whole) → IsSoundWhole w → IsAscii (xterm_repaint w) }
+{
+    vt_xterm_paint::laws::bounded()
+}

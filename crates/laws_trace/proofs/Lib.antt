@@ -1,0 +1,2 @@
+mod TraceParts
+mod SmallEvents

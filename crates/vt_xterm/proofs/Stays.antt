@@ -67,13 +67,13 @@ reverse_index-fits s =
     chosen-width (s.cursor.row == s.margins.top) (scroll_down s.grid s.margins.top s.margins.bottom 1) s.grid s.grid.width
     refl refl
 
-next_line-fits : Fits next_line
+pub next_line-fits : Fits next_line
 next_line-fits s = index-fits (carriage_return s)
 
 line_feed-fits : Fits line_feed
 line_feed-fits s = chosen-fits s.modes.lnm s (next_line s) (index s) (next_line-fits s) (index-fits s)
 
-written-fits : (glyph : ℕ) (t : Display) → (with_glyph glyph t).width ≡ t.grid.width
+pub written-fits : (glyph : ℕ) (t : Display) → (with_glyph glyph t).width ≡ t.grid.width
 written-fits glyph t =
     chosen-width t.modes.irm (put_inserting t.grid t.cursor.row t.cursor.col (cell_of glyph t.brush))
     (put t.grid t.cursor.row t.cursor.col (cell_of glyph t.brush)) t.grid.width refl refl

@@ -1,0 +1,2 @@
+mod ScrolledRows
+mod Repeated

@@ -1,0 +1,48 @@
+//! Laws under TERM=xterm that no body cites, over the definitions of vt_xterm alone. A caller cites a law by a call of its function.
+#![tactic(auto)]
+
+ghost use Rattle.std.specs.Prelude.{◌≡◌, ℕ, List, [], min, true, false, ◌==◌, ◌&&◌};
+ghost use Rattle.arrayvec.specs.ArrayVec.{ArrayVec};
+ghost use Rattle.vt_syntax.specs.declared.event.Event.{Event};
+ghost use Rattle.vt_screen.specs.Grid.{row_of, scroll_up};
+ghost use Rattle.vt_term.specs.State.{Display, at_place};
+ghost use Rattle.vt_term.specs.Sound.{IsSoundDisplay};
+ghost use Rattle.vt_term.specs.Parameters.{count};
+ghost use Rattle.vt_term.specs.Writing.{after_wrap, put_glyph, write_glyph};
+ghost use Rattle.vt_term.specs.Scrolling.{is_at_end, line_off};
+ghost use Rattle.vt_xterm.specs.Pages.{Screens};
+ghost use Rattle.vt_xterm.specs.Front.{xterm_effect};
+ghost use Rattle.vt_xterm.specs.Log.{first_rows, page_line_off, xterm_line_off};
+ghost use Rattle.laws_xterm.specs.Scrolls.{scroll_up_event, repeat_event, is_scrolling, repeat_off};
+
+/// States what the events do that scroll lines off under TERM=xterm.
+///
+/// If the top margin is line 1, SU moves the rows up to the bottom margin up, and the rows before them scroll off. Otherwise row 1
+/// stays, and none scrolls off. REP scrolls off what its glyphs scroll off, each in the state before it. A glyph with the wrap flag
+/// set at the bottom margin is written after the rows from line 1 have moved up by one. With any other cursor or margins it leaves
+/// row 1 where it is. Each other event scrolls off what it does on a VT220. On the alternate page no line scrolls off.
+pub fn scrolls()
+    ensures rows { (params : ArrayVec ℕ) (s : Screens) → s.display.margins.top ≡ 1
+        → ((xterm_effect (scroll_up_event params) s).display.grid
+        ≡ scroll_up s.display.grid 1 s.display.margins.bottom (count params.items))
+        × (page_line_off (scroll_up_event params) s.display
+        ≡ first_rows (min s.display.margins.bottom (count params.items)) s.display.grid) }
+    ensures rows_stay { (params : ArrayVec ℕ) (s : Screens) → IsSoundDisplay s.display
+        → (s.display.margins.top == 1) ≡ false
+        → (row_of (xterm_effect (scroll_up_event params) s).display.grid 1 ≡ row_of s.display.grid 1)
+        × (page_line_off (scroll_up_event params) s.display ≡ []) }
+    ensures repeats { (params : ArrayVec ℕ) (s : Display) → IsSoundDisplay s
+        → page_line_off (repeat_event params) s ≡ repeat_off (count params.items) s }
+    ensures glyph { (glyph : ℕ) (s : Display) → (s.cursor.wrap && is_at_end s) ≡ true
+        → write_glyph glyph s ≡ put_glyph glyph (record s {
+          grid = scroll_up s.grid 1 s.margins.bottom 1;
+          cursor = at_place s.cursor.row 1;
+        }) }
+    ensures glyph_stays { (s : Display) → IsSoundDisplay s → (s.cursor.wrap && is_at_end s) ≡ false
+        → row_of (after_wrap s).grid 1 ≡ row_of s.grid 1 }
+    ensures others { (event : Event) (s : Display) → is_scrolling event ≡ false
+        → page_line_off event s ≡ line_off event s }
+    ensures main { (event : Event) (s : Screens) → s.pages.alternate ≡ false
+        → xterm_line_off event s ≡ page_line_off event s.display }
+    ensures alternate { (event : Event) (s : Screens) → s.pages.alternate ≡ true → xterm_line_off event s ≡ [] }
+{}

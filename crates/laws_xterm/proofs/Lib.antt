@@ -1,2 +1,4 @@
 mod ScrolledRows
 mod Repeated
+mod Beyond
+mod Returned

@@ -2,18 +2,33 @@
 #![tactic(auto)]
 
 ghost use Rattle.std.specs.Prelude.{◌≡◌, ℕ, List, [], min, true, false, ◌==◌, ◌&&◌};
+ghost use Rattle.std.specs.List.{list_any};
 ghost use Rattle.arrayvec.specs.ArrayVec.{ArrayVec};
 ghost use Rattle.vt_syntax.specs.declared.event.Event.{Event};
+ghost use Rattle.vt_syntax.specs.declared.held.Held.TheVariants.{Nothing};
 ghost use Rattle.vt_screen.specs.Grid.{row_of, scroll_up};
 ghost use Rattle.vt_term.specs.State.{Display, at_place};
 ghost use Rattle.vt_term.specs.Sound.{IsSoundDisplay};
+ghost use Rattle.vt_term.specs.Pages.{page_of, with_page};
+ghost use Rattle.vt_term.specs.Saving.{save_cursor, restore_cursor};
 ghost use Rattle.vt_term.specs.Parameters.{count};
 ghost use Rattle.vt_term.specs.Writing.{after_wrap, put_glyph, write_glyph};
 ghost use Rattle.vt_term.specs.Scrolling.{is_at_end, line_off};
+ghost use Rattle.vt_utf8.specs.Decoding.{characters, pending_after};
 ghost use Rattle.vt_xterm.specs.Pages.{Screens};
-ghost use Rattle.vt_xterm.specs.Front.{xterm_effect};
+ghost use Rattle.vt_xterm.specs.Front.{xterm_effect, is_page_function, into_alternate, through_alternate};
+ghost use Rattle.vt_xterm.specs.Play.{Whole, IsSoundWhole, play_xterm};
 ghost use Rattle.vt_xterm.specs.Log.{first_rows, page_line_off, xterm_line_off};
+ghost use Rattle.laws_xterm.specs.Characters.{events_of_characters};
 ghost use Rattle.laws_xterm.specs.Scrolls.{scroll_up_event, repeat_event, is_scrolling, repeat_off};
+
+use laws_utf8::wide;
+use vt_glyph::laws::{glyphs, soundness as sets_soundness};
+use vt_screen::laws::{rows, tests};
+use vt_syntax::laws::{one_split, spelled};
+use vt_term::laws::{cuts, soundness as played_soundness};
+use vt_utf8::laws::writes;
+use vt_xterm::laws::soundness;
 
 /// States what the events do that scroll lines off under TERM=xterm.
 ///
@@ -46,3 +61,33 @@ pub fn scrolls()
         → xterm_line_off event s ≡ page_line_off event s.display }
     ensures alternate { (event : Event) (s : Screens) → s.pages.alternate ≡ true → xterm_line_off event s ≡ [] }
 {}
+
+/// States what comes back after ?1049h on the main page, UTF-8 without a function of the pages, and ?1049l. The UTF-8 ends between
+/// characters. The cells are those of before. The saved cursor is restored. If DECOM was reset, its position is that of before.
+pub fn comes_back()
+    ensures display { (w : Whole) (bytes : List ℕ) → IsSoundWhole w → w.pages.alternate ≡ false → pending_after [] bytes ≡ []
+        → list_any is_page_function (events_of_characters Nothing (characters [] bytes)) ≡ false
+        → (play_xterm w [] (through_alternate bytes)).whole.state.display
+        ≡ restore_cursor (with_page (page_of (save_cursor w.state.display))
+        (play_xterm w [] (into_alternate bytes)).whole.state.display) }
+    ensures cells { (w : Whole) (bytes : List ℕ) → IsSoundWhole w → w.pages.alternate ≡ false → pending_after [] bytes ≡ []
+        → list_any is_page_function (events_of_characters Nothing (characters [] bytes)) ≡ false
+        → (play_xterm w [] (through_alternate bytes)).whole.state.display.grid ≡ w.state.display.grid }
+    ensures cursor { (w : Whole) (bytes : List ℕ) → IsSoundWhole w → w.pages.alternate ≡ false → pending_after [] bytes ≡ []
+        → list_any is_page_function (events_of_characters Nothing (characters [] bytes)) ≡ false
+        → w.state.display.modes.decom ≡ false
+        → ((play_xterm w [] (through_alternate bytes)).whole.state.display.cursor.row ≡ w.state.display.cursor.row)
+        × ((play_xterm w [] (through_alternate bytes)).whole.state.display.cursor.col ≡ w.state.display.cursor.col) }
+{
+    one_split();
+    spelled();
+    glyphs();
+    sets_soundness();
+    rows();
+    tests();
+    cuts();
+    played_soundness();
+    writes();
+    wide();
+    soundness();
+}

@@ -52,7 +52,7 @@ chosen-width : (b : Bool) (g h : Grid) (w : ℕ) → g.width ≡ w → h.width �
 chosen-width true g h w first second = first
 chosen-width false g h w first second = second
 
-chosen-fits : (b : Bool) (s t u : Display) → t.grid.width ≡ s.grid.width → u.grid.width ≡ s.grid.width
+pub chosen-fits : (b : Bool) (s t u : Display) → t.grid.width ≡ s.grid.width → u.grid.width ≡ s.grid.width
     → (if b then t else u).grid.width ≡ s.grid.width
 chosen-fits true s t u first second = first
 chosen-fits false s t u first second = second
@@ -78,7 +78,7 @@ written-fits glyph t =
     chosen-width t.modes.irm (put_inserting t.grid t.cursor.row t.cursor.col (cell_of glyph t.brush))
     (put t.grid t.cursor.row t.cursor.col (cell_of glyph t.brush)) t.grid.width refl refl
 
-write_glyph-fits : (glyph : ℕ) → Fits (write_glyph glyph)
+pub write_glyph-fits : (glyph : ℕ) → Fits (write_glyph glyph)
 write_glyph-fits glyph s =
     written-fits glyph (after_wrap s) ∙ chosen-fits s.cursor.wrap s (next_line s) s (next_line-fits s) refl
 

@@ -1,6 +1,6 @@
 -- What clap finds in the words of a command without options.
-use Rattle.std.proofs.Common.{◌≡◌, ℕ, Bool, true, false, List, [], ◌∷◌, Option, Some, None, refl}
-use Rattle.std.specs.Prelude.{codes, ◌==◌, option_map, Ok, Err}
+use Rattle.std.proofs.Common.{◌≡◌, Bool, List, [], ◌∷◌, Option, Some, None, refl}
+use Rattle.std.specs.Prelude.{codes, option_map, Ok, Err}
 use Rattle.std.specs.Option.{option_to_list}
 use Rattle.clap.specs.Walk.{walked}
 use Rattle.clap.specs.Words.{Row, Text, first_of, subcommand_of}

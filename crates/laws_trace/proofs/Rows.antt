@@ -37,7 +37,7 @@ use Rattle.vt_term.specs.Names.{name_with, name_of, print_name, control_name, pl
 use Rattle.vt_term.proofs.Tables.{AllRows, looked_up-holds}
 use Rattle.vt_trace.specs.Ignored.{LeavesAlone, DoesSomething}
 use Rattle.vt_trace.proofs.Tables.{no_some, all_rows, absent, among, looked_true, none_known, one_known}
-use Rattle.vt_trace.proofs.Witnesses.{Acts, at_end, all_off, all_on, acts_at_end, acts_all_on, acts_all_off, resets_wrap, reports}
+use Rattle.laws_trace.proofs.Witnesses.{Acts, at_end, all_off, all_on, acts_at_end, acts_all_on, acts_all_off, resets_wrap, reports}
 
 -- `taken` are the values that the function takes or doesn't, and `given` those of its effect
 record Fits (taken given : List ℕ) (says : Function → Display → List ℕ) (key : ℕ) (f : Function) : Type 0 where

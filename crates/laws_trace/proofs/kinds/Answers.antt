@@ -1,6 +1,6 @@
 use Rattle.vt_trace.proofs.ItemKinds.{event_number, all_are_kinds}
-use Rattle.vt_trace.proofs.KindLines.{kind_in, single_in, small_kind}
-use Rattle.vt_trace.proofs.laws.kinds.Goals as goal
+use Rattle.laws_trace.proofs.KindLines.{kind_in, single_in, small_kind}
+use Rattle.laws_trace.proofs.kinds.Goals as goal
 
 pub returns-clause-no_event : goal.returns-clause-no_event
 returns-clause-no_event c = λ event is. event_number event is

@@ -2,8 +2,8 @@ use Rattle.std.proofs.Common.{◌≡◌, true, false, List, ℕ, Option, Some, N
 use Rattle.vt_syntax.specs.declared.event.Event.{Event}
 use Rattle.vt_term.specs.Names.{name_of}
 use Rattle.vt_trace.specs.Ignored.{DoesSomething}
-use Rattle.vt_trace.proofs.Rows.{nameless_alone, named_acts}
-use Rattle.vt_trace.proofs.laws.ignored.Goals as goal
+use Rattle.laws_trace.proofs.Rows.{nameless_alone, named_acts}
+use Rattle.laws_trace.proofs.ignored.Goals as goal
 
 nameless : (name : Option (List ℕ)) → (elim name [ None ↦ true | Some name ↦ false ]) ≡ true → name ≡ None
 nameless None h = refl

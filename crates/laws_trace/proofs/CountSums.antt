@@ -25,7 +25,7 @@ use Rattle.vt_trace.specs.Summary.{IsByteAtMost, kind_number, has_name, is_ignor
 use Rattle.vt_trace.proofs.Tables.{no_some}
 use Rattle.vt_trace.proofs.Counts.{named_by, not_named, not_ignored, ignored_by, not_equal}
 use Rattle.vt_trace.proofs.Coming.{sum_cons, count_cons}
-use Rattle.vt_trace.proofs.KindLines.{small_kind}
+use Rattle.laws_trace.proofs.KindLines.{small_kind}
 
 -- ---- counts over a list of numbers
 

@@ -1,2 +1,4 @@
-pub mod Encoded
+mod Encoded
 mod Shifted
+mod CursorMoves
+mod RoundTrip

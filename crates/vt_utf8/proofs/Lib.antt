@@ -12,5 +12,3 @@ pub mod Widths
 mod Narrow
 pub mod Whole
 pub mod Wide
-mod Moves
-mod RoundTrip

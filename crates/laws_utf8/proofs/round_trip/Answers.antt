@@ -1,5 +1,5 @@
-use Rattle.vt_utf8.proofs.RoundTrip.{comes-back, text-back, text-silent, power-up-back}
-use Rattle.vt_utf8.proofs.laws.round_trip.Goals as goal
+use Rattle.laws_utf8.proofs.RoundTrip.{comes-back, text-back, text-silent, power-up-back}
+use Rattle.laws_utf8.proofs.round_trip.Goals as goal
 
 pub returns : goal.returns
 returns c =

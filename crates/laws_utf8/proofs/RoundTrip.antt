@@ -1,19 +1,15 @@
 -- The text of a screen, placed row by row in UTF-8, comes back as that text.
-use Rattle.std.proofs.Common.{◌≡◌, inl, inr, ℕ, zero, suc, ◌+◌, ◌-◌, ◌<◌, ◌≤◌, Bool, true, false, List, [], ◌∷◌, ◌++◌, All, length, take}
+use Rattle.std.proofs.Common.{◌≡◌, inl, inr, ℕ, zero, suc, ◌+◌, ◌-◌, ◌<◌, ◌≤◌, Bool, true, false, List, [], ◌∷◌, ◌++◌, All, length}
 use Rattle.std.proofs.Common.{get_or, flat_map, None, refl, sym, ap, subst, ◌∙◌, arith, append-nil, IsTrue, min, max}
 use Rattle.std.proofs.Common.{◌==◌, ◌&&◌, nat_lt, nat_le, slice_index, if◌then◌else◌, encode_utf8, encode_utf8_all, is_none}
 use Rattle.std.specs.List.{range_with_len, list_all}
 use Rattle.std.specs.Fmt.{digits}
-use Rattle.std.proofs.Math.Seq.{take-length}
 use Rattle.std.proofs.lemmas.Bool.{and_parts, eqb-true, le-leb}
 use Rattle.std.proofs.lemmas.Bool.Decides.{nat_tests, eqb_tells, leb_tells}
 use Rattle.std.proofs.lemmas.Grind.{same_number_lists}
 use Rattle.std.proofs.lemmas.List.{length-map, get_or-map, get_or_default, get_or_past}
 use Rattle.std.proofs.lemmas.List.Elements.{All-head, All-tail, All-cons, All-from_recursion, All-from_get_or}
-use Rattle.std.proofs.lemmas.Str.{encode_ascii}
-use lib.Utf8.{low_scalar}
-use Rattle.bstr.specs.Utf8.{Decoded, decoded, good}
-use Rattle.bstr.proofs.lemmas.EncodeLemmas.{decoded-encode}
+use Rattle.std.specs.Char.{InScalarRange}
 use Rattle.vt_syntax.specs.declared.held.Held.TheVariants.{Nothing}
 use Rattle.vt_syntax.specs.Held.{held_after}
 use Rattle.vt_syntax.specs.Reading.{events_of}
@@ -42,17 +38,17 @@ use Rattle.vt_term.specs.Text.{before_trimmed, trimmed, glyphs_of, line_text, li
 use Rattle.vt_term.specs.Play.{Played, play, both}
 use Rattle.vt_utf8.specs.Cells.{cells}
 use Rattle.vt_utf8.specs.Similar.{shown}
-use Rattle.vt_utf8.specs.Decoding.{characters, pending_after}
+use Rattle.vt_utf8.specs.Decoding.{pending_after}
 use Rattle.vt_utf8.specs.Translation.{written, translation}
 use Rattle.vt_utf8.specs.Play.{translated_all, translated, play_utf8}
 use Rattle.vt_utf8.specs.Placing.{to_row, placed_row, placed_rows, TakesText, shows_space}
-use Rattle.vt_utf8.proofs.Cuts.{characters-append, pending-append, translation-ascii, ascii-characters, ascii-pending, ascii-played}
+use Rattle.vt_utf8.proofs.Cuts.{translation-ascii, ascii-pending, ascii-played}
 use Rattle.vt_utf8.proofs.Cuts.{utf8-nothing, utf8-append, utf8-sound}
 use Rattle.vt_utf8.proofs.Themselves.{shown-itself}
-use Rattle.vt_utf8.proofs.Whole.{decoded-whole}
 use Rattle.vt_utf8.proofs.Widths.{looked_up, cells-looked_up}
 use Rattle.vt_utf8.proofs.Written.{none-is}
 use Rattle.vt_utf8.proofs.Wide.{silently, plays-glyph}
+use Rattle.laws_utf8.proofs.Encoded.{reads-both, reads-ascii, reads-one, reads-all}
 
 -- ---- the 204 glyphs as characters
 
@@ -81,52 +77,11 @@ own-beyond n h beyond =
 
 -- ---- their UTF-8
 
--- characters that bytes complete, with nothing before them and nothing pending after them
-record Reads (bytes cs : List ℕ) : Type 0 where
-  characters : characters [] bytes ≡ cs
-  pending : pending_after [] bytes ≡ []
+glyph-scalar : (n : ℕ) → IsGlyph n → InScalarRange n
+glyph-scalar n is = inl (own-scalar n (own n is))
 
-reads-both : (a b xs ys : List ℕ) → Reads a xs → Reads b ys → Reads (a ++ b) (xs ++ ys)
-reads-both a b xs ys first second = record {
-  characters =
-      characters-append [] a b
-      ∙ ap (λ (t : List ℕ). t ++ characters (pending_after [] a) b) first.characters
-      ∙ ap (λ (p : List ℕ). xs ++ characters p b) first.pending
-      ∙ ap (λ (t : List ℕ). xs ++ t) second.characters;
-  pending = pending-append [] a b ∙ ap (λ (p : List ℕ). pending_after p b) first.pending ∙ second.pending;
-}
-
-reads-ascii : (bytes : List ℕ) → All (λ b. b < 0x80) bytes → Reads bytes bytes
-reads-ascii bytes low =
-    record { characters = ascii-characters bytes low; pending = ascii-pending bytes low }
-
-reads-low : (n : ℕ) → n < 0x80 → Reads (encode_utf8 n) (n ∷ [])
-reads-low n low =
-    subst (λ (bytes : List ℕ). Reads bytes (n ∷ [])) (sym (encode_ascii n low))
-    (reads-ascii (n ∷ []) (All-from_recursion (λ b. b < 0x80) (n ∷ []) (low, tt)))
-
-reads-beyond : (n : ℕ) → n < 0xD800 → 0x80 ≤ n → Reads (encode_utf8 n) (n ∷ [])
-reads-beyond n low beyond =
-    let bytes = encode_utf8 n in
-    let found : decoded bytes ≡ good n (length bytes) =
-    ap (λ (t : List ℕ). decoded t) (sym (append-nil bytes)) ∙ decoded-encode n [] (low_scalar n low) in
-    let whole = decoded-whole bytes n (length bytes) (ap (λ (d : Decoded). d.char) found)
-    (sym (ap (λ (d : Decoded). d.size) found)) beyond in
-    let all : take (length bytes) bytes ≡ bytes = take-length bytes in
-    record { characters = rw all at whole.characters; pending = rw all at whole.pending }
-
-reads-one : (n : ℕ) → IsGlyph n → Reads (encode_utf8 n) (n ∷ [])
-reads-one n is = go (nat_lt n 0x80) refl
-  where
-    go : (b : Bool) → nat_lt n 0x80 ≡ b → Reads (encode_utf8 n) (n ∷ [])
-    go true h = reads-low n (grind (arith, nat_tests))
-    go false h = reads-beyond n (own-scalar n (own n is)) (grind (arith, nat_tests))
-
-reads-all : (ns : List ℕ) → All IsGlyph ns → Reads (encode_utf8_all ns) ns
-reads-all [] are = record { characters = refl; pending = refl }
-reads-all (n ∷ ns) are =
-    reads-both (encode_utf8 n) (encode_utf8_all ns) (n ∷ []) ns (reads-one n (All-head IsGlyph n ns are))
-    (reads-all ns (All-tail IsGlyph n ns are))
+glyph-scalars : (ns : List ℕ) → All IsGlyph ns → All InScalarRange ns
+glyph-scalars ns are = λ k d less. glyph-scalar (get_or ns k d) (are k d less)
 
 -- ---- one glyph where ASCII is in GL
 
@@ -174,7 +129,7 @@ module _ (spelled : SpellingLaw) (spelling : SpellingLaws) where
       → play_utf8 s [] (encode_utf8 n) ≡ silently s (write_glyph n s.display)
   unfolding play_utf8 translated
   comes-back s n sound takes is =
-      ap (λ (cs : List ℕ). play s (translated_all s cs)) ((reads-one n is).characters)
+      ap (λ (cs : List ℕ). play s (translated_all s cs)) ((reads-one n (glyph-scalar n is)).characters)
       ∙ ap (λ (bytes : List ℕ). play s bytes) (append-nil (translation s n))
       ∙ writes-itself s n sound takes is
 
@@ -492,7 +447,7 @@ module _ (spelled : SpellingLaw) (spelling : SpellingLaws) (places : PlaceLaws) 
       → play_utf8 s [] (encode_utf8_all ns) ≡ silently s (with_run ns s.display)
   unfolding play_utf8 translated
   run-utf8 ns s sound takes are off fits =
-      ap (λ (cs : List ℕ). play s (translated_all s cs)) ((reads-all ns are).characters)
+      ap (λ (cs : List ℕ). play s (translated_all s cs)) ((reads-all ns (glyph-scalars ns are)).characters)
       ∙ run ns s sound takes are off fits
 
   module _ (row : ℕ) (first : 1 ≤ row) (last : row ≤ last_row) (ns : List ℕ) (are : All IsGlyph ns) where
@@ -502,7 +457,7 @@ module _ (spelled : SpellingLaw) (spelling : SpellingLaws) (places : PlaceLaws) 
     row-pending : pending_after [] placed ≡ []
     row-pending =
         (reads-both (spell_event (to_row row)) (encode_utf8_all ns) (spell_event (to_row row)) ns
-        (reads-ascii (spell_event (to_row row)) (row-low row first last)) (reads-all ns are)).pending
+        (reads-ascii (spell_event (to_row row)) (row-low row first last)) (reads-all ns (glyph-scalars ns are))).pending
 
     row-left : (s : State) → IsSound s → TakesText s → 1 ≤ last_column s.display → length ns ≤ last_column s.display
         → play_utf8 s [] placed ≡ silently s (with_run ns (record s.display { cursor = at_place row 1 }))

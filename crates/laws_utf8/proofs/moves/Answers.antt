@@ -1,5 +1,5 @@
-use Rattle.vt_utf8.proofs.Moves.{moves, like-x}
-use Rattle.vt_utf8.proofs.laws.moves.Goals as goal
+use Rattle.laws_utf8.proofs.CursorMoves.{moves, like-x}
+use Rattle.laws_utf8.proofs.moves.Goals as goal
 
 pub returns : goal.returns
 returns c =

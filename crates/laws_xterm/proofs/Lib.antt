@@ -2,3 +2,4 @@ mod ScrolledRows
 mod Repeated
 mod Beyond
 mod Returned
+mod RepeatedGlyphs

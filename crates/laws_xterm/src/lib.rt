@@ -1,7 +1,7 @@
 //! Laws under TERM=xterm that no body cites, over the definitions of vt_xterm alone. A caller cites a law by a call of its function.
 #![tactic(auto)]
 
-ghost use Rattle.std.specs.Prelude.{◌≡◌, ℕ, List, [], min, true, false, ◌==◌, ◌&&◌};
+ghost use Rattle.std.specs.Prelude.{◌≡◌, ◌+◌, ℕ, List, [], min, true, false, ◌==◌, ◌&&◌};
 ghost use Rattle.std.specs.List.{list_any};
 ghost use Rattle.arrayvec.specs.ArrayVec.{ArrayVec};
 ghost use Rattle.vt_syntax.specs.declared.event.Event.{Event};
@@ -15,6 +15,7 @@ ghost use Rattle.vt_term.specs.Parameters.{count};
 ghost use Rattle.vt_term.specs.Writing.{after_wrap, put_glyph, write_glyph};
 ghost use Rattle.vt_term.specs.Scrolling.{is_at_end, line_off};
 ghost use Rattle.vt_utf8.specs.Decoding.{characters, pending_after};
+ghost use Rattle.vt_xterm.specs.Repeating.{times, room, repeat};
 ghost use Rattle.vt_xterm.specs.Pages.{Screens};
 ghost use Rattle.vt_xterm.specs.Front.{xterm_effect, is_page_function, into_alternate, through_alternate};
 ghost use Rattle.vt_xterm.specs.Play.{Whole, IsSoundWhole, play_xterm};
@@ -24,7 +25,7 @@ ghost use Rattle.laws_xterm.specs.Scrolls.{scroll_up_event, repeat_event, is_scr
 
 use laws_utf8::wide;
 use vt_glyph::laws::{glyphs, soundness as sets_soundness};
-use vt_screen::laws::{rows, tests};
+use vt_screen::laws::{places, rows, tests};
 use vt_syntax::laws::{one_split, spelled};
 use vt_term::laws::{cuts, soundness as played_soundness};
 use vt_utf8::laws::writes;
@@ -90,4 +91,13 @@ pub fn comes_back()
     writes();
     wide();
     soundness();
+}
+
+/// States that REP after a glyph that was written under DECAWM writes this glyph again, n times, and not past the end of the row.
+pub fn repeats()
+    ensures { (s : Display) (glyph n : ℕ) → IsSoundDisplay s → s.modes.decawm ≡ true
+        → repeat n (write_glyph glyph s) ≡ times (min n (room (write_glyph glyph s)) + 1) (write_glyph glyph) s }
+{
+    places();
+    rows();
 }

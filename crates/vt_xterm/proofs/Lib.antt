@@ -7,4 +7,3 @@ pub mod SoundScreens
 pub mod Stays
 pub mod Screens
 mod Logged
-pub mod Repeats

@@ -32,7 +32,7 @@ use Rattle.vt_xterm.specs.Pages.{PagesState, Screens, on_display, save_or_restor
 use Rattle.vt_xterm.specs.Front.{is_bare, save_if_bare, restore_if_bare, plain_functions, private_functions, exclamation_functions}
 use Rattle.vt_xterm.specs.Front.{set_level_wrapping, quote_functions, intermediate_functions}
 use Rattle.vt_xterm.specs.Front.{functions_of, function_in, plain_escapes, xterm_effect}
-use Rattle.vt_xterm.specs.Front.{is_page_mode, is_paste_mode, sets_page_mode, sets_mode, table_after, is_page_function, is_paste_function}
+use Rattle.vt_xterm.specs.Front.{is_page_mode, is_paste_mode, sets_page_mode, sets_mode, is_page_function, is_paste_function}
 use Rattle.vt_term.proofs.Tables.{AllRows, looked_up-holds}
 
 -- a function leaves the width

@@ -133,11 +133,13 @@ def stated(text):
 
 
 def clauses(place):
-    """Returns the text of a function's clauses, and the imports of its file."""
-    name, function = place.split(":")
+    """Returns the text of a function's clauses, or of one of them, and the imports of its file."""
+    name, function, *clause = place.split(":")
     crate, file = name.split("/", 1)
     text = (ROOT / crate / "src" / file).read_text()
     body = re.search(rf"fn {function}\b.*?(?:\n\s*{{\n|\n\s*{{}}\n|;\n)", text, re.S).group(0)
+    for one in clause:
+        body = re.search(rf"\n *ensures {one} {{.*?(?=\n *(?:ensures|requires) |\n{{)", body, re.S).group(0)
     return stated(body), imports(text)
 
 
@@ -219,7 +221,8 @@ def public_items(crate):
             if not head:
                 continue
             extern, kind, name, trait, of = head.groups()
-            if kind == "fn" and (extern or path.name == "main.rt" or path.stem in modules or name in names):
+            is_root = path.name == "main.rt" or path.name == "lib.rt" and text.startswith("pub ")
+            if kind == "fn" and (extern or is_root or path.stem in modules or name in names):
                 found.append(Item(path, kind, "", name, signature(text)))
             elif kind in ("trait", "struct", "enum", "const") and name in names:
                 found.append(Item(path, kind, "", name, text))

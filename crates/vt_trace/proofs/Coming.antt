@@ -53,7 +53,7 @@ joined_names a c e h = omega (arith, h)
 
 -- ---- the kinds of items without a function
 
-kinds_more : (bytes more : List ℕ) (code : ℕ) (held : Held) → SplitLaw → code ≡ code_of (split_of bytes).rest
+pub kinds_more : (bytes more : List ℕ) (code : ℕ) (held : Held) → SplitLaw → code ≡ code_of (split_of bytes).rest
     → held ≡ held_after bytes → kinds_of (bytes ++ more) ≡ item_kinds bytes ++ kinds_from code held more
 unfolding kinds_from
 kinds_more bytes [] code held law is_code is_held =

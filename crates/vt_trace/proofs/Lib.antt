@@ -1,15 +1,10 @@
-mod Tables
-mod Witnesses
-mod Rows
+pub mod Tables
 mod TracedBytes
 mod Traces
-mod Counts
+pub mod Counts
 pub mod Coming
 pub mod Contents
-mod Sums
-mod KindLines
 mod Leaves
-mod Runs
+pub mod Runs
 mod Digits
-mod ItemKinds
-mod Places
+pub mod ItemKinds

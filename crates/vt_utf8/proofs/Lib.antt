@@ -1,16 +1,14 @@
 mod Tables
 mod Reading
 pub mod Cuts
-mod Silence
+pub mod Silence
 mod Plain
 mod Fed
 pub mod Logged
-mod Themselves
-mod Written
+pub mod Themselves
+pub mod Written
 mod Lanes
-mod Widths
+pub mod Widths
 mod Narrow
-mod Whole
-mod Wide
-mod Moves
-mod RoundTrip
+pub mod Whole
+pub mod Wide

@@ -40,7 +40,7 @@ pub is-beyond : (c : ℕ) → 0x80 ≤ c → nat_lt c 0x80 ≡ false
 is-beyond c beyond = grind (arith, nat_tests)
 
 module _ (spelled : SpellingLaw) where
-  nel : (s : State) → s.held ≡ Nothing → play s (0x1B ∷ 0x45 ∷ []) ≡ silently s (next_line s.display)
+  pub nel : (s : State) → s.held ≡ Nothing → play s (0x1B ∷ 0x45 ∷ []) ≡ silently s (next_line s.display)
   unfolding play control control_report opens_string
   nel s between =
       let is : All IsEvent (Control 0x85 ∷ []) =

@@ -244,6 +244,19 @@ invokes-ascii sets code high h =
     rw (none-is sets.pending parts.1, left-half code high)
     (same-final (set_at sets sets.left) Ascii (eqb-true _ _ parts.0))
 
+-- a glyph of ASCII through G2, whatever single shift is pending
+does-shifted-ascii : (d : Display) (code n : ℕ) → length d.sets.g ≡ 4 → 0x20 ≤ code → code ≤ 0x7E
+    → glyph_read spelling_sets code ≡ Some n
+    → Does (through_g2 d.sets Ascii code) d (write_glyph n (unshifted d)) (glyph_off d)
+does-shifted-ascii d code n four low high law =
+    does-through 2 0x4E 0x2A to-g2 code n low high d four Ascii
+    (λ sets e. same-read sets spelling_sets code (e ∙ sym (invokes-ascii spelling_sets code high refl)) ∙ law)
+
+pub does-shifted-space : (d : Display) → length d.sets.g ≡ 4
+    → Does (through_g2 d.sets Ascii space) d (write_glyph space (unshifted d)) (glyph_off d)
+unfolding glyph_read
+does-shifted-space d four = does-shifted-ascii d space space four (omega arith) (omega arith) refl
+
 does-spelled : (d : Display) (s : Spelling) (n : ℕ) → length d.sets.g ≡ 4 → 0x20 ≤ code_of s → code_of s ≤ 0x7E
     → glyph_read (shifted_for s spelling_sets) (code_of s) ≡ Some n
     → Does (spelled_in d.sets s) d (write_glyph n (unshifted d)) (glyph_off d)
@@ -258,7 +271,7 @@ does-spelled d (Plain code) n four low high law = go (reads_ascii d.sets) refl
     go true e =
         subst (λ (f : Display). Does (code ∷ []) d f (glyph_off d))
         (prints d code n low high (reads d.sets (invokes-ascii d.sets code high e))) (does-printed d code low high)
-    go false e = does-through 2 0x4E 0x2A to-g2 code n low high d four Ascii reads
+    go false e = does-shifted-ascii d code n four low high law
 does-spelled d (Second code) n four low high law =
     does-through 2 0x4E 0x2A to-g2 code n low high d four Supplemental
     (λ sets e. same-read sets (shifted_once 2 spelling_sets) code e ∙ law)

@@ -3,8 +3,7 @@ pub mod Cuts
 mod Terminals
 mod Fed
 mod Times
-mod SoundScreens
-mod Stays
-mod Screens
+pub mod SoundScreens
+pub mod Stays
+pub mod Screens
 mod Logged
-mod Repeats

@@ -63,13 +63,13 @@ is_event last low high = record {
   high = high;
 }
 
-on-event : IsEvent (alternate_page true)
+pub on-event : IsEvent (alternate_page true)
 on-event = is_event 0x68 (omega arith) (omega arith)
 
-off-event : IsEvent (alternate_page false)
+pub off-event : IsEvent (alternate_page false)
 off-event = is_event 0x6C (omega arith) (omega arith)
 
-stay : (events : List Event) (s : Screens) → list_any is_page_function events ≡ false
+pub stay : (events : List Event) (s : Screens) → list_any is_page_function events ≡ false
     → ((after_events events s).pages ≡ record s.pages { brackets = (after_events events s).pages.brackets })
     × ((after_events events s).display.grid.width ≡ s.display.grid.width)
 stay [] s none = (refl, refl)
@@ -80,21 +80,21 @@ stay (event ∷ events) s none =
     let rest = stay events t no.1 in
     (then-but s t (after_events events t) first.0 rest.0, rest.1 ∙ first.1)
 
-shown-width : (s : Screens) → s.pages.alternate ≡ false → IsSoundDisplay s.display → IsSoundPage s.pages.other
+pub shown-width : (s : Screens) → s.pages.alternate ≡ false → IsSoundDisplay s.display → IsSoundPage s.pages.other
     → (show_and_save true s).display.grid.width ≡ s.display.grid.width
 shown-width s main display other =
     let shape = display.grid.shape.width in
     rw main (fitted-sound s.display.grid.width shape.0 s.pages.other shape.1 other).1
 
-on-effect : (s : Screens) → xterm_effect (alternate_page true) s ≡ show_and_save true s
+pub on-effect : (s : Screens) → xterm_effect (alternate_page true) s ≡ show_and_save true s
 unfolding functions_of function_in with_page_mode
 on-effect s = refl
 
-off-effect : (s : Screens) → xterm_effect (alternate_page false) s ≡ show_and_save false s
+pub off-effect : (s : Screens) → xterm_effect (alternate_page false) s ≡ show_and_save false s
 unfolding functions_of function_in with_page_mode
 off-effect s = refl
 
-came-back : (s : Screens) (t : Screens) → s.pages.alternate ≡ false
+pub came-back : (s : Screens) (t : Screens) → s.pages.alternate ≡ false
     → t.pages ≡ record (show_and_save true s).pages { brackets = t.pages.brackets }
     → t.display.grid.width ≡ s.display.grid.width
     → (show_and_save false t).display ≡ restore_cursor (with_page (page_of (save_cursor s.display)) t.display)
@@ -103,7 +103,7 @@ came-back s t main pages width =
     ∙ back-shown s t.display t.pages.brackets main width
 
 module _ (split : SplitLaw) (spelling : SpellingLaw) where
-  single : (event : Event) → IsEvent event → events_of (spell_event event) ≡ event ∷ []
+  pub single : (event : Event) → IsEvent event → events_of (spell_event event) ≡ event ∷ []
   single event is =
       ap (λ (bytes : List ℕ). events_of bytes) (sym (append-nil (spell_event event)))
       ∙ spelling.event event [] is

@@ -403,7 +403,7 @@ module _ (glyphs : GlyphLaws) (sets : SetsLaws) (rows : RowLaws) (tests : TestLa
         other = after.1;
       }
 
-  character-sound : SplitLaw → PlaySound → (w : Whole) (c : ℕ) → IsSoundWhole w → IsSoundWhole (play_character w c).whole
+  pub character-sound : SplitLaw → PlaySound → (w : Whole) (c : ℕ) → IsSoundWhole w → IsSoundWhole (play_character w c).whole
   unfolding play_character
   character-sound split played w c i = go (nat_lt c 0x80)
     where

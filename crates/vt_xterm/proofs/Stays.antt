@@ -32,7 +32,7 @@ use Rattle.vt_xterm.specs.Pages.{PagesState, Screens, on_display, save_or_restor
 use Rattle.vt_xterm.specs.Front.{is_bare, save_if_bare, restore_if_bare, plain_functions, private_functions, exclamation_functions}
 use Rattle.vt_xterm.specs.Front.{set_level_wrapping, quote_functions, intermediate_functions}
 use Rattle.vt_xterm.specs.Front.{functions_of, function_in, plain_escapes, xterm_effect}
-use Rattle.vt_xterm.specs.Front.{is_page_mode, is_paste_mode, sets_page_mode, sets_mode, table_after, is_page_function, is_paste_function}
+use Rattle.vt_xterm.specs.Front.{is_page_mode, is_paste_mode, sets_page_mode, sets_mode, is_page_function, is_paste_function}
 use Rattle.vt_term.proofs.Tables.{AllRows, looked_up-holds}
 
 -- a function leaves the width
@@ -52,7 +52,7 @@ chosen-width : (b : Bool) (g h : Grid) (w : ℕ) → g.width ≡ w → h.width �
 chosen-width true g h w first second = first
 chosen-width false g h w first second = second
 
-chosen-fits : (b : Bool) (s t u : Display) → t.grid.width ≡ s.grid.width → u.grid.width ≡ s.grid.width
+pub chosen-fits : (b : Bool) (s t u : Display) → t.grid.width ≡ s.grid.width → u.grid.width ≡ s.grid.width
     → (if b then t else u).grid.width ≡ s.grid.width
 chosen-fits true s t u first second = first
 chosen-fits false s t u first second = second
@@ -67,18 +67,18 @@ reverse_index-fits s =
     chosen-width (s.cursor.row == s.margins.top) (scroll_down s.grid s.margins.top s.margins.bottom 1) s.grid s.grid.width
     refl refl
 
-next_line-fits : Fits next_line
+pub next_line-fits : Fits next_line
 next_line-fits s = index-fits (carriage_return s)
 
 line_feed-fits : Fits line_feed
 line_feed-fits s = chosen-fits s.modes.lnm s (next_line s) (index s) (next_line-fits s) (index-fits s)
 
-written-fits : (glyph : ℕ) (t : Display) → (with_glyph glyph t).width ≡ t.grid.width
+pub written-fits : (glyph : ℕ) (t : Display) → (with_glyph glyph t).width ≡ t.grid.width
 written-fits glyph t =
     chosen-width t.modes.irm (put_inserting t.grid t.cursor.row t.cursor.col (cell_of glyph t.brush))
     (put t.grid t.cursor.row t.cursor.col (cell_of glyph t.brush)) t.grid.width refl refl
 
-write_glyph-fits : (glyph : ℕ) → Fits (write_glyph glyph)
+pub write_glyph-fits : (glyph : ℕ) → Fits (write_glyph glyph)
 write_glyph-fits glyph s =
     written-fits glyph (after_wrap s) ∙ chosen-fits s.cursor.wrap s (next_line s) s (next_line-fits s) refl
 

@@ -1,5 +1,5 @@
 //! Laws over the definitions alone. A caller cites a law by a call of its function.
-ghost use Rattle.std.specs.Prelude.{◌≡◌, ◌+◌, min, ◌<◌, ℕ, List, [], ◌++◌, All, true, false, if◌then◌else◌};
+ghost use Rattle.std.specs.Prelude.{◌≡◌, ◌<◌, ℕ, List, [], ◌++◌, All, true, false, if◌then◌else◌};
 ghost use Rattle.std.specs.List.{list_any};
 ghost use Rattle.vt_syntax.specs.declared.event.Event.{Event};
 ghost use Rattle.vt_syntax.specs.Reading.{events_of};
@@ -7,11 +7,9 @@ ghost use Rattle.vt_term.specs.State.{Display, power_up};
 ghost use Rattle.vt_term.specs.Sound.{IsSound, IsSoundDisplay};
 ghost use Rattle.vt_term.specs.Pages.{IsSoundPage, page_of, with_page};
 ghost use Rattle.vt_term.specs.Saving.{save_cursor, restore_cursor};
-ghost use Rattle.vt_term.specs.Writing.{write_glyph};
 ghost use Rattle.vt_term.specs.Play.{play, joined};
 ghost use Rattle.vt_term.specs.Scrolling.{scrolled_off};
 ghost use Rattle.vt_utf8.specs.Decoding.{pending_after};
-ghost use Rattle.vt_xterm.specs.Repeating.{times, room, repeat};
 ghost use Rattle.vt_xterm.specs.Pages.{Screens, show_and_save};
 ghost use Rattle.vt_xterm.specs.Front.{xterm_effect, is_page_function, is_paste_function, into_alternate, through_alternate};
 ghost use Rattle.vt_xterm.specs.Play.{Whole, IsSoundWhole, behind, front_at_power_up};
@@ -19,7 +17,7 @@ ghost use Rattle.vt_xterm.specs.Play.{play_bytes, play_xterm, play_xterm_all, bo
 ghost use Rattle.vt_xterm.specs.Terminals.{PlaysTerminals};
 
 use vt_glyph::laws::{glyphs, soundness as sets_soundness};
-use vt_screen::laws::{places, rows, tests};
+use vt_screen::laws::{rows, tests};
 use vt_syntax::laws::{one_split, spelled};
 use vt_term::laws::soundness as played_soundness;
 
@@ -79,15 +77,6 @@ pub fn alternate()
           pages = record { other = page_of t; alternate = false; resizes = s.pages.resizes; brackets = s.pages.brackets };
         } }
 {}
-
-/// States that REP after a glyph that was written under DECAWM writes this glyph again, n times, and not past the end of the row.
-pub fn repeats()
-    ensures { (s : Display) (glyph n : ℕ) → IsSoundDisplay s → s.modes.decawm ≡ true
-        → repeat n (write_glyph glyph s) ≡ times (min n (room (write_glyph glyph s)) + 1) (write_glyph glyph) s }
-{
-    places();
-    rows();
-}
 
 /// States that every event leaves the pages and the width, except RIS, and SM and RM of ?3, ?40, ?47, ?1047 and ?1049. SM and RM of
 /// ?2004 change of the pages only whether pasted text is wanted in brackets.

@@ -1,0 +1,13 @@
+use Rattle.vt_cli.specs.declared.what.What.TheVariants as what
+use Rattle.vt_cli.specs.declared.what.Word.TheVariants.{Replay, Log}
+use Rattle.laws_program.proofs.Found.{text-asks, repaint-asks, show-asks, log-asks}
+use Rattle.laws_program.proofs.PlainTables.{plain-table}
+use Rattle.laws_program.proofs.plain.Goals as goal
+
+pub returns : goal.returns
+returns c = record {
+  text = plain-table (Replay what.Text) text-asks;
+  repaint = plain-table (Replay what.Repaint) repaint-asks;
+  show = plain-table (Replay what.Show) show-asks;
+  log = plain-table Log log-asks;
+}

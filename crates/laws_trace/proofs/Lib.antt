@@ -1,0 +1,7 @@
+mod TraceParts
+mod SmallEvents
+mod KindLines
+mod CountSums
+mod ItemPlaces
+mod Witnesses
+mod Rows

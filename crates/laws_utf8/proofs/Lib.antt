@@ -1,0 +1,4 @@
+mod Encoded
+mod Shifted
+mod CursorMoves
+mod RoundTrip

@@ -1,0 +1,5 @@
+mod ScrolledRows
+mod Repeated
+mod Beyond
+mod Returned
+mod RepeatedGlyphs

@@ -20,12 +20,12 @@ ghost use Rattle.vt_trace.specs.Summary.{HasPart};
 ghost use Rattle.vt_trace.specs.Trace.{IsAfter};
 ghost use Rattle.vt_trace.specs.declared.tracing.Tracer.{Tracer};
 
-/// Promises what `vt_trace::laws::ignored` promises.
+/// Promises what `laws_trace::ignored` promises.
 pub fn ignored()
     ensures has_no_effect { (event : Event) → is_ignored event ≡ true → HasNoEffect event }
     ensures named { (event : Event) → is_ignored event ≡ false → DoesSomething event }
 {
-    vt_trace::laws::ignored()
+    laws_trace::ignored()
 }
 
 /// Promises what `vt_trace::laws::cuts` promises.
@@ -38,7 +38,7 @@ pub fn cuts()
     vt_trace::laws::cuts()
 }
 
-/// Promises what `vt_trace::laws::kinds` promises.
+/// Promises what `laws_trace::kinds` promises.
 pub fn kinds()
     ensures events { (a b : Event) → IsEvent a → IsEvent b → IsByteAtMost a → IsByteAtMost b → kind_number a ≡ kind_number b
         → without_values a ≡ without_values b }
@@ -49,22 +49,22 @@ pub fn kinds()
     ensures other_lines { (times : ℕ → ℕ) (kind : ℕ) → contains all_kinds kind ≡ true
         → HasPart (single_line times kind) (ignored_lines times) }
 {
-    vt_trace::laws::kinds()
+    laws_trace::kinds()
 }
 
-/// Promises what `vt_trace::laws::sums` promises.
+/// Promises what `laws_trace::sums` promises.
 pub fn sums()
     ensures { (bytes : List ℕ) → All IsByteAtMost (events_of bytes)
         → sum_by (λ number. times_ignored number (events_of bytes) + times_skipped number (kinds_of bytes)) (range_with_len 0 13312)
         + sum_by (λ number. times_named (numbered number) (events_of bytes)) (range_with_len 0 (length names))
         ≡ length (events_of bytes) + length (kinds_of bytes) }
 {
-    vt_trace::laws::sums()
+    laws_trace::sums()
 }
 
-/// Promises what `vt_trace::laws::places` promises.
+/// Promises what `laws_trace::places` promises.
 pub fn places()
     ensures { (s : State) (bytes : List ℕ) → s.held ≡ Nothing → IsAfter bytes (tracer_all s tracer_at_start bytes) }
 {
-    vt_trace::laws::places()
+    laws_trace::places()
 }

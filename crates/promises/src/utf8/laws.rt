@@ -97,7 +97,7 @@ pub fn writes()
     vt_utf8::laws::writes()
 }
 
-/// Promises what `vt_utf8::laws::moves` promises.
+/// Promises what `laws_utf8::moves` promises.
 pub fn moves()
     ensures fits { (s : State) (c : ℕ) → IsSound s → s.held ≡ Nothing → s.display.sets.pending ≡ None → 0x80 ≤ c
         → s.display.cursor.wrap ≡ false → s.display.cursor.col + cells c ≤ last_column s.display
@@ -107,10 +107,10 @@ pub fn moves()
         → (cells c ≡ 2 → is_at_end s.display ≡ false)
         → (play s (translation s c)).state.display.cursor ≡ (play s (replicate (cells c) 0x78)).state.display.cursor }
 {
-    vt_utf8::laws::moves()
+    laws_utf8::moves()
 }
 
-/// Promises what `vt_utf8::laws::round_trip` promises.
+/// Promises what `laws_utf8::round_trip` promises.
 pub fn round_trip()
     ensures glyph { (s : State) (n : ℕ) → IsSound s → TakesText s → IsGlyph n
         → play_utf8 s [] (encode_utf8 n)
@@ -124,5 +124,5 @@ pub fn round_trip()
     ensures power_up { (s : State) → IsSound s → last_column s.display ≡ 80
         → text (play_utf8 power_up [] (placed_text s)).state ≡ text s }
 {
-    vt_utf8::laws::round_trip()
+    laws_utf8::round_trip()
 }

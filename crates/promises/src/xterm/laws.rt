@@ -78,12 +78,12 @@ pub fn alternate()
     vt_xterm::laws::alternate()
 }
 
-/// Promises what `vt_xterm::laws::repeats` promises.
+/// Promises what `laws_xterm::repeats` promises.
 pub fn repeats()
     ensures { (s : Display) (glyph n : ℕ) → IsSoundDisplay s → s.modes.decawm ≡ true
         → repeat n (write_glyph glyph s) ≡ times (min n (room (write_glyph glyph s)) + 1) (write_glyph glyph) s }
 {
-    vt_xterm::laws::repeats()
+    laws_xterm::repeats()
 }
 
 /// Promises what `vt_xterm::laws::pages` promises.

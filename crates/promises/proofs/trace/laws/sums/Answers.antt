@@ -8,4 +8,4 @@ use Rattle.std.specs.Prelude.{All, length, List, ℕ, ◌+◌, ◌≡◌}
 use Rattle.vt_trace.specs.Summary.{IsByteAtMost}
 
 pub returns : goal.returns
-returns c = coe 1 0 (ι. (bytes : List ℕ) → All IsByteAtMost ((events_of-same ι) bytes) → sum_by (λ number. (times_ignored-same ι) number ((events_of-same ι) bytes) + (times_skipped-same ι) number ((kinds_of-same ι) bytes)) (range_with_len 0 13312) + sum_by (λ number. (times_named-same ι) ((numbered-same ι) number) ((events_of-same ι) bytes)) (range_with_len 0 (length (names-same ι))) ≡ length ((events_of-same ι) bytes) + length ((kinds_of-same ι) bytes)) c.sums.ensures
+returns c = coe 1 0 (ι. (bytes : List ℕ) → All IsByteAtMost ((events_of-same ι) bytes) → sum_by (λ number. (times_ignored-same ι) number ((events_of-same ι) bytes) + (times_skipped-same ι) number ((kinds_of-same ι) bytes)) (range_with_len 0 13312) + sum_by (λ number. (times_named-same ι) ((numbered-same ι) number) ((events_of-same ι) bytes)) (range_with_len 0 (length (names-same ι))) ≡ length ((events_of-same ι) bytes) + length ((kinds_of-same ι) bytes)) c.sums.ensures.of_events

@@ -1,6 +1,8 @@
 -- The first line of a text, and the events of the lines before a place.
-use Rattle.std.proofs.Common.{◌≡◌, ◌+◌, ◌≤◌, ◌++◌, ◌∷◌, ◌∙◌, [], ℕ, List, length, drop, Bool, true, false, Option, Some, None, refl, sym, ap, subst, arith, append-nil, append_assoc, nat_lt}
+use Rattle.std.proofs.Common.{map, ◌≡◌, ◌+◌, ◌≤◌, ◌++◌, ◌∷◌, ◌∙◌, [], ℕ, List, length, drop, Bool, true, false, Option, Some, None, refl, sym, ap, subst, arith, append-nil, append_assoc, nat_lt}
 use Rattle.std.proofs.lemmas.List.{length-take-le, drop_all, drop-drop}
+use Rattle.std.specs.List.{flat_map}
+use Rattle.std.proofs.Math.Seq.{take-append_seam, drop-append_seam}
 use Rattle.std.proofs.lemmas.Bool.Decides.{nat_tests}
 use Rattle.vt_recording.specs.declared.format.Break.{Break}
 use Rattle.vt_recording.specs.declared.timeline.Event as declared
@@ -8,7 +10,7 @@ use Rattle.vt_recording.specs.Lines.{lines_of, front_by, front_line}
 use Rattle.vt_recording.specs.Timeline.{Event, Timeline, after, ends_at, and_then, told_in, cast_events, cast_by, cast_from, asciicast, unless, told_by, timed_events}
 use Rattle.vt_recording.specs.Timing.{Spot, break_in, spot_after, is_empty, step_in}
 use Rattle.vt_recording.specs.declared.timeline.Timeline as read
-use Rattle.vt_recording.specs.Gathered.{AreGathered, IsRead}
+use Rattle.vt_recording.specs.Gathered.{AreGathered, IsRead, mark_of, events_of, timeline_view}
 use Rattle.vt_recording.specs.Asciicast.{is_silent, event_in, time_behind, json_text, start_of, version_in}
 use Rattle.vt_recording.specs.Asciicast as cast
 use Rattle.vt_recording.specs.Taken.{in_recording}
@@ -74,6 +76,19 @@ is_read Is whole t is broken are = record {
   is = subst (λ (b : Option Break). Is (record { events = whole.events; broken = b })) broken is;
   are = are;
 }
+
+viewed_events : (events : List Event) → events_of (map (λ e. mark_of e) events) (flat_map (λ e. e.text) events) ≡ events
+unfolding events_of
+viewed_events [] = refl
+viewed_events (e ∷ events) =
+    let more = flat_map (λ (x : Event). x.text) events in
+    rw (take-append_seam e.text more, drop-append_seam e.text more, viewed_events events) refl
+
+pub viewed : (Is : Timeline → Type 0) (t : read.Timeline) → IsRead Is t → Is (timeline_view t)
+viewed Is t r =
+    let same : events_of t.events.items t.text.items ≡ r.events =
+    rw (r.are.marks_are, r.are.text_is) (viewed_events r.events) in
+    subst (λ (l : List Event). Is (record { events = l; broken = t.broken })) (sym same) r.is
 
 -- ---- the lines of a recording by asciinema
 

@@ -5,7 +5,7 @@ ghost use Rattle.vt_recording.specs.Ttyrec.{IsOfTtyrec};
 ghost use Rattle.vt_recording.specs.Taken.{IsTaken, in_recording};
 ghost use Rattle.vt_recording.specs.Moment.{cut};
 ghost use Rattle.vt_recording.specs.Timeline.{IsTimelineOf, IsOfScriptBy, AreFrames};
-ghost use Rattle.vt_recording.specs.Gathered.{IsRead};
+ghost use Rattle.vt_recording.specs.Gathered.{IsRead, timeline_view};
 
 use crate::casting::{asciicast_content, asciicast_timeline};
 use crate::format::{Break, Encoding, Format, Moment, Part, Taken};
@@ -146,7 +146,7 @@ pub fn timeline_of(
     timing: Option<&[u8]>,
     format: Format,
 ) -> Result<Timeline, AllocError>
-    ensures { IfOk result (λ t. IsRead (IsTimelineOf format (option_map (λ b. b.now) timing.entry) bytes.now) t) }
+    ensures { IfOk result (λ t. IsTimelineOf format (option_map (λ b. b.now) timing.entry) bytes.now (timeline_view t)) }
 {
     match format {
         Format::Raw => at_once(alloc, bytes, None),

@@ -1,6 +1,6 @@
 # Completions of vt220 for bash.
 _vt220() {
-  local commands='text reports repaint status show picture log pages trace summary content help'
+  local commands='text reports repaint status show picture log pages trace summary events content help'
   local options='--piece --limit --format --timing --until --encoding --terminal --columns --quiet -h --help'
   local formats='raw script ttyrec asciicast auto'
   local word=${COMP_WORDS[COMP_CWORD]} before=${COMP_WORDS[COMP_CWORD - 1]} words=

@@ -1,5 +1,5 @@
 # Completions of vt220 for fish.
-set -l commands text reports repaint status show picture log pages trace summary content
+set -l commands text reports repaint status show picture log pages trace summary events content
 complete -c vt220 -n "not __fish_seen_subcommand_from $commands help" -f
 complete -c vt220 -n "not __fish_seen_subcommand_from $commands help" -a text -d 'The screen as text'
 complete -c vt220 -n "not __fish_seen_subcommand_from $commands help" -a reports -d 'What the terminal answers to the host'
@@ -11,6 +11,7 @@ complete -c vt220 -n "not __fish_seen_subcommand_from $commands help" -a log -d 
 complete -c vt220 -n "not __fish_seen_subcommand_from $commands help" -a pages -d 'The log, and each screen before it is blanked'
 complete -c vt220 -n "not __fish_seen_subcommand_from $commands help" -a trace -d 'A line for each event'
 complete -c vt220 -n "not __fish_seen_subcommand_from $commands help" -a summary -d 'How often each event occurs'
+complete -c vt220 -n "not __fish_seen_subcommand_from $commands help" -a events -d 'A line for each event of a recording'
 complete -c vt220 -n "not __fish_seen_subcommand_from $commands help" -a content -d 'The bytes of the host'
 complete -c vt220 -n "not __fish_seen_subcommand_from $commands help" -a help -d 'Help on a command'
 complete -c vt220 -n "not __fish_seen_subcommand_from $commands help" -s V -l version -d 'Print the version'

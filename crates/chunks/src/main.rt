@@ -6,27 +6,21 @@
 //! - `size COLUMNS ROWS`: the size that it names
 //! - `chunk MICROS BYTES`: so many bytes of the content came at this time, in microseconds from the beginning. A time that is earlier
 //!   than the one before it is given as that one. The bytes in turn are the content
+//! - `marker MICROS`: a marker is at this time, among the chunks
 //! - `broken OFFSET`: the recording breaks its format here, and what follows isn't listed
 //! - `broken-timing OFFSET`: the timing file does so
 //! - `timeless`: the format has no times, and nothing is listed
 //! - `compressed`: the file is a compressed one, and nothing is listed
 //!
-//! Each number is found by `take_apart` of vt_recording, on a part of the recording: the content of a line or a frame, and the smallest
-//! moment at which it has come. So this program reads no format itself. It only cuts lines and frames, and knows by what the
-//! facts in a timing file begin.
+//! What is listed are the events that `timeline_of` of vt_recording reads, so this program reads no format itself.
 #![tactic(auto)]
 
-mod cast;
-mod script;
-mod smallest;
-mod ttyrec;
-
-use crate::cast::list_cast;
-use crate::script::list_script;
-use crate::ttyrec::list_ttyrec;
 use std::io::{self, Input, Read, Write};
 use std::{env, fs};
-use vt_recording::{Detected, Encoding, Format, TerminalType, detect, heading_of, take_apart};
+use vt_recording::{
+    Break, Detected, Encoding, EventKind, Format, Part, TerminalType, detect, heading_of,
+    take_apart, timeline_of,
+};
 
 fn main(rt: HostRuntime) -> io::Result<()> {
     let mut recording = Vec::new(rt.alloc());
@@ -40,11 +34,8 @@ fn main(rt: HostRuntime) -> io::Result<()> {
     };
     if wants_content {
         write_content(&rt, &recording, timing.as_deref())
-    } else if let Some(timing) = timing {
-        list_heading(&rt, &recording, Format::Script)?;
-        list_script(&rt, &recording, &timing)
     } else {
-        list(&rt, &recording)
+        list(&rt, &recording, timing.as_deref())
     }
 }
 
@@ -91,15 +82,54 @@ fn write_content(
     writer.flush()
 }
 
-/// Lists the chunks of a recording without a timing file.
-fn list(rt: &(impl Print + AllocGlobal), recording: &[u8]) -> io::Result<()> {
-    if let Detected::Recording(format) = detect(recording) {
-        list_heading(rt, recording, format)?;
+/// Lists a recording, with a timing file or without.
+fn list(
+    rt: &(impl Print + AllocGlobal),
+    recording: &[u8],
+    timing: Option<&[u8]>,
+) -> io::Result<()> {
+    let format = match detect(recording) {
+        _ if timing.is_some() => Format::Script,
+        Detected::Recording(format) => format,
+        Detected::Compressed(_) => return println!(rt; "compressed"),
+    };
+    list_heading(rt, recording, format)?;
+    match format {
+        Format::Raw => println!(rt; "timeless"),
+        Format::Script if timing.is_none() => println!(rt; "timeless"),
+        _ => list_events(rt, recording, timing, format),
     }
-    match detect(recording) {
-        Detected::Recording(Format::Asciicast) => list_cast(rt, recording),
-        Detected::Recording(Format::Ttyrec) => list_ttyrec(rt, recording),
-        Detected::Recording(_) => println!(rt; "timeless"),
-        Detected::Compressed(_) => println!(rt; "compressed"),
+}
+
+/// Lists the chunks and the markers of a recording with times, and where it breaks its format.
+fn list_events(
+    rt: &(impl Print + AllocGlobal),
+    recording: &[u8],
+    timing: Option<&[u8]>,
+    format: Format,
+) -> io::Result<()> {
+    let timeline = timeline_of(rt.alloc(), recording, timing, format)?;
+    let mut clock = 0;
+    for event in timeline.events.iter() {
+        match event.kind {
+            EventKind::Output if event.length > 0 => {
+                clock = event.micros.max(clock);
+                println!(rt; "chunk {clock} {}", event.length)?;
+            }
+            EventKind::Marker => println!(rt; "marker {}", event.micros)?,
+            _ => {}
+        }
+    }
+    list_break(rt, timeline.broken)
+}
+
+/// Lists the place at which a recording breaks its format, if it does.
+fn list_break(rt: &impl Print, broken: Option<Break>) -> io::Result<()> {
+    match broken {
+        Some(place) => match place.part {
+            Part::Recording => println!(rt; "broken {}", place.at),
+            Part::Timing => println!(rt; "broken-timing {}", place.at),
+        },
+        None => Ok(()),
     }
 }

@@ -9,4 +9,5 @@ mod recordings;
 mod screen;
 mod syntax;
 mod taking_apart;
+mod timelines;
 mod timings;

@@ -70,12 +70,12 @@ fn language_hint(
             Word::Pages | Word::Trace | Word::Summary => {
                 Some("recorded for an xterm, and this command plays a VT220")
             }
-            Word::Replay(_) | Word::Log | Word::Content => None,
+            Word::Replay(_) | Word::Log | Word::Events | Word::Content => None,
         };
     }
     let front = beginning.get(..LOOKED_AT).unwrap_or(beginning);
     let is_chosen = request.terminal.is_some() || request.encoding.is_some();
-    if is_chosen || request.word == Word::Content {
+    if is_chosen || matches!(request.word, Word::Events | Word::Content) {
         return None;
     }
     if heading.terminal.is_none() && has_any(front, 0x1B, &XTERM_SEQUENCES) {

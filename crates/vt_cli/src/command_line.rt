@@ -68,6 +68,10 @@ const TRACE: &str = "A line for each event: its place, its name and its values";
 /// Says what `summary` is for.
 const SUMMARY: &str = "The names of the events, each with its count; the ignored ones first";
 
+/// Says what `events` is for.
+const EVENTS: &str =
+    "A line for each event of a recording: its time, what it is, its place and its length";
+
 /// Says what `content` is for.
 const CONTENT: &str = "The host's bytes of a recording, or with --terminal xterm bytes for a VT220";
 
@@ -83,6 +87,7 @@ const SUBCOMMANDS: &[(&str, &str)] = &[
     ("pages", PAGES),
     ("trace", TRACE),
     ("summary", SUMMARY),
+    ("events", EVENTS),
     ("content", CONTENT),
 ];
 

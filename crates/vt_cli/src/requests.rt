@@ -26,6 +26,7 @@ fn word_of(name: &str) -> Option<Word>
         "pages" => Some(Word::Pages),
         "trace" => Some(Word::Trace),
         "summary" => Some(Word::Summary),
+        "events" => Some(Word::Events),
         "content" => Some(Word::Content),
         _ => Some(Word::Replay(what_of(name)?)),
     }
@@ -85,8 +86,8 @@ fn request_among(alloc: Global, matches: &ArgMatches<'_>) -> Result<Request, Ref
 
 /// Returns what the arguments ask for; the first argument is the program's name.
 ///
-/// The arguments are those of clap's command `vt220`: one of the eleven subcommands, those of `settings` and `log`, `pages`,
-/// `trace`, `summary` and `content`. Each takes `--piece N`, `--limit N` and at most one FILE, and the options of a
+/// The arguments are those of clap's command `vt220`: one of the twelve subcommands, those of `settings` and `log`, `pages`,
+/// `trace`, `summary`, `events` and `content`. Each takes `--piece N`, `--limit N` and at most one FILE, and the options of a
 /// recording: `--format FORMAT` (raw, script, ttyrec, asciicast or auto, otherwise raw), `--timing FILE`, `--until MOMENT`,
 /// `--encoding NAME` (dec, utf-8 or auto), `--terminal NAME` (vt220, xterm or auto), `--columns N` (80, 132 or auto) and
 /// `--quiet`. With auto the beginning of the input decides on the format. Of encoding, terminal and columns auto is the default:

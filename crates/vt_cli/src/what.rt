@@ -31,6 +31,8 @@ pub enum Word {
     Trace,
     /// The names of the events, each with how many there were, after the whole input.
     Summary,
+    /// A line for each event of a recording: its time, what it is, its place in the content and its length.
+    Events,
     /// The host's bytes. For xterm, bytes with which a VT220 shows the same.
     Content,
 }

@@ -98,7 +98,7 @@ after_both : (p q : List ℕ) (cast : Cast) → after p (after q cast) ≡ after
 after_both p q cast =
     ap (λ (l : List ℕ). record { characters = l; broken = cast.broken }) (sym (append_assoc p q cast.characters))
 
-cut_nothing : (until : Option Moment) → cut until [] ≡ []
+pub cut_nothing : (until : Option Moment) → cut until [] ≡ []
 cut_nothing None = refl
 cut_nothing (Some (Micros n)) = refl
 cut_nothing (Some (Bytes n)) = take_all n [] (omega arith)
@@ -216,7 +216,7 @@ text_after : (mark : Bool) (bytes : List ℕ)
 text_after false bytes = end_by bytes (trimmed bytes) _ refl
 text_after true bytes = end_by bytes (trimmed (drop 3 bytes)) _ (drop-drop _ 3 bytes)
 
-text_at : (bytes : List ℕ) → drop (start_of bytes) bytes ≡ json_text bytes
+pub text_at : (bytes : List ℕ) → drop (start_of bytes) bytes ≡ json_text bytes
 text_at bytes = text_after _ bytes
 
 module _ (encoding : Encoding) (until : Option Moment) (bytes header content : List ℕ) (broken : Option Break) (replaced from : ℕ)

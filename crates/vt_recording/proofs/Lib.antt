@@ -6,6 +6,8 @@ mod Writing
 mod Texts
 mod Lasts
 mod Casts
+mod Fronts
+mod Heard
 mod Replays
 mod Values
 mod Versions

@@ -1,12 +1,18 @@
 -- The whole pieces at the front of a recording by ttyrec.
-use Rattle.std.proofs.Common.{◌≡◌, ℕ, ◌+◌, ◌≤◌, ◌<◌, ◌++◌, ◌∷◌, List, [], length, take, drop, Option, Bool, true, false}
+use Rattle.std.proofs.Common.{◌≡◌, ℕ, ◌+◌, ◌-◌, ◌≤◌, ◌<◌, ◌++◌, ◌∷◌, map, List, [], length, take, drop, Option, Bool, true, false}
 use Rattle.std.proofs.Common.{cond, arith, refl, sym, ap, ◌∙◌, append-nil, append_assoc, length-drop}
 use Rattle.std.specs.List.{All, flat_map}
-use Rattle.std.proofs.lemmas.List.{length-take, get_or-take, flat_map_more}
+use Rattle.std.proofs.lemmas.List.{length-take, get_or-take, flat_map_more, map-append, length-take-le, take-append-drop}
 use Rattle.std.proofs.lemmas.List.Elements.{All-append, All-from_recursion, filter-append}
 use Rattle.std.proofs.lemmas.Grind.{flat_map-append}
 use Rattle.std.proofs.Math.Seq.{take-add}
-use Rattle.vt_recording.specs.Ttyrec.{Piece, IsWhole, number_at, spelled, time_of, size_of, is_due, due}
+use Rattle.vt_recording.specs.declared.timeline.Event as declared
+use Rattle.vt_recording.specs.declared.timeline.EventKind.TheVariants.{Output}
+use Rattle.vt_recording.specs.declared.timeline.Timeline as read
+use Rattle.vt_recording.specs.Timeline.{Event, AreFrames, frame}
+use Rattle.vt_recording.specs.Taken.{in_recording}
+use Rattle.vt_recording.specs.Gathered.{AreGathered, IsRead}
+use Rattle.vt_recording.specs.Ttyrec.{Piece, IsWhole, EndsBefore, number_at, spelled, time_of, size_of, is_due, due}
 
 -- up to this place there are whole pieces, and these bytes of them are wanted
 pub record Front (until : Option ℕ) (bytes : List ℕ) (at : ℕ) (content : List ℕ) : Type 0 where
@@ -79,3 +85,50 @@ one_more until bytes content at size is fits says wanted front = record {
       ∙ sym (due_more until (time_of bytes) front.pieces (piece_at bytes at size) is
       (ap (λ (t : ℕ). is_due until (time_of bytes) t) (time_in_front (drop at bytes)) ∙ wanted));
 }
+
+-- up to this place there are whole pieces, and these are their events
+pub record Framed (bytes : List ℕ) (at : ℕ) (marks : List declared.Event) (text : List ℕ) : Type 0 where
+  pub pieces : List Piece
+  pub taken : take at bytes ≡ flat_map (λ p. spelled p) pieces
+  pub whole : All (λ p. IsWhole p) pieces
+  pub are : AreGathered (map (λ p. frame (time_of bytes) p) pieces) marks text
+
+pub framed_more : (bytes : List ℕ) (at size micros : ℕ) (marks more_marks : List declared.Event) (text more : List ℕ)
+    → 12 + size ≤ length (drop at bytes) → size ≡ size_of (drop at bytes)
+    → micros ≡ time_of (drop at bytes) - time_of bytes → Framed bytes at marks text
+    → ((front : List Event) → AreGathered front marks text
+    → AreGathered (front ++ record { micros = micros; kind = Output; text = take size (drop (at + 12) bytes) } ∷ []) more_marks more)
+    → Framed bytes (at + 12 + size) more_marks more
+framed_more bytes at size micros marks more_marks text more fits says time front add = record {
+  pieces = front.pieces ++ piece_at bytes at size ∷ [];
+  taken =
+      piece_stands bytes at size fits ∙ ap (λ (l : List ℕ). l ++ spelled (piece_at bytes at size)) front.taken
+      ∙ flat_map_more (λ p. spelled p) [] front.pieces (piece_at bytes at size);
+  whole = All-append (λ p. IsWhole p) front.pieces _ front.whole
+      (all_one (piece_at bytes at size) (piece_is_whole bytes at size fits says));
+  are =
+      let same : time_of (take 12 (drop at bytes)) - time_of bytes ≡ micros =
+      ap (λ n. n - time_of bytes) (time_in_front (drop at bytes)) ∙ sym time in
+      rw (map-append, same) (add _ front.are);
+}
+
+pub framed_all : (bytes : List ℕ) (at : ℕ) (broken : Option ℕ) (t : read.Timeline) → at ≤ length bytes
+    → EndsBefore at (drop at bytes) broken → t.broken ≡ in_recording broken
+    → Framed bytes at t.events.items t.text.items → IsRead (λ x. AreFrames bytes x) t
+framed_all bytes at broken t within ends breaks front =
+    let place : length (flat_map (λ p. spelled p) front.pieces) ≡ at =
+    ap (λ (l : List ℕ). length l) (sym front.taken) ∙ length-take-le at bytes within in
+    record {
+      events = map (λ p. frame (time_of bytes) p) front.pieces;
+      is = record {
+        pieces = front.pieces;
+        rest = drop at bytes;
+        at = broken;
+        joined = sym (take-append-drop at bytes) ∙ ap (λ (l : List ℕ). l ++ drop at bytes) front.taken;
+        whole = front.whole;
+        ends = rw place ends;
+        events_are = refl;
+        breaks = breaks;
+      };
+      are = front.are;
+    }

@@ -4,6 +4,7 @@ pub mod Content
 pub mod Detection
 pub mod Events
 pub mod Fault
+pub mod Gathered
 pub mod Heading
 pub mod Lines
 pub mod Moment
@@ -12,5 +13,6 @@ pub mod Script
 pub mod Seconds
 pub mod Steps
 pub mod Taken
+pub mod Timeline
 pub mod Timing
 pub mod Ttyrec

@@ -5,7 +5,7 @@ ghost use Rattle.json.specs.Value.{value_view};
 ghost use Rattle.json.specs.Json.{document};
 ghost use Rattle.json.specs.Reads.{token_of};
 ghost use Rattle.vt_recording.specs.Asciicast.{trimmed, without_mark, json_text, version_of, document_in, version_in, event_of, event_in, is_silent, clock_after, in_time};
-ghost use Rattle.vt_recording.specs.Asciicast.{begins_array, ends_array, number_in, string_in, event_from, is_text};
+ghost use Rattle.vt_recording.specs.Asciicast.{begins_array, ends_array, number_in, string_in, event_from, is_text, is_output};
 ghost use Rattle.vt_recording.specs.Events.{event_view};
 
 use crate::seconds::micros_of_number;
@@ -46,8 +46,8 @@ pub fn json_text(bytes: &[u8]) -> &[u8]
 pub(crate) struct Event<'a> {
     /// The number of its line, in microseconds.
     pub(crate) micros: u64,
-    /// Whether it is output.
-    pub(crate) is_output: bool,
+    /// Its code.
+    pub(crate) code: &'a str,
     /// Its text.
     pub(crate) text: &'a str,
 }
@@ -138,11 +138,7 @@ fn event_from<'a>(time: Token<'a>, code: Token<'a>, text: Token<'a>) -> Option<E
     let micros = micros_of_number(number_in(time)?.as_bytes())?;
     let code = string_in(code)?;
     let text = string_in(text)?;
-    Some(Event {
-        micros,
-        is_output: code == "o",
-        text,
-    })
+    Some(Event { micros, code, text })
 }
 
 /// Returns the event that the tokens are, if they are one.
@@ -192,6 +188,13 @@ pub(crate) fn clock_after(version: u64, clock: u64, micros: u64) -> u64
     } else {
         micros
     }
+}
+
+/// Returns whether a code is that of output.
+pub(crate) fn is_output(code: &str) -> bool
+    ensures { result ≡ is_output code.now }
+{
+    code == "o"
 }
 
 /// Returns whether a time isn't after the moment.

@@ -5,13 +5,19 @@ ghost use Rattle.vt_recording.specs.Characters.{AreWritten};
 ghost use Rattle.vt_recording.specs.Lines.{lines_of};
 ghost use Rattle.vt_recording.specs.Asciicast.{is_silent, event_in, time_behind, heard_in, cast_of, asciicast};
 ghost use Rattle.vt_recording.specs.Taken.{IsOfCast, in_recording};
+ghost use Rattle.vt_recording.specs.Timeline as timeline;
+ghost use Rattle.vt_recording.specs.Timeline.{kind_of, told_in, cast_events};
+ghost use Rattle.vt_recording.specs.Gathered.{AreGathered, IsRead};
 
-use crate::asciicast::{clock_after, event_in, in_time, is_silent, json_text, version_in};
+use crate::asciicast::{
+    clock_after, event_in, in_time, is_output, is_silent, json_text, version_in,
+};
 use crate::characters::Written;
 use crate::format::{Encoding, Moment, Taken};
 use crate::lines::front_line;
 use crate::moment::micros_of;
 use crate::taking::in_recording;
+use crate::timeline::{EventKind, Gathered, Timeline};
 use json::Scratch;
 use std::alloc::{AllocError, Global};
 
@@ -40,7 +46,7 @@ fn play_line(
     match event_in(line, scratch) {
         Ok(Some(event)) => {
             let now = clock_after(version, clock, event.micros);
-            if event.is_output && in_time(micros_of(until), now) {
+            if is_output(event.code) && in_time(micros_of(until), now) {
                 written.push_text(event.text, encoding, until)?;
             }
             Ok(Some(now))
@@ -109,6 +115,93 @@ pub(crate) fn asciicast_content(
         &mut written,
     )?;
     Ok(taken_of(written, broken))
+}
+
+/// Returns the kind of an event by its code.
+fn kind_of(code: &str) -> Option<EventKind>
+    ensures { result ≡ kind_of code.now }
+{
+    match code {
+        "o" => Some(EventKind::Output),
+        "i" => Some(EventKind::Input),
+        "m" => Some(EventKind::Marker),
+        "r" => Some(EventKind::Size),
+        "x" => Some(EventKind::Exit),
+        _ => None,
+    }
+}
+
+/// Gathers the event of a line, and returns the time after it. Returns `None` if it isn't an event.
+fn gather_line(
+    line: &[u8],
+    version: u64,
+    clock: u64,
+    scratch: &mut Scratch,
+    gathered: &mut Gathered,
+) -> Result<Option<u64>, AllocError>
+    ensures time { IfOk result (λ time. time
+        ≡ time_behind (is_silent version line.now) (event_in line.now) version clock) }
+    ensures gathered { OnOk result ((front : List timeline.Event)
+        → AreGathered front gathered.old.events.items gathered.old.text.items
+        → AreGathered (front ++ told_in (is_silent version line.now) (event_in line.now) version clock)
+        gathered.new.events.items gathered.new.text.items) }
+{
+    if is_silent(version, line) {
+        return Ok(Some(clock));
+    }
+    match event_in(line, scratch) {
+        Ok(Some(event)) => {
+            let now = clock_after(version, clock, event.micros);
+            gathered.push_if(now, kind_of(event.code), event.text.as_bytes())?;
+            Ok(Some(now))
+        }
+        Ok(None) => Ok(None),
+        Err(AllocError) => Err(AllocError),
+    }
+}
+
+/// Gathers the events of the lines starting at an offset, and returns the offset of a line that isn't an event.
+fn gather_lines(
+    bytes: &[u8],
+    from: usize,
+    version: u64,
+    scratch: &mut Scratch,
+    gathered: &mut Gathered,
+) -> Result<Option<usize>, AllocError>
+    requires from_in_range { from ≤ length bytes.now + 1 }
+    requires no_events { AreGathered [] gathered.old.events.items gathered.old.text.items }
+    ensures broken { IfOk result (λ broken. in_recording broken
+        ≡ (cast_events version 0 from (lines_of (drop from bytes.now))).broken) }
+    ensures gathered { OnOk result (AreGathered (cast_events version 0 from (lines_of (drop from bytes.now))).events
+        gathered.new.events.items gathered.new.text.items) }
+{
+    let mut at = from;
+    let mut clock = 0;
+    while at < bytes.len() {
+        let line = front_line(&bytes[at..]);
+        match gather_line(line, version, clock, scratch, gathered)? {
+            Some(now) => clock = now,
+            None => return Ok(Some(at)),
+        }
+        at += line.len() + 1;
+    }
+    Ok(None)
+}
+
+/// Returns the events of a recording by asciinema.
+pub(crate) fn asciicast_timeline(alloc: Global, bytes: &[u8]) -> Result<Timeline, AllocError>
+    ensures { IfOk result (λ t. IsRead (λ x. x ≡ timeline.asciicast bytes.now) t) }
+{
+    let mut scratch = Scratch::new(alloc);
+    let mut gathered = Gathered::with_capacity(alloc, bytes.len())?;
+    let text = json_text(bytes);
+    let header = front_line(text);
+    let Some(version) = version_in(alloc, header, &mut scratch)? else {
+        return Ok(gathered.timeline(in_recording(Some(0))));
+    };
+    let from = bytes.len() - text.len() + header.len() + 1;
+    let broken = gather_lines(bytes, from, version, &mut scratch, &mut gathered)?;
+    Ok(gathered.timeline(in_recording(broken)))
 }
 
 /// Returns what was written, and the place of a break.

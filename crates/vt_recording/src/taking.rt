@@ -4,12 +4,15 @@ ghost use Rattle.vt_recording.specs.Script.{IsOfScript};
 ghost use Rattle.vt_recording.specs.Ttyrec.{IsOfTtyrec};
 ghost use Rattle.vt_recording.specs.Taken.{IsTaken, in_recording};
 ghost use Rattle.vt_recording.specs.Moment.{cut};
+ghost use Rattle.vt_recording.specs.Timeline.{IsTimelineOf, IsOfScriptBy, AreFrames};
+ghost use Rattle.vt_recording.specs.Gathered.{IsRead, timeline_view};
 
-use crate::casting::asciicast_content;
+use crate::casting::{asciicast_content, asciicast_timeline};
 use crate::format::{Break, Encoding, Format, Moment, Part, Taken};
 use crate::moment::{cut, micros_of};
 use crate::script::session_in;
-use crate::timing::timed_content;
+use crate::timeline::{EventKind, Gathered, Timeline, at_once};
+use crate::timing::{timed_content, timed_timeline};
 use crate::ttyrec::{HEADER, header_of, is_due, time_of};
 use std::alloc::{AllocError, Global};
 
@@ -133,4 +136,53 @@ fn ttyrec_content(alloc: Global, bytes: &[u8], until: Option<u64>) -> Result<Who
         content,
         broken: None,
     })
+}
+
+/// Returns the events of a recording, with the place at which it breaks its format, as `take_apart` does. Their times count from the
+/// beginning. If the format has no times, all of the content comes at once. Returns `Err` if allocation fails.
+pub fn timeline_of(
+    alloc: Global,
+    bytes: &[u8],
+    timing: Option<&[u8]>,
+    format: Format,
+) -> Result<Timeline, AllocError>
+    ensures { IfOk result (λ t. IsTimelineOf format (option_map (λ b. b.now) timing.entry) bytes.now (timeline_view t)) }
+{
+    match format {
+        Format::Raw => at_once(alloc, bytes, None),
+        Format::Script => match timing {
+            Some(timing) => timed_timeline(alloc, bytes, timing),
+            None => script_timeline(alloc, bytes),
+        },
+        Format::Ttyrec => ttyrec_timeline(alloc, bytes),
+        Format::Asciicast => asciicast_timeline(alloc, bytes),
+    }
+}
+
+/// Returns the content between the first and the last line as one event.
+fn script_timeline(alloc: Global, bytes: &[u8]) -> Result<Timeline, AllocError>
+    ensures { IfOk result (λ t. IsRead (IsOfScriptBy None bytes.now) t) }
+{
+    match session_in(bytes) {
+        Some(session) => at_once(alloc, session.output, session.joint),
+        None => at_once(alloc, b"", Some(0)),
+    }
+}
+
+/// Returns the frames as events, whose times count from the first one.
+fn ttyrec_timeline(alloc: Global, bytes: &[u8]) -> Result<Timeline, AllocError>
+    ensures { IfOk result (λ t. IsRead (AreFrames bytes.now) t) }
+{
+    let mut gathered = Gathered::with_capacity(alloc, bytes.len())?;
+    let mut at = 0;
+    while at < bytes.len() {
+        let Some(piece) = header_of(&bytes[at..]) else {
+            return Ok(gathered.timeline(in_recording(Some(at))));
+        };
+        let from = at + HEADER;
+        at = from + piece.size;
+        let micros = piece.time.saturating_sub(time_of(bytes));
+        gathered.push(micros, EventKind::Output, &bytes[from..at])?;
+    }
+    Ok(gathered.timeline(None))
 }

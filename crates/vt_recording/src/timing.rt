@@ -1,5 +1,5 @@
 //! The timing file of script(1).
-ghost use Rattle.std.specs.Prelude.{◌≡◌, ◌≤◌, ◌<◌, ◌+◌, ◌++◌, [], length, take, drop, nat_eq, option_map, IfOk, IfNone, IfSome, OnOk};
+ghost use Rattle.std.specs.Prelude.{◌≡◌, ◌≤◌, ◌<◌, ◌+◌, ◌++◌, [], List, length, take, drop, nat_eq, option_map, IfOk, IfNone, IfSome, OnOk};
 ghost use Rattle.std.specs.List.{position};
 ghost use Rattle.vt_recording.specs.Script.{first_line};
 ghost use Rattle.vt_recording.specs.Lines.{lines_of};
@@ -7,7 +7,10 @@ ghost use Rattle.vt_recording.specs.Moment.{micros_of};
 ghost use Rattle.vt_recording.specs.Timing.{space_in, chunk_in, note_in, input_in, step_in, break_in, spot_after, played_in};
 ghost use Rattle.vt_recording.specs.Timing.{is_empty, value_in, value_of, is_apart, replay};
 ghost use Rattle.vt_recording.specs.Timing.{IsTimedAfter};
-ghost use Rattle.vt_recording.specs.Steps.{step_view, spot_of};
+ghost use Rattle.vt_recording.specs.Steps.{step_view, spot_of, spot_in};
+ghost use Rattle.vt_recording.specs.Timeline as timeline;
+ghost use Rattle.vt_recording.specs.Timeline.{signal_in, unheard_in, told_by, timed, IsTimedBy};
+ghost use Rattle.vt_recording.specs.Gathered.{AreGathered, IsRead};
 
 use crate::asciicast::in_time;
 use crate::format::{Break, Moment, Part, Taken};
@@ -16,6 +19,7 @@ use crate::moment::{cut, micros_of};
 use crate::script::session_in;
 use crate::seconds::{micros, number};
 use crate::taking::in_recording;
+use crate::timeline::{EventKind, Gathered, Timeline};
 use std::alloc::{AllocError, Global};
 
 /// A line of a timing file.
@@ -242,4 +246,142 @@ pub(crate) fn timed_content(
         broken,
         replaced: 0,
     })
+}
+
+/// Returns the text after a name in a line of a signal. The name ends with a space.
+fn signal_in<'a>(name: &[u8], line: &'a [u8]) -> Option<&'a [u8]>
+    ensures { option_map (λ s. s.now) result ≡ signal_in name.now line.now }
+{
+    let text = stripped(b"S ", line)?;
+    stripped(name, behind(space_in(text)? + 1, text))
+}
+
+/// Gathers the event of a line that isn't output.
+fn gather_unheard(
+    line: &[u8],
+    micros: u64,
+    bytes: &[u8],
+    gathered: &mut Gathered,
+) -> Result<(), AllocError>
+    ensures { OnOk result ((front : List timeline.Event)
+        → AreGathered front gathered.old.events.items gathered.old.text.items
+        → AreGathered (front ++ unheard_in line.now micros bytes.now) gathered.new.events.items gathered.new.text.items) }
+{
+    if line.starts_with(b"I ") {
+        return gathered.push(micros, EventKind::Input, bytes);
+    }
+    if let Some(size) = signal_in(b"SIGWINCH ", line) {
+        return gathered.push(micros, EventKind::Size, size);
+    }
+    match value_in(b"EXIT_CODE ", line) {
+        Some(status) => gathered.push(micros, EventKind::Exit, status),
+        None => Ok(()),
+    }
+}
+
+/// The events of a session so far.
+#[derive(Drop)]
+struct Telling {
+    /// The time, in microseconds.
+    clock: u64,
+    /// The number of bytes of the session that were taken.
+    place: usize,
+    /// The events.
+    gathered: Gathered,
+}
+
+impl Telling {
+    /// Gathers the event of a line that begins at `at`, and returns its break. `is_apart` says whether input was recorded apart.
+    /// `stop` is the end of the session in its file.
+    fn tell(
+        &mut self,
+        line: &[u8],
+        is_apart: bool,
+        session: &[u8],
+        stop: u64,
+        at: u64,
+    ) -> Result<Option<Break>, AllocError>
+        requires { self.old.place ≤ length session.now }
+        ensures breaks { IfOk result (λ b. b ≡ break_in (is_empty line.now) (step_in is_apart line.now) session.now self.old.place stop at) }
+        ensures events { IfOk result (λ b. IfNone b ((front : List timeline.Event)
+            → AreGathered front self.old.gathered.events.items self.old.gathered.text.items
+            → AreGathered (front ++ told_by (is_empty line.now) (step_in is_apart line.now) line.now session.now (spot_in self.old))
+            self.new.gathered.events.items self.new.gathered.text.items)) }
+        ensures spot { IfOk result (λ b. IfNone b (spot_in self.new
+            ≡ spot_after (is_empty line.now) (step_in is_apart line.now) (spot_in self.old))) }
+        ensures within { IfOk result (λ b. IfNone b (self.new.place ≤ length session.now)) }
+        ensures kept { IfOk result (λ b. IfSome b (λ _. (self.new.gathered.events.items ≡ self.old.gathered.events.items)
+            × (self.new.gathered.text.items ≡ self.old.gathered.text.items))) }
+    {
+        if line.is_empty() {
+            return Ok(None);
+        }
+        let Some(step) = step_in(is_apart, line) else {
+            return Ok(Some(Break {
+                part: Part::Timing,
+                at,
+            }));
+        };
+        if session.len() - self.place < step.count {
+            return Ok(Some(Break {
+                part: Part::Recording,
+                at: stop,
+            }));
+        }
+        let from = self.place;
+        self.clock = self.clock.saturating_add(step.micros);
+        self.place += step.count;
+        let bytes = &session[from..self.place];
+        if step.is_output {
+            self.gathered.push(self.clock, EventKind::Output, bytes)?;
+        } else {
+            gather_unheard(line, self.clock, bytes, &mut self.gathered)?;
+        }
+        Ok(None)
+    }
+}
+
+/// Gathers the events of the lines of a timing file, and returns the first break.
+fn gather_lines(
+    timing: &[u8],
+    session: &[u8],
+    stop: u64,
+    gathered: Gathered,
+) -> Result<Timeline, AllocError>
+    requires { AreGathered [] gathered.events.items gathered.text.items }
+    ensures broken { IfOk result (λ t. t.broken ≡ (timed session.now stop (lines_of timing.now)).broken) }
+    ensures events { IfOk result (λ t. AreGathered (timed session.now stop (lines_of timing.now)).events t.events.items t.text.items) }
+{
+    let is_apart = is_apart(timing);
+    let mut telling = Telling {
+        clock: 0,
+        place: 0,
+        gathered,
+    };
+    let mut at = 0;
+    while at < timing.len() {
+        let line = front_line(&timing[at..]);
+        if let Some(place) = telling.tell(line, is_apart, session, stop, at as u64)? {
+            return Ok(telling.gathered.timeline(Some(place)));
+        }
+        at += line.len() + 1;
+    }
+    Ok(telling.gathered.timeline(None))
+}
+
+/// Returns the events that a timing file takes from a recording.
+pub(crate) fn timed_timeline(
+    alloc: Global,
+    bytes: &[u8],
+    timing: &[u8],
+) -> Result<Timeline, AllocError>
+    ensures { IfOk result (λ t. IsRead (IsTimedBy (first_line bytes.now) bytes.now timing.now) t) }
+{
+    let Some(session) = session_in(bytes) else {
+        let gathered = Gathered::with_capacity(alloc, 0)?;
+        return Ok(gathered.timeline(in_recording(Some(0))));
+    };
+    let output = session.output;
+    let gathered = Gathered::with_capacity(alloc, output.len())?;
+    gather_lines(timing, output, session.stop as u64, gathered)
 }

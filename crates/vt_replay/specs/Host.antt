@@ -3,7 +3,7 @@
 use Rattle.std.specs.Prelude.{ℕ, List, [], ◌∷◌, ◌++◌, codes, Bool, false, cond, nat_eq, Option, Some, None, unwrap_or}
 use Rattle.vt_cli.specs.declared.asked.Request.{Request}
 use Rattle.vt_cli.specs.declared.what.Word.{Word}
-use Rattle.vt_cli.specs.declared.what.Word.TheVariants.{Replay, Log, Pages, Trace, Summary, Content}
+use Rattle.vt_cli.specs.declared.what.Word.TheVariants.{Replay, Log, Pages, Trace, Summary, Events, Content}
 use Rattle.vt_recording.specs.declared.format.Encoding.{Encoding}
 use Rattle.vt_recording.specs.declared.format.Encoding.TheVariants.{Dec, Utf8}
 use Rattle.vt_recording.specs.declared.format.Format.{Format}
@@ -39,13 +39,14 @@ wide_for (Some wide) columns = wide
 wide_for None (Some columns) = nat_eq columns 132
 wide_for None None = false
 
--- whether the terminal that the recording names decides: content is the host's bytes, for whatever terminal they are
+-- whether the terminal that the recording names decides: events and content are what the host sent, for whatever terminal that is
 abbrev pub named_for : Word → (named : Option TerminalType) → Option TerminalType
 named_for (Replay what) named = named
 named_for Log named = named
 named_for Pages named = named
 named_for Trace named = named
 named_for Summary named = named
+named_for Events named = None
 named_for Content named = None
 
 abbrev pub host_by : TerminalType → Request → Format → (columns : Option ℕ) → Host
@@ -81,4 +82,5 @@ opening Log host = cond host.wide (widening host.terminal) []
 opening Pages host = cond host.wide (widening host.terminal) []
 opening Trace host = []
 opening Summary host = []
+opening Events host = []
 opening Content host = cond host.wide (widening_shown host.terminal) []

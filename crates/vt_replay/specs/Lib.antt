@@ -1,5 +1,6 @@
 pub mod Due
 pub mod Encoding
+pub mod EventTable
 pub mod Host
 pub mod Log
 pub mod PageCuts

@@ -81,6 +81,7 @@ fn named_for(word: Word, named: Option<TerminalType>) -> Option<TerminalType>
         Word::Pages => named,
         Word::Trace => named,
         Word::Summary => named,
+        Word::Events => None,
         Word::Content => None,
     }
 }
@@ -143,6 +144,7 @@ pub(crate) fn opening(word: Word, host: Host) -> &'static [u8]
         Word::Pages => widening(host.terminal),
         Word::Trace => b"",
         Word::Summary => b"",
+        Word::Events => b"",
         Word::Content => widening_shown(host.terminal),
     }
 }

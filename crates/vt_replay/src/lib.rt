@@ -6,6 +6,7 @@ mod blanks;
 mod converting;
 mod decoding;
 mod engine;
+mod events;
 mod host;
 mod language;
 pub mod laws;

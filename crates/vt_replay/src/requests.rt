@@ -4,22 +4,23 @@ ghost use Rattle.std.specs.Io.KnownBytes.{IsAtEnd};
 ghost use Rattle.vt_device.specs.Runs.{Moves};
 ghost use Rattle.vt_device.specs.Writing.{Gives};
 ghost use Rattle.vt_replay.specs.Words.{WordTable};
-ghost use Rattle.vt_replay.specs.Request.{asks_wide, is_streamed, format_of, lacks_times, ended_of, IsStreamed, IsPrepared, IsPlayed, OutcomeTable};
+ghost use Rattle.vt_replay.specs.Request.{asks_wide, is_streamed, lists_events, format_of, lacks_times, ended_of, IsStreamed, IsTakenBy, IsPrepared, IsPlayed, OutcomeTable};
 ghost use Rattle.vt_replay.specs.Host.{host_of, opening};
 
 use crate::converting::Converter;
 use crate::engine::run_from;
+use crate::events::events_taken;
 use crate::host::{Host, host_for, opening, plain_host};
 use crate::language::Language;
 use crate::logging::write_log_from;
 use crate::outputs::{ContentOutput, PageOutput, SummaryOutput, TraceOutput, write_word};
 use std::alloc::{AllocError, Global};
 use std::io::{Read, Write};
-use vt_cli::{Format, Moment, Request, TerminalType, Word};
+use vt_cli::{Encoding, Format, Moment, Request, TerminalType, Word};
 use vt_device::{Source, Watched};
 use vt_output::write_by;
 use vt_recording::{
-    Break, Content, Detected, Fault, detect, heading_of, read_recording, take_apart,
+    Break, Content, Detected, Fault, Taken, detect, heading_of, read_recording, take_apart,
 };
 
 /// Carries out a request's word on the reader's bytes, as a host sent them. Neither device has failed before, and the reader hasn't
@@ -53,6 +54,9 @@ fn carry_out_word<S: Source, W: Write>(
         Word::Summary => {
             write_word::<SummaryOutput, S, W>(alloc, reader, writer, encoding, piece, limit)
         }
+        Word::Events => {
+            write_word::<ContentOutput, S, W>(alloc, reader, writer, Encoding::Dec, piece, limit)
+        }
         Word::Content => match host.terminal {
             TerminalType::Vt220 => {
                 write_word::<ContentOutput, S, W>(alloc, reader, writer, encoding, piece, limit)
@@ -84,15 +88,22 @@ fn asks_wide(wide: Option<bool>) -> bool
 }
 
 /// Returns whether the input is played as it comes.
-fn is_streamed(format: Format, until: Option<Moment>, wide: Option<bool>) -> bool
-    ensures { result ≡ is_streamed format until wide }
+fn is_streamed(format: Format, until: Option<Moment>, wide: Option<bool>, events: bool) -> bool
+    ensures { result ≡ is_streamed format until wide events }
 {
     match format {
-        Format::Raw => until.is_none() && !asks_wide(wide),
+        Format::Raw => until.is_none() && !asks_wide(wide) && !events,
         Format::Script => false,
         Format::Ttyrec => false,
         Format::Asciicast => false,
     }
+}
+
+/// Returns whether a word lists the events of a recording, and plays nothing of it.
+fn lists_events(word: Word) -> bool
+    ensures { result ≡ lists_events word }
+{
+    matches!(word, Word::Events)
 }
 
 /// Returns how a request ends whose word ended so, on a recording that is broken there.
@@ -160,7 +171,8 @@ pub fn lacks_times(format: Format, timed: bool, until: Option<Moment>) -> bool
 /// The screen has 132 columns if the request asks for them, or if it leaves the width to a recording whose first line names
 /// 132. Then bytes that set DECCOLM are played first, except for trace and summary.
 ///
-/// If the format is raw, all of the input is wanted, and 132 columns weren't asked for, the word is carried out on the bytes as they come. Otherwise the
+/// If the format is raw, all of the input is wanted, and 132 columns weren't asked for, the word is carried out on the bytes as they come. Events
+/// are a table of the whole recording, which is written in the place of its content. Otherwise the
 /// input is read whole, and the word is carried out on its content up to the moment. If the recording is broken, that is
 /// the fault, after what came before was played and written.
 pub fn carry_out<R: Read, W: Write>(
@@ -179,7 +191,12 @@ pub fn carry_out<R: Read, W: Write>(
         (λ b w. OutcomeTable result request.now format (option_map (λ t. t.now) timing.entry) b w (record { reader_failed = reader.new.failed; reader_ended = reader.new.ended; writer_failed = writer.new.failed })) }
     ensures whole { reader.new.ended ≡ true → IsAtEnd (R.remaining reader.new.device) }
 {
-    if is_streamed(format, request.until, request.wide) {
+    if is_streamed(
+        format,
+        request.until,
+        request.wide,
+        lists_events(request.word),
+    ) {
         return stream(alloc, reader, writer, request);
     }
     match read_recording(alloc, reader, request.limit as usize) {
@@ -226,6 +243,24 @@ struct Prepared {
     replaced: u64,
 }
 
+/// Takes out of a recording what a request's word is for: the table of its events, or its content.
+fn taken_for(
+    alloc: Global,
+    bytes: &[u8],
+    timing: Option<&[u8]>,
+    format: Format,
+    encoding: Encoding,
+    request: &Request,
+) -> Result<Taken, AllocError>
+    ensures { IfOk result (λ t. IsTakenBy (lists_events request.now.word) format encoding request.now.until (option_map (λ b. b.now) timing.entry) bytes.now t.content.items t.broken t.replaced) }
+{
+    if lists_events(request.word) {
+        events_taken(alloc, bytes, timing, format, request.until)
+    } else {
+        take_apart(alloc, bytes, timing, format, encoding, request.until)
+    }
+}
+
 /// Takes a recording apart as a request asks for it. Returns `Err` if allocation fails.
 fn prepare(
     alloc: Global,
@@ -237,7 +272,7 @@ fn prepare(
     ensures { IfOk result (λ p. IsPrepared request.now format (option_map (λ t. t.now) timing.entry) bytes.now p.host p.bytes.items p.broken p.replaced) }
 {
     let host = host_for(request, format, heading_of(alloc, bytes, format)?);
-    let taken = take_apart(alloc, bytes, timing, format, host.encoding, request.until)?;
+    let taken = taken_for(alloc, bytes, timing, format, host.encoding, request)?;
     let broken = taken.broken;
     let replaced = taken.replaced;
     Ok(Prepared {

@@ -40,7 +40,7 @@ pub(crate) fn hex_digit(n: u8) -> u8
 /// Appends a byte as text.
 #[tactic(auto, unfolding(crate::specs::Lines::shown_byte))]
 #[inline(always)]
-pub(crate) fn push_shown(b: u8, out: &mut Vec<u8>)
+pub fn push_shown(b: u8, out: &mut Vec<u8>)
     requires { vec_len out.old + 4 ≤ vec_capacity out.old }
     ensures items { out.new.items ≡ out.old.items ++ shown_byte b }
     ensures bounded { vec_len out.new ≤ vec_len out.old + 4 }

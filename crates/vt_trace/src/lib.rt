@@ -14,6 +14,7 @@ mod skipped;
 mod summary;
 mod tracing;
 
+pub use bytes::push_shown;
 pub use lines::{LINE_LIMIT, push_line};
 pub use names::{is_ignored, name};
 pub use skipped::{First, SKIPPED_LIMIT};

@@ -242,6 +242,7 @@ const RECORDED: &[Asked] = &[
     ("vt220 pages a", Word::Pages, NONE),
     ("vt220 trace a", Word::Trace, NONE),
     ("vt220 summary a", Word::Summary, NONE),
+    ("vt220 events a", Word::Events, NONE),
     ("vt220 content a", Word::Content, NONE),
     ("vt220 text --format raw", Word::Replay(What::Text), NONE),
     ("vt220 log --format script a", Word::Log, SCRIPT),

@@ -1,0 +1,23 @@
+use Rattle.std.proofs.Common.{refl}
+use Rattle.vt_replay.proofs.EventTables.{one_more, none_left, still_counted, still_within}
+use Rattle.vt_replay.proofs.events.table.Goals as goal
+
+pub loop-i-preserved : goal.loop-i-preserved
+loop-i-preserved c =
+    let marks = c.args.events.now in
+    let text = c.args.text.now in
+    let kept = c.loop-i.invariant in
+    record {
+      counted =
+          rw c.min.ensures
+          (still_counted c.event_at-event.result.length c.loop-i.at c.loop-i.place _ text _ kept.within kept.counted refl
+          (rw c.min.ensures at c.in_ok-place.ensures.counted));
+      within = rw c.min.ensures (still_within c.event_at-event.result.length c.loop-i.at text kept.within);
+      ahead =
+          one_more c.args.timed c.args.until c.loop-i.place _ c.loop-i.i c.loop-i.at _ c.event_at-event.result marks text _ _ _
+          kept.within c.event_at-event.ensures (rw c.min.ensures refl) c.in_ok-place.ensures.items
+          c.in_ok-place.ensures.place kept.ahead;
+    }
+
+pub returns : goal.returns
+returns c = none_left _ _ _ _ _ _ _ _ c.loop-i-test.false c.loop-i.invariant.ahead

@@ -1,0 +1,15 @@
+use Rattle.std.proofs.Common.{◌≡◌, ◌-◌, ◌≤◌, ◌++◌, length, drop}
+use Rattle.vt_recording.specs.Gathered.{events_of}
+use Rattle.vt_replay.specs.EventTable.{table}
+use Rattle.vt_replay.proofs.events.table.Given as goal
+
+abbrev pub invariant-loop-i : goal.invariant-loop-i
+invariant-loop-i l = record {
+  counted : l.place ≤ l.at;
+  within : l.at ≤ length l.text;
+  ahead : l.out.items ++ table l.timed l.until l.place (events_of (drop l.i l.events) (drop l.at l.text))
+      ≡ table l.timed l.until 0 (events_of l.events l.text);
+}
+
+abbrev pub decreases-loop-i : goal.decreases-loop-i
+decreases-loop-i l = length l.events - l.i

@@ -12,6 +12,7 @@ the incarnation, so that a name can be used again without meeting anything of it
     fleet:trying                 hash: worker -> the suspect that it plays alone
     fleet:foreign                hash: incarnation -> the format that it needs; it waits for a worker that knows this format
     fleet:workers                hash: worker -> a count that it raises four times a lease, the lease, and the formats that it knows
+    fleet:alive:WORKER           expires when the worker didn't raise its count for a lease, by the store's clock
     fleet:draining               set of the workers that are to hand their sessions over
     fleet:of:WORKER              set of the incarnations that a worker owns
 
@@ -119,6 +120,10 @@ def key(incarnation, part):
 
 def of(worker):
     return f"fleet:of:{worker}"
+
+
+def alive(worker):
+    return f"fleet:alive:{worker}"
 
 
 def wake(worker):

@@ -9,7 +9,7 @@ from prometheus_client.core import CounterMetricFamily, GaugeMetricFamily, Histo
 from prometheus_client.exposition import CONTENT_TYPE_LATEST
 
 from . import keys
-from .operate import living
+from .operate import living, living_workers
 
 WORDS = {
     "entries": "Entries of sessions' bytes that were played",
@@ -142,6 +142,7 @@ class WholeFleet:
 
     def __init__(self, store):
         self.store, self.read, self.facts, self.lock = store, -OLD, {}, threading.Lock()
+        self.stood = {}  # session -> (how far it was played, since when), if not all of it was
 
     def look(self):
         """Reads the store, unless that was done a moment ago."""
@@ -162,7 +163,15 @@ class WholeFleet:
         oldest = min((score for key in (keys.WAITING, keys.SUSPECTS) for _, score in self.store.zrange(key, 0, 0, withscores=True)), default=None)
         seconds, micros = self.store.time()
         waited = max(0.0, seconds + micros / 1e6 - oldest / 1000) if oldest else 0.0
-        return {"trip": trip, "listed": listed, "ended": ended, "waited": waited, "workers": self.store.hlen(keys.WORKERS)}
+        facts = {"trip": trip, "listed": listed, "ended": ended, "waited": waited, "stands": self.standing(listed)}
+        return facts | {"workers": living_workers(self.store), "foreign": self.store.hlen(keys.FOREIGN)}
+
+    def standing(self, listed):
+        """Returns for how many seconds a session with bytes to play wasn't played on: the longest time of all that have no fault."""
+        now, before = time.monotonic(), self.stood
+        behind = {each["incarnation"]: each["size"] - each["lag"] for each in listed if each["lag"] and not each["fault"]}
+        self.stood = {i: before[i] if before.get(i, (None,))[0] == played else (played, now) for i, played in behind.items()}
+        return max((now - since for _, since in self.stood.values()), default=0.0)
 
     def problem(self):
         facts = self.look()
@@ -175,6 +184,8 @@ class WholeFleet:
             return
         yield gauge("store_round_trip_seconds", "Seconds until the store answered a ping", facts["trip"])
         yield gauge("workers", "Workers that live", facts["workers"])
+        yield gauge("formats_missing", "Sessions that wait for a worker that knows their format", facts["foreign"])
+        yield gauge("lag_stands_seconds", "Seconds for which a session with bytes to play wasn't played on, at most", facts["stands"])
         yield gauge("waiting_seconds", "Seconds since the session that waits longest has no worker", facts["waited"])
         lags = [each["lag"] for each in facts["listed"]]
         yield gauge("lag_bytes", "Bytes of all sessions that no worker has played", sum(lags))

@@ -53,7 +53,7 @@ def about(store, incarnations):
             fields, fault, status, foreign = answers[4 * number : 4 * number + 4]
             if isinstance(fields, list) and fields[0] is not None:
                 listed.append(described(each, dict(zip(FIELDS, fields)), fault, status) | {"format": keys.shown(foreign)})
-    add_leases(store, listed)
+    add_states(store, listed)
     return listed
 
 
@@ -73,13 +73,18 @@ def described(incarnation, fields, fault, status):
     return made
 
 
-def add_leases(store, listed):
-    """Adds the state: a session whose host is silent is told from one that is idle."""
+def add_states(store, listed):
+    """Adds the state: a session whose host is silent is told from one that is idle, and one whose worker is silent waits."""
+    owners = sorted({each["worker"] for each in listed})
     with store.pipeline(transaction=False) as together:
         for each in listed:
             together.get(keys.lease(each["name"]))
-        leases = store.all_of(together) if listed else []
-    for each, holder in zip(listed, leases):
+        for owner in owners:
+            together.exists(keys.alive(owner))
+        answers = store.all_of(together) if listed else []
+    living = {owner for owner, is_alive in zip(owners, answers[len(listed) :]) if is_alive}
+    for each, holder in zip(listed, answers):
+        each["worker"] = each["worker"] if each["worker"] in living else ""
         each["state"] = state_of(each, isinstance(holder, bytes) and holder.decode() == each["incarnation"])
 
 
@@ -287,16 +292,35 @@ def drain(store, worker, patience):
         if time.monotonic() > end_at:
             raise Refused(f"{found[0]} still has {store.scard(keys.of(found[0]))} sessions after {patience:g} s")
         time.sleep(0.02)
-    if not store.hlen(keys.WORKERS):
+    if not living_workers(store):
         print(f"no other worker lives: {store.zcard(keys.WAITING)} sessions wait for one", file=sys.stderr)
     return 0
 
 
+def known_workers(store):
+    """Returns a dictionary for each worker that didn't leave: one that is silent for its lease doesn't live."""
+    found = sorted(store.hgetall(keys.WORKERS).items())
+    with store.pipeline(transaction=False) as together:
+        for each, _ in found:
+            together.exists(keys.alive("").encode() + each)
+            together.scard(keys.of("").encode() + each)
+        answers = store.all_of(together) if found else []
+    listed = []
+    for (each, shown), is_alive, sessions in zip(found, answers[::2], answers[1::2]):
+        count = shown.split()[0] if SHOWN.fullmatch(shown) else b""
+        made = {"worker": keys.shown(each), "sessions": sessions, "count": int(count) if count else None}
+        listed.append(made | {"is_alive": bool(is_alive)})
+    return listed
+
+
+def living_workers(store):
+    """Returns how many workers live."""
+    return sum(each["is_alive"] for each in known_workers(store))
+
+
 def workers(store, is_json=False):
     """Prints each worker with the count of its sessions."""
-    for each, count in sorted(store.hgetall(keys.WORKERS).items()):
-        sessions = store.scard(keys.of("").encode() + each)
-        shown = count.split()[0] if SHOWN.fullmatch(count) else b"-"
-        made = {"worker": keys.shown(each), "sessions": sessions, "count": int(shown) if shown.isdigit() else None}
-        print(json.dumps(made) if is_json else f"{made['worker']}  {made['sessions']} sessions")
+    for each in known_workers(store):
+        silent = "" if each["is_alive"] else "  silent"
+        print(json.dumps(each) if is_json else f"{each['worker']}  {each['sessions']} sessions{silent}")
     return 0

@@ -91,6 +91,15 @@ def worker(url, **chosen):
     return Worker(stores.connect(url), settings(**chosen))
 
 
+class Clock:
+    """Stands for the module `time`: its time passes when the test says so."""
+
+    now = 1000.0
+
+    def monotonic(self):
+        return self.now
+
+
 class Source:
     """A host whose program is a test: it sends what it is told, and keeps what comes for the program."""
 

@@ -1,5 +1,5 @@
 """The store's scripts one by one, each at the edge of what it promises, and checkpoints of which each byte counts."""
-from harness import Source, check, compare, keys, played, until, worker
+from harness import Clock, Source, check, compare, keys, played, until, worker
 from fleet import claims
 
 TRIES = claims.TRIES
@@ -58,15 +58,6 @@ def take_gives_up_after_so_many(url, _):
         check((taken == [source.incarnation.encode()]) == (number <= TRIES), name, f"worker {number} of {TRIES}")
         check(source.fault().startswith("Poison") == (number > TRIES), name, f"a fault after worker {number}")
         store.run("bury", one, store.hget(keys.WORKERS, one), 500)
-
-
-class Clock:
-    """Stands for the module `time`: its time passes when the test says so."""
-
-    now = 1000.0
-
-    def monotonic(self):
-        return self.now
 
 
 def a_pause_forgets_what_was_seen(url, _):

@@ -8,6 +8,7 @@ import sys
 
 from harness import (
     HERE,
+    Clock,
     PATIENCE,
     PATIENT,
     Processes,
@@ -113,16 +114,6 @@ def a_session_of_another_format_waits_for_its_worker(url, data):
     source.receive()
     compare(source, name)
     check(store.hlen(keys.FOREIGN) == 0, name, "and nothing is left")
-
-
-class Clock:
-    """A clock that the test moves."""
-
-    def __init__(self):
-        self.now = 1000.0
-
-    def monotonic(self):
-        return self.now
 
 
 def a_worker_is_dead_by_its_own_lease(url, _):

@@ -2,9 +2,10 @@
 -- ok, whether it is to hand over, how many sessions it has, how many wait, its share of all, the format to write, and all workers
 -- with what they show; or dead.
 local me = ARGV[1]
-local count, rest = string.match(redis.call('HGET', 'fleet:workers', me) or '', '^(%d+)( .*)$')
+local count, lease, formats = string.match(redis.call('HGET', 'fleet:workers', me) or '', '^(%d+) (%d+) (.*)$')
 if not count then return {'dead'} end
-redis.call('HSET', 'fleet:workers', me, string.format('%.0f', tonumber(count) + 1) .. rest)
+redis.call('HSET', 'fleet:workers', me, string.format('%.0f %s %s', tonumber(count) + 1, lease, formats))
+show_life(me, lease)
 local waiting = redis.call('ZCARD', 'fleet:waiting') + redis.call('ZCARD', 'fleet:suspects')
 if waiting == 0 then
   for _, format in ipairs(redis.call('HVALS', 'fleet:foreign')) do

@@ -14,6 +14,19 @@ local function field(inc, part, name)
   return nil
 end
 
+-- A worker lives as long as the store has its key `alive`, which ends by the store's clock. So all who look see the same.
+local function show_life(worker, lease) redis.call('SET', 'fleet:alive:' .. worker, 1, 'PX', lease) end
+
+local function is_alive(worker) return redis.call('EXISTS', 'fleet:alive:' .. worker) == 1 end
+
+-- Removes a worker from all that names the workers.
+local function strike_off(worker)
+  redis.call('HDEL', 'fleet:workers', worker)
+  redis.call('SREM', 'fleet:draining', worker)
+  redis.call('HDEL', 'fleet:trying', worker)
+  redis.call('DEL', 'fleet:alive:' .. worker)
+end
+
 -- Ends a worker's trial of a session.
 local function absolve(worker, inc)
   if redis.call('HGET', 'fleet:trying', worker) == inc then redis.call('HDEL', 'fleet:trying', worker) end

@@ -1,0 +1,184 @@
+"""A game day. For each alert the fault is made, the alert fires on what the fleet's own metrics say, and the runbook's cure ends it. promtool
+evaluates alerts.yml, and its time is that of the samples: each phase is twenty minutes of what the metrics said once."""
+import json
+import os
+import re
+import subprocess
+import urllib.error
+
+from prometheus_client import CollectorRegistry, generate_latest
+
+from harness import HERE, Clock, Processes, Source, check, keys, settings, local, stores, until, wait_for, with_machine
+from operators import asked, state
+from safety import fleet, free_port
+from fleet import metrics
+from fleet.claims import Claims
+from fleet.metrics import WholeFleet
+from fleet.worker import Worker
+
+ALERTS = os.path.join(HERE, "..", "alerts.yml")
+SAMPLES = 80  # of each phase, 15 seconds apart: no alert looks back further, or waits longer
+
+
+def of_collector(collector):
+    """Returns what reads a collector's metrics in this process."""
+    registry = CollectorRegistry()
+    registry.register(collector)
+
+    def read():
+        if isinstance(collector, WholeFleet):
+            collector.read = -1e9
+        return generate_latest(registry).decode()
+
+    return read
+
+
+def of_port(port):
+    """Returns what reads the metrics of a process; None if it doesn't reply."""
+
+    def read():
+        try:
+            return asked(port, "metrics")[1]
+        except (urllib.error.URLError, OSError):
+            return None
+
+    return read
+
+
+class Day:
+    """What the targets said in each phase."""
+
+    def __init__(self, **targets):
+        self.targets, self.phases = targets, []
+
+    def look(self):
+        """Notes what each target says, as Prometheus names it."""
+        phase = {}
+        for target, read in self.targets.items():
+            said = read()
+            labels = f'instance="{target}",job="fleet"'
+            phase[f"up{{{labels}}}"] = str(int(said is not None))
+            for line in (said or "").splitlines():
+                if not line.startswith("#"):
+                    name, more, value = re.fullmatch(r"(\w+)(?:\{(.*)\})? (\S+)", line).groups()
+                    phase[f"{name}{{{more + ',' if more else ''}{labels}}}"] = value
+        self.phases.append(phase)
+
+    def values(self, series):
+        return " ".join(phase.get(series, "_") for phase in self.phases for _ in range(SAMPLES))
+
+    def expect(self, alert, labels):
+        """Returns what promtool is to find: no alert, then this one, and none of it any more."""
+
+        def at(phase, which, has_fired):
+            expr = f"max(max_over_time(ALERTS{{alertstate='firing'{which}}}[{'20m' if phase < 2 else '1m'}]))"
+            moment = f"{(phase + 1) * SAMPLES * 15 - 15}s"
+            return {"expr": expr, "eval_time": moment, "exp_samples": [{"labels": "{}", "value": 1}] if has_fired else []}
+
+        named = f",alertname='{alert}'" + "".join(f",{name}='{value}'" for name, value in labels.items())
+        return [at(0, "", False), at(1, named, True), at(2, named, False)]
+
+    def judge(self, machine, alert, **labels):
+        series = sorted(set().union(*self.phases))
+        made = {"interval": "15s", "input_series": [{"series": each, "values": self.values(each)} for each in series]}
+        made["promql_expr_test"] = self.expect(alert, labels)
+        path = os.path.join(machine.folder, "rules.json")
+        with open(path, "w") as file:  # JSON is YAML
+            json.dump({"rule_files": [os.path.realpath(ALERTS)], "evaluation_interval": "15s", "tests": [made]}, file)
+        done = subprocess.run(["promtool", "test", "rules", path], capture_output=True, text=True)
+        check(done.returncode == 0, alert, f"it isn't there, fires, and ends: {done.stdout[-3000:]}{done.stderr}")
+
+
+def whole_of(machine):
+    """Returns the metrics of the whole fleet, by a store that gives up at once."""
+    whole = WholeFleet(stores.connect(machine.url))
+    whole.store.patience = 0.1
+    return whole
+
+
+@with_machine
+def no_workers(machine, _):
+    """All are killed, and nobody is left to bury them."""
+    name, whole = "no workers", whole_of(machine)
+    day, workers, source = Day(all=of_collector(whole)), Processes(machine, 2, "--lease", "1"), Source(machine.url, "played").send(b"x")
+    wait_for(lambda: state(source.store, "played")["lag"] == 0 and whole.facts_of_store()["workers"] == 2)
+    day.look()
+    for each in workers.all:
+        each.kill()
+        each.wait()
+    check(wait_for(lambda: whole.facts_of_store()["workers"] == 0), name, "the store sees that none lives")
+    source.send(b"y")
+    day.look()
+    check(whole.problem() == "no worker lives", name, f"nor is the fleet well: {whole.problem()}")
+    check(state(source.store, "played")["state"] == "waiting", name, "its session waits")
+    listed = [line.split() for line in fleet(machine.url, "workers")[1].splitlines()]
+    check(len(listed) == 2 and all(words[3] == "silent" for words in listed), name, f"both are listed as silent: {listed}")
+    workers.all = [workers.another()]
+    check(wait_for(lambda: state(source.store, "played")["lag"] == 0), name, "another one plays the session")
+    day.look()
+    day.judge(machine, "FleetNoWorkers")
+    workers.stop()
+
+
+@with_machine
+def a_session_stands_still(machine, _):
+    """Its host reads no reports."""
+    name, whole, clock = "stands still", whole_of(machine), Clock()
+    real, metrics.time = metrics.time, clock
+    try:
+        one, day = Worker(stores.connect(machine.url), settings(lease=3600)), Day(all=of_collector(whole))
+        source = Source(machine.url, name).send(b"x")
+        until(lambda: one.kept and not one.due, one)
+        one.tell(list(one.kept.values()))
+        day.look()
+        source.send(b"\033[c" * 20000, piece=3000)
+        until(lambda: source.incarnation in one.choked, one)
+        whole.facts_of_store()
+        clock.now += 90
+        day.look()
+        source.listen()
+        check(until(lambda: len(source.got) == 20000 and not one.due, one), name, "a host that reads them goes on")
+        one.tell(list(one.kept.values()))
+        day.look()
+    finally:
+        metrics.time = real
+        source.stop()
+    day.judge(machine, "FleetStandsStill")
+
+
+@with_machine
+def a_format_is_missing(machine, _):
+    day, old = Day(all=of_collector(whole_of(machine))), Worker(stores.connect(machine.url), settings(lease=3600), formats=(2,))
+    day.look()
+    source = Source(machine.url, "newer", encoding="utf-8")
+    until(lambda: source.store.hlen(keys.FOREIGN) == 1, old)
+    day.look()
+    newer = Worker(stores.connect(machine.url), settings(lease=3600))
+    check(until(lambda: source.incarnation in newer.kept, newer, old), "format", "a worker of the newer version takes it")
+    day.look()
+    day.judge(machine, "FleetFormatMissing")
+
+
+@with_machine
+def a_target_is_down(machine, _):
+    """`fleet metrics` ends, and that of another fleet doesn't."""
+    port, lives = free_port(), Claims(stores.connect(machine.url), 3600)
+    day = Day(one=of_port(port), other=of_collector(whole_of(machine)))
+
+    def served():
+        words = [local.PYTHON, local.COMMAND, "metrics", f"127.0.0.1:{port}"]
+        made = subprocess.Popen(words, env=os.environ | {"FLEET_REDIS": machine.url})
+        check(wait_for(of_port(port)), lives.me, "it serves")
+        day.look()
+        return made
+
+    serves = served()
+    serves.kill()
+    serves.wait()
+    day.look()
+    serves = served()
+    day.judge(machine, "FleetTargetDown", instance="one")
+    serves.kill()
+
+
+CASES = [no_workers, a_session_stands_still, a_format_is_missing, a_target_is_down]

@@ -265,6 +265,12 @@ def do_end(words, settings):
     return end(settings.connect(), words.name, words.keep, words.force)
 
 
+def do_retry(words, settings):
+    from .operate import retry
+
+    return retry(settings.connect(), words.name)
+
+
 def do_drain(words, settings):
     from .operate import drain
 
@@ -367,6 +373,8 @@ def add_operators(add):
     each.add_argument("--keep", type=option(seconds, "keep"), help="how long it stays in the store, such as 7d, or 0 (for ever)")
     each.add_argument("--force", action="store_true", help="also if its host is alive")
     each.add_argument("name")
+    each = add("retry", do_retry, "has workers try sessions with a fault again")
+    each.add_argument("name", nargs="+")
     each = add("drain", do_drain, "moves a worker's sessions to other workers, and ends it")
     each.add_argument("--patience", type=option(seconds, "patience"), default=10, help="the longest wait, such as 30s (10s)")
     each.add_argument("worker", help="its name, or the beginning of its name")

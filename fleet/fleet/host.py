@@ -242,10 +242,11 @@ class Host:
         there = 0 if answer[0] == "lost" else int(answer[1])
         if answer[0] == "lost" or there < self.at:
             self.rebuild(there)
-        elif len(answer) > 4 and not self.said_fault:
-            self.said_fault = keys.shown(answer[4])
-            log.error("%s: no worker can continue this session: %s", self.name, self.said_fault)
         else:
+            fault = keys.shown(answer[4]) if len(answer) > 4 else None
+            if fault and fault != self.said_fault:
+                log.error("%s: no worker can continue this session: %s", self.name, fault)
+            self.said_fault = fault
             self.played, self.format = int(answer[2] or 0), keys.agreed(answer[3], self.formats, self.language)
 
     # What comes for the program.

@@ -14,6 +14,7 @@ the incarnation, so that a name can be used again without meeting anything of it
     fleet:workers                hash: worker -> a count that it raises four times a lease, the lease, and the formats that it knows
     fleet:alive:WORKER           expires when the worker didn't raise its count for a lease, by the store's clock
     fleet:draining               set of the workers that are to hand their sessions over
+    fleet:unfit                  set of the workers that failed on their first sessions, and take no more
     fleet:of:WORKER              set of the incarnations that a worker owns
 
     fleet:INCARNATION:about      hash: name, host, started, owner, end (of the bytes), played, answered, how it ended, and unless it is
@@ -28,6 +29,7 @@ the incarnation, so that a name can be used again without meeting anything of it
     fleet:INCARNATION:typed:VIEWER  the number of the last thing that a viewer typed; goes when the viewer leaves, or after a day
     fleet:INCARNATION:ended      hash: where and how it ended, and the screen's text
     fleet:INCARNATION:fault      why no worker can go on with it
+    fleet:INCARNATION:failed     set of the workers that met an error there that isn't the session's own
 
 Channels: fleet:new (a session waits), fleet:wake:WORKER (one of its sessions has bytes, or a viewer).
 """
@@ -55,7 +57,7 @@ class Language(NamedTuple):
 
 DEC, UTF8, XTERM = Language(), Language("utf-8"), Language("utf-8", "xterm")
 NEEDED = {DEC: OLDEST, UTF8: 3, XTERM: 4}  # the oldest format in which a session of a language is written
-ALL, LIVE, NAMES, WAITING, SUSPECTS, TRYING, FOREIGN, WORKERS, DRAINING = (
+ALL, LIVE, NAMES, WAITING, SUSPECTS, TRYING, FOREIGN, WORKERS, DRAINING, UNFIT = (
     "fleet:all",
     "fleet:live",
     "fleet:names",
@@ -65,6 +67,7 @@ ALL, LIVE, NAMES, WAITING, SUSPECTS, TRYING, FOREIGN, WORKERS, DRAINING = (
     "fleet:foreign",
     "fleet:workers",
     "fleet:draining",
+    "fleet:unfit",
 )
 NEW = "fleet:new"
 NAME_LIMIT = 200

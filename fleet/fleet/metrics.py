@@ -78,6 +78,8 @@ class WorkerMetrics:
         """Returns why this worker isn't well, or nothing."""
         if self.worker.store.away_since is not None:
             return "the store is away"
+        if self.worker.is_unfit:
+            return "it failed on its first sessions, and takes no more"
         silent = time.monotonic() - self.worker.claims.beaten
         return f"no turn for {silent:.0f} s" if silent > self.worker.settings.lease else ""
 
@@ -164,7 +166,9 @@ class WholeFleet:
         seconds, micros = self.store.time()
         waited = max(0.0, seconds + micros / 1e6 - oldest / 1000) if oldest else 0.0
         facts = {"trip": trip, "listed": listed, "ended": ended, "waited": waited, "stands": self.standing(listed)}
-        return facts | {"workers": living_workers(self.store), "foreign": self.store.hlen(keys.FOREIGN)}
+        workers = living_workers(self.store)
+        facts |= {"workers": len(workers), "unfit": sum(each["is_unfit"] for each in workers)}
+        return facts | {"foreign": self.store.hlen(keys.FOREIGN)}
 
     def standing(self, listed):
         """Returns for how many seconds a session with bytes to play wasn't played on: the longest time of all that have no fault."""
@@ -184,6 +188,7 @@ class WholeFleet:
             return
         yield gauge("store_round_trip_seconds", "Seconds until the store answered a ping", facts["trip"])
         yield gauge("workers", "Workers that live", facts["workers"])
+        yield gauge("workers_unfit", "Those of them that failed on their first sessions, and take no more", facts["unfit"])
         yield gauge("formats_missing", "Sessions that wait for a worker that knows their format", facts["foreign"])
         yield gauge("lag_stands_seconds", "Seconds for which a session with bytes to play wasn't played on, at most", facts["stands"])
         yield gauge("waiting_seconds", "Seconds since the session that waits longest has no worker", facts["waited"])

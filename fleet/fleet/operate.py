@@ -279,6 +279,18 @@ def end(store, name, keep, is_forced):
     return 0
 
 
+RETRIES = {"none": "has no fault", "over": "was given up by its host"}
+
+
+def retry(store, names):
+    """Has workers try sessions with a fault again."""
+    for name in names:
+        answer = store.run("retry", find(store, name))[0]
+        if answer in RETRIES:
+            raise Refused(f"{name} {RETRIES[answer]}")
+    return 0
+
+
 def drain(store, worker, patience):
     """Has a worker hand its sessions over, and waits until it has none."""
     names = [each.decode("utf-8", "replace") for each in store.hkeys(keys.WORKERS)]
@@ -304,23 +316,24 @@ def known_workers(store):
         for each, _ in found:
             together.exists(keys.alive("").encode() + each)
             together.scard(keys.of("").encode() + each)
+            together.sismember(keys.UNFIT, each)
         answers = store.all_of(together) if found else []
     listed = []
-    for (each, shown), is_alive, sessions in zip(found, answers[::2], answers[1::2]):
+    for (each, shown), is_alive, sessions, is_unfit in zip(found, *(answers[at::3] for at in range(3))):
         count = shown.split()[0] if SHOWN.fullmatch(shown) else b""
         made = {"worker": keys.shown(each), "sessions": sessions, "count": int(count) if count else None}
-        listed.append(made | {"is_alive": bool(is_alive)})
+        listed.append(made | {"is_alive": bool(is_alive), "is_unfit": bool(is_unfit)})
     return listed
 
 
 def living_workers(store):
-    """Returns how many workers live."""
-    return sum(each["is_alive"] for each in known_workers(store))
+    """Returns the workers that live."""
+    return [each for each in known_workers(store) if each["is_alive"]]
 
 
 def workers(store, is_json=False):
     """Prints each worker with the count of its sessions."""
     for each in known_workers(store):
-        silent = "" if each["is_alive"] else "  silent"
-        print(json.dumps(each) if is_json else f"{each['worker']}  {each['sessions']} sessions{silent}")
+        state = "  silent" if not each["is_alive"] else "  unfit" if each["is_unfit"] else ""
+        print(json.dumps(each) if is_json else f"{each['worker']}  {each['sessions']} sessions{state}")
     return 0

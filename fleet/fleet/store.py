@@ -25,6 +25,7 @@ log = logging.getLogger("fleet")
 GONE = (BusyLoadingError, ConnectionError, TimeoutError, ReadOnlyError)
 FOR_NOW = ("OOM", "MISCONF", "MASTERDOWN", "NOREPLICAS", "CLUSTERDOWN", "TRYAGAIN", "BUSY ", "UNBLOCKED")
 DENIALS = ("WRONGPASS", "NOPERM", "can't run this command", "can't access")
+OF_SESSION = ("WRONGTYPE", "not an integer", "not a number")
 TIMEOUT = 5.0  # seconds until a connection that says nothing counts as dead
 LUA = os.path.join(os.path.dirname(os.path.abspath(__file__)), "lua")
 LIBRARY = "fleet_"
@@ -63,6 +64,11 @@ def is_missing(error):
 def is_denial(error):
     """Returns whether an error says that the store's user has no right to something."""
     return isinstance(error, NoPermissionError) or any(word in str(error) for word in DENIALS)
+
+
+def is_of_session(error):
+    """Returns whether an error says that a session's key or field has a wrong form."""
+    return any(word in str(error) for word in OF_SESSION)
 
 
 @functools.cache

@@ -16,7 +16,7 @@ from .latency import Latency
 from .inbox import Inbox
 from .keys import key
 from .session import Session, restored
-from .store import GONE, AnotherRun, AuthenticationError, NoPermissionError, ResponseError
+from .store import GONE, AnotherRun, AuthenticationError, NoPermissionError, ResponseError, is_of_session
 
 log = logging.getLogger("fleet.worker")
 
@@ -31,6 +31,7 @@ SHARE = 16384  # of them that a session may always play
 REPORTS = 200  # of a session that are made in a turn
 UNREAD = 4096  # reports that may wait for a host; then its session is not played on
 SETTLED = 60.0  # seconds that a session stays with a worker at least, unless that one leaves
+UNFIT = 3  # sessions on which a new worker fails, and no other did, before it takes no more
 NOTE = 5.0  # seconds until the store is told how far a session is, if nothing else tells it
 
 
@@ -55,7 +56,7 @@ class Kept(Session):
         self.read_at = 0.0  # when its last bytes were read
         self.watched = 0.0  # until when somebody looks
         self.is_dirty = True  # something was played since viewers were sent a frame
-        self.taken = time.monotonic()
+        self.taken, self.begun = time.monotonic(), self.at
         self.is_on_trial = False  # workers died in its company; this one takes no other until it caught up
         self.needed = keys.NEEDED[self.language]
 
@@ -111,6 +112,8 @@ class Worker:
         self.frames = Frames(store)
         self.counts = {"entries": 0, "bytes": 0, "reports": 0, "checkpoints": 0, "faults": 0, "taken": 0, "lost": 0}
         self.is_leaving = self.is_gone = self.is_behind = self.is_stale = False
+        self.is_proven = self.is_unfit = False  # whether it played a session on; or failed on its first ones
+        self.failures = 0  # sessions on which it failed, and no other worker did
         self.latency = Latency()
         store.minds_runs = True
         self.generation = store.generation()
@@ -161,6 +164,8 @@ class Worker:
         self.kept.clear()
         self.due.clear()
         self.claims.enter()
+        if self.is_unfit:
+            self.store.sadd(keys.UNFIT, self.claims.me)
         self.inbox.move(self.claims.me)
 
     def look_at_store(self):
@@ -194,7 +199,7 @@ class Worker:
     def take(self):
         """Takes sessions that wait, a handful at a time, so that workers share them."""
         room = self.settings.most - len(self.kept)
-        if self.is_leaving or room <= 0:
+        if self.is_leaving or self.is_unfit or room <= 0:
             return
         taken = self.claims.take(room)
         if taken is None:
@@ -255,10 +260,28 @@ class Worker:
                 self.decline(incarnation, fault)
             else:
                 self.give_up(incarnation, f"Version: {fault}")
-        except Exception as fault:
-            if not isinstance(fault, keys.Fault):
-                log.exception("%s: session %s", self.claims.me, incarnation)
+        except keys.Fault as fault:
             self.give_up(incarnation, f"{type(fault).__name__}: {fault}")
+        except ResponseError as error:
+            if is_of_session(error):
+                self.give_up(incarnation, f"Wrong: {error}")
+            else:
+                self.fail_on(incarnation, error)
+        except Exception as error:
+            self.fail_on(incarnation, error)
+
+    def fail_on(self, incarnation, error):
+        """Hands over a session at which this worker met an error that isn't the session's own. It may be a fault of this version, so others
+        try it. A worker that fails on its first sessions takes no more."""
+        log.error("%s: session %s", self.claims.me, incarnation, exc_info=error)
+        session = self.kept.get(incarnation)
+        words = session.at if session else 0, f"{type(error).__name__}: {error}"[:1000]
+        self.failures += self.store.run("trouble", self.claims.me, incarnation, *words)[0] == "first"
+        self.drop(incarnation)
+        if self.failures >= UNFIT and not self.is_proven and not self.is_unfit:
+            self.is_unfit = True
+            self.store.sadd(keys.UNFIT, self.claims.me)
+            log.error("%s failed on its first %d sessions, and takes no more", self.claims.me, self.failures)
 
     def decline(self, incarnation, fault):
         """Hands over a session of a format that this worker doesn't know: another version's worker goes on with it."""
@@ -443,6 +466,7 @@ class Worker:
         if session.reports:
             self.latency.note(time.monotonic() - session.read_at)
         session.reports, session.told, session.is_on_trial = [], session.at, False
+        self.is_proven = self.is_proven or session.at > session.begun
         if session.checkpoint:
             self.counts["checkpoints"] += 1
             session.seen, session.replaces, session.checkpoint = str(session.checkpoint["at"]), False, None

@@ -181,4 +181,72 @@ def a_target_is_down(machine, _):
     serves.kill()
 
 
-CASES = [no_workers, a_session_stands_still, a_format_is_missing, a_target_is_down]
+class Faulty(Worker):
+    """A worker of a version with a bug."""
+
+    def play(self, session, budget):
+        if any(b"bytes" in fields for _, fields in session.queue):
+            raise TypeError("a bug of this version")
+        super().play(session, budget)
+
+
+@with_machine
+def an_upgrade_fails(machine, _):
+    """A faulty worker fails on its first sessions, and the others go on with these. It is the last one, and then the earlier version is back."""
+    name, chosen = "upgrade", settings(lease=3600)
+    day, url = Day(all=of_collector(whole_of(machine))), machine.url
+    old = Worker(stores.connect(url), chosen)
+    sources = [Source(url, f"upgraded-{number}").send(b"x") for number in range(20)]
+    until(lambda: len(old.kept) == 20 and not old.due, old)
+    old.note()
+    day.look()
+    new = Faulty(stores.connect(url), chosen)
+    old.claims.release(list(old.kept)[:10])
+    old.read_anew()
+    for source in sources:
+        source.send(b"y\033[6n")
+    check(until(lambda: new.is_unfit, new), name, "it takes no more")
+    check(until(lambda: all(source.receive(0).reports() for source in sources), old, new), name, "the earlier version goes on with all")
+    check([source.fault() for source in sources] == [""] * 20, name, "none has a fault")
+    day.look()
+    listed = fleet(url, "workers")[1].splitlines()
+    check([line.split()[0] for line in listed if line.endswith("unfit")] == [new.claims.me], name, f"it is listed: {listed}")
+    old.leave()
+    for source in sources:
+        source.send(b"z")
+    new.turn(0.01)
+    check(not new.kept and [source.fault() for source in sources] == [""] * 20, name, "if it is the last one, they wait")
+    new.leave()
+    back = Worker(stores.connect(url), chosen)
+    check(until(lambda: len(back.kept) == 20 and not back.due, back), name, "the earlier version takes them")
+    day.look()
+    day.judge(machine, "FleetUpgradeFails")
+
+
+def an_error_is_taken_back(url, _):
+    """All workers that there are meet it, so it is the session's fault. `fleet retry` has a sound one go on."""
+    name, chosen = "error", settings(lease=3600)
+    faulty = [Faulty(stores.connect(url), chosen) for _ in range(2)]
+    source, sound = Source(url, "taken-back"), Source(url, "sound")
+    source.send(b"x\033[6n")
+    check(until(source.fault, *faulty), name, "it is a fault")
+    check(source.fault() == "TypeError: a bug of this version", name, source.fault())
+    check(sum(each.failures for each in faulty) == 1 and source.store.scard(source.part("failed")) == 2, name, "both tried it")
+    source.host.renewed = -1e9
+    source.host.renew_if_due()
+    check(source.host.said_fault == source.fault(), name, "its host knows")
+    for each in faulty:
+        each.leave()
+    one = Worker(stores.connect(url), chosen)
+    check(fleet(url, "retry", "sound")[0] == 6 and fleet(url, "retry", "nosuch")[0] == 3, name, "one without a fault, and none")
+    check(fleet(url, "retry", "taken-back")[0] == 0, name, "it is tried again")
+    check(until(lambda: source.receive(0).reports() and sound.incarnation in one.kept, one), name, "and goes on")
+    source.host.renewed = -1e9
+    source.host.renew_if_due()
+    check(source.host.said_fault is None, name, "which its host learns")
+    source.host.fault = None
+    source.store.run("fail", source.name, source.incarnation, "WentBack: so")
+    check(fleet(url, "retry", "taken-back")[0] == 6, name, "one that its host gave up can't")
+
+
+CASES = [an_upgrade_fails, an_error_is_taken_back, no_workers, a_session_stands_still, a_format_is_missing, a_target_is_down]

@@ -23,6 +23,7 @@ local function is_alive(worker) return redis.call('EXISTS', 'fleet:alive:' .. wo
 local function strike_off(worker)
   redis.call('HDEL', 'fleet:workers', worker)
   redis.call('SREM', 'fleet:draining', worker)
+  redis.call('SREM', 'fleet:unfit', worker)
   redis.call('HDEL', 'fleet:trying', worker)
   redis.call('DEL', 'fleet:alive:' .. worker)
 end
@@ -104,7 +105,8 @@ end
 
 -- Returns how many sessions each worker has if they are shared evenly.
 local function share()
-  local workers = math.max(1, redis.call('HLEN', 'fleet:workers') - redis.call('SCARD', 'fleet:draining'))
+  local away = redis.call('SCARD', 'fleet:draining') + redis.call('SCARD', 'fleet:unfit')
+  local workers = math.max(1, redis.call('HLEN', 'fleet:workers') - away)
   return math.ceil(redis.call('SCARD', 'fleet:live') / workers)
 end
 
@@ -134,7 +136,29 @@ local function close(inc, status, version)
   if about[3] then redis.call('PUBLISH', 'fleet:wake:' .. about[3], inc) end
 end
 
-local parts = {'about', 'bytes', 'answers', 'checkpoint', 'view', 'keys', 'signals', 'ended', 'fault'}
+-- Forgets which workers met errors at a session.
+local function forgive(inc)
+  redis.call('DEL', key(inc, 'failed'))
+  redis.call('HDEL', key(inc, 'about'), 'stuck', 'error')
+end
+
+-- Gives a session the error that workers met at it as its fault, if no other one is left to try it. Workers that failed on their first
+-- sessions count neither way: if only these are left, it waits. Returns whether it has the fault.
+local function doom(inc)
+  local has_failed = false
+  for worker in pairs(workers_shown()) do
+    if redis.call('SISMEMBER', 'fleet:unfit', worker) == 0 and redis.call('SISMEMBER', 'fleet:draining', worker) == 0 then
+      if redis.pcall('SISMEMBER', key(inc, 'failed'), worker) ~= 1 then return false end
+      has_failed = true
+    end
+  end
+  if not has_failed then return false end
+  redis.call('SET', key(inc, 'fault'), field(inc, 'about', 'error') or 'Poison')
+  retire(inc)
+  return true
+end
+
+local parts = {'about', 'bytes', 'answers', 'checkpoint', 'view', 'keys', 'signals', 'ended', 'fault', 'failed'}
 
 -- Removes all that there is of a session.
 local function forget(inc)

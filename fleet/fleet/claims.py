@@ -39,7 +39,7 @@ class Claims:
         self.store.run("enter", self.me, int(self.lease * 1000), ",".join(map(str, self.formats)))
 
     def mine(self):
-        return {each.decode("utf-8", "replace") for each in self.store.smembers(keys.of(self.me))}
+        return {keys.text(each) for each in self.store.smembers(keys.of(self.me)) if each.isalnum()}
 
     def beat(self, have):
         """Raises this worker's count, and buries those whose count stood still. To be called when that is due."""
@@ -53,7 +53,7 @@ class Claims:
         self.due = self.beaten + self.lease / 4
         _, draining, count, waiting, share, said, workers = answer
         self.format = keys.agreed(said, self.formats)
-        self.watch_over({w.decode("utf-8", "replace"): c for w, c in zip(workers[::2], workers[1::2])})
+        self.watch_over({keys.text(w): c for w, c in zip(workers[::2], workers[1::2])})
         self.audit()
         self.expect(waiting, len(self.others) + 1)
         is_to_be_compared = count != have or now - self.compared > COMPARE
@@ -104,7 +104,7 @@ class Claims:
         if answer[0] == "dead":
             return None
         self.expect(answer[1], len(self.others) + 1)
-        return [each.decode("utf-8", "replace") for each in answer[2:]]
+        return [keys.text(each) for each in answer[2:]]
 
     def expect(self, waiting, workers):
         """Notes how many sessions wait. If these are many, more are taken at once, but a part of each worker's share."""

@@ -146,7 +146,7 @@ class Host:
         words = self.incarnation, at - len(data), at, self.version(), moment, data, self.me
         answer = self.store.run("append", *words)
         if answer[0] == "ok":
-            self.played, self.stored = int(answer[1] or 0), at
+            self.played, self.stored = keys.number(answer[1], self.played), at
         elif answer[0] in ("lost", "back"):
             self.rebuild(0 if answer[0] == "lost" else int(answer[1]))
         else:
@@ -202,7 +202,7 @@ class Host:
             if self.said_fault and self.is_program_over():
                 raise Unplayable(f"no worker can continue this session: {self.said_fault}")
             time.sleep(0.02)
-            self.played = int(self.store.hget(self.part("about"), "played") or 0)
+            self.played = keys.number(self.store.hget(self.part("about"), "played"), self.played)
             self.renew_if_due()
         self.is_waiting = False
 
@@ -247,7 +247,7 @@ class Host:
             if fault and fault != self.said_fault:
                 log.error("%s: no worker can continue this session: %s", self.name, fault)
             self.said_fault = fault
-            self.played, self.format = int(answer[2] or 0), keys.agreed(answer[3], self.formats, self.language)
+            self.played, self.format = keys.number(answer[2], self.played), keys.agreed(answer[3], self.formats, self.language)
 
     # What comes for the program.
 

@@ -73,6 +73,7 @@ NEW = "fleet:new"
 NAME_LIMIT = 200
 PIECE = 16384  # bytes of an entry at most
 SHOWN = 1000  # characters of what the store says that are shown at most
+DIGITS = 18  # of a number
 
 
 class Fault(Exception):
@@ -97,7 +98,7 @@ class Version(Fault):
     format = 0
 
     def __init__(self, what, said):
-        super().__init__(f"{what} of version {said.decode('ascii', 'replace')[:40]!r}; this program knows the format {FORMAT}")
+        super().__init__(f"{what} of version {text(said)[:40]!r}; this program knows the format {FORMAT}")
         self.format = format_of(said)
 
 
@@ -137,11 +138,30 @@ def lease(name):
     return f"fleet:lease:{name}"
 
 
+# All that comes from the store is read by these: anybody who may write there may have written it.
+
+
+def text(value):
+    """Returns what the store says as text, whatever it is: empty if there is nothing, or an error instead."""
+    return value if isinstance(value, str) else value.decode("utf-8", "replace") if isinstance(value, bytes) else ""
+
+
 def shown(value):
     """Returns what the store says, for a terminal or a log: control characters are escaped, and a long text is cut."""
-    text = (value or b"").decode("utf-8", "replace")
-    cut = text if len(text) <= SHOWN else text[:SHOWN] + "..."
+    whole = text(value)
+    cut = whole if len(whole) <= SHOWN else whole[:SHOWN] + "..."
     return "".join(c if c.isprintable() else c.encode("unicode_escape").decode() for c in cut)
+
+
+def number(value, usual=None):
+    """Returns a number of the store, 0 if there is none. If it isn't one, returns `usual`, or raises Wrong without it."""
+    if value is None or value == b"":
+        return 0
+    if isinstance(value, bytes) and value.isdigit() and len(value) <= DIGITS:
+        return int(value)
+    if usual is None:
+        raise Wrong(f"a field of the session isn't a number: {shown(value)[:40]}")
+    return usual
 
 
 def new_id():
@@ -155,7 +175,7 @@ def now():
 
 def language_of(encoding, terminal):
     """Returns a session's language, as `about` has it. Raises Wrong if there is no such one."""
-    said = [(each or default.encode()).decode("ascii", "replace") for each, default in zip((encoding, terminal), DEC)]
+    said = [text(each) or default for each, default in zip((encoding, terminal), DEC)]
     if Language(*said) not in NEEDED:
         wrong = shown(encoding)[:40], shown(terminal)[:40]
         raise Wrong(f"the session has the encoding {wrong[0]!r}" + (f" and the terminal {wrong[1]!r}" if terminal else ""))
@@ -177,8 +197,8 @@ def format_of(said):
 def agreed(said, formats=FORMATS, language=DEC):
     """Returns the format to write: the newest one that all living workers know, as the store says, if this program knows it. It is
     never older than the language needs."""
-    number = int(said) if said.isdigit() else max(formats)
-    return max(number if number in formats else max(formats), NEEDED[language])
+    newest = number(said, 0)
+    return max(newest if newest in formats else max(formats), NEEDED[language])
 
 
 def checked_name(name):
@@ -213,7 +233,7 @@ def read_checkpoint(fields, formats=FORMATS):
         raise Version("a checkpoint", fields[b"v"])
     try:
         at, length, repaint = int(fields[b"at"]), int(fields[b"length"]), fields[b"repaint"]
-        is_sound = length == len(repaint) and fields[b"sha256"].decode() == checksum(at, repaint) and b"v" in fields
+        is_sound = length == len(repaint) and text(fields[b"sha256"]) == checksum(at, repaint) and b"v" in fields
     except (KeyError, ValueError):
         is_sound = False
     if not is_sound:

@@ -25,21 +25,15 @@ class Refused(Exception):
 def find(store, name):
     """Returns the incarnation that a name stands for: the latest one, or the one given as @INCARNATION."""
     found = name[1:].encode() if name.startswith("@") else store.hget(keys.NAMES, name)
-    if not found or not store.hexists(key(found.decode("utf-8", "replace"), "about"), "name"):
+    incarnation = keys.text(found)
+    if not found or not store.hexists(key(incarnation, "about"), "name"):
         raise NoSession(f"no such session: {name}")
-    return found.decode()
-
-
-def number(value):
-    """Returns a number of the store. Raises Wrong if a field isn't one."""
-    if value and not value.isdigit():
-        raise keys.Wrong(f"a field of the session isn't a number: {keys.shown(value)[:40]}")
-    return int(value or 0)
+    return incarnation
 
 
 def about(store, incarnations):
     """Returns a dictionary for each session: what `list` shows."""
-    listed = []
+    listed, raw = [], []
     for at in range(0, len(incarnations), 256):
         some = incarnations[at : at + 256]
         with store.pipeline(transaction=False) as together:
@@ -52,8 +46,9 @@ def about(store, incarnations):
         for number, each in enumerate(some):
             fields, fault, status, foreign = answers[4 * number : 4 * number + 4]
             if isinstance(fields, list) and fields[0] is not None:
-                listed.append(described(each, dict(zip(FIELDS, fields)), fault, status) | {"format": keys.shown(foreign)})
-    add_states(store, listed)
+                raw.append(dict(zip(FIELDS, fields)))
+                listed.append(described(each, raw[-1], fault, status) | {"format": keys.shown(foreign)})
+    add_states(store, listed, raw)
     return listed
 
 
@@ -61,31 +56,33 @@ def described(incarnation, fields, fault, status):
     """Returns what `list` shows of a session. A field that is wrong is the fault of this session, and harms no other."""
     shown = {name: keys.shown(fields[name]) for name in ("name", "host", "owner", "closed", "command")}
     made = {"incarnation": incarnation, "name": shown["name"], "host": shown["host"], "worker": shown["owner"]}
-    made |= {"fault": keys.shown(fault if isinstance(fault, bytes) else b""), "input": fields["input"] == b"1"}
-    made |= {"status": keys.shown(status if isinstance(status, bytes) else b""), "closed": shown["closed"]}
+    made |= {"fault": keys.shown(fault), "input": fields["input"] == b"1"}
+    made |= {"status": keys.shown(status), "closed": shown["closed"]}
     made |= {name: keys.shown(fields[name]) or usual for name, usual in keys.DEC._asdict().items()}
     made |= {"command": shown["command"], "size": 0, "lag": 0, "started": 0, "seen": 0}
     try:
-        end, played, started, seen = (number(fields[name]) for name in ("end", "played", "started", "seen"))
+        end, played, started, seen = (keys.number(fields[name]) for name in ("end", "played", "started", "seen"))
         made |= {"size": end, "lag": max(0, end - played), "started": started, "seen": seen}
+        keys.language_of(fields["encoding"], fields["terminal"])
     except keys.Wrong as wrong:
         made["fault"] = made["fault"] or f"Wrong: {wrong}"
     return made
 
 
-def add_states(store, listed):
-    """Adds the state: a session whose host is silent is told from one that is idle, and one whose worker is silent waits."""
-    owners = sorted({each["worker"] for each in listed})
+def add_states(store, listed, raw):
+    """Adds the state: a session whose host is silent is told from one that is idle, and one whose worker is silent waits. Keys have names as
+    the store has them, not as they are shown."""
+    owners = sorted({fields["owner"] or b"" for fields in raw})
     with store.pipeline(transaction=False) as together:
-        for each in listed:
-            together.get(keys.lease(each["name"]))
+        for fields in raw:
+            together.get(keys.lease("").encode() + fields["name"])
         for owner in owners:
-            together.exists(keys.alive(owner))
+            together.exists(keys.alive("").encode() + owner)
         answers = store.all_of(together) if listed else []
-    living = {owner for owner, is_alive in zip(owners, answers[len(listed) :]) if is_alive}
-    for each, holder in zip(listed, answers):
-        each["worker"] = each["worker"] if each["worker"] in living else ""
-        each["state"] = state_of(each, isinstance(holder, bytes) and holder.decode() == each["incarnation"])
+    living = {owner for owner, is_alive in zip(owners, answers[len(listed) :]) if is_alive == 1}
+    for each, fields, holder in zip(listed, raw, answers):
+        each["worker"] = each["worker"] if fields["owner"] in living else ""
+        each["state"] = state_of(each, holder == each["incarnation"].encode())
 
 
 def state_of(each, has_host):
@@ -102,7 +99,7 @@ def state_of(each, has_host):
 
 def everything(store):
     """Returns a dictionary for each session that the store has."""
-    return about(store, [each.decode() for each in store.zrange(keys.ALL, 0, -1)])
+    return about(store, [keys.text(each) for each in store.zrange(keys.ALL, 0, -1)])
 
 
 def living(store):
@@ -110,7 +107,7 @@ def living(store):
     once."""
     known, found = store.zrange(keys.ALL, 0, -1), []
     for at in range(0, len(known), 500):
-        found += [each.decode() for each in store.run("living", *known[at : at + 500])[1:]]
+        found += [keys.text(each) for each in store.run("living", *known[at : at + 500])[1:]]
     return about(store, found), len(known) - len(found)
 
 
@@ -293,7 +290,7 @@ def retry(store, names):
 
 def drain(store, worker, patience):
     """Has a worker hand its sessions over, and waits until it has none."""
-    names = [each.decode("utf-8", "replace") for each in store.hkeys(keys.WORKERS)]
+    names = [keys.text(each) for each in store.hkeys(keys.WORKERS)]
     found = [each for each in names if each.startswith(worker)]
     if len(found) != 1:
         raise NoSession(f"no such worker: {worker}" if not found else f"{len(found)} workers have a name that begins with {worker}")

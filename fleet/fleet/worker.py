@@ -233,8 +233,8 @@ class Worker:
         if about[0] is None or not is_there:
             raise keys.Lost("the store no longer has this session's bytes")
         session, was_damaged = restored(incarnation, checkpoint, self.formats, keys.language_of(*about[2:]))
-        kept = self.kept[incarnation] = Kept(session, int(about[0]), was_damaged)
-        kept.seen = checkpoint.get(b"at", b"").decode("ascii", "replace")
+        kept = self.kept[incarnation] = Kept(session, keys.number(about[0]), was_damaged)
+        kept.seen = keys.text(checkpoint.get(b"at"))
         kept.name = keys.shown(about[1] or b"?")
         self.due.add(incarnation)
         self.counts["taken"] += 1
@@ -249,7 +249,7 @@ class Worker:
         try:
             return call(*arguments)
         except (MemoryError, vt220.Memory):
-            log.error("%s: allocation failed for %s", self.claims.me, incarnation)
+            log.error("%s: allocation failed for %s", self.claims.me, keys.shown(incarnation))
             self.claims.release([incarnation])
             self.drop(incarnation)
             time.sleep(0.1)
@@ -273,7 +273,7 @@ class Worker:
     def fail_on(self, incarnation, error):
         """Hands over a session at which this worker met an error that isn't the session's own. It may be a fault of this version, so others
         try it. A worker that fails on its first sessions takes no more."""
-        log.error("%s: session %s", self.claims.me, incarnation, exc_info=error)
+        log.error("%s: session %s", self.claims.me, keys.shown(incarnation), exc_info=error)
         session = self.kept.get(incarnation)
         words = session.at if session else 0, f"{type(error).__name__}: {error}"[:1000]
         self.failures += self.store.run("trouble", self.claims.me, incarnation, *words)[0] == "first"
@@ -285,7 +285,7 @@ class Worker:
 
     def decline(self, incarnation, fault):
         """Hands over a session of a format that this worker doesn't know: another version's worker goes on with it."""
-        log.warning("%s hands %s over: %s", self.claims.me, incarnation, fault)
+        log.warning("%s hands %s over: %s", self.claims.me, keys.shown(incarnation), keys.shown(str(fault)))
         self.claims.decline(incarnation, fault.format)
         self.drop(incarnation)
 
@@ -298,16 +298,16 @@ class Worker:
         answer = self.store.run("give_up", self.claims.me, incarnation, seen, fault[:1000])[0]
         if answer == "ok":
             self.counts["faults"] += 1
-            log.error("%s gives up %s: %s", self.claims.me, session.name if session else incarnation, fault)
+            log.error("%s gives up %s: %s", self.claims.me, session.name if session else keys.shown(incarnation), keys.shown(fault))
         elif answer == "moved":
             self.adopt_some([incarnation])
         else:
-            log.info("%s lost %s, at which it had met %s", self.claims.me, incarnation, fault)
+            log.info("%s lost %s, at which it had met %s", self.claims.me, keys.shown(incarnation), keys.shown(fault))
 
     def seen_at(self, incarnation):
         """Returns where a session's checkpoint is, as the store has it."""
         try:
-            return (self.store.hget(key(incarnation, "checkpoint"), "at") or b"").decode("ascii", "replace")
+            return keys.text(self.store.hget(key(incarnation, "checkpoint"), "at"))
         except ResponseError:
             return ""
 

@@ -15,9 +15,9 @@ local function has_failed(inc)
   return redis.pcall('SISMEMBER', key(inc, 'failed'), me) == 1 and (doom(inc) or true)
 end
 
--- Makes a session this worker's. Returns false if it is over, or is given up.
+-- Makes a session this worker's. Returns false if it is over, is given up, or is none: then no host wrote it there.
 local function own(inc)
-  if is_over(inc) then
+  if not string.match(inc, '^%w+$') or is_over(inc) then
     retire(inc)
     return false
   end

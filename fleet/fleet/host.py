@@ -13,7 +13,7 @@ import time
 
 from . import keys
 from .keys import PIECE, key
-from .store import RedisError, is_for_now
+from .store import RedisError, ResponseError, is_for_now, is_of_session
 
 log = logging.getLogger("fleet.host")
 
@@ -262,7 +262,11 @@ class Host:
     def receive_entries(self, patience, names=INPUTS):
         """Waits for what comes for the program. Returns it, as a list of (kind, stream, id, what). Each one is to be given to `forget`
         once the program has it."""
-        return self.read_entries(self.store.read_streams(COUNT, self.streams(names), patience))
+        try:
+            return self.read_entries(self.store.read_streams(COUNT, self.streams(names), patience))
+        except ResponseError as error:
+            self.remove_wrong(error)
+            return []
 
     def receive_next(self):
         """Waits for what comes for the program until the lease is to be renewed, and otherwise renews it. Returns what came."""
@@ -287,10 +291,22 @@ class Host:
             came = awaited.answer()
         except (RedisError, OSError) as error:
             if isinstance(error, RedisError) and not is_for_now(error):
-                raise
-            self.store.is_away(error)
-            self.renewed, came = 0.0, []
+                self.remove_wrong(error)
+            else:
+                self.store.is_away(error)
+                self.renewed = 0.0
+            came = []
         return self.read_entries(came)
+
+    def remove_wrong(self, error):
+        """Removes what somebody wrote in place of a stream for the program, so that the other streams can be read. Raises the error if it is
+        another one."""
+        if not is_of_session(error):
+            raise error
+        for part in map(self.part, INPUTS):
+            if self.store.type(part) not in (b"stream", b"none"):
+                log.error("%s: removed, as it isn't a stream: %s", self.name, part)
+                self.store.delete(part)
 
     def streams(self, names=INPUTS):
         return {self.part(name).encode(): self.last[name] for name in names}

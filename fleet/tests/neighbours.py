@@ -334,6 +334,22 @@ def a_wrong_field_is_one_session_s_fault(url, _):
     check(fleet(url, "workers")[0] == 0, name, "nor does the list of workers")
 
 
+def a_stream_of_a_wrong_type_takes_nothing_else_from_a_host(url, _):
+    """Somebody wrote there what isn't a stream. Reports and signals come, and then keys do, too."""
+    name, one = "wrong stream", worker(url, lease=3600)
+    source = Source(url, "wrong", takes_input=True).send(b"\033[c")
+    source.store.set(source.part("keys"), "x")
+    check(until(lambda: source.receive().got, one), name, "the report comes")
+    source.store.set(source.part("signals"), "x")
+    source.host.renewed = -1e9
+    source.host.receive_next()
+    typist = Typist(source.store, source.incarnation)
+    typist.type(b"a")
+    typist.signal(1)
+    source.receive()
+    check(sorted(source.got[1:]) == [("keys", b"a"), ("signal", 1)], name, f"and so do keys and signals: {source.got}")
+
+
 def what_is_wrong_blinds_no_operator(url, _):
     """A field, a lease, a member of the set of all, and a stream for viewers. The list, the metrics and the page show the others."""
     name, store = "blind", stores.connect(url)
@@ -452,6 +468,7 @@ CASES = [
     a_long_session_without_a_checkpoint_doesn_t_stop_the_page,
     no_client_is_told_of_a_session_without_its_facts,
     a_wrong_field_is_one_session_s_fault,
+    a_stream_of_a_wrong_type_takes_nothing_else_from_a_host,
     what_is_wrong_blinds_no_operator,
     an_entry_that_is_too_long_is_a_fault,
     a_backlog_of_many_sessions_takes_little_memory,

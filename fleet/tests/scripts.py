@@ -60,6 +60,22 @@ def take_gives_up_after_so_many(url, _):
         store.run("bury", one, store.hget(keys.WORKERS, one), 500)
 
 
+def a_broken_session_stops_no_other(url, _):
+    """Its fields have no form in which it could be closed. No worker dies of that, and its name is used again."""
+    name, store = "broken", Source(url, "other").store
+    one = claims.Claims(store, 3600, retain=0)
+    broken = [Source(url, f"broken-{number}") for number in range(2)]
+    for source in broken:
+        store.hset(source.part("about"), "end", "zz")
+        store.delete(keys.lease(source.name))
+        store.zrem(keys.WAITING, source.incarnation)
+        store.hset(keys.FOREIGN, source.incarnation, "9")
+    again = Source(url, "broken-0")
+    check(broken[0].fault().startswith("Wrong: ") and not again.fault(), name, f"its name is used again: {broken[0].fault()}")
+    check(until(lambda: one.audit() or not any(store.exists(source.part("about")) for source in broken)), name, "each is removed in the end")
+    check(store.sismember(keys.LIVE, again.incarnation), name, "and no other is")
+
+
 def a_pause_forgets_what_was_seen(url, _):
     """A worker that was stopped for a lease can't know who lives: it buries nobody by what it saw before."""
     name, source, clock = "beat", Source(url, "beat"), Clock()
@@ -132,6 +148,7 @@ CASES = [
     finish_leaves_the_name_of_another,
     tell_keeps_what_it_is_to_keep,
     take_gives_up_after_so_many,
+    a_broken_session_stops_no_other,
     a_pause_forgets_what_was_seen,
     a_slow_worker_finds_the_dead,
     each_byte_of_a_checkpoint_counts,

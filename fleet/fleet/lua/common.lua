@@ -127,6 +127,15 @@ local function retire(inc)
   redis.call('SREM', 'fleet:live', inc)
 end
 
+-- Calls something for a session. If it raises, since the session's keys or fields have a wrong form, this is the session's fault.
+local function guarded(inc, call, ...)
+  local is_sound, error = pcall(call, inc, ...)
+  if not is_sound then
+    redis.call('SET', key(inc, 'fault'), 'Wrong: ' .. tostring(type(error) == 'table' and error.err or error))
+    retire(inc)
+  end
+end
+
 -- Closes a session's bytes with a status, unless they are closed.
 local function close(inc, status, version)
   local about = redis.call('HMGET', key(inc, 'about'), 'end', 'closed', 'owner')

@@ -278,8 +278,11 @@ def do_drain(words, settings):
 
 
 def do_check(words, settings):
-    settings.connect().examine()
-    print("the store is fit")
+    from .store import connections
+
+    store = settings.connect()
+    store.examine()
+    print(f"the store is fit; {connections(store.facts())}")
     return 0
 
 

@@ -12,6 +12,7 @@ the incarnation, so that a name can be used again without meeting anything of it
     fleet:trying                 hash: worker -> the suspect that it plays alone
     fleet:foreign                hash: incarnation -> the format that it needs; it waits for a worker that knows this format
     fleet:workers                hash: worker -> a count that it raises four times a lease, the lease, and the formats that it knows
+    fleet:format                 the newest format that all workers know, and how many workers there were when it was found
     fleet:alive:WORKER           expires when the worker didn't raise its count for a lease, by the store's clock
     fleet:draining               set of the workers that are to hand their sessions over
     fleet:unfit                  set of the workers that failed on their first sessions, and take no more

@@ -167,7 +167,7 @@ class WholeFleet:
         waited = max(0.0, seconds + micros / 1e6 - oldest / 1000) if oldest else 0.0
         facts = {"trip": trip, "listed": listed, "ended": ended, "waited": waited, "stands": self.standing(listed)}
         workers = living_workers(self.store)
-        facts |= {"workers": len(workers), "unfit": sum(each["is_unfit"] for each in workers)}
+        facts |= {"store": self.store.facts(), "workers": len(workers), "unfit": sum(each["is_unfit"] for each in workers)}
         return facts | {"foreign": self.store.hlen(keys.FOREIGN)}
 
     def standing(self, listed):
@@ -187,6 +187,8 @@ class WholeFleet:
         if "problem" in facts:
             return
         yield gauge("store_round_trip_seconds", "Seconds until the store answered a ping", facts["trip"])
+        yield gauge("store_clients", "Connections to the store", facts["store"]["connected_clients"])
+        yield gauge("store_clients_most", "Connections that the store allows (maxclients)", facts["store"]["maxclients"])
         yield gauge("workers", "Workers that live", facts["workers"])
         yield gauge("workers_unfit", "Those of them that failed on their first sessions, and take no more", facts["unfit"])
         yield gauge("formats_missing", "Sessions that wait for a worker that knows their format", facts["foreign"])

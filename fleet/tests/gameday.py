@@ -8,7 +8,7 @@ import urllib.error
 
 from prometheus_client import CollectorRegistry, generate_latest
 
-from harness import HERE, Clock, Processes, Source, check, keys, settings, local, stores, until, wait_for, with_machine
+from harness import HERE, Clock, Processes, Source, check, compare, keys, settings, local, stores, until, wait_for, with_machine
 from operators import asked, state
 from safety import fleet, free_port
 from fleet import metrics
@@ -160,6 +160,53 @@ def a_format_is_missing(machine, _):
 
 
 @with_machine
+def connections_run_out(machine, _):
+    whole, store, lives = whole_of(machine), stores.connect(machine.url), Claims(stores.connect(machine.url), 3600)
+    day = Day(all=of_collector(whole))
+    day.look()
+    others = [stores.connect(machine.url) for _ in range(8)]
+    check(all(each.ping() for each in others), lives.me, "others come")
+    store.config_set("maxclients", len(others) + 4)
+    status, _, said = fleet(machine.url, "check-store")
+    check(status == 69 and "of 12 connections" in said, lives.me, f"check-store says so: {status} {said}")
+    day.look()
+    run_of("FleetConnections", machine)
+    status, _, said = fleet(machine.url, "check-store")
+    check(status == 0, "connections", f"then the store is fit: {said}")
+    day.look()
+    day.judge(machine, "FleetConnections")
+
+
+def run_of(section, machine):
+    """Runs the runbook's commands of a section on a test's store."""
+    with open(os.path.join(HERE, "..", "RUNBOOK.md")) as file:
+        text = re.search(rf"^## {section}\n(.*?)(?=^## |\Z)", file.read(), re.MULTILINE | re.DOTALL)[1]
+    commands = "\n".join(line[4:] for line in text.splitlines() if line.startswith("    "))
+    commands = commands.replace("redis-cli", f"redis-cli -s {machine.socket}").replace("/var/lib/redis", machine.folder)
+    done = subprocess.run(["sh", "-e", "-c", commands], capture_output=True, text=True)
+    check(commands and done.returncode == 0, section, f"its commands run: {done.stdout} {done.stderr}")
+
+
+@with_machine
+def a_backup_is_restored(machine, data):
+    """Hosts live on meanwhile, and the backup lacks what they sent after it."""
+    name, one = "backup", Worker(stores.connect(machine.url), settings(lease=3600))
+    source = Source(machine.url, name).send(data[:2000])
+    until(lambda: source.incarnation in one.kept and not one.due, one)
+    run_of("Backup of the store", machine)
+    source.send(data[2000:] + b"\033[6n")
+    run_of("Restore of the store", machine)
+    machine.server.wait()
+    machine.start()
+    source.host.renewed = -1e9
+    source.host.renew_if_due()
+    source.end(0)
+    check(until(source.is_ended, one), name, "the session goes on to its end")
+    source.receive()
+    compare(source, name)
+
+
+@with_machine
 def a_target_is_down(machine, _):
     """`fleet metrics` ends, and that of another fleet doesn't."""
     port, lives = free_port(), Claims(stores.connect(machine.url), 3600)
@@ -249,4 +296,4 @@ def an_error_is_taken_back(url, _):
     check(fleet(url, "retry", "taken-back")[0] == 6, name, "one that its host gave up can't")
 
 
-CASES = [an_upgrade_fails, an_error_is_taken_back, no_workers, a_session_stands_still, a_format_is_missing, a_target_is_down]
+CASES = [an_upgrade_fails, an_error_is_taken_back, no_workers, a_session_stands_still, a_format_is_missing, connections_run_out, a_backup_is_restored, a_target_is_down]

@@ -1,5 +1,5 @@
 """The store's scripts one by one, each at the edge of what it promises, and checkpoints of which each byte counts."""
-from harness import Clock, Source, check, compare, keys, played, until, worker
+from harness import Clock, Source, check, compare, keys, played, until, wait_for, worker
 from fleet import claims
 
 TRIES = claims.TRIES
@@ -60,6 +60,42 @@ def take_gives_up_after_so_many(url, _):
         store.run("bury", one, store.hget(keys.WORKERS, one), 500)
 
 
+def a_beat_and_a_renewal_cost_the_same_beside_many_workers(url, _):
+    """No command reads all workers, and as much comes back. Those that are dead are found all the same."""
+    name, clock, source = "many", Clock(), Source(url, "many")
+    store, real = source.store, claims.time
+    claims.time = clock
+
+    def cost():
+        """Returns the commands of a beat and a renewal, and the length of a beat's answer."""
+        store.config_resetstat()
+        one.beat(0)
+        source.host.renewed = -1e9
+        source.host.renew_if_due()
+        asked = {command: facts["calls"] for command, facts in store.info("commandstats").items()}
+        return asked, len(store.run("beat", one.me)[-1])
+
+    try:
+        one, buried = claims.Claims(store, 1.0), set()
+        one.bury = lambda other, count: buried.add(other)
+        for number in range(800):
+            store.run("enter", f"w{number}", *SHOWN)
+            if number == 39:
+                few = cost()
+        many = cost()
+        check("cmdstat_hgetall" not in many[0] and few[1] == many[1], name, f"{few} {many}")
+        check(sum(many[0].values()) <= sum(few[0].values()) + claims.WATCHED, name, "nor are there more commands")
+
+        def are_found():
+            clock.now += 0.2
+            one.beat(0)
+            return len(buried) == 800
+
+        check(wait_for(are_found, 0), name, f"one that is left finds all dead ones: {len(buried)}")
+    finally:
+        claims.time = real
+
+
 def a_broken_session_stops_no_other(url, _):
     """Its fields have no form in which it could be closed. No worker dies of that, and its name is used again."""
     name, store = "broken", Source(url, "other").store
@@ -94,7 +130,7 @@ def a_pause_forgets_what_was_seen(url, _):
         for _ in range(8):
             clock.now += 0.2
             one.beat(0)
-        check(set(buried) == {"still"}, name, "a count that then stands still for a lease is")
+        check(set(buried) == {b"still"}, name, "a count that then stands still for a lease is")
     finally:
         claims.time = real
 
@@ -113,7 +149,7 @@ def a_slow_worker_finds_the_dead(url, _):
             clock.now += 1.5
             source.store.run("beat", "lives")
             one.beat(0)
-        check(set(buried) == {"still"}, name, f"it buries the silent one: {buried}")
+        check(set(buried) == {b"still"}, name, f"it buries the silent one: {buried}")
         buried.clear()
         clock.now += 60.0
         one.beat(0)
@@ -149,6 +185,7 @@ CASES = [
     tell_keeps_what_it_is_to_keep,
     take_gives_up_after_so_many,
     a_broken_session_stops_no_other,
+    a_beat_and_a_renewal_cost_the_same_beside_many_workers,
     a_pause_forgets_what_was_seen,
     a_slow_worker_finds_the_dead,
     each_byte_of_a_checkpoint_counts,

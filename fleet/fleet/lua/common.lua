@@ -19,15 +19,6 @@ local function show_life(worker, lease) redis.call('SET', 'fleet:alive:' .. work
 
 local function is_alive(worker) return redis.call('EXISTS', 'fleet:alive:' .. worker) == 1 end
 
--- Removes a worker from all that names the workers.
-local function strike_off(worker)
-  redis.call('HDEL', 'fleet:workers', worker)
-  redis.call('SREM', 'fleet:draining', worker)
-  redis.call('SREM', 'fleet:unfit', worker)
-  redis.call('HDEL', 'fleet:trying', worker)
-  redis.call('DEL', 'fleet:alive:' .. worker)
-end
-
 -- Ends a worker's trial of a session.
 local function absolve(worker, inc)
   if redis.call('HGET', 'fleet:trying', worker) == inc then redis.call('HDEL', 'fleet:trying', worker) end
@@ -67,11 +58,10 @@ local function workers_shown()
   return shown
 end
 
--- Returns the newest format that all living workers know, as text; empty if there is none. All write this one, so that each can go
--- on with what another one wrote.
-local function common_format(shown)
+-- Returns the newest format that all workers know, as text; empty if there is none.
+local function found_format()
   local workers, count, newest = 0, {}, 0
-  for _, each in pairs(shown or workers_shown()) do
+  for _, each in pairs(workers_shown()) do
     local known = formats_in(each)
     if known then
       workers = workers + 1
@@ -82,6 +72,30 @@ local function common_format(shown)
     if times == workers then newest = math.max(newest, tonumber(format)) end
   end
   return newest > 0 and tostring(newest) or ''
+end
+
+-- Notes that format, and how many workers there were. Whoever changes the workers calls it.
+local function note_format()
+  redis.call('SET', 'fleet:format', found_format() .. ' ' .. redis.call('HLEN', 'fleet:workers'))
+end
+
+-- Returns the noted format; nil if there are more or fewer workers now, since another version's functions changed them.
+local function noted_format()
+  local newest, count = string.match(redis.call('GET', 'fleet:format') or '', '^(%d*) (%d+)$')
+  return tonumber(count) == redis.call('HLEN', 'fleet:workers') and newest or nil
+end
+
+-- Returns the format that all write, so that each can go on with what another one wrote. Its cost doesn't depend on how many workers live.
+local function common_format() return noted_format() or found_format() end
+
+-- Removes a worker from all that names the workers.
+local function strike_off(worker)
+  redis.call('HDEL', 'fleet:workers', worker)
+  redis.call('SREM', 'fleet:draining', worker)
+  redis.call('SREM', 'fleet:unfit', worker)
+  redis.call('HDEL', 'fleet:trying', worker)
+  redis.call('DEL', 'fleet:alive:' .. worker)
+  note_format()
 end
 
 -- So many workers may die with a session in a handful, before it caught up. Then it is taken alone, so that a death counts against

@@ -15,9 +15,9 @@ if found < 3 then
   redis.call('HSETNX', 'fleet:names', name, inc)
   redis.call('ZADD', 'fleet:all', 'NX', moment(), inc)
 end
-local shown = workers_shown()
-if said[2] then return {'ok', about[1], about[2], common_format(shown), said[2]} end
+if said[2] then return {'ok', about[1], about[2], common_format(), said[2]} end
 redis.call('SADD', 'fleet:live', inc)
 local owner = about[3]
-if not (owner and shown[owner] and redis.call('SISMEMBER', 'fleet:of:' .. owner, inc) == 1) then queue(inc) end
-return {'ok', about[1], about[2], common_format(shown)}
+local is_had = owner and redis.call('HEXISTS', 'fleet:workers', owner) == 1 and redis.call('SISMEMBER', 'fleet:of:' .. owner, inc) == 1
+if not is_had then queue(inc) end
+return {'ok', about[1], about[2], common_format()}

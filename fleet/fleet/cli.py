@@ -17,6 +17,8 @@ from .config import CHOICES, Beyond, Settings, Unclear, seconds, within
 
 LEAVING = 10.0  # seconds to wait for a store after a signal to end, at most
 HEALTH = 2.0  # seconds to wait for a store that the page's /healthz asks
+ENDS = (signal.SIGHUP, signal.SIGTERM, signal.SIGINT)
+HEEDED = (*ENDS, signal.SIGUSR1)  # by a host
 TAKEN, FAULT, NONE, REFUSED, UNFIT, DENIED, CONFIGURATION = 5, 4, 3, 6, 69, 77, 78
 
 
@@ -69,7 +71,7 @@ def on_end(call):
             call()
 
     threading.Thread(target=heed, daemon=True).start()
-    for ends in (signal.SIGHUP, signal.SIGTERM, signal.SIGINT):
+    for ends in ENDS:
         signal.signal(ends, lambda *_: came.put(None))
 
 
@@ -121,13 +123,16 @@ def keep_running(made, language, words, settings):
     if link:
         program = Program(host, link, state)
     else:
+        signal.pthread_sigmask(signal.SIG_UNBLOCK, HEEDED)  # the program has the mask of this thread
         program = started(host, words.command, path, words.user or settings.host.user, settings.host.orphan)
     if metrics:
         metrics.program = program
     on_end(lambda: (program.stop(), setattr(made[0], "patience", min(LEAVING, settings.store.give_up))))
     signal.signal(signal.SIGUSR1, lambda *_: program.leave())
+    signal.pthread_sigmask(signal.SIG_UNBLOCK, HEEDED)
     status = program.run()
     if program.is_leaving and status is None and not host.fault:
+        signal.pthread_sigmask(signal.SIG_BLOCK, HEEDED)  # until the next version heeds them
         os.execv(sys.executable, [sys.executable, *sys.orig_argv[1:]])
     try:
         if host.fault:

@@ -28,8 +28,26 @@ BEAT = 10 / 3  # seconds between two looks at the store, at most
 INPUTS = ("answers", "keys", "signals")  # the streams with what comes for the program
 
 
+def birth(pid):
+    """Returns when a process of this machine began, as its kernel counts; empty if there is no such process."""
+    try:
+        with open(f"/proc/{pid}/stat") as stat:
+            return stat.read().rpartition(")")[2].split()[19]
+    except (FileNotFoundError, ProcessLookupError):
+        return ""
+
+
+def is_dead_here(host):
+    """Returns whether a host, as the store names it, was one of this machine and is no more."""
+    node, _, rest = host.partition(":")
+    pid, _, token = rest.partition(":")
+    return node == os.uname().nodename and pid.isdigit() and birth(pid) != token.partition("-")[2]
+
+
 class Taken(keys.Fault):
     """The name is another host's."""
+
+    by = ""  # that host, if the store says so
 
 
 class Unplayable(keys.Fault):
@@ -46,7 +64,8 @@ class Host:
     def __init__(self, store, name, lease=10.0, takes_input=False, command="", incarnation=None, encoding="dec", terminal="vt220"):
         self.store, self.name, self.lease = store, keys.checked_name(name), lease
         self.incarnation = incarnation or keys.new_id()
-        self.me = f"{os.uname().nodename}:{os.getpid()}:{secrets.token_hex(2)}"  # the store takes bytes from this host alone
+        # The store takes bytes from this host alone.
+        self.me = f"{os.uname().nodename}:{os.getpid()}:{secrets.token_hex(2)}-{birth(os.getpid())}"
         self.about = ["host", self.me, "input", int(takes_input), "command", command[:500]]
         self.language = keys.Language(encoding, terminal)
         needed = keys.NEEDED[self.language]
@@ -80,7 +99,9 @@ class Host:
         """Takes the name, and asks for a worker. Raises Taken if another host holds the name."""
         answer = self.store.run("register", self.name, self.incarnation, int(self.lease * 1000), self.version(), *self.about)
         if answer[0] != "ok":
-            raise Taken(f"the name {self.name!r} is held by the host {keys.shown(answer[1])}")
+            fault = Taken(f"the name {self.name!r} is held by the host {keys.shown(answer[1])}")
+            fault.by = keys.text(answer[1])
+            raise fault
         self.renewed, self.format = time.monotonic(), keys.agreed(answer[3], self.formats, self.language)
         return int(answer[1]), int(answer[2])
 
@@ -90,8 +111,9 @@ class Host:
     # Another host's session, whose program lives.
 
     def resume(self):
-        """Takes over a session from its last host, which is no more. Raises Taken if the session isn't there to be taken."""
-        self.at, self.played = self.register()
+        """Takes over a session from its last host, which is no more. If another session has the name, and its host died on this machine, waits
+        for the end of its lease. Raises Taken if the session isn't there to be taken."""
+        self.at, self.played = self.register_in_time(is_dead_here)
         self.begun = self.stored = self.at
 
     def adopt(self, begin, end, last):
@@ -178,13 +200,20 @@ class Host:
 
     def register_again(self):
         """Takes the name once more. An older host may hold it in a store that went back: its lease is waited for."""
+        try:
+            return self.register_in_time(lambda host: True)
+        except Taken as fault:
+            self.fail(fault)
+
+    def register_in_time(self, is_waited_for):
+        """Takes the name, and waits for the lease of another host if that one is waited for."""
         end = time.monotonic() + 2 * self.lease
         while True:
             try:
                 return self.register()
             except Taken as fault:
-                if time.monotonic() > end:
-                    self.fail(fault)
+                if time.monotonic() > end or not is_waited_for(fault.by):
+                    raise
                 time.sleep(0.1)
 
     def fail(self, fault):

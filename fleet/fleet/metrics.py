@@ -21,6 +21,7 @@ WORDS = {
     "lost": "Sessions that another worker took",
 }
 STATES = ("waiting", "running", "no host", "ending", "ended", "fault")
+SILENT = 10.0  # seconds after which a connection that asks nothing is closed
 OLD = 5.0  # seconds for which what was read of the store is served again
 
 
@@ -213,6 +214,8 @@ def server(collector, address):
     registry.register(collector)
 
     class Handler(BaseHTTPRequestHandler):
+        timeout = SILENT
+
         def do_GET(self):
             if self.path == "/healthz":
                 problem = collector.problem()

@@ -1,10 +1,12 @@
 """What is replaced while sessions live: formats, leases, hosts; and what is removed in the end."""
 import os
 import random
+import re
 import signal
 import stat
 import subprocess
 import sys
+import threading
 
 from harness import (
     HERE,
@@ -28,11 +30,12 @@ from harness import (
     with_machine,
     worker,
 )
-from operators import written
+from operators import children_of, written
 from safety import conf, fleet
 from stores_faults import program
-from fleet import claims, wire
+from fleet import claims, holder, wire
 from fleet.operate import Typist
+from fleet.program import Program
 from fleet.worker import Worker
 
 seed, rounds = 1, 20
@@ -268,6 +271,52 @@ def a_program_outlives_its_host(machine, data):
     workers.stop()
 
 
+@with_machine
+def keys_of_a_host_that_is_killed_are_not_lost(machine, _):
+    """The holder meets the host's end when it sends, before it has read what the host said last. The turns are the test's."""
+    name, path = "last keys", os.path.join(machine.folder, "holder")
+    said = {"path": path, "name": name, "incarnation": "a", "command": ["cat"], "encoding": "dec", "terminal": "vt220"}
+    one = holder.Holder(said)
+    link = wire.connected(path)
+    one.meet()
+    link.sendall(wire.packed(wire.INPUT, 0, b"keys 1-0\nabc") + wire.packed(wire.INPUT, 0, b"keys 2-0\ndef"))
+    link.close()
+    one.data += b"what the program wrote"
+    one.send_host()
+    check((one.host, one.input, one.last) == (None, b"abcdef", {"keys": b"2-0"}), name, f"it has all: {one.input} {one.last}")
+    link = wire.connected(path)
+    one.meet()
+    source = Source(machine.url, name, takes_input=True)
+    hosted = Program(source.host, link, {"base": 0, "end": 0, "last": {}, "reader": wire.Reader(), "early": []})
+    typist = Typist(source.store, source.incarnation)
+    typist.type(b"ghi")
+    hosted.send_all(source.host.receive_entries(0))
+    check(source.store.xlen(source.part("keys")) == 1, name, "keys are in the store until the holder says that the program has them")
+    gives = threading.Thread(target=hosted.give, args=([],))
+    gives.start()
+    check(wait_for(lambda: one.turn() or not gives.is_alive()), name, "which it says")
+    check(source.store.xlen(source.part("keys")) == 0, name, "then they are removed")
+    one.signal(signal.SIGKILL)
+
+
+@with_machine
+def a_host_waits_for_the_lease_of_one_that_died_with_its_program(machine, _):
+    """As when the kernel ends all of a unit, which is then started again."""
+    name, store = "both", stores.connect(machine.url)
+    first = program(machine, name, ["sleep", "infinity"])
+    wait_for(lambda: store.hexists(keys.NAMES, name) and os.path.isdir(machine.holders()) and os.listdir(machine.holders()))
+    before = store.hget(keys.NAMES, name)
+    for pid in (*children_of(first.pid), first.pid):
+        os.kill(pid, signal.SIGKILL)
+    first.wait()
+    store.config_resetstat()
+    second = program(machine, name, ["sh", "-c", "exit 3"])
+    wait_for(lambda: second.poll() is not None or store.info("commandstats").get("cmdstat_fcall", {}).get("calls", 0) > 3)
+    check(second.poll() is None, name, f"it waits while the lease lasts: {second.returncode}")
+    store.pexpire(keys.lease(name), 1)
+    check(second.wait(PATIENCE) == 3 and store.hget(keys.NAMES, name) != before, name, f"then it begins: {second.returncode}")
+
+
 VICTIMS = ("host", "worker", "host", "host", "store", "worker", "host", "store", "host", "worker", "host")
 
 
@@ -311,6 +360,12 @@ def a_storm_with_hosts_among_the_victims(machine, data):
     workers.stop()
 
 
+def heeds(pid, number):
+    """Returns whether a process has a handler for a signal."""
+    with open(f"/proc/{pid}/status") as status:
+        return bool(int(re.search(r"SigCgt:\s+(\w+)", status.read())[1], 16) >> (number - 1) & 1)
+
+
 @with_machine
 def a_host_is_replaced_by_a_newer_one(machine, _):
     name, workers = "replaced", Processes(machine, 1)
@@ -327,7 +382,9 @@ def a_host_is_replaced_by_a_newer_one(machine, _):
     before = held_by()
     for number in range(3):
         host.send_signal(signal.SIGUSR1)
-        check(wait_for(lambda: held_by() != before), name, "SIGUSR1: it is another one")
+        wait_for(lambda: not heeds(host.pid, signal.SIGUSR1) or held_by() != before, 0)
+        host.send_signal(signal.SIGUSR1)  # once more, while the next version starts
+        check(wait_for(lambda: held_by() != before) and host.poll() is None, name, f"SIGUSR1: it is another one: {host.poll()}")
         before = held_by()
         check(fleet(machine.url, "type", "--enter", name, f"line {number}")[0] == 0, name, "which takes keys")
         check(wait_for(lambda: b"got line %d" % number in written(store, name)), name, "for the same program")
@@ -401,6 +458,8 @@ CASES = [
     a_worker_is_dead_by_its_own_lease,
     what_nobody_needs_is_removed,
     a_program_outlives_its_host,
+    keys_of_a_host_that_is_killed_are_not_lost,
+    a_host_waits_for_the_lease_of_one_that_died_with_its_program,
     a_storm_with_hosts_among_the_victims,
     a_host_is_replaced_by_a_newer_one,
     an_old_host_writes_nothing_once_there_is_a_new_one,

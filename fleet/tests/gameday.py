@@ -4,16 +4,25 @@ import json
 import os
 import re
 import subprocess
+import threading
+import types
 import urllib.error
 
+from aiohttp import web
 from prometheus_client import CollectorRegistry, generate_latest
 
-from harness import HERE, Clock, Processes, Source, check, compare, keys, settings, local, stores, until, wait_for, with_machine
-from operators import asked, state
+from harness import HERE, PATIENCE, PATIENT, Clock, Processes, Proxy, Source, check, compare, configured, keys, local, raises
+from harness import settings, stores, until, wait_for, with_machine
+from operators import asked, metrics_at, state
 from safety import fleet, free_port
-from fleet import metrics
+from stores_faults import program
+from fleet import config, metrics, wire
 from fleet.claims import Claims
-from fleet.metrics import WholeFleet
+from fleet.host import Host
+from fleet.metrics import HostMetrics, PageMetrics, WholeFleet
+from fleet.operate import Typist
+from fleet.program import started
+from fleet.web import Page
 from fleet.worker import Worker
 
 ALERTS = os.path.join(HERE, "..", "alerts.yml")
@@ -296,4 +305,173 @@ def an_error_is_taken_back(url, _):
     check(fleet(url, "retry", "taken-back")[0] == 6, name, "one that its host gave up can't")
 
 
-CASES = [an_upgrade_fails, an_error_is_taken_back, no_workers, a_session_stands_still, a_format_is_missing, connections_run_out, a_backup_is_restored, a_target_is_down]
+def lives(machine):
+    """Has a worker live that plays nothing, so that no alert is there before the fault."""
+    return Claims(stores.connect(machine.url), 3600)
+
+
+@with_machine
+def the_store_is_away(machine, _):
+    day = Day(all=of_collector(whole_of(machine)))
+    lives(machine)
+    day.look()
+    machine.kill()
+    day.look()
+    machine.start()
+    day.look()
+    day.judge(machine, "FleetStoreAway")
+
+
+@with_machine
+def the_store_is_slow(machine, _):
+    """Each ping takes longer than it should, by the clock of the metrics."""
+    whole, clock = whole_of(machine), Clock()
+    day, ping, real = Day(all=of_collector(whole)), whole.store.ping, metrics.time
+    metrics.time = clock
+    try:
+        lives(machine)
+        day.look()
+        whole.store.ping = lambda: setattr(clock, "now", clock.now + 0.7)
+        day.look()
+        whole.store.ping = ping
+        day.look()
+    finally:
+        metrics.time = real
+    day.judge(machine, "FleetReportsSlow")
+
+
+@with_machine
+def sessions_wait(machine, _):
+    """The only worker is full."""
+    day = Day(all=of_collector(whole_of(machine)))
+    lives(machine)
+    day.look()
+    source = Source(machine.url, "waits")
+    source.store.zincrby(keys.WAITING, -60000, source.incarnation)
+    day.look()
+    more = Worker(stores.connect(machine.url), settings(lease=3600))
+    check(until(lambda: source.incarnation in more.kept, more), "waits", "one more worker takes it")
+    day.look()
+    day.judge(machine, "FleetSessionsWait")
+
+
+@with_machine
+def hosts_are_silent(machine, _):
+    """A host is killed, and the same command goes on with its program."""
+    name, store, day = "silent", stores.connect(machine.url), Day(all=of_collector(whole_of(machine)))
+    one, command = lives(machine), ["sh", "-c", "echo on; read x; exit 3"]
+    with configured(machine, *PATIENT, "[host]", "lease = 1"):
+        first = program(machine, name, command, "--input")
+    wait_for(lambda: (state(store, name) or {"size": 0})["size"])  # so its program runs
+    one.take(16)
+    day.look()
+    first.kill()
+    first.wait()
+    wait_for(lambda: state(store, name)["state"] == "no host")
+    day.look()
+    again = program(machine, name, command, "--input")
+    check(wait_for(lambda: state(store, name)["state"] == "running"), name, "it has a host again")
+    day.look()
+    Typist(store, state(store, name)["incarnation"]).type(b"\r")
+    check(again.wait(PATIENCE) == 3, name, f"and its program lives: {again.returncode}")
+    day.judge(machine, "FleetHostsSilent")
+
+
+FAULTS = {
+    "Wrong": lambda source: source.store.xadd(source.part("bytes"), {"v": keys.version(), "text": "x"}, id="9-0"),
+    "Version": lambda source: source.store.xadd(source.part("bytes"), {"bytes": "abc"}, id="3-0"),
+    "Trimmed": lambda source: source.send(b"gone").store.xtrim(source.part("bytes"), maxlen=0, approximate=False),
+    "Lost": lambda source: source.store.delete(source.part("bytes")),
+    "Forged": lambda source: (source.store.xadd(source.part("answers"), {"report": "x"}, id="99999-0"), source.send(b"\033[c")),
+}
+
+
+@with_machine
+def sessions_have_faults(machine, _):
+    """Of each kind, made in the store. An operator ends these sessions."""
+    one, day = Worker(stores.connect(machine.url), settings(lease=3600)), Day(all=of_collector(whole_of(machine)))
+    day.look()
+    made = {fault: Source(machine.url, fault) for fault in FAULTS}
+    for fault, harm in FAULTS.items():
+        harm(made[fault])
+    check(until(lambda: all(source.fault().startswith(fault) for fault, source in made.items()), one), "faults", "each has its own")
+    day.look()
+    for fault in FAULTS:
+        check(fleet(machine.url, "end", "--force", "--keep", "0", fault)[0] == 0, "faults", f"{fault}: it is removed")
+    day.look()
+    for fault in FAULTS:
+        day.judge(machine, "FleetFaults", fault=fault)
+
+
+@with_machine
+def a_worker_is_cut_off(machine, _):
+    """Its link ends, and is back."""
+    port, proxy = free_port(), Proxy(machine)
+    day, cut = Day(one=of_port(port), all=of_collector(whole_of(machine))), Processes(machine, 1, "--metrics", f"127.0.0.1:{port}", url=proxy.url)
+    lives(machine)
+
+    def is_away():
+        return metrics_at(port)["fleet_store_is_away"]
+
+    wait_for(of_port(port))
+    wait_for(lambda: not is_away())
+    day.look()
+    proxy.process.kill()
+    wait_for(is_away)
+    day.look()
+    os.unlink(proxy.socket)
+    proxy.process = subprocess.Popen(proxy.process.args, stdout=subprocess.PIPE)
+    check(wait_for(lambda: not is_away()), "cut off", "it reaches the store again")
+    day.look()
+    day.judge(machine, "FleetCutOff", instance="one")
+    cut.stop()
+    proxy.stop()
+
+
+@with_machine
+def a_host_is_behind(machine, _):
+    """No worker plays its session, and its program writes more than may wait."""
+    name, clock, real = "behind", Clock(), metrics.time
+    host = Host(stores.connect(machine.url), name, lease=3600)
+    of_host = HostMetrics(host)
+    host.register()
+    ran = of_host.program = started(host, ["sh", "-c", "read x; head -c 3000000 /dev/zero"], os.path.join(machine.folder, "holder"))
+    day, runs = Day(one=of_collector(of_host), all=of_collector(whole_of(machine))), threading.Thread(target=ran.run)
+    metrics.time = clock
+    try:
+        lives(machine)
+        day.look()
+        runs.start()
+        ran.say(wire.INPUT, 0, b"keys 1-0\n\r")
+        wait_for(lambda: host.is_waiting)
+        clock.now = ran.sends_since + 60
+        day.look()
+        one = Worker(stores.connect(machine.url), settings(lease=3600))
+        check(until(lambda: not runs.is_alive(), one) and ran.status == 0, name, "a worker plays it, so the program goes on")
+        day.look()
+    finally:
+        metrics.time = real
+    ran.done()
+    day.judge(machine, "FleetHostBehind")
+
+
+@with_machine
+def a_page_is_asked_without_its_token(machine, _):
+    store, asks = stores.connect(machine.url), types.SimpleNamespace(query={"token": "a guess"})
+
+    def served():
+        return Page(store, store, config.Web())
+
+    page = served()
+    day = Day(one=lambda: of_collector(PageMetrics(page))())
+    day.look()
+    for _ in range(30):
+        check(raises(web.HTTPForbidden, page.demand, asks), "page", "it is refused")
+    day.look()
+    page = served()  # with another token
+    day.look()
+    day.judge(machine, "FleetPageRefuses", instance="one")
+
+
+CASES = [the_store_is_away, the_store_is_slow, sessions_wait, hosts_are_silent, sessions_have_faults, a_worker_is_cut_off, a_host_is_behind]
+CASES += [a_page_is_asked_without_its_token, an_upgrade_fails, an_error_is_taken_back, no_workers, a_session_stands_still, a_format_is_missing, connections_run_out, a_backup_is_restored, a_target_is_down]

@@ -13,6 +13,7 @@ import sys
 import threading
 import time
 
+from . import VERSION
 from .config import CHOICES, Beyond, Settings, Unclear, seconds, within
 
 LEAVING = 10.0  # seconds to wait for a store after a signal to end, at most
@@ -397,6 +398,7 @@ def parser():
     made = argparse.ArgumentParser(
         prog="fleet", description="Sessions of a VT220 that outlive their machine.", epilog=__doc__.split("\n\n")[1]
     )
+    made.add_argument("--version", action="version", version=f"vt220-fleet {VERSION}")
     made.add_argument("--config", help="the configuration file")
     made.add_argument("--quiet", action="store_true", help="logs errors only")
     commands = made.add_subparsers(dest="word", required=True, metavar="COMMAND")

@@ -5,7 +5,7 @@ import time
 from http.server import BaseHTTPRequestHandler, ThreadingHTTPServer
 
 from prometheus_client import CollectorRegistry, generate_latest
-from prometheus_client.core import CounterMetricFamily, GaugeMetricFamily, HistogramMetricFamily
+from prometheus_client.core import CounterMetricFamily, GaugeMetricFamily
 from prometheus_client.exposition import CONTENT_TYPE_LATEST
 
 from . import keys
@@ -23,16 +23,6 @@ WORDS = {
 STATES = ("waiting", "running", "no host", "ending", "ended", "fault")
 SILENT = 10.0  # seconds after which a connection that asks nothing is closed
 OLD = 5.0  # seconds for which what was read of the store is served again
-
-
-def family_of(latency):
-    """Returns a latency as a histogram."""
-    total, buckets = 0, []
-    for limit, count in zip([*map(str, latency.LIMITS), "+Inf"], latency.counts):
-        total += count
-        buckets.append((limit, total))
-    words = "Seconds from the read of a session's bytes until the store had their reports"
-    return HistogramMetricFamily("fleet_report_seconds", words, buckets=buckets, sum_value=latency.sum)
 
 
 def gauge(name, words, value):
@@ -73,7 +63,7 @@ class WorkerMetrics:
         yield gauge("due", "Sessions with something to play", len(worker.due))
         yield gauge("choked", "Sessions whose hosts don't read their reports", len(worker.choked))
         yield gauge("watched", "Sessions that somebody looks at", len(worker.frames.watched))
-        yield family_of(worker.latency)
+        yield from worker.latency.collect()
 
     def problem(self):
         """Returns why this worker isn't well, or nothing."""

@@ -5,7 +5,6 @@ import json
 import logging
 import os
 import queue
-import select
 import subprocess
 import sys
 import threading

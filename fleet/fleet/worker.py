@@ -8,11 +8,11 @@ import logging
 import time
 
 import vt220
+from prometheus_client import Histogram
 
 from . import keys
 from .claims import HANDFUL, Claims
 from .frames import Frames
-from .latency import Latency
 from .inbox import Inbox
 from .keys import key
 from .session import Session, restored
@@ -31,6 +31,7 @@ SHARE = 16384  # of them that a session may always play
 REPORTS = 200  # of a session that are made in a turn
 UNREAD = 4096  # reports that may wait for a host; then its session is not played on
 SETTLED = 60.0  # seconds that a session stays with a worker at least, unless that one leaves
+LIMITS = (0.005, 0.01, 0.025, 0.05, 0.1, 0.25, 0.5, 1.0, 5.0)  # of the buckets of reports' seconds
 UNFIT = 3  # sessions on which a new worker fails, and no other did, before it takes no more
 NOTE = 5.0  # seconds until the store is told how far a session is, if nothing else tells it
 
@@ -114,7 +115,8 @@ class Worker:
         self.is_leaving = self.is_gone = self.is_behind = self.is_stale = False
         self.is_proven = self.is_unfit = False  # whether it played a session on; or failed on its first ones
         self.failures = 0  # sessions on which it failed, and no other worker did
-        self.latency = Latency()
+        words = "Seconds from the read of a session's bytes until the store had their reports"
+        self.latency = Histogram("fleet_report_seconds", words, buckets=LIMITS, registry=None)
         store.minds_runs = True
         self.generation = store.generation()
 
@@ -464,7 +466,7 @@ class Worker:
     def was_told(self, session, unread):
         self.counts["reports"] += len(session.reports)
         if session.reports:
-            self.latency.note(time.monotonic() - session.read_at)
+            self.latency.observe(time.monotonic() - session.read_at)
         session.reports, session.told, session.is_on_trial = [], session.at, False
         self.is_proven = self.is_proven or session.at > session.begun
         if session.checkpoint:

@@ -170,14 +170,15 @@ def a_format_is_missing(machine, _):
 
 @with_machine
 def connections_run_out(machine, _):
-    whole, store, lives = whole_of(machine), stores.connect(machine.url), Claims(stores.connect(machine.url), 3600)
+    whole, store, one = whole_of(machine), stores.connect(machine.url), lives(machine)
     day = Day(all=of_collector(whole))
     day.look()
     others = [stores.connect(machine.url) for _ in range(8)]
-    check(all(each.ping() for each in others), lives.me, "others come")
-    store.config_set("maxclients", len(others) + 4)
+    check(all(each.ping() for each in others), one.me, "others come")
+    most = store.info("clients")["connected_clients"] + 2
+    store.config_set("maxclients", most)
     status, _, said = fleet(machine.url, "check-store")
-    check(status == 69 and "of 12 connections" in said, lives.me, f"check-store says so: {status} {said}")
+    check(status == 69 and f"of {most} connections" in said, one.me, f"check-store says so: {status} {said}")
     day.look()
     run_of("FleetConnections", machine)
     status, _, said = fleet(machine.url, "check-store")
@@ -218,13 +219,13 @@ def a_backup_is_restored(machine, data):
 @with_machine
 def a_target_is_down(machine, _):
     """`fleet metrics` ends, and that of another fleet doesn't."""
-    port, lives = free_port(), Claims(stores.connect(machine.url), 3600)
+    port, one = free_port(), lives(machine)
     day = Day(one=of_port(port), other=of_collector(whole_of(machine)))
 
     def served():
         words = [local.PYTHON, local.COMMAND, "metrics", f"127.0.0.1:{port}"]
         made = subprocess.Popen(words, env=os.environ | {"FLEET_REDIS": machine.url})
-        check(wait_for(of_port(port)), lives.me, "it serves")
+        check(wait_for(of_port(port)), one.me, "it serves")
         day.look()
         return made
 
@@ -463,7 +464,8 @@ def a_page_is_asked_without_its_token(machine, _):
         return Page(store, store, config.Web())
 
     page = served()
-    day = Day(one=lambda: of_collector(PageMetrics(page))())
+    day = Day(one=lambda: of_collector(PageMetrics(page))(), all=of_collector(whole_of(machine)))
+    lives(machine)
     day.look()
     for _ in range(30):
         check(raises(web.HTTPForbidden, page.demand, asks), "page", "it is refused")

@@ -211,6 +211,11 @@ class Processes:
         return getattr(self.group, name)
 
 
+def bury(one):
+    """Has the store take a worker of this process for dead, and all of its sessions wait."""
+    one.store.run("bury", one.claims.me, one.store.hget(keys.WORKERS, one.claims.me), 500)
+
+
 def is_buried(store, process):
     """Returns whether no worker in the store is this process."""
     return all(int(each.decode().rsplit("-", 2)[1]) != process.pid for each in store.hkeys(keys.WORKERS))

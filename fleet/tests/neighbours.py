@@ -11,6 +11,7 @@ import load
 from harness import (
     Processes,
     Source,
+    bury,
     check,
     compare,
     key,
@@ -56,8 +57,7 @@ def dies(url, turns=60):
         for _ in range(turns):
             mortal.turn(patience=0.01)
     except Died:
-        count = mortal.store.hget(keys.WORKERS, mortal.claims.me)
-        mortal.store.run("bury", mortal.claims.me, count, 500)
+        bury(mortal)
         return True
     mortal.leave()
     return False
@@ -120,7 +120,7 @@ def a_suspect_that_is_sound_is_cleared(url, _):
     for _ in range(2):
         doomed = worker(url)
         check(doomed.claims.take(10) == [source.incarnation], name, "it is taken")
-        store.run("bury", doomed.claims.me, store.hget(keys.WORKERS, doomed.claims.me), 500)
+        bury(doomed)
     check(store.zscore(keys.SUSPECTS, source.incarnation) is not None, name, "it is a suspect after two deaths")
     other = Source(url, "other", lease=600).send(b"x")
     one = worker(url)

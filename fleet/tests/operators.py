@@ -505,8 +505,8 @@ def alerts_and_documents_name_the_metrics_that_there_are(url, _):
     pages = set(re.findall(r"^## (\w+)", texts["RUNBOOK.md"], re.MULTILINE))
     faults = {each.__name__ for each in keys.Fault.__subclasses__()} | {host.Taken.__name__, "Poison", *alerts}
     with open(os.path.join(HERE, "gameday.py")) as read:
-        played = set(re.findall(r'judge\(machine, "(\w+)"', read.read()))
-    check(played == set(alerts), name, f"the game day has each alert: {played ^ set(alerts)}")
+        judged = set(re.findall(r'judge\(machine, "(\w+)"', read.read()))
+    check(judged == set(alerts), name, f"the game day has each alert: {judged ^ set(alerts)}")
     check(faults <= pages, name, f"the runbook has a page for each fault and each alert: {faults - pages}")
 
 

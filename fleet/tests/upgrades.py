@@ -4,23 +4,21 @@ import random
 import re
 import signal
 import stat
-import subprocess
 import sys
 import threading
 
 from harness import (
-    HERE,
     Clock,
     PATIENCE,
     PATIENT,
     Processes,
     Source,
+    bury,
     check,
     compare,
     configured,
     key,
     keys,
-    local,
     raises,
     settings,
     stores,
@@ -103,7 +101,7 @@ def a_session_of_another_format_waits_for_its_worker(url, data):
     check(until(lambda: version_of(source) == NEW and not new.due, new), name, "it is of the next format")
     store = source.store
     old = worker(url)
-    store.run("bury", new.claims.me, store.hget(keys.WORKERS, new.claims.me), 500)
+    bury(new)
     check(until(lambda: store.hget(keys.FOREIGN, source.incarnation) == NEW, old), name, "the other one hands it over")
     other = Source(url, "other").send(b"x")
     check(until(lambda: other.incarnation in old.kept, old), name, "and plays others")

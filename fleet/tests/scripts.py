@@ -78,7 +78,7 @@ def a_beat_and_a_renewal_cost_the_same_beside_many_workers(url, _):
     try:
         one, buried = claims.Claims(store, 1.0), set()
         one.bury = lambda other, count: buried.add(other)
-        for number in range(800):
+        for number in range(200):
             store.run("enter", f"w{number}", *SHOWN)
             if number == 39:
                 few = cost()
@@ -89,7 +89,7 @@ def a_beat_and_a_renewal_cost_the_same_beside_many_workers(url, _):
         def are_found():
             clock.now += 0.2
             one.beat(0)
-            return len(buried) == 800
+            return len(buried) == 200
 
         check(wait_for(are_found, 0), name, f"one that is left finds all dead ones: {len(buried)}")
     finally:

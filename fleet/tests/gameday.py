@@ -77,7 +77,8 @@ class Day:
         return " ".join(phase.get(series, "_") for phase in self.phases for _ in range(SAMPLES))
 
     def expect(self, alert, labels):
-        """Returns what promtool is to find: no alert, then this one, and none of it any more."""
+        """Returns what promtool is to find: the alert isn't there, then it fires, and then it isn't there any more. Others may be there: a machine
+        may be too slow for them."""
 
         def at(phase, which, has_fired):
             expr = f"max(max_over_time(ALERTS{{alertstate='firing'{which}}}[{'20m' if phase < 2 else '1m'}]))"
@@ -85,7 +86,7 @@ class Day:
             return {"expr": expr, "eval_time": moment, "exp_samples": [{"labels": "{}", "value": 1}] if has_fired else []}
 
         named = f",alertname='{alert}'" + "".join(f",{name}='{value}'" for name, value in labels.items())
-        return [at(0, "", False), at(1, named, True), at(2, named, False)]
+        return [at(0, named, False), at(1, named, True), at(2, named, False)]
 
     def judge(self, machine, alert, **labels):
         series = sorted(set().union(*self.phases))

@@ -96,6 +96,20 @@ def a_beat_and_a_renewal_cost_the_same_beside_many_workers(url, _):
         claims.time = real
 
 
+def a_worker_of_another_version_counts(url, _):
+    """Its functions don't write the key with the common format."""
+    name, source = "other version", Source(url, "other version")
+    one, found = claims.Claims(source.store, 3600), []
+    for change in (lambda: None, lambda: source.store.hset(keys.WORKERS, "old", f"0 5000 {keys.OLDEST}"), lambda: source.store.hdel(keys.WORKERS, "old")):
+        change()
+        source.host.renewed = -1e9
+        source.host.renew_if_due()
+        one.beat(0)
+        found.append((source.host.format, one.format))
+    newest, oldest = (keys.FORMAT,) * 2, (keys.OLDEST,) * 2
+    check(found == [newest, oldest, newest], name, f"hosts and workers write what it knows, and go back: {found}")
+
+
 def a_broken_session_stops_no_other(url, _):
     """Its fields have no form in which it could be closed. No worker dies of that, and its name is used again."""
     name, store = "broken", Source(url, "other").store
@@ -184,6 +198,7 @@ CASES = [
     finish_leaves_the_name_of_another,
     tell_keeps_what_it_is_to_keep,
     take_gives_up_after_so_many,
+    a_worker_of_another_version_counts,
     a_broken_session_stops_no_other,
     a_beat_and_a_renewal_cost_the_same_beside_many_workers,
     a_pause_forgets_what_was_seen,

@@ -60,8 +60,19 @@ class Day:
     def __init__(self, **targets):
         self.targets, self.phases = targets, []
 
-    def look(self):
-        """Notes what each target says, as Prometheus names it."""
+    def look(self, metric="", value=""):
+        """Notes what each target says, once a metric of the whole fleet has a value: a worker may be slow to show that it lives."""
+        found = {}
+
+        def is_so():
+            found.update(self.read())
+            return not metric or found.get(f'{metric}instance="all",job="fleet"}}') == value
+
+        wait_for(is_so)
+        self.phases.append(found)
+
+    def read(self):
+        """Returns what each target says, as Prometheus names it."""
         phase = {}
         for target, read in self.targets.items():
             said = read()
@@ -71,7 +82,7 @@ class Day:
                 if not line.startswith("#"):
                     name, more, value = re.fullmatch(r"(\w+)(?:\{(.*)\})? (\S+)", line).groups()
                     phase[f"{name}{{{more + ',' if more else ''}{labels}}}"] = value
-        self.phases.append(phase)
+        return phase
 
     def values(self, series):
         return " ".join(phase.get(series, "_") for phase in self.phases for _ in range(SAMPLES))
@@ -111,23 +122,22 @@ def no_workers(machine, _):
     """All are killed, and nobody is left to bury them."""
     name, whole = "no workers", whole_of(machine)
     day, workers, source = Day(all=of_collector(whole)), Processes(machine, 2, "--lease", "1"), Source(machine.url, "played").send(b"x")
-    wait_for(lambda: state(source.store, "played")["lag"] == 0 and whole.facts_of_store()["workers"] == 2)
-    day.look()
+    wait_for(lambda: state(source.store, "played")["lag"] == 0)
+    day.look("fleet_workers{", "2.0")
     for each in workers.all:
         each.kill()
         each.wait()
-    check(wait_for(lambda: whole.facts_of_store()["workers"] == 0), name, "the store sees that none lives")
     source.send(b"y")
-    day.look()
+    day.look("fleet_workers{", "0.0")
     check(whole.problem() == "no worker lives", name, f"nor is the fleet well: {whole.problem()}")
     check(state(source.store, "played")["state"] == "waiting", name, "its session waits")
     listed = [line.split() for line in fleet(machine.url, "workers")[1].splitlines()]
     check(len(listed) == 2 and all(words[3] == "silent" for words in listed), name, f"both are listed as silent: {listed}")
-    workers.all = [workers.another()]
+    another = Processes(machine, 1, "--lease", "8")  # so it doesn't take itself for stopped on a busy machine
     check(wait_for(lambda: state(source.store, "played")["lag"] == 0), name, "another one plays the session")
-    day.look()
+    day.look("fleet_workers{", "1.0")
     day.judge(machine, "FleetNoWorkers")
-    workers.stop()
+    another.stop()
 
 
 @with_machine
@@ -366,14 +376,14 @@ def hosts_are_silent(machine, _):
         first = program(machine, name, command, "--input")
     wait_for(lambda: (state(store, name) or {"size": 0})["size"])  # so its program runs
     one.take(16)
-    day.look()
+    silent = 'fleet_states{state="no host",'
+    day.look(silent, "0.0")
     first.kill()
     first.wait()
-    wait_for(lambda: state(store, name)["state"] == "no host")
-    day.look()
+    day.look(silent, "1.0")
     again = program(machine, name, command, "--input")
     check(wait_for(lambda: state(store, name)["state"] == "running"), name, "it has a host again")
-    day.look()
+    day.look(silent, "0.0")
     Typist(store, state(store, name)["incarnation"]).type(b"\r")
     check(again.wait(PATIENCE) == 3, name, f"and its program lives: {again.returncode}")
     day.judge(machine, "FleetHostsSilent")

@@ -290,10 +290,9 @@ def keys_of_a_host_that_is_killed_are_not_lost(machine, _):
     typist.type(b"ghi")
     hosted.send_all(source.host.receive_entries(0))
     check(source.store.xlen(source.part("keys")) == 1, name, "keys are in the store until the holder says that the program has them")
-    gives = threading.Thread(target=hosted.give, args=([],))
-    gives.start()
-    check(wait_for(lambda: one.turn() or not gives.is_alive()), name, "which it says")
-    check(source.store.xlen(source.part("keys")) == 0, name, "then they are removed")
+    for call in (lambda: hosted.give([]), one.run):
+        threading.Thread(target=call, daemon=True).start()
+    check(wait_for(lambda: source.store.xlen(source.part("keys")) == 0), name, "then they are removed")
     one.signal(signal.SIGKILL)
 
 

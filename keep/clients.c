@@ -155,7 +155,7 @@ void serve(struct client *c, long long time) {
         }
         if (the.is_over) {
             put_ending(c);
-            c->awaits_seen = true;
+            c->awaits_seen = SEEN_BY_WATCHER;
         }
     }
     send_on(c);
@@ -204,7 +204,7 @@ static void admit(struct client *c, bool removes) {
     put_brackets(c);
     if (!the.is_over) return;
     put_ending(c);
-    c->awaits_seen = removes; /* otherwise it only looks: the session and its log stay */
+    c->awaits_seen = removes ? SEEN_BY_REMOVER : SEEN_BY_NONE; /* otherwise it only looks: the session and its log stay */
 }
 
 static void detach_all(void) {
@@ -247,7 +247,7 @@ static void answer(struct client *c) {
 static void begin(struct client *c) {
     bool is_known = c->in[HELLO_LOWEST] <= PROTOCOL_HIGHEST && c->in[HELLO_HIGHEST] >= PROTOCOL_LOWEST;
     uint8_t version = c->in[HELLO_HIGHEST] < PROTOCOL_HIGHEST ? c->in[HELLO_HIGHEST] : PROTOCOL_HIGHEST;
-    uint8_t told[64] = {is_known ? version : 0, PROTOCOL_LOWEST, PROTOCOL_HIGHEST, the.is_over};
+    uint8_t told[64] = {is_known ? version : 0, PROTOCOL_LOWEST, PROTOCOL_HIGHEST, the.is_over + the.is_shown};
     int len = snprintf((char *)told + 4, sizeof told - 4, "%d.%d.%d", VT220_VERSION / 10000, VT220_VERSION / 100 % 100, VT220_VERSION % 100);
     put(c, FRAME_HELLO, told, 4 + (size_t)len);
     c->ask = (char)c->in[HELLO_ASK];
@@ -336,8 +336,8 @@ static bool take_frame(struct client *c, char letter, const uint8_t *bytes, size
         upgrade_for(c);
     } else if (letter == FRAME_LOG && c->state == ATTACHED) {
         c->wants_log = true;
-    } else if (letter == FRAME_SEEN && c->awaits_seen) {
-        the.is_seen = true;
+    } else if (letter == FRAME_SEEN && c->awaits_seen != SEEN_BY_NONE) {
+        end_was_shown(c->awaits_seen == SEEN_BY_REMOVER);
     }
     return true;
 }

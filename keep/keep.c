@@ -81,7 +81,8 @@ static void check_name(const char *name) {
     fail(2, "invalid session name '%s': use 1-%d letters, digits, '.', '_' or '-', not starting with '.' or '-'", name, NAME_LIMIT);
 }
 
-/* Returns whether there is a session of this name. If its command has ended and `is_wanted` is false, ends the session first. */
+/* Returns whether there is a session of this name. If its command has ended, ends the session first, unless it is wanted and its end wasn't
+ * shown to a client that was attached. */
 static bool is_there(const struct folder *folder, const char *name, bool is_wanted) {
     static uint8_t bytes[FRAME_LIMIT];
     struct hello hello;
@@ -91,7 +92,7 @@ static bool is_there(const struct folder *folder, const char *name, bool is_want
     if (socket < 0) return false;
     bool is_over = wire_begin(socket, ASK_LIST, 0, &hello, why) == WIRE_OK && hello.is_over;
     close(socket);
-    if (is_wanted || !is_over) return true;
+    if (!is_over || (is_wanted && !hello.is_shown)) return true;
     socket = connect_to(folder->file, name);
     if (socket >= 0) wire_ask(socket, name, ASK_KILL, NULL, bytes);
     return false;

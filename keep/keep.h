@@ -55,7 +55,7 @@ bool is_same_user(int socket);
 
 struct hello {
     uint8_t version, lowest, highest;
-    bool is_over; /* the command has ended */
+    bool is_over, is_shown; /* the command has ended, and a client that was attached has shown that */
     bool is_utf8; /* its terminal reads UTF-8: known to a client that attaches or sends keys */
     bool is_xterm; /* the program has TERM=xterm-256color: known to the same clients */
 };

@@ -180,6 +180,7 @@ static void ask(int socket, const char *name, bool is_for_scripts) {
     struct hello hello;
     size_t len;
     int result = wire_begin(socket, ASK_LIST, 0, &hello, why);
+    if (result == WIRE_OK && hello.is_shown) return; /* it has ended, and somebody knows */
     if (result == WIRE_OK && wire_receive(socket, &letter, line, FRAME_LIMIT, &len) && letter == FRAME_ANSWER) {
         line[len] = 0;
         mask(line, len);

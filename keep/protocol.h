@@ -4,7 +4,7 @@
  * highest version that it speaks, what it asks, and flags. After that both sides send frames: a letter, the length as a
  * uint32_t of this machine, and that many bytes. The keeper's first frame is FRAME_HELLO, which has the same form in every
  * version, too: the version that both will speak (0 if there is none), the lowest and the highest that the keeper speaks,
- * whether the command has ended, and the keeper's own version as text.
+ * whether the command has ended (1; 2 if a client that was attached has shown that), and the keeper's own version as text.
  *
  * A keeper runs as long as its session, so it may be older than the client. A version of the protocol may therefore add asks and
  * frames, but never changes what one means. A client that speaks more than one version is served in the highest that both know. */

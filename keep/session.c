@@ -14,7 +14,7 @@
 #include <time.h>
 #include <unistd.h>
 
-enum { LINGER = 86400 };
+enum { LINGER = 86400, SHOWN_LINGER = 3600 * 1000 };
 
 struct session the = {.master = -1, .slave = -1, .listener = -1};
 
@@ -85,6 +85,14 @@ void give_up(void) {
     answer_waiting();
 }
 
+/* A client has shown the end. If it was attached, the log stays for an hour, or until the name is used: the client showed the last screen alone. */
+void end_was_shown(bool removes) {
+    long long until = now() + SHOWN_LINGER;
+    if (removes) the.is_seen = true;
+    if (!the.is_shown && until < the.leave_at) the.leave_at = until;
+    the.is_shown = true;
+}
+
 /* --- the loop --- */
 
 static void look_for_end(void) {
@@ -151,7 +159,7 @@ static void attend(size_t i, short events, long long time) {
 }
 
 static bool is_done(const struct client *c, long long time) {
-    bool is_served = c->state == LEAVING && is_sent(c) && (!c->awaits_seen || the.is_seen);
+    bool is_served = c->state == LEAVING && is_sent(c) && (c->awaits_seen == SEEN_BY_NONE || the.is_seen || the.is_shown);
     return c->deadline <= time || is_served;
 }
 

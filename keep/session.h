@@ -30,7 +30,8 @@ struct client {
     uint8_t version;       /* of the protocol; 0 if it isn't known */
     enum { BRACKETS_OFF, BRACKETS_ON, BRACKETS_UNKNOWN } brackets; /* what it was told of FRAME_PASTE; unknown after it was handed over */
     int program;           /* the file that it passed, a new program for the keeper; -1 if it passed none */
-    bool is_read_only, rings, awaits_seen;
+    bool is_read_only, rings;
+    enum { SEEN_BY_NONE, SEEN_BY_WATCHER, SEEN_BY_REMOVER } awaits_seen; /* whether it is to confirm the end. The numbers are handed over */
     bool needs_repaint;    /* it was handed over, and `shown` isn't what it shows */
     vt220 shown;           /* as the client's own terminal is when it has played all of `out` */
     unsigned long changes; /* how many changes of the screen `shown` has */
@@ -72,7 +73,7 @@ struct session {
     long long leave_at;   /* when the last screen is given up */
     long long linger;     /* for how long it is kept */
     int64_t began;
-    bool is_over, is_seen, is_given_up;
+    bool is_over, is_seen, is_shown, is_given_up; /* seen: the session is to end; shown: a client that was attached has shown the end */
     struct ending ending;
     size_t keys, reports, waiting; /* how many bytes of each wait for the program */
     uint8_t input[2 * INPUT_LIMIT];
@@ -119,6 +120,7 @@ size_t log_read(uint64_t *place, uint64_t end, uint8_t *to, size_t size, uint64_
 bool open_terminals(void);
 bool open_fronts(void);
 void give_up(void);
+void end_was_shown(bool removes);
 bool rename_session(const char *name, char *why);
 
 /* front.c */

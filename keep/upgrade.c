@@ -51,7 +51,7 @@ enum {
 
 struct handed_session {
     int32_t folder, listener, master, slave, command;
-    uint8_t is_over, is_seen, unused[2];
+    uint8_t is_over, is_seen, is_shown, unused;
     uint64_t device, number; /* of its socket */
     uint64_t log_begin;
     int64_t began, linger, kill_at, leave_at;
@@ -83,7 +83,7 @@ static void put_item(FILE *to, char letter, const void *bytes, size_t len) {
 static void put_session(FILE *to) {
     const struct handed_session it = {
         .folder = the.folder.file, .listener = the.listener, .master = the.master, .slave = the.slave, .command = the.command,
-        .is_over = the.is_over, .is_seen = the.is_seen, .device = the.socket.device, .number = the.socket.number, .log_begin = log_begin(),
+        .is_over = the.is_over, .is_seen = the.is_seen, .is_shown = the.is_shown, .device = the.socket.device, .number = the.socket.number, .log_begin = log_begin(),
         .began = the.began, .linger = the.linger, .kill_at = the.kill_at, .leave_at = the.leave_at, .ending = the.ending};
     put_item(to, ITEM_SESSION, &it, sizeof it);
     put_item(to, ITEM_NAME, the.name, strlen(the.name));
@@ -274,6 +274,7 @@ static bool take_session(const uint8_t *bytes, size_t len) {
     the.command = it.command;
     the.is_over = it.is_over;
     the.is_seen = it.is_seen;
+    the.is_shown = it.is_shown;
     the.socket = (struct identity){(dev_t)it.device, (ino_t)it.number};
     the.began = it.began;
     the.linger = it.linger;

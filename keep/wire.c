@@ -110,7 +110,7 @@ int wire_begin(int socket, char ask, uint8_t flags, struct hello *hello, char *w
     }
     if (letter != FRAME_HELLO || len < 4) return WIRE_SILENT;
     told[len] = 0;
-    *hello = (struct hello){.version = told[0], .lowest = told[1], .highest = told[2], .is_over = told[3] != 0};
+    *hello = (struct hello){.version = told[0], .lowest = told[1], .highest = told[2], .is_over = told[3] != 0, .is_shown = told[3] > 1};
     if (hello->version >= PROTOCOL_LOWEST && hello->version <= PROTOCOL_HIGHEST) return receive_session(socket, ask, hello);
     for (uint8_t *at = told + 4; *at != 0; at++) *at = *at >= ' ' && *at <= '~' ? *at : '?';
     snprintf(why, WHY_LIMIT, "is kept by keep %.100s, which speaks protocol %u to %u; this one speaks %u to %u", (char *)told + 4,

@@ -2,5 +2,7 @@
 import os
 import sys
 
+VERSION = "0.4.0"  # of the fleet, which has its own
+
 _ROOT = os.path.join(os.path.dirname(os.path.abspath(__file__)), "..", "..")
 sys.path.insert(0, os.path.join(_ROOT, "bindings", "python"))

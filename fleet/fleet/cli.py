@@ -13,10 +13,13 @@ import sys
 import threading
 import time
 
+from . import VERSION
 from .config import CHOICES, Beyond, Settings, Unclear, seconds, within
 
 LEAVING = 10.0  # seconds to wait for a store after a signal to end, at most
 HEALTH = 2.0  # seconds to wait for a store that the page's /healthz asks
+ENDS = (signal.SIGHUP, signal.SIGTERM, signal.SIGINT)
+HEEDED = (*ENDS, signal.SIGUSR1)  # by a host
 TAKEN, FAULT, NONE, REFUSED, UNFIT, DENIED, CONFIGURATION = 5, 4, 3, 6, 69, 77, 78
 
 
@@ -69,7 +72,7 @@ def on_end(call):
             call()
 
     threading.Thread(target=heed, daemon=True).start()
-    for ends in (signal.SIGHUP, signal.SIGTERM, signal.SIGINT):
+    for ends in ENDS:
         signal.signal(ends, lambda *_: came.put(None))
 
 
@@ -121,13 +124,16 @@ def keep_running(made, language, words, settings):
     if link:
         program = Program(host, link, state)
     else:
+        signal.pthread_sigmask(signal.SIG_UNBLOCK, HEEDED)  # the program has the mask of this thread
         program = started(host, words.command, path, words.user or settings.host.user, settings.host.orphan)
     if metrics:
         metrics.program = program
     on_end(lambda: (program.stop(), setattr(made[0], "patience", min(LEAVING, settings.store.give_up))))
     signal.signal(signal.SIGUSR1, lambda *_: program.leave())
+    signal.pthread_sigmask(signal.SIG_UNBLOCK, HEEDED)
     status = program.run()
     if program.is_leaving and status is None and not host.fault:
+        signal.pthread_sigmask(signal.SIG_BLOCK, HEEDED)  # until the next version heeds them
         os.execv(sys.executable, [sys.executable, *sys.orig_argv[1:]])
     try:
         if host.fault:
@@ -265,6 +271,12 @@ def do_end(words, settings):
     return end(settings.connect(), words.name, words.keep, words.force)
 
 
+def do_retry(words, settings):
+    from .operate import retry
+
+    return retry(settings.connect(), words.name)
+
+
 def do_drain(words, settings):
     from .operate import drain
 
@@ -272,8 +284,11 @@ def do_drain(words, settings):
 
 
 def do_check(words, settings):
-    settings.connect().examine()
-    print("the store is fit")
+    from .store import connections
+
+    store = settings.connect()
+    store.examine()
+    print(f"the store is fit; {connections(store.facts())}")
     return 0
 
 
@@ -367,6 +382,8 @@ def add_operators(add):
     each.add_argument("--keep", type=option(seconds, "keep"), help="how long it stays in the store, such as 7d, or 0 (for ever)")
     each.add_argument("--force", action="store_true", help="also if its host is alive")
     each.add_argument("name")
+    each = add("retry", do_retry, "has workers try sessions with a fault again")
+    each.add_argument("name", nargs="+")
     each = add("drain", do_drain, "moves a worker's sessions to other workers, and ends it")
     each.add_argument("--patience", type=option(seconds, "patience"), default=10, help="the longest wait, such as 30s (10s)")
     each.add_argument("worker", help="its name, or the beginning of its name")
@@ -381,6 +398,7 @@ def parser():
     made = argparse.ArgumentParser(
         prog="fleet", description="Sessions of a VT220 that outlive their machine.", epilog=__doc__.split("\n\n")[1]
     )
+    made.add_argument("--version", action="version", version=f"vt220-fleet {VERSION}")
     made.add_argument("--config", help="the configuration file")
     made.add_argument("--quiet", action="store_true", help="logs errors only")
     commands = made.add_subparsers(dest="word", required=True, metavar="COMMAND")

@@ -13,6 +13,7 @@ from . import keys
 from .keys import key
 from .operate import about
 from .session import as_it_is
+from .store import ResponseError
 from .view import Viewer
 
 log = logging.getLogger("fleet.web")
@@ -129,22 +130,33 @@ class Gallery:
             self.listed = time.monotonic()
             self.list()
             self.on_change()
-        streams = {key(each.incarnation, "view"): each.last for each in self.followed.values() if not each.is_final}
-        if not streams:
+        watched = {key(each.incarnation, "view").encode(): each for each in self.followed.values() if not each.is_final}
+        if not watched:
             time.sleep(0.2)
             return
-        came = self.store.xread(streams, block=250, count=200)
+        came = self.frames_of(watched)
         for stream, entries in came:
-            each = self.followed[stream.decode().split(":")[1]]
+            each = watched[stream]
             with self.lock:
-                each.take(entries)
+                self.guarded(each, each.take, entries)
         if came:
             self.on_change()
             time.sleep(0.03)  # what comes meanwhile is one change
 
+    def frames_of(self, watched):
+        """Returns what came for sessions, with {stream: session}. If that is refused, each one is read by itself."""
+        try:
+            return self.store.xread({stream: each.last for stream, each in watched.items()}, block=250, count=200)
+        except ResponseError:
+            came = []
+            for stream, each in watched.items():
+                self.guarded(each, lambda: came.extend(self.store.xread({stream: each.last}, count=200)))
+            time.sleep(0.2)
+            return came
+
     def list(self):
         """Learns which sessions there are, and asks for the frames of all that are shown."""
-        newest = [each.decode() for each in self.store.zrevrange(keys.ALL, 0, MOST - 1)]
+        newest = [keys.text(each) for each in self.store.zrevrange(keys.ALL, 0, MOST - 1)]
         listed = sorted(about(self.store, newest), key=lambda each: (each["state"].startswith("ended"), each["name"]))
         order = [each["incarnation"] for each in listed]
         with self.lock:
@@ -159,23 +171,33 @@ class Gallery:
             answers = self.store.all_of(together) if asked else []
         for each, answer in zip(asked, answers):
             if isinstance(answer, list):
-                each.hear(answer)
+                self.guarded(each, each.hear, answer)
         for each in self.followed.values():
             if each.is_to_be_read():
                 each.is_reading = True
                 self.reader.submit(self.read, each)
 
+    def guarded(self, each, call, *arguments):
+        """Calls something for a session. Whatever is wrong with that one harms no other: `list` has its fault."""
+        try:
+            call(*arguments)
+        except Exception as fault:
+            said = f"{type(fault).__name__}: {fault}"
+            if said != each.fault:
+                log.warning("%s can't be shown: %s", keys.shown(each.incarnation), keys.shown(said))
+            each.fault = said
+
     def read(self, each):
         """Reads a session's screen from the store."""
         is_over = each.is_over
-        try:
-            terminal = as_it_is(self.store, each.incarnation, READ).terminal
-            with self.lock:
-                each.picture.replace(terminal)
-            self.on_change()
-        except Exception as fault:  # a session that cannot be read is shown as such, and harms no other
-            log.warning("%s cannot be read: %s: %s", each.incarnation, type(fault).__name__, fault)
+        self.guarded(each, self.replace, each)
         each.read, each.is_final, each.is_reading = time.monotonic(), is_over, False
+
+    def replace(self, each):
+        terminal = as_it_is(self.store, each.incarnation, READ).terminal
+        with self.lock:
+            each.picture.replace(terminal)
+        self.on_change()
 
     def since(self, told):
         """Returns what a client is to be told, and brings `told` (numbers by session) up to that."""

@@ -136,8 +136,7 @@ class Holder:
     def meet(self):
         """Lets a host in. One that comes while there is another is refused."""
         came, _ = self.listener.accept()
-        while self.host and self.hear_host():  # it may have ended, after what it said last
-            pass
+        self.read_out()  # the last host may have ended
         state = {each: self.said[each] for each in ("name", "incarnation", "command", "encoding", "terminal")} | {"busy": self.host is not None}
         state |= {"base": self.base, "end": self.end(), "last": {stream: last.decode() for stream, last in self.last.items()}, "version": 1}
         came.sendall(wire.packed(wire.STATE, 0, json.dumps(state).encode()))
@@ -212,7 +211,12 @@ class Holder:
         except BlockingIOError:
             pass
         except OSError:
-            self.part()
+            self.read_out()
+
+    def read_out(self):
+        """Reads what a host that ended said last, up to its end."""
+        while self.host and self.hear_host():
+            pass
 
     # The loop.
 

@@ -13,7 +13,7 @@ import time
 
 from . import keys
 from .keys import PIECE, key
-from .store import RedisError, is_for_now
+from .store import RedisError, ResponseError, is_for_now, is_of_session
 
 log = logging.getLogger("fleet.host")
 
@@ -28,8 +28,26 @@ BEAT = 10 / 3  # seconds between two looks at the store, at most
 INPUTS = ("answers", "keys", "signals")  # the streams with what comes for the program
 
 
+def birth(pid):
+    """Returns when a process of this machine began, as its kernel counts; empty if there is no such process."""
+    try:
+        with open(f"/proc/{pid}/stat") as stat:
+            return stat.read().rpartition(")")[2].split()[19]
+    except (FileNotFoundError, ProcessLookupError):
+        return ""
+
+
+def is_dead_here(host):
+    """Returns whether a host, as the store names it, was one of this machine and is no more."""
+    node, _, rest = host.partition(":")
+    pid, _, token = rest.partition(":")
+    return node == os.uname().nodename and pid.isdigit() and birth(pid) != token.partition("-")[2]
+
+
 class Taken(keys.Fault):
     """The name is another host's."""
+
+    by = ""  # that host, if the store says so
 
 
 class Unplayable(keys.Fault):
@@ -46,7 +64,8 @@ class Host:
     def __init__(self, store, name, lease=10.0, takes_input=False, command="", incarnation=None, encoding="dec", terminal="vt220"):
         self.store, self.name, self.lease = store, keys.checked_name(name), lease
         self.incarnation = incarnation or keys.new_id()
-        self.me = f"{os.uname().nodename}:{os.getpid()}:{secrets.token_hex(2)}"  # the store takes bytes from this host alone
+        # The store takes bytes from this host alone.
+        self.me = f"{os.uname().nodename}:{os.getpid()}:{secrets.token_hex(2)}-{birth(os.getpid())}"
         self.about = ["host", self.me, "input", int(takes_input), "command", command[:500]]
         self.language = keys.Language(encoding, terminal)
         needed = keys.NEEDED[self.language]
@@ -80,7 +99,9 @@ class Host:
         """Takes the name, and asks for a worker. Raises Taken if another host holds the name."""
         answer = self.store.run("register", self.name, self.incarnation, int(self.lease * 1000), self.version(), *self.about)
         if answer[0] != "ok":
-            raise Taken(f"the name {self.name!r} is held by the host {keys.shown(answer[1])}")
+            fault = Taken(f"the name {self.name!r} is held by the host {keys.shown(answer[1])}")
+            fault.by = keys.text(answer[1])
+            raise fault
         self.renewed, self.format = time.monotonic(), keys.agreed(answer[3], self.formats, self.language)
         return int(answer[1]), int(answer[2])
 
@@ -90,8 +111,9 @@ class Host:
     # Another host's session, whose program lives.
 
     def resume(self):
-        """Takes over a session from its last host, which is no more. Raises Taken if the session isn't there to be taken."""
-        self.at, self.played = self.register()
+        """Takes over a session from its last host, which is no more. If another session has the name, and its host died on this machine, waits
+        for the end of its lease. Raises Taken if the session isn't there to be taken."""
+        self.at, self.played = self.register_in_time(is_dead_here)
         self.begun = self.stored = self.at
 
     def adopt(self, begin, end, last):
@@ -146,7 +168,7 @@ class Host:
         words = self.incarnation, at - len(data), at, self.version(), moment, data, self.me
         answer = self.store.run("append", *words)
         if answer[0] == "ok":
-            self.played, self.stored = int(answer[1] or 0), at
+            self.played, self.stored = keys.number(answer[1], self.played), at
         elif answer[0] in ("lost", "back"):
             self.rebuild(0 if answer[0] == "lost" else int(answer[1]))
         else:
@@ -178,13 +200,20 @@ class Host:
 
     def register_again(self):
         """Takes the name once more. An older host may hold it in a store that went back: its lease is waited for."""
+        try:
+            return self.register_in_time(lambda host: True)
+        except Taken as fault:
+            self.fail(fault)
+
+    def register_in_time(self, is_waited_for):
+        """Takes the name, and waits for the lease of another host if that one is waited for."""
         end = time.monotonic() + 2 * self.lease
         while True:
             try:
                 return self.register()
             except Taken as fault:
-                if time.monotonic() > end:
-                    self.fail(fault)
+                if time.monotonic() > end or not is_waited_for(fault.by):
+                    raise
                 time.sleep(0.1)
 
     def fail(self, fault):
@@ -202,7 +231,7 @@ class Host:
             if self.said_fault and self.is_program_over():
                 raise Unplayable(f"no worker can continue this session: {self.said_fault}")
             time.sleep(0.02)
-            self.played = int(self.store.hget(self.part("about"), "played") or 0)
+            self.played = keys.number(self.store.hget(self.part("about"), "played"), self.played)
             self.renew_if_due()
         self.is_waiting = False
 
@@ -242,11 +271,12 @@ class Host:
         there = 0 if answer[0] == "lost" else int(answer[1])
         if answer[0] == "lost" or there < self.at:
             self.rebuild(there)
-        elif len(answer) > 4 and not self.said_fault:
-            self.said_fault = keys.shown(answer[4])
-            log.error("%s: no worker can continue this session: %s", self.name, self.said_fault)
         else:
-            self.played, self.format = int(answer[2] or 0), keys.agreed(answer[3], self.formats, self.language)
+            fault = keys.shown(answer[4]) if len(answer) > 4 else None
+            if fault and fault != self.said_fault:
+                log.error("%s: no worker can continue this session: %s", self.name, fault)
+            self.said_fault = fault
+            self.played, self.format = keys.number(answer[2], self.played), keys.agreed(answer[3], self.formats, self.language)
 
     # What comes for the program.
 
@@ -261,7 +291,11 @@ class Host:
     def receive_entries(self, patience, names=INPUTS):
         """Waits for what comes for the program. Returns it, as a list of (kind, stream, id, what). Each one is to be given to `forget`
         once the program has it."""
-        return self.read_entries(self.store.read_streams(COUNT, self.streams(names), patience))
+        try:
+            return self.read_entries(self.store.read_streams(COUNT, self.streams(names), patience))
+        except ResponseError as error:
+            self.remove_wrong(error)
+            return []
 
     def receive_next(self):
         """Waits for what comes for the program until the lease is to be renewed, and otherwise renews it. Returns what came."""
@@ -286,10 +320,22 @@ class Host:
             came = awaited.answer()
         except (RedisError, OSError) as error:
             if isinstance(error, RedisError) and not is_for_now(error):
-                raise
-            self.store.is_away(error)
-            self.renewed, came = 0.0, []
+                self.remove_wrong(error)
+            else:
+                self.store.is_away(error)
+                self.renewed = 0.0
+            came = []
         return self.read_entries(came)
+
+    def remove_wrong(self, error):
+        """Removes what somebody wrote in place of a stream for the program, so that the other streams can be read. Raises the error if it is
+        another one."""
+        if not is_of_session(error):
+            raise error
+        for part in map(self.part, INPUTS):
+            if self.store.type(part) not in (b"stream", b"none"):
+                log.error("%s: removed, as it isn't a stream: %s", self.name, part)
+                self.store.delete(part)
 
     def streams(self, names=INPUTS):
         return {self.part(name).encode(): self.last[name] for name in names}

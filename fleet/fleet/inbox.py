@@ -95,9 +95,9 @@ class Inbox:
         elif said == b"ping":
             self.heard = time.monotonic()
         elif said.startswith(b"watch "):
-            self.watched.add(said[6:].decode("ascii", "replace"))
+            self.watched.add(keys.text(said[6:]))
         else:
-            self.due.add(said.decode("ascii", "replace"))
+            self.due.add(keys.text(said))
 
     def ping(self):
         """Sends oneself a message now and then. If none arrives for long, the connection is dead, whatever it looks like."""

@@ -12,7 +12,10 @@ the incarnation, so that a name can be used again without meeting anything of it
     fleet:trying                 hash: worker -> the suspect that it plays alone
     fleet:foreign                hash: incarnation -> the format that it needs; it waits for a worker that knows this format
     fleet:workers                hash: worker -> a count that it raises four times a lease, the lease, and the formats that it knows
+    fleet:format                 the newest format that all workers know, and how many workers there were when it was found
+    fleet:alive:WORKER           expires when the worker didn't raise its count for a lease, by the store's clock
     fleet:draining               set of the workers that are to hand their sessions over
+    fleet:unfit                  set of the workers that failed on their first sessions, and take no more
     fleet:of:WORKER              set of the incarnations that a worker owns
 
     fleet:INCARNATION:about      hash: name, host, started, owner, end (of the bytes), played, answered, how it ended, and unless it is
@@ -27,6 +30,7 @@ the incarnation, so that a name can be used again without meeting anything of it
     fleet:INCARNATION:typed:VIEWER  the number of the last thing that a viewer typed; goes when the viewer leaves, or after a day
     fleet:INCARNATION:ended      hash: where and how it ended, and the screen's text
     fleet:INCARNATION:fault      why no worker can go on with it
+    fleet:INCARNATION:failed     set of the workers that met an error there that isn't the session's own
 
 Channels: fleet:new (a session waits), fleet:wake:WORKER (one of its sessions has bytes, or a viewer).
 """
@@ -54,7 +58,7 @@ class Language(NamedTuple):
 
 DEC, UTF8, XTERM = Language(), Language("utf-8"), Language("utf-8", "xterm")
 NEEDED = {DEC: OLDEST, UTF8: 3, XTERM: 4}  # the oldest format in which a session of a language is written
-ALL, LIVE, NAMES, WAITING, SUSPECTS, TRYING, FOREIGN, WORKERS, DRAINING = (
+ALL, LIVE, NAMES, WAITING, SUSPECTS, TRYING, FOREIGN, WORKERS, DRAINING, UNFIT = (
     "fleet:all",
     "fleet:live",
     "fleet:names",
@@ -64,11 +68,13 @@ ALL, LIVE, NAMES, WAITING, SUSPECTS, TRYING, FOREIGN, WORKERS, DRAINING = (
     "fleet:foreign",
     "fleet:workers",
     "fleet:draining",
+    "fleet:unfit",
 )
 NEW = "fleet:new"
 NAME_LIMIT = 200
 PIECE = 16384  # bytes of an entry at most
 SHOWN = 1000  # characters of what the store says that are shown at most
+DIGITS = 18  # of a number
 
 
 class Fault(Exception):
@@ -93,7 +99,7 @@ class Version(Fault):
     format = 0
 
     def __init__(self, what, said):
-        super().__init__(f"{what} of version {said.decode('ascii', 'replace')[:40]!r}; this program knows the format {FORMAT}")
+        super().__init__(f"{what} of version {text(said)[:40]!r}; this program knows the format {FORMAT}")
         self.format = format_of(said)
 
 
@@ -121,6 +127,10 @@ def of(worker):
     return f"fleet:of:{worker}"
 
 
+def alive(worker):
+    return f"fleet:alive:{worker}"
+
+
 def wake(worker):
     return f"fleet:wake:{worker}"
 
@@ -129,11 +139,30 @@ def lease(name):
     return f"fleet:lease:{name}"
 
 
+# All that comes from the store is read by these: anybody who may write there may have written it.
+
+
+def text(value):
+    """Returns what the store says as text, whatever it is: empty if there is nothing, or an error instead."""
+    return value if isinstance(value, str) else value.decode("utf-8", "replace") if isinstance(value, bytes) else ""
+
+
 def shown(value):
     """Returns what the store says, for a terminal or a log: control characters are escaped, and a long text is cut."""
-    text = (value or b"").decode("utf-8", "replace")
-    cut = text if len(text) <= SHOWN else text[:SHOWN] + "..."
+    whole = text(value)
+    cut = whole if len(whole) <= SHOWN else whole[:SHOWN] + "..."
     return "".join(c if c.isprintable() else c.encode("unicode_escape").decode() for c in cut)
+
+
+def number(value, usual=None):
+    """Returns a number of the store, 0 if there is none. If it isn't one, returns `usual`, or raises Wrong without it."""
+    if value is None or value == b"":
+        return 0
+    if isinstance(value, bytes) and value.isdigit() and len(value) <= DIGITS:
+        return int(value)
+    if usual is None:
+        raise Wrong(f"a field of the session isn't a number: {shown(value)[:40]}")
+    return usual
 
 
 def new_id():
@@ -147,7 +176,7 @@ def now():
 
 def language_of(encoding, terminal):
     """Returns a session's language, as `about` has it. Raises Wrong if there is no such one."""
-    said = [(each or default.encode()).decode("ascii", "replace") for each, default in zip((encoding, terminal), DEC)]
+    said = [text(each) or default for each, default in zip((encoding, terminal), DEC)]
     if Language(*said) not in NEEDED:
         wrong = shown(encoding)[:40], shown(terminal)[:40]
         raise Wrong(f"the session has the encoding {wrong[0]!r}" + (f" and the terminal {wrong[1]!r}" if terminal else ""))
@@ -169,8 +198,8 @@ def format_of(said):
 def agreed(said, formats=FORMATS, language=DEC):
     """Returns the format to write: the newest one that all living workers know, as the store says, if this program knows it. It is
     never older than the language needs."""
-    number = int(said) if said.isdigit() else max(formats)
-    return max(number if number in formats else max(formats), NEEDED[language])
+    newest = number(said, 0)
+    return max(newest if newest in formats else max(formats), NEEDED[language])
 
 
 def checked_name(name):
@@ -205,7 +234,7 @@ def read_checkpoint(fields, formats=FORMATS):
         raise Version("a checkpoint", fields[b"v"])
     try:
         at, length, repaint = int(fields[b"at"]), int(fields[b"length"]), fields[b"repaint"]
-        is_sound = length == len(repaint) and fields[b"sha256"].decode() == checksum(at, repaint) and b"v" in fields
+        is_sound = length == len(repaint) and text(fields[b"sha256"]) == checksum(at, repaint) and b"v" in fields
     except (KeyError, ValueError):
         is_sound = False
     if not is_sound:

@@ -5,11 +5,11 @@ import time
 from http.server import BaseHTTPRequestHandler, ThreadingHTTPServer
 
 from prometheus_client import CollectorRegistry, generate_latest
-from prometheus_client.core import CounterMetricFamily, GaugeMetricFamily, HistogramMetricFamily
+from prometheus_client.core import CounterMetricFamily, GaugeMetricFamily
 from prometheus_client.exposition import CONTENT_TYPE_LATEST
 
 from . import keys
-from .operate import living
+from .operate import living, living_workers
 
 WORDS = {
     "entries": "Entries of sessions' bytes that were played",
@@ -21,17 +21,8 @@ WORDS = {
     "lost": "Sessions that another worker took",
 }
 STATES = ("waiting", "running", "no host", "ending", "ended", "fault")
+SILENT = 10.0  # seconds after which a connection that asks nothing is closed
 OLD = 5.0  # seconds for which what was read of the store is served again
-
-
-def family_of(latency):
-    """Returns a latency as a histogram."""
-    total, buckets = 0, []
-    for limit, count in zip([*map(str, latency.LIMITS), "+Inf"], latency.counts):
-        total += count
-        buckets.append((limit, total))
-    words = "Seconds from the read of a session's bytes until the store had their reports"
-    return HistogramMetricFamily("fleet_report_seconds", words, buckets=buckets, sum_value=latency.sum)
 
 
 def gauge(name, words, value):
@@ -72,12 +63,14 @@ class WorkerMetrics:
         yield gauge("due", "Sessions with something to play", len(worker.due))
         yield gauge("choked", "Sessions whose hosts don't read their reports", len(worker.choked))
         yield gauge("watched", "Sessions that somebody looks at", len(worker.frames.watched))
-        yield family_of(worker.latency)
+        yield from worker.latency.collect()
 
     def problem(self):
         """Returns why this worker isn't well, or nothing."""
         if self.worker.store.away_since is not None:
             return "the store is away"
+        if self.worker.is_unfit:
+            return "it failed on its first sessions, and takes no more"
         silent = time.monotonic() - self.worker.claims.beaten
         return f"no turn for {silent:.0f} s" if silent > self.worker.settings.lease else ""
 
@@ -142,6 +135,7 @@ class WholeFleet:
 
     def __init__(self, store):
         self.store, self.read, self.facts, self.lock = store, -OLD, {}, threading.Lock()
+        self.stood = {}  # session -> (how far it was played, since when), if not all of it was
 
     def look(self):
         """Reads the store, unless that was done a moment ago."""
@@ -162,7 +156,17 @@ class WholeFleet:
         oldest = min((score for key in (keys.WAITING, keys.SUSPECTS) for _, score in self.store.zrange(key, 0, 0, withscores=True)), default=None)
         seconds, micros = self.store.time()
         waited = max(0.0, seconds + micros / 1e6 - oldest / 1000) if oldest else 0.0
-        return {"trip": trip, "listed": listed, "ended": ended, "waited": waited, "workers": self.store.hlen(keys.WORKERS)}
+        facts = {"trip": trip, "listed": listed, "ended": ended, "waited": waited, "stands": self.standing(listed)}
+        workers = living_workers(self.store)
+        facts |= {"store": self.store.facts(), "workers": len(workers), "unfit": sum(each["is_unfit"] for each in workers)}
+        return facts | {"foreign": self.store.hlen(keys.FOREIGN)}
+
+    def standing(self, listed):
+        """Returns for how many seconds a session with bytes to play wasn't played on: the longest time of all that have no fault."""
+        now, before = time.monotonic(), self.stood
+        behind = {each["incarnation"]: each["size"] - each["lag"] for each in listed if each["lag"] and not each["fault"]}
+        self.stood = {i: before[i] if before.get(i, (None,))[0] == played else (played, now) for i, played in behind.items()}
+        return max((now - since for _, since in self.stood.values()), default=0.0)
 
     def problem(self):
         facts = self.look()
@@ -174,7 +178,12 @@ class WholeFleet:
         if "problem" in facts:
             return
         yield gauge("store_round_trip_seconds", "Seconds until the store answered a ping", facts["trip"])
+        yield gauge("store_clients", "Connections to the store", facts["store"]["connected_clients"])
+        yield gauge("store_clients_most", "Connections that the store allows (maxclients)", facts["store"]["maxclients"])
         yield gauge("workers", "Workers that live", facts["workers"])
+        yield gauge("workers_unfit", "Those of them that failed on their first sessions, and take no more", facts["unfit"])
+        yield gauge("formats_missing", "Sessions that wait for a worker that knows their format", facts["foreign"])
+        yield gauge("lag_stands_seconds", "Seconds for which a session with bytes to play wasn't played on, at most", facts["stands"])
         yield gauge("waiting_seconds", "Seconds since the session that waits longest has no worker", facts["waited"])
         lags = [each["lag"] for each in facts["listed"]]
         yield gauge("lag_bytes", "Bytes of all sessions that no worker has played", sum(lags))
@@ -195,6 +204,8 @@ def server(collector, address):
     registry.register(collector)
 
     class Handler(BaseHTTPRequestHandler):
+        timeout = SILENT
+
         def do_GET(self):
             if self.path == "/healthz":
                 problem = collector.problem()

@@ -25,21 +25,15 @@ class Refused(Exception):
 def find(store, name):
     """Returns the incarnation that a name stands for: the latest one, or the one given as @INCARNATION."""
     found = name[1:].encode() if name.startswith("@") else store.hget(keys.NAMES, name)
-    if not found or not store.hexists(key(found.decode("utf-8", "replace"), "about"), "name"):
+    incarnation = keys.text(found)
+    if not found or not store.hexists(key(incarnation, "about"), "name"):
         raise NoSession(f"no such session: {name}")
-    return found.decode()
-
-
-def number(value):
-    """Returns a number of the store. Raises Wrong if a field isn't one."""
-    if value and not value.isdigit():
-        raise keys.Wrong(f"a field of the session isn't a number: {keys.shown(value)[:40]}")
-    return int(value or 0)
+    return incarnation
 
 
 def about(store, incarnations):
     """Returns a dictionary for each session: what `list` shows."""
-    listed = []
+    listed, raw = [], []
     for at in range(0, len(incarnations), 256):
         some = incarnations[at : at + 256]
         with store.pipeline(transaction=False) as together:
@@ -52,8 +46,9 @@ def about(store, incarnations):
         for number, each in enumerate(some):
             fields, fault, status, foreign = answers[4 * number : 4 * number + 4]
             if isinstance(fields, list) and fields[0] is not None:
-                listed.append(described(each, dict(zip(FIELDS, fields)), fault, status) | {"format": keys.shown(foreign)})
-    add_leases(store, listed)
+                raw.append(dict(zip(FIELDS, fields)))
+                listed.append(described(each, raw[-1], fault, status) | {"format": keys.shown(foreign)})
+    add_states(store, listed, raw)
     return listed
 
 
@@ -61,26 +56,33 @@ def described(incarnation, fields, fault, status):
     """Returns what `list` shows of a session. A field that is wrong is the fault of this session, and harms no other."""
     shown = {name: keys.shown(fields[name]) for name in ("name", "host", "owner", "closed", "command")}
     made = {"incarnation": incarnation, "name": shown["name"], "host": shown["host"], "worker": shown["owner"]}
-    made |= {"fault": keys.shown(fault if isinstance(fault, bytes) else b""), "input": fields["input"] == b"1"}
-    made |= {"status": keys.shown(status if isinstance(status, bytes) else b""), "closed": shown["closed"]}
+    made |= {"fault": keys.shown(fault), "input": fields["input"] == b"1"}
+    made |= {"status": keys.shown(status), "closed": shown["closed"]}
     made |= {name: keys.shown(fields[name]) or usual for name, usual in keys.DEC._asdict().items()}
     made |= {"command": shown["command"], "size": 0, "lag": 0, "started": 0, "seen": 0}
     try:
-        end, played, started, seen = (number(fields[name]) for name in ("end", "played", "started", "seen"))
+        end, played, started, seen = (keys.number(fields[name]) for name in ("end", "played", "started", "seen"))
         made |= {"size": end, "lag": max(0, end - played), "started": started, "seen": seen}
+        keys.language_of(fields["encoding"], fields["terminal"])
     except keys.Wrong as wrong:
         made["fault"] = made["fault"] or f"Wrong: {wrong}"
     return made
 
 
-def add_leases(store, listed):
-    """Adds the state: a session whose host is silent is told from one that is idle."""
+def add_states(store, listed, raw):
+    """Adds the state: a session whose host is silent is told from one that is idle, and one whose worker is silent waits. Keys have names as
+    the store has them, not as they are shown."""
+    owners = sorted({fields["owner"] or b"" for fields in raw})
     with store.pipeline(transaction=False) as together:
-        for each in listed:
-            together.get(keys.lease(each["name"]))
-        leases = store.all_of(together) if listed else []
-    for each, holder in zip(listed, leases):
-        each["state"] = state_of(each, isinstance(holder, bytes) and holder.decode() == each["incarnation"])
+        for fields in raw:
+            together.get(keys.lease("").encode() + fields["name"])
+        for owner in owners:
+            together.exists(keys.alive("").encode() + owner)
+        answers = store.all_of(together) if listed else []
+    living = {owner for owner, is_alive in zip(owners, answers[len(listed) :]) if is_alive == 1}
+    for each, fields, holder in zip(listed, raw, answers):
+        each["worker"] = each["worker"] if fields["owner"] in living else ""
+        each["state"] = state_of(each, holder == each["incarnation"].encode())
 
 
 def state_of(each, has_host):
@@ -97,7 +99,7 @@ def state_of(each, has_host):
 
 def everything(store):
     """Returns a dictionary for each session that the store has."""
-    return about(store, [each.decode() for each in store.zrange(keys.ALL, 0, -1)])
+    return about(store, [keys.text(each) for each in store.zrange(keys.ALL, 0, -1)])
 
 
 def living(store):
@@ -105,7 +107,7 @@ def living(store):
     once."""
     known, found = store.zrange(keys.ALL, 0, -1), []
     for at in range(0, len(known), 500):
-        found += [each.decode() for each in store.run("living", *known[at : at + 500])[1:]]
+        found += [keys.text(each) for each in store.run("living", *known[at : at + 500])[1:]]
     return about(store, found), len(known) - len(found)
 
 
@@ -274,9 +276,21 @@ def end(store, name, keep, is_forced):
     return 0
 
 
+RETRIES = {"none": "has no fault", "over": "was given up by its host"}
+
+
+def retry(store, names):
+    """Has workers try sessions with a fault again."""
+    for name in names:
+        answer = store.run("retry", find(store, name))[0]
+        if answer in RETRIES:
+            raise Refused(f"{name} {RETRIES[answer]}")
+    return 0
+
+
 def drain(store, worker, patience):
     """Has a worker hand its sessions over, and waits until it has none."""
-    names = [each.decode("utf-8", "replace") for each in store.hkeys(keys.WORKERS)]
+    names = [keys.text(each) for each in store.hkeys(keys.WORKERS)]
     found = [each for each in names if each.startswith(worker)]
     if len(found) != 1:
         raise NoSession(f"no such worker: {worker}" if not found else f"{len(found)} workers have a name that begins with {worker}")
@@ -287,16 +301,36 @@ def drain(store, worker, patience):
         if time.monotonic() > end_at:
             raise Refused(f"{found[0]} still has {store.scard(keys.of(found[0]))} sessions after {patience:g} s")
         time.sleep(0.02)
-    if not store.hlen(keys.WORKERS):
+    if not living_workers(store):
         print(f"no other worker lives: {store.zcard(keys.WAITING)} sessions wait for one", file=sys.stderr)
     return 0
 
 
+def known_workers(store):
+    """Returns a dictionary for each worker that didn't leave: one that is silent for its lease doesn't live."""
+    found = sorted(store.hgetall(keys.WORKERS).items())
+    with store.pipeline(transaction=False) as together:
+        for each, _ in found:
+            together.exists(keys.alive("").encode() + each)
+            together.scard(keys.of("").encode() + each)
+            together.sismember(keys.UNFIT, each)
+        answers = store.all_of(together) if found else []
+    listed = []
+    for (each, shown), is_alive, sessions, is_unfit in zip(found, *(answers[at::3] for at in range(3))):
+        count = shown.split()[0] if SHOWN.fullmatch(shown) else b""
+        made = {"worker": keys.shown(each), "sessions": sessions, "count": int(count) if count else None}
+        listed.append(made | {"is_alive": bool(is_alive), "is_unfit": bool(is_unfit)})
+    return listed
+
+
+def living_workers(store):
+    """Returns the workers that live."""
+    return [each for each in known_workers(store) if each["is_alive"]]
+
+
 def workers(store, is_json=False):
     """Prints each worker with the count of its sessions."""
-    for each, count in sorted(store.hgetall(keys.WORKERS).items()):
-        sessions = store.scard(keys.of("").encode() + each)
-        shown = count.split()[0] if SHOWN.fullmatch(count) else b"-"
-        made = {"worker": keys.shown(each), "sessions": sessions, "count": int(shown) if shown.isdigit() else None}
-        print(json.dumps(made) if is_json else f"{made['worker']}  {made['sessions']} sessions")
+    for each in known_workers(store):
+        state = "  silent" if not each["is_alive"] else "  unfit" if each["is_unfit"] else ""
+        print(json.dumps(each) if is_json else f"{each['worker']}  {each['sessions']} sessions{state}")
     return 0

@@ -5,7 +5,6 @@ import json
 import logging
 import os
 import queue
-import select
 import subprocess
 import sys
 import threading
@@ -96,6 +95,7 @@ class Program:
         self.is_over, self.was_taken = threading.Event(), threading.Event()
         self.is_leaving = self.passes_on = self.is_gone = False
         self.given = self.taken = 0  # inputs, that the holder was sent and that the program has read
+        self.unread = []  # those that the program may not have read: (stream, id)
         self.end = state["end"]  # the position after what the program wrote, as far as this host knows
         self.sends_since = None  # since when the same bytes are being sent
         self.lock = threading.Lock()
@@ -205,14 +205,25 @@ class Program:
                 self.host.renew_if_due()
                 self.send_all(self.host.receive_signals())
             self.was_taken.clear()
+        if self.taken >= self.given:
+            self.forget_all(self.unread)
+            self.unread = []
 
     def send_all(self, entries):
-        """Sends what came for the program to its holder. What the holder was sent reaches it also if this host dies."""
+        """Sends what came for the program to its holder. Keys stay in the store until the holder said that the program has them: if this host
+        dies, the next one removes those that the holder took. A signal is read at once, also if this host dies."""
         for kind, stream, entry_id, what in entries:
             is_signal = kind == "signal"
             data = f"{stream} {entry_id.decode()}\n".encode() + (str(what).encode() if is_signal else what)
             self.given += not is_signal
             self.say(wire.SIGNAL if is_signal else wire.INPUT, 0, data)
+            if is_signal:
+                self.host.forget(stream, entry_id)
+            else:
+                self.unread.append((stream, entry_id))
+
+    def forget_all(self, entries):
+        for stream, entry_id in entries:
             self.host.forget(stream, entry_id)
 
     def stop(self):

@@ -7,7 +7,7 @@ a checkpoint's position is before the bytes that begin a character and wait for 
 import vt220
 
 from .keys import DEC, FORMATS, PIECE, Damaged, Language, Long, Lost, Trimmed, Version, Wrong
-from .keys import format_of, key, language_of, position, read_checkpoint
+from .keys import format_of, key, language_of, number as number_of, position, read_checkpoint, text
 from .rebuild import rebuilt
 
 
@@ -34,7 +34,7 @@ class Session:
         said = fields.get(b"v", b"")
         written = format_of(said)
         if written not in self.formats:
-            raise Version(f"entry {entry_id.decode('ascii', 'replace')} is", said)
+            raise Version(f"entry {text(entry_id)} is", said)
         self.newest = max(self.newest, written)
         head, _, tail = entry_id.partition(b"-")
         at, number = int(head), int(tail)
@@ -94,7 +94,7 @@ def look_up(store, incarnation):
         fields, (end, *said), is_there = store.all_of(together)
     if end is None or not is_there:
         raise Lost("the store no longer has this session")
-    return restored(incarnation, fields, language=language_of(*said))[0], int(end)
+    return restored(incarnation, fields, language=language_of(*said))[0], number_of(end)
 
 
 def play_on(store, session, end):
@@ -136,6 +136,6 @@ def bytes_of(store, incarnation):
     while entries := store.xrange(key(incarnation, "bytes"), min=last, count=64):
         for entry_id, fields in entries:
             if b"bytes" in fields:
-                latest = max(latest, int(fields.get(b"t", b"0")))
+                latest = max(latest, number_of(fields.get(b"t"), 0))
                 yield position(entry_id), latest, fields[b"bytes"]
         last = "(" + entries[-1][0].decode()

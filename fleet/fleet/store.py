@@ -25,9 +25,12 @@ log = logging.getLogger("fleet")
 GONE = (BusyLoadingError, ConnectionError, TimeoutError, ReadOnlyError)
 FOR_NOW = ("OOM", "MISCONF", "MASTERDOWN", "NOREPLICAS", "CLUSTERDOWN", "TRYAGAIN", "BUSY ", "UNBLOCKED")
 DENIALS = ("WRONGPASS", "NOPERM", "can't run this command", "can't access")
+OF_SESSION = ("WRONGTYPE", "not an integer", "not a number")
 TIMEOUT = 5.0  # seconds until a connection that says nothing counts as dead
 LUA = os.path.join(os.path.dirname(os.path.abspath(__file__)), "lua")
 LIBRARY = "fleet_"
+SECTIONS = ("server", "clients", "stats", "persistence", "memory")  # of what the store says of itself
+CROWDED = 0.8  # of the connections that a store allows: more are too many
 MISSING = "Function not found"
 UNPREPARED = "the store lacks the functions of this version: an operator loads them with fleet prepare-store"
 UNSAFE = "appendonly is off: what the store acknowledges is lost when it stops"
@@ -63,6 +66,11 @@ def is_missing(error):
 def is_denial(error):
     """Returns whether an error says that the store's user has no right to something."""
     return isinstance(error, NoPermissionError) or any(word in str(error) for word in DENIALS)
+
+
+def is_of_session(error):
+    """Returns whether an error says that a session's key or field has a wrong form."""
+    return any(word in str(error) for word in OF_SESSION)
 
 
 @functools.cache
@@ -355,11 +363,11 @@ class Store(redis.Redis):
     # What the store is.
 
     def facts(self):
-        return self.execute_command("INFO", "server", "stats", "persistence", "memory")
+        return self.execute_command("INFO", *SECTIONS)
 
     def facts_when_loaded(self):
         """Returns what the store is. While it reads its file, it says that it has none."""
-        facts = super().execute_command("INFO", "server", "stats", "persistence", "memory")
+        facts = super().execute_command("INFO", *SECTIONS)
         if facts.get("loading"):
             raise BusyLoadingError("the store reads its file")
         return facts
@@ -385,6 +393,15 @@ class Store(redis.Redis):
         for each in found:
             log.warning("unsafe store: %s", each)
         self.is_to_keep = not is_any_allowed
+
+
+def connections(facts):
+    """Returns how many connections a store has and may have, as text. Raises Unfit if nearly all are taken."""
+    now, most = facts["connected_clients"], facts["maxclients"]
+    said = f"{now} of {most} connections are open (maxclients)"
+    if now > CROWDED * most:
+        raise Unfit(f"{said}: each host, viewer and page has one, and each worker two")
+    return said
 
 
 def of_sentinels(url, words):

@@ -79,7 +79,7 @@ class Viewer:
         if answer[0] in ("lost", b"lost"):
             self.is_over, self.fault = True, self.fault or "Lost: the store no longer has this session"
             return
-        self.worker, self.fault, self.is_over = answer[1].decode(), keys.shown(answer[2]), bool(answer[3])
+        self.worker, self.fault, self.is_over = keys.text(answer[1]), keys.shown(answer[2]), bool(answer[3])
         self.takes_input, self.language = answer[5] == b"1", keys.language_of(answer[6], answer[7])
         if order(answer[4]) < order(self.last):  # the stream began anew
             self.last = "0-0"
@@ -96,11 +96,11 @@ class Viewer:
 
     def play(self, fields):
         """A repaint leads there from anywhere; an update only from where the one before it led. Returns whether it was played."""
-        by, step = fields[b"by"], int(fields[b"step"])
+        by, step = fields.get(b"by"), keys.number(fields.get(b"step"))
         if b"repaint" in fields:
             self.terminal.feed(fields[b"repaint"])
         elif (by, step) == (self.by, self.step + 1):
-            self.terminal.feed(fields[b"update"])
+            self.terminal.feed(fields.get(b"update", b""))
         else:
             return False
         self.by, self.step = by, step

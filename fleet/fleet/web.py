@@ -22,9 +22,8 @@ from aiohttp import WSMsgType, web
 from vt220.keyboard import pressed, spelled
 from vt220.page import hashed
 
-from . import keys
 from .gallery import Gallery
-from .operate import PAUSE as PAUSE_OF_KEYS, Typist, parts
+from .operate import PAUSE as PAUSE_OF_KEYS, Typist, living_workers, parts
 
 log = logging.getLogger("fleet.web")
 
@@ -149,7 +148,7 @@ class Page:
 
     def problem(self):
         try:
-            return "" if self.asked.hlen(keys.WORKERS) else "no worker lives"
+            return "" if living_workers(self.asked) else "no worker lives"
         except Exception as error:
             log.warning("the store can't be read: %s: %s", type(error).__name__, error)
             return "the store can't be read"

@@ -8,15 +8,15 @@ import logging
 import time
 
 import vt220
+from prometheus_client import Histogram
 
 from . import keys
 from .claims import HANDFUL, Claims
 from .frames import Frames
-from .latency import Latency
 from .inbox import Inbox
 from .keys import key
 from .session import Session, restored
-from .store import GONE, AnotherRun, AuthenticationError, NoPermissionError, ResponseError
+from .store import GONE, AnotherRun, AuthenticationError, NoPermissionError, ResponseError, is_of_session
 
 log = logging.getLogger("fleet.worker")
 
@@ -31,6 +31,8 @@ SHARE = 16384  # of them that a session may always play
 REPORTS = 200  # of a session that are made in a turn
 UNREAD = 4096  # reports that may wait for a host; then its session is not played on
 SETTLED = 60.0  # seconds that a session stays with a worker at least, unless that one leaves
+LIMITS = (0.005, 0.01, 0.025, 0.05, 0.1, 0.25, 0.5, 1.0, 5.0)  # of the buckets of reports' seconds
+UNFIT = 3  # sessions on which a new worker fails, and no other did, before it takes no more
 NOTE = 5.0  # seconds until the store is told how far a session is, if nothing else tells it
 
 
@@ -55,7 +57,7 @@ class Kept(Session):
         self.read_at = 0.0  # when its last bytes were read
         self.watched = 0.0  # until when somebody looks
         self.is_dirty = True  # something was played since viewers were sent a frame
-        self.taken = time.monotonic()
+        self.taken, self.begun = time.monotonic(), self.at
         self.is_on_trial = False  # workers died in its company; this one takes no other until it caught up
         self.needed = keys.NEEDED[self.language]
 
@@ -111,7 +113,10 @@ class Worker:
         self.frames = Frames(store)
         self.counts = {"entries": 0, "bytes": 0, "reports": 0, "checkpoints": 0, "faults": 0, "taken": 0, "lost": 0}
         self.is_leaving = self.is_gone = self.is_behind = self.is_stale = False
-        self.latency = Latency()
+        self.is_proven = self.is_unfit = False  # whether it played a session on; or failed on its first ones
+        self.failures = 0  # sessions on which it failed, and no other worker did
+        words = "Seconds from the read of a session's bytes until the store had their reports"
+        self.latency = Histogram("fleet_report_seconds", words, buckets=LIMITS, registry=None)
         store.minds_runs = True
         self.generation = store.generation()
 
@@ -161,6 +166,8 @@ class Worker:
         self.kept.clear()
         self.due.clear()
         self.claims.enter()
+        if self.is_unfit:
+            self.store.sadd(keys.UNFIT, self.claims.me)
         self.inbox.move(self.claims.me)
 
     def look_at_store(self):
@@ -194,7 +201,7 @@ class Worker:
     def take(self):
         """Takes sessions that wait, a handful at a time, so that workers share them."""
         room = self.settings.most - len(self.kept)
-        if self.is_leaving or room <= 0:
+        if self.is_leaving or self.is_unfit or room <= 0:
             return
         taken = self.claims.take(room)
         if taken is None:
@@ -228,8 +235,8 @@ class Worker:
         if about[0] is None or not is_there:
             raise keys.Lost("the store no longer has this session's bytes")
         session, was_damaged = restored(incarnation, checkpoint, self.formats, keys.language_of(*about[2:]))
-        kept = self.kept[incarnation] = Kept(session, int(about[0]), was_damaged)
-        kept.seen = checkpoint.get(b"at", b"").decode("ascii", "replace")
+        kept = self.kept[incarnation] = Kept(session, keys.number(about[0]), was_damaged)
+        kept.seen = keys.text(checkpoint.get(b"at"))
         kept.name = keys.shown(about[1] or b"?")
         self.due.add(incarnation)
         self.counts["taken"] += 1
@@ -244,7 +251,7 @@ class Worker:
         try:
             return call(*arguments)
         except (MemoryError, vt220.Memory):
-            log.error("%s: allocation failed for %s", self.claims.me, incarnation)
+            log.error("%s: allocation failed for %s", self.claims.me, keys.shown(incarnation))
             self.claims.release([incarnation])
             self.drop(incarnation)
             time.sleep(0.1)
@@ -255,14 +262,32 @@ class Worker:
                 self.decline(incarnation, fault)
             else:
                 self.give_up(incarnation, f"Version: {fault}")
-        except Exception as fault:
-            if not isinstance(fault, keys.Fault):
-                log.exception("%s: session %s", self.claims.me, incarnation)
+        except keys.Fault as fault:
             self.give_up(incarnation, f"{type(fault).__name__}: {fault}")
+        except ResponseError as error:
+            if is_of_session(error):
+                self.give_up(incarnation, f"Wrong: {error}")
+            else:
+                self.fail_on(incarnation, error)
+        except Exception as error:
+            self.fail_on(incarnation, error)
+
+    def fail_on(self, incarnation, error):
+        """Hands over a session at which this worker met an error that isn't the session's own. It may be a fault of this version, so others
+        try it. A worker that fails on its first sessions takes no more."""
+        log.error("%s: session %s", self.claims.me, keys.shown(incarnation), exc_info=error)
+        session = self.kept.get(incarnation)
+        words = session.at if session else 0, f"{type(error).__name__}: {error}"[:1000]
+        self.failures += self.store.run("trouble", self.claims.me, incarnation, *words)[0] == "first"
+        self.drop(incarnation)
+        if self.failures >= UNFIT and not self.is_proven and not self.is_unfit:
+            self.is_unfit = True
+            self.store.sadd(keys.UNFIT, self.claims.me)
+            log.error("%s failed on its first %d sessions, and takes no more", self.claims.me, self.failures)
 
     def decline(self, incarnation, fault):
         """Hands over a session of a format that this worker doesn't know: another version's worker goes on with it."""
-        log.warning("%s hands %s over: %s", self.claims.me, incarnation, fault)
+        log.warning("%s hands %s over: %s", self.claims.me, keys.shown(incarnation), keys.shown(str(fault)))
         self.claims.decline(incarnation, fault.format)
         self.drop(incarnation)
 
@@ -275,16 +300,16 @@ class Worker:
         answer = self.store.run("give_up", self.claims.me, incarnation, seen, fault[:1000])[0]
         if answer == "ok":
             self.counts["faults"] += 1
-            log.error("%s gives up %s: %s", self.claims.me, session.name if session else incarnation, fault)
+            log.error("%s gives up %s: %s", self.claims.me, session.name if session else keys.shown(incarnation), keys.shown(fault))
         elif answer == "moved":
             self.adopt_some([incarnation])
         else:
-            log.info("%s lost %s, at which it had met %s", self.claims.me, incarnation, fault)
+            log.info("%s lost %s, at which it had met %s", self.claims.me, keys.shown(incarnation), keys.shown(fault))
 
     def seen_at(self, incarnation):
         """Returns where a session's checkpoint is, as the store has it."""
         try:
-            return (self.store.hget(key(incarnation, "checkpoint"), "at") or b"").decode("ascii", "replace")
+            return keys.text(self.store.hget(key(incarnation, "checkpoint"), "at"))
         except ResponseError:
             return ""
 
@@ -441,8 +466,9 @@ class Worker:
     def was_told(self, session, unread):
         self.counts["reports"] += len(session.reports)
         if session.reports:
-            self.latency.note(time.monotonic() - session.read_at)
+            self.latency.observe(time.monotonic() - session.read_at)
         session.reports, session.told, session.is_on_trial = [], session.at, False
+        self.is_proven = self.is_proven or session.at > session.begun
         if session.checkpoint:
             self.counts["checkpoints"] += 1
             session.seen, session.replaces, session.checkpoint = str(session.checkpoint["at"]), False, None

@@ -6,7 +6,7 @@ import random
 
 import aiohttp
 
-from harness import PATIENCE, Processes, Source, check, key, keys, raises, session, settings, stores, until, wait_for, with_machine, worker
+from harness import PATIENCE, Processes, Source, bury, check, keys, raises, session, settings, stores, until, wait_for, with_machine, worker
 from operators import OnTerminal, written
 from safety import fleet
 from stores_faults import program
@@ -20,11 +20,6 @@ UTF8 = keys.NEEDED[keys.UTF8]
 TEXT = "Gr\u00fc\u00dfe \u250c\u2500\u2510\r\n\u00bfqu\u00e9?"
 SHOWN = ["Gr\u00fc\u00dfe \u250c\u2500\u2510", "\u00bfqu\u00e9?"]
 DATA = TEXT.encode() + b"\033[6n"
-
-
-def older(url, **chosen):
-    """A worker of a version that knows no encodings."""
-    return Worker(stores.connect(url), settings(**chosen), formats=(keys.OLDEST,))
 
 
 def place(source):
@@ -61,7 +56,7 @@ def what_is_pending_at_the_end_is_played_again(url, _):
     name, source = "half", Source(url, "half", encoding="utf-8").send(b"\033[6n\xe2\x94")
     one = worker(url, every=1)
     check(until(lambda: played(source) == 6 and not one.due, one) and place(source) == 4, name, f"the checkpoint is at 4: {place(source)}")
-    one.store.run("bury", one.claims.me, one.store.hget(keys.WORKERS, one.claims.me), 500)
+    bury(one)
     another = worker(url, every=1)
     source.send(b"\x8c\033[6n").end(0)
     check(until(source.is_ended, another), name, "another goes on")
@@ -73,47 +68,55 @@ def what_is_pending_at_the_end_is_played_again(url, _):
 PIECES = [TEXT.encode(), b"\xe2\x94", b"\xff", b"\xc2\x9b6n", b"\033[6n", b"\033[c", "\u65e5\u0301".encode(), b"\033]0;\xc2\x9c\xe2\033\\", b"\xf0\x9f\x98\x80"]
 
 
-def ill_formed_bytes_are_cut_anywhere(url, _):
-    """Parts of characters, sequences and strings, cut at random, while workers die. The library plays them at once."""
-    name, chance, at = "ill-formed", random.Random(seed), 0
-    data = b"".join(chance.choice(PIECES)[: chance.randint(1, 12)] for _ in range(400)) + b"\030"
-    whole = vt220.Terminal("utf-8")
+def cut_anywhere(url, name, chance, pieces, count, whole, is_same):
+    """Has a session get pieces that are cut at random, while workers die. The library plays them at once on `whole`."""
+    at, data = 0, b"".join(chance.choice(pieces)[: chance.randint(1, 12)] for _ in range(count)) + b"\030"
     reports = whole.feed(data)
-    source, one = Source(url, name, encoding="utf-8"), worker(url, every=1, keep=0)
+    source, one = Source(url, name, encoding=whole.encoding, terminal=whole.terminal), worker(url, every=1, keep=0)
     while at < len(data):
-        size = chance.randint(1, 30)
+        size = chance.randint(1, 35)
         source.send(data[at : at + size])
         at += len(data[at : at + size])
         until(lambda: played(source) == at and not one.due, one)
         source.receive()
         if chance.random() < 0.3:
-            one.store.run("bury", one.claims.me, one.store.hget(keys.WORKERS, one.claims.me), 500)
+            bury(one)
             one = worker(url, every=1, keep=0)
     source.end(0)
     check(until(source.is_ended, one), name, f"it ends: {source.fault()}")
     check(source.store.hget(source.part("ended"), "text").decode() == whole.text(), name, "the text")
-    check(session.as_it_is(source.store, source.incarnation).terminal.repaint() == whole.repaint(), name, "the repaint")
+    check(is_same(session.as_it_is(source.store, source.incarnation).terminal, whole), name, "all of the state")
     check(source.receive().reports() == reports and len(reports) > 100, name, f"the reports: {len(reports)} bytes")
 
 
-def an_older_worker_takes_no_session_in_utf_8(url, _):
-    name, old = "older worker", older(url, every=1, lease=3600)
-    source, other = Source(url, "utf-8", encoding="utf-8").send(DATA), Source(url, "dec").send(b"x")
-    store = source.store
+def ill_formed_bytes_are_cut_anywhere(url, _):
+    """Parts of characters, sequences and strings."""
+    cut_anywhere(url, "ill-formed", random.Random(seed), PIECES, 400, vt220.Terminal("utf-8"), lambda one, two: one.repaint() == two.repaint())
+
+
+def taken_by_newer_workers(url, source, other, old):
+    """An older worker takes the other session alone, and a newer one this one. Returns the newer one, when it has played all."""
+    name, store, needed = source.name, source.store, keys.NEEDED[source.host.language]
 
     def is_apart():
-        return store.hget(keys.FOREIGN, source.incarnation) == b"%d" % UTF8 and not store.hget(source.part("about"), "owner")
+        return store.hget(keys.FOREIGN, source.incarnation) == b"%d" % needed and not store.hget(source.part("about"), "owner")
 
     check(is_apart(), name, "it waits apart from the others")
     check(until(lambda: other.incarnation in old.kept and not old.due, old) and is_apart(), name, "an older worker takes others alone")
     new = worker(url, every=1)
-    check(until(lambda: source.incarnation in new.kept and not new.due, old, new), name, "a newer one takes it")
-    check(until(lambda: place(source) == len(DATA), old, new), name, "and plays it")
+    check(until(lambda: source.incarnation in new.kept and not new.due and place(source) == len(source.sent), old, new), name, "a newer one plays it")
     formats = [store.hget(each.part("checkpoint"), "v").split(b".")[0] for each in (source, other)]
-    check(formats == [b"%d" % UTF8, b"%d" % keys.OLDEST], name, f"each has its format: {formats}")
-    new.leave()
+    check(formats == [b"%d" % needed, b"%d" % keys.NEEDED[other.host.language]], name, f"each has its format: {formats}")
+    return new
+
+
+def an_older_worker_takes_no_session_in_utf_8(url, _):
+    name, old = "older worker", Worker(stores.connect(url), settings(every=1, lease=3600), formats=(keys.OLDEST,))
+    source, other = Source(url, "utf-8", encoding="utf-8").send(DATA), Source(url, "dec").send(b"x")
+    store = source.store
+    taken_by_newer_workers(url, source, other, old).leave()
     until(lambda: not old.claims.is_anything_waiting, old)
-    check(is_apart() and source.fault() == "", name, "without a newer one it waits")
+    check(store.hget(keys.FOREIGN, source.incarnation) and source.fault() == "", name, "without a newer one it waits")
     status, _, said = fleet(url, "list")
     check(status == 0 and f"waits for a worker that knows the format {UTF8}" in said, name, f"list says so: {said}")
     again = worker(url)

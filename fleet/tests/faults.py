@@ -12,8 +12,6 @@ from harness import (
     keys,
     played,
     raises,
-    session,
-    settings,
     stores,
     until,
     wait_for,

@@ -91,6 +91,15 @@ def worker(url, **chosen):
     return Worker(stores.connect(url), settings(**chosen))
 
 
+class Clock:
+    """Stands for the module `time`: its time passes when the test says so."""
+
+    now = 1000.0
+
+    def monotonic(self):
+        return self.now
+
+
 class Source:
     """A host whose program is a test: it sends what it is told, and keeps what comes for the program."""
 
@@ -200,6 +209,11 @@ class Processes:
 
     def __getattr__(self, name):
         return getattr(self.group, name)
+
+
+def bury(one):
+    """Has the store take a worker of this process for dead, and all of its sessions wait."""
+    one.store.run("bury", one.claims.me, one.store.hget(keys.WORKERS, one.claims.me), 500)
 
 
 def is_buried(store, process):

@@ -1,9 +1,8 @@
 """Loads a worker with many sessions, for `measure`: what an entry, an idle session and a report cost."""
 import os
-import statistics
 import time
 
-from harness import Processes, key, keys, stores, wait_for
+from harness import key, keys, stores, wait_for
 
 TICKS = os.sysconf("SC_CLK_TCK")
 

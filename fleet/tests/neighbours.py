@@ -11,6 +11,7 @@ import load
 from harness import (
     Processes,
     Source,
+    bury,
     check,
     compare,
     key,
@@ -29,7 +30,8 @@ from stores_faults import program
 from web import Served
 from fleet.gallery import READ, Gallery
 from fleet.host import WAITING, Taken
-from fleet.operate import Refused, Typist
+from fleet.metrics import WholeFleet
+from fleet.operate import Refused, Typist, about
 from fleet.worker import Worker
 
 
@@ -55,8 +57,7 @@ def dies(url, turns=60):
         for _ in range(turns):
             mortal.turn(patience=0.01)
     except Died:
-        count = mortal.store.hget(keys.WORKERS, mortal.claims.me)
-        mortal.store.run("bury", mortal.claims.me, count, 500)
+        bury(mortal)
         return True
     mortal.leave()
     return False
@@ -119,7 +120,7 @@ def a_suspect_that_is_sound_is_cleared(url, _):
     for _ in range(2):
         doomed = worker(url)
         check(doomed.claims.take(10) == [source.incarnation], name, "it is taken")
-        store.run("bury", doomed.claims.me, store.hget(keys.WORKERS, doomed.claims.me), 500)
+        bury(doomed)
     check(store.zscore(keys.SUSPECTS, source.incarnation) is not None, name, "it is a suspect after two deaths")
     other = Source(url, "other", lease=600).send(b"x")
     one = worker(url)
@@ -329,7 +330,54 @@ def a_wrong_field_is_one_session_s_fault(url, _):
     store.hset(b"fleet:\xff\xfd:about", mapping={"name": "none", "end": 0})
     one = worker(url)
     check(until(lambda: good.incarnation in one.kept, one), name, "a worker minds no wrong member of a shared key")
+    check(until(lambda: not store.zcard(keys.WAITING), one) and b"\xff\xfd" not in store.smembers(keys.of(one.claims.me)), name, "and doesn't keep it")
     check(fleet(url, "workers")[0] == 0, name, "nor does the list of workers")
+
+
+def a_stream_of_a_wrong_type_takes_nothing_else_from_a_host(url, _):
+    """Somebody wrote there what isn't a stream. Reports and signals come, and then keys do, too."""
+    name, one = "wrong stream", worker(url, lease=3600)
+    source = Source(url, "wrong", takes_input=True).send(b"\033[c")
+    source.store.set(source.part("keys"), "x")
+    check(until(lambda: source.receive().got, one), name, "the report comes")
+    source.store.set(source.part("signals"), "x")
+    source.host.renewed = -1e9
+    source.host.receive_next()
+    typist = Typist(source.store, source.incarnation)
+    typist.type(b"a")
+    typist.signal(1)
+    source.receive()
+    check(sorted(source.got[1:]) == [("keys", b"a"), ("signal", 1)], name, f"and so do keys and signals: {source.got}")
+
+
+def what_is_wrong_blinds_no_operator(url, _):
+    """A field, a lease, a member of the set of all, and a stream for viewers. The list, the metrics and the page show the others."""
+    name, store = "blind", stores.connect(url)
+    one, good, bad = worker(url, lease=3600), Source(url, "good").send(b"abc"), Source(url, "bad")
+    until(lambda: len(one.kept) == 2 and not one.due, one)
+    one.note()
+    store.hset(bad.part("about"), mapping={"encoding": b"\xff", "played": b"1" * 5000})
+    store.set(keys.lease("bad"), b"\xff")
+    store.set(bad.part("view"), "x")
+    store.zadd(keys.ALL, {b"\xff\xfe": 1, "a:b": 2})
+    store.hset(b"fleet:a:b:about", mapping={"name": b"\xff", "end": 0})
+    status, out, said = fleet(url, "list")
+    check(status == 0 and "good" in out and "bad: Wrong: " in said, name, f"the list: {status} {out} {said}")
+    whole = WholeFleet(store)
+    check(whole.problem() == "" and len(whole.facts["listed"]) == 3, name, f"the metrics: {whole.facts}")
+    gallery = Gallery(store, lambda: None)
+
+    def shows():
+        gallery.look()
+        one.turn(0.01)
+        return gallery.followed[good.incarnation].picture.terminal.same_state(one.kept[good.incarnation].terminal)
+
+    check(wait_for(shows), name, "the page follows the other one")
+    check(gallery.followed[bad.incarnation].picture.facts["fault"].startswith("Wrong: "), name, "and has the fault of this one")
+    odd = [Source(url, each) for each in ("no\u00a0break", "private\ue000use", "new\U0001fae8")]
+    until(lambda: all(each.incarnation in one.kept for each in odd), one)
+    states = [each["state"] for each in about(store, [each.incarnation for each in odd])]
+    check(states == ["running"] * 3, name, f"a name that isn't shown as it is has a host all the same: {states}")
 
 
 def an_entry_that_is_too_long_is_a_fault(url, _):
@@ -420,6 +468,8 @@ CASES = [
     a_long_session_without_a_checkpoint_doesn_t_stop_the_page,
     no_client_is_told_of_a_session_without_its_facts,
     a_wrong_field_is_one_session_s_fault,
+    a_stream_of_a_wrong_type_takes_nothing_else_from_a_host,
+    what_is_wrong_blinds_no_operator,
     an_entry_that_is_too_long_is_a_fault,
     a_backlog_of_many_sessions_takes_little_memory,
     what_the_store_says_is_printed_without_its_escapes,

@@ -7,6 +7,7 @@ import pty
 import re
 import select
 import signal
+import socket
 import struct
 import subprocess
 import tempfile
@@ -36,7 +37,7 @@ from harness import (
     with_machine,
     worker,
 )
-from fleet import claims, config, host
+from fleet import claims, config, host, metrics
 from fleet.config import Settings, Unclear
 from fleet.metrics import HostMetrics, PageMetrics, WholeFleet, WorkerMetrics, server
 from fleet.web import Page
@@ -504,16 +505,22 @@ def alerts_and_documents_name_the_metrics_that_there_are(url, _):
     check(len(alerts) == len(set(alerts)) == texts["alerts.yml"].count("summary:"), name, f"each alert has a summary: {alerts}")
     pages = set(re.findall(r"^## (\w+)", texts["RUNBOOK.md"], re.MULTILINE))
     faults = {each.__name__ for each in keys.Fault.__subclasses__()} | {host.Taken.__name__, "Poison", *alerts}
+    with open(os.path.join(HERE, "gameday.py")) as read:
+        judged = set(re.findall(r'judge\(machine, "(\w+)"', read.read()))
+    check(judged == set(alerts), name, f"the game day has each alert: {judged ^ set(alerts)}")
     check(faults <= pages, name, f"the runbook has a page for each fault and each alert: {faults - pages}")
 
 
 @with_machine
 def metrics_of_the_whole_fleet(machine, _):
     name = "fleet metrics"
-    whole = WholeFleet(stores.connect(machine.url, socket_timeout=2))
+    whole, metrics.SILENT = WholeFleet(stores.connect(machine.url, socket_timeout=2)), 0.2
     served = server(whole, "127.0.0.1:0")
+    metrics.SILENT = 10.0
     threading.Thread(target=served.serve_forever, daemon=True).start()
     port = served.server_address[1]
+    with socket.create_connection(("127.0.0.1", port), PATIENCE) as silent:
+        check(silent.recv(1) == b"", name, "a connection that asks nothing is closed")
     check(asked(port, "healthz") == (503, "no worker lives\n"), name, "without a worker it isn't well")
     Source(machine.url, "waits").send(b"abc")
     bad, gone = Source(machine.url, "bad"), Source(machine.url, "gone")

@@ -216,11 +216,12 @@ def rights_of_commands(urls):
 
 
 def rights_of_calls(urls):
+    spoilt = [("SET", f"fleet:{'a' * 16}:keys", "x"), ("SET", "fleet:lease:x:keys", "x"), ("XADD", "fleet:lease:0123456789:keys", "*", "a", "b")]
     denied = {
-        "host": [("FLUSHALL",), ("SET", "other", "x")],
+        "host": [("FLUSHALL",), ("SET", "other", "x"), ("SET", "fleet:live", "x"), ("DEL", "fleet:all"), ("SADD", "fleet:of:x", "y")],
         "worker": [("CONFIG", "GET", "*"), ("SET", "other", "x")],
         "viewer": [("SET", "fleet:x:fault", "x"), ("XADD", "fleet:x:keys", "*", "a", "b")],
-        "typist": [("XADD", "fleet:x:answers", "*", "a", "b"), ("SET", "fleet:x:fault", "x")],
+        "typist": [("XADD", "fleet:x:answers", "*", "a", "b"), ("SET", "fleet:x:fault", "x"), *spoilt],
         "operator": [("FLUSHALL",), ("CONFIG", "GET", "*")],
     }
     endless = ("while true do end", "#!lua name=fleet_x\nredis.register_function('x', function() while true do end end)")

@@ -1,5 +1,5 @@
 """The store's scripts one by one, each at the edge of what it promises, and checkpoints of which each byte counts."""
-from harness import Source, check, compare, keys, played, until, worker
+from harness import Clock, Source, check, compare, keys, played, until, wait_for, worker
 from fleet import claims
 
 TRIES = claims.TRIES
@@ -60,13 +60,70 @@ def take_gives_up_after_so_many(url, _):
         store.run("bury", one, store.hget(keys.WORKERS, one), 500)
 
 
-class Clock:
-    """Stands for the module `time`: its time passes when the test says so."""
+def a_beat_and_a_renewal_cost_the_same_beside_many_workers(url, _):
+    """No command reads all workers, and as much comes back. Those that are dead are found all the same."""
+    name, clock, source = "many", Clock(), Source(url, "many")
+    store, real = source.store, claims.time
+    claims.time = clock
 
-    now = 1000.0
+    def cost():
+        """Returns the commands of a beat and a renewal, and the length of a beat's answer."""
+        store.config_resetstat()
+        one.beat(0)
+        source.host.renewed = -1e9
+        source.host.renew_if_due()
+        asked = {command: facts["calls"] for command, facts in store.info("commandstats").items()}
+        return asked, len(store.run("beat", one.me)[-1])
 
-    def monotonic(self):
-        return self.now
+    try:
+        one, buried = claims.Claims(store, 1.0), set()
+        one.bury = lambda other, count: buried.add(other)
+        for number in range(200):
+            store.run("enter", f"w{number}", *SHOWN)
+            if number == 39:
+                few = cost()
+        many = cost()
+        check("cmdstat_hgetall" not in many[0] and few[1] == many[1], name, f"{few} {many}")
+        check(sum(many[0].values()) <= sum(few[0].values()) + claims.WATCHED, name, "nor are there more commands")
+
+        def are_found():
+            clock.now += 0.2
+            one.beat(0)
+            return len(buried) == 200
+
+        check(wait_for(are_found, 0), name, f"one that is left finds all dead ones: {len(buried)}")
+    finally:
+        claims.time = real
+
+
+def a_worker_of_another_version_counts(url, _):
+    """Its functions don't write the key with the common format."""
+    name, source = "other version", Source(url, "other version")
+    one, found = claims.Claims(source.store, 3600), []
+    for change in (lambda: None, lambda: source.store.hset(keys.WORKERS, "old", f"0 5000 {keys.OLDEST}"), lambda: source.store.hdel(keys.WORKERS, "old")):
+        change()
+        source.host.renewed = -1e9
+        source.host.renew_if_due()
+        one.beat(0)
+        found.append((source.host.format, one.format))
+    newest, oldest = (keys.FORMAT,) * 2, (keys.OLDEST,) * 2
+    check(found == [newest, oldest, newest], name, f"hosts and workers write what it knows, and go back: {found}")
+
+
+def a_broken_session_stops_no_other(url, _):
+    """Its fields have no form in which it could be closed. No worker dies of that, and its name is used again."""
+    name, store = "broken", Source(url, "other").store
+    one = claims.Claims(store, 3600, retain=0)
+    broken = [Source(url, f"broken-{number}") for number in range(2)]
+    for source in broken:
+        store.hset(source.part("about"), "end", "zz")
+        store.delete(keys.lease(source.name))
+        store.zrem(keys.WAITING, source.incarnation)
+        store.hset(keys.FOREIGN, source.incarnation, "9")
+    again = Source(url, "broken-0")
+    check(broken[0].fault().startswith("Wrong: ") and not again.fault(), name, f"its name is used again: {broken[0].fault()}")
+    check(until(lambda: one.audit() or not any(store.exists(source.part("about")) for source in broken)), name, "each is removed in the end")
+    check(store.sismember(keys.LIVE, again.incarnation), name, "and no other is")
 
 
 def a_pause_forgets_what_was_seen(url, _):
@@ -87,7 +144,7 @@ def a_pause_forgets_what_was_seen(url, _):
         for _ in range(8):
             clock.now += 0.2
             one.beat(0)
-        check(set(buried) == {"still"}, name, "a count that then stands still for a lease is")
+        check(set(buried) == {b"still"}, name, "a count that then stands still for a lease is")
     finally:
         claims.time = real
 
@@ -106,7 +163,7 @@ def a_slow_worker_finds_the_dead(url, _):
             clock.now += 1.5
             source.store.run("beat", "lives")
             one.beat(0)
-        check(set(buried) == {"still"}, name, f"it buries the silent one: {buried}")
+        check(set(buried) == {b"still"}, name, f"it buries the silent one: {buried}")
         buried.clear()
         clock.now += 60.0
         one.beat(0)
@@ -141,6 +198,9 @@ CASES = [
     finish_leaves_the_name_of_another,
     tell_keeps_what_it_is_to_keep,
     take_gives_up_after_so_many,
+    a_worker_of_another_version_counts,
+    a_broken_session_stops_no_other,
+    a_beat_and_a_renewal_cost_the_same_beside_many_workers,
     a_pause_forgets_what_was_seen,
     a_slow_worker_finds_the_dead,
     each_byte_of_a_checkpoint_counts,

@@ -1,23 +1,24 @@
 """What is replaced while sessions live: formats, leases, hosts; and what is removed in the end."""
 import os
 import random
+import re
 import signal
 import stat
-import subprocess
 import sys
+import threading
 
 from harness import (
-    HERE,
+    Clock,
     PATIENCE,
     PATIENT,
     Processes,
     Source,
+    bury,
     check,
     compare,
     configured,
     key,
     keys,
-    local,
     raises,
     settings,
     stores,
@@ -27,11 +28,12 @@ from harness import (
     with_machine,
     worker,
 )
-from operators import written
+from operators import children_of, written
 from safety import conf, fleet
 from stores_faults import program
-from fleet import claims, wire
+from fleet import claims, holder, wire
 from fleet.operate import Typist
+from fleet.program import Program
 from fleet.worker import Worker
 
 seed, rounds = 1, 20
@@ -99,7 +101,7 @@ def a_session_of_another_format_waits_for_its_worker(url, data):
     check(until(lambda: version_of(source) == NEW and not new.due, new), name, "it is of the next format")
     store = source.store
     old = worker(url)
-    store.run("bury", new.claims.me, store.hget(keys.WORKERS, new.claims.me), 500)
+    bury(new)
     check(until(lambda: store.hget(keys.FOREIGN, source.incarnation) == NEW, old), name, "the other one hands it over")
     other = Source(url, "other").send(b"x")
     check(until(lambda: other.incarnation in old.kept, old), name, "and plays others")
@@ -113,16 +115,6 @@ def a_session_of_another_format_waits_for_its_worker(url, data):
     source.receive()
     compare(source, name)
     check(store.hlen(keys.FOREIGN) == 0, name, "and nothing is left")
-
-
-class Clock:
-    """A clock that the test moves."""
-
-    def __init__(self):
-        self.now = 1000.0
-
-    def monotonic(self):
-        return self.now
 
 
 def a_worker_is_dead_by_its_own_lease(url, _):
@@ -277,6 +269,51 @@ def a_program_outlives_its_host(machine, data):
     workers.stop()
 
 
+@with_machine
+def keys_of_a_host_that_is_killed_are_not_lost(machine, _):
+    """The holder meets the host's end when it sends, before it has read what the host said last. The turns are the test's."""
+    name, path = "last keys", os.path.join(machine.folder, "holder")
+    said = {"path": path, "name": name, "incarnation": "a", "command": ["cat"], "encoding": "dec", "terminal": "vt220"}
+    one = holder.Holder(said)
+    link = wire.connected(path)
+    one.meet()
+    link.sendall(wire.packed(wire.INPUT, 0, b"keys 1-0\nabc") + wire.packed(wire.INPUT, 0, b"keys 2-0\ndef"))
+    link.close()
+    one.data += b"what the program wrote"
+    one.send_host()
+    check((one.host, one.input, one.last) == (None, b"abcdef", {"keys": b"2-0"}), name, f"it has all: {one.input} {one.last}")
+    link = wire.connected(path)
+    one.meet()
+    source = Source(machine.url, name, takes_input=True)
+    hosted = Program(source.host, link, {"base": 0, "end": 0, "last": {}, "reader": wire.Reader(), "early": []})
+    typist = Typist(source.store, source.incarnation)
+    typist.type(b"ghi")
+    hosted.send_all(source.host.receive_entries(0))
+    check(source.store.xlen(source.part("keys")) == 1, name, "keys are in the store until the holder says that the program has them")
+    for call in (lambda: hosted.give([]), one.run):
+        threading.Thread(target=call, daemon=True).start()
+    check(wait_for(lambda: source.store.xlen(source.part("keys")) == 0), name, "then they are removed")
+    one.signal(signal.SIGKILL)
+
+
+@with_machine
+def a_host_waits_for_the_lease_of_one_that_died_with_its_program(machine, _):
+    """As when the kernel ends all of a unit, which is then started again."""
+    name, store = "both", stores.connect(machine.url)
+    first = program(machine, name, ["sleep", "infinity"])
+    wait_for(lambda: store.hexists(keys.NAMES, name) and os.path.isdir(machine.holders()) and os.listdir(machine.holders()))
+    before = store.hget(keys.NAMES, name)
+    for pid in (*children_of(first.pid), first.pid):
+        os.kill(pid, signal.SIGKILL)
+    first.wait()
+    store.config_resetstat()
+    second = program(machine, name, ["sh", "-c", "exit 3"])
+    wait_for(lambda: second.poll() is not None or store.info("commandstats").get("cmdstat_fcall", {}).get("calls", 0) > 3)
+    check(second.poll() is None, name, f"it waits while the lease lasts: {second.returncode}")
+    store.pexpire(keys.lease(name), 1)
+    check(second.wait(PATIENCE) == 3 and store.hget(keys.NAMES, name) != before, name, f"then it begins: {second.returncode}")
+
+
 VICTIMS = ("host", "worker", "host", "host", "store", "worker", "host", "store", "host", "worker", "host")
 
 
@@ -320,6 +357,12 @@ def a_storm_with_hosts_among_the_victims(machine, data):
     workers.stop()
 
 
+def heeds(pid, number):
+    """Returns whether a process has a handler for a signal."""
+    with open(f"/proc/{pid}/status") as status:
+        return bool(int(re.search(r"SigCgt:\s+(\w+)", status.read())[1], 16) >> (number - 1) & 1)
+
+
 @with_machine
 def a_host_is_replaced_by_a_newer_one(machine, _):
     name, workers = "replaced", Processes(machine, 1)
@@ -336,7 +379,9 @@ def a_host_is_replaced_by_a_newer_one(machine, _):
     before = held_by()
     for number in range(3):
         host.send_signal(signal.SIGUSR1)
-        check(wait_for(lambda: held_by() != before), name, "SIGUSR1: it is another one")
+        wait_for(lambda: not heeds(host.pid, signal.SIGUSR1) or held_by() != before, 0)
+        host.send_signal(signal.SIGUSR1)  # once more, while the next version starts
+        check(wait_for(lambda: held_by() != before) and host.poll() is None, name, f"SIGUSR1: it is another one: {host.poll()}")
         before = held_by()
         check(fleet(machine.url, "type", "--enter", name, f"line {number}")[0] == 0, name, "which takes keys")
         check(wait_for(lambda: b"got line %d" % number in written(store, name)), name, "for the same program")
@@ -410,6 +455,8 @@ CASES = [
     a_worker_is_dead_by_its_own_lease,
     what_nobody_needs_is_removed,
     a_program_outlives_its_host,
+    keys_of_a_host_that_is_killed_are_not_lost,
+    a_host_waits_for_the_lease_of_one_that_died_with_its_program,
     a_storm_with_hosts_among_the_victims,
     a_host_is_replaced_by_a_newer_one,
     an_old_host_writes_nothing_once_there_is_a_new_one,

@@ -4,6 +4,7 @@ import os
 import random
 
 from harness import PATIENCE, Processes, Source, check, keys, raises, session, settings, stores, until, wait_for, with_machine, worker
+from characters import cut_anywhere, played, taken_by_newer_workers
 from operators import OnTerminal, written
 from safety import fleet
 from stores_faults import program
@@ -13,7 +14,6 @@ import vt220
 
 seed = 1
 XTERM = {"encoding": "utf-8", "terminal": "xterm"}
-NEEDED = keys.NEEDED[keys.XTERM]
 MAIN, ALTERNATE = b"\033[?47l", b"\033[?47h"
 # The main page, the alternate one, and the main one again, with a question on each.
 DATA = "main \u00fc\033[?1049h\033[5;5Halt\033[6n\033[1m\u250c\033[?1049l\033[3`x\033[6n".encode()
@@ -70,14 +70,6 @@ def a_terminal_that_is_rebuilt_wrongly_is_found(url, _):
     check(not is_same(terminal(others[-1]), terminal()), name, "nor is a page of another width")
 
 
-def played(source):
-    return int(source.store.hget(source.part("about"), "played"))
-
-
-def bury(one):
-    one.store.run("bury", one.claims.me, one.store.hget(keys.WORKERS, one.claims.me), 500)
-
-
 def each_byte_is_another_workers(url, _):
     """Each begins at the checkpoint of the one before."""
     name, source = "pages", Source(url, "pages", **XTERM)
@@ -97,42 +89,14 @@ def each_byte_is_another_workers(url, _):
 
 
 def pieces_are_cut_anywhere(url, _):
-    """Parts of characters, sequences and pages, cut at random, while workers die. The library plays them at once."""
-    name, chance, at = "at random", random.Random(seed), 0
-    data = b"".join(chance.choice(PIECES)[: chance.randint(1, 12)] for _ in range(500)) + b"\030"
-    whole, source, one = terminal(), Source(url, "at random", **XTERM), worker(url, every=1, keep=0)
-    reports = whole.feed(data)
-    while at < len(data):
-        size = chance.randint(1, 40)
-        source.send(data[at : at + size])
-        at += len(data[at : at + size])
-        until(lambda: played(source) == at and not one.due, one)
-        source.receive()
-        if chance.random() < 0.3:
-            bury(one)
-            one = worker(url, every=1, keep=0)
-    source.end(0)
-    check(until(source.is_ended, one), name, f"it ends: {source.fault()}")
-    now = session.as_it_is(source.store, source.incarnation).terminal
-    check(source.store.hget(source.part("ended"), "text").decode() == whole.text(), name, "the text")
-    check(is_same(now, whole), name, "both pages")
-    check(source.receive().reports() == reports and len(reports) > 100, name, f"the reports: {len(reports)} bytes")
+    """Parts of characters, sequences and pages."""
+    cut_anywhere(url, "at random", random.Random(seed), PIECES, 500, terminal(), is_same)
 
 
 def an_older_worker_takes_no_such_session(url, _):
     name, old = "older worker", Worker(stores.connect(url), settings(every=1), formats=(keys.OLDEST, keys.NEEDED[keys.UTF8]))
     source, other = Source(url, "xterm", **XTERM).send(DATA), Source(url, "utf-8", encoding="utf-8").send(b"x")
-    store = source.store
-
-    def is_apart():
-        return store.hget(keys.FOREIGN, source.incarnation) == b"%d" % NEEDED and not store.hget(source.part("about"), "owner")
-
-    check(is_apart(), name, "it waits apart from the others")
-    check(until(lambda: other.incarnation in old.kept and not old.due, old) and is_apart(), name, "an older worker takes others alone")
-    new = worker(url, every=1)
-    check(until(lambda: source.incarnation in new.kept and not new.due and played(source) == len(DATA), old, new), name, "a newer one takes it")
-    formats = [store.hget(each.part("checkpoint"), "v").split(b".")[0] for each in (source, other)]
-    check(formats == [b"%d" % NEEDED, b"%d" % keys.NEEDED[keys.UTF8]], name, f"each has its format: {formats}")
+    new = taken_by_newer_workers(url, source, other, old)
     source.end(0)
     check(until(source.is_ended, old, new), name, "and ends it")
     check(source.store.hget(source.part("ended"), "text").decode().splitlines()[0] == SHOWN, name, "the text")

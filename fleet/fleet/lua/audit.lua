@@ -16,7 +16,8 @@ local function is_abandoned(inc)
 end
 
 local found, walked = 0, redis.call('SSCAN', 'fleet:live', ARGV[1], 'COUNT', ARGV[2])
-for _, inc in ipairs(walked[2]) do
+
+local function look_after(inc)
   local owner = field(inc, 'about', 'owner')
   local is_had = owner and redis.call('HEXISTS', 'fleet:workers', owner) == 1 and redis.call('SISMEMBER', 'fleet:of:' .. owner, inc) == 1
   if redis.call('EXISTS', key(inc, 'about')) == 0 or redis.call('EXISTS', key(inc, 'ended'), key(inc, 'fault')) > 0 then
@@ -28,6 +29,8 @@ for _, inc in ipairs(walked[2]) do
     close(inc, 'lost', ARGV[4])
   end
 end
+
+for _, inc in ipairs(walked[2]) do guarded(inc, look_after) end
 for _, inc in ipairs(redis.call('ZRANDMEMBER', 'fleet:all', 20)) do
   local is_there = redis.call('EXISTS', key(inc, 'about')) == 1
   if not is_there or redis.call('EXISTS', key(inc, 'fault')) == 1 and is_abandoned(inc) then forget(inc) end

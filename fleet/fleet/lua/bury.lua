@@ -8,9 +8,5 @@ for _, inc in ipairs(moved) do
   if field(inc, 'about', 'owner') == dead then queue(inc) end
 end
 local left = redis.call('SCARD', 'fleet:of:' .. dead)
-if left == 0 then
-  redis.call('HDEL', 'fleet:workers', dead)
-  redis.call('SREM', 'fleet:draining', dead)
-  redis.call('HDEL', 'fleet:trying', dead)
-end
+if left == 0 then strike_off(dead) end
 return left

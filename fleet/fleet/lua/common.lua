@@ -14,6 +14,11 @@ local function field(inc, part, name)
   return nil
 end
 
+-- A worker lives as long as the store has its key `alive`, which ends by the store's clock. So all who look see the same.
+local function show_life(worker, lease) redis.call('SET', 'fleet:alive:' .. worker, 1, 'PX', lease) end
+
+local function is_alive(worker) return redis.call('EXISTS', 'fleet:alive:' .. worker) == 1 end
+
 -- Ends a worker's trial of a session.
 local function absolve(worker, inc)
   if redis.call('HGET', 'fleet:trying', worker) == inc then redis.call('HDEL', 'fleet:trying', worker) end
@@ -53,11 +58,10 @@ local function workers_shown()
   return shown
 end
 
--- Returns the newest format that all living workers know, as text; empty if there is none. All write this one, so that each can go
--- on with what another one wrote.
-local function common_format(shown)
+-- Returns the newest format that all workers know, as text; empty if there is none.
+local function found_format()
   local workers, count, newest = 0, {}, 0
-  for _, each in pairs(shown or workers_shown()) do
+  for _, each in pairs(workers_shown()) do
     local known = formats_in(each)
     if known then
       workers = workers + 1
@@ -68,6 +72,31 @@ local function common_format(shown)
     if times == workers then newest = math.max(newest, tonumber(format)) end
   end
   return newest > 0 and tostring(newest) or ''
+end
+
+-- Notes that format, and how many workers there were. Whoever changes the workers calls it.
+local function note_format()
+  redis.call('SET', 'fleet:format', found_format() .. ' ' .. redis.call('HLEN', 'fleet:workers'))
+end
+
+-- Returns the noted format; nil if there are more or fewer workers now, since another version's functions changed them. `noted` is the
+-- note, if it was read before.
+local function noted_format(noted)
+  local newest, count = string.match(noted or redis.call('GET', 'fleet:format') or '', '^(%d*) (%d+)$')
+  return tonumber(count) == redis.call('HLEN', 'fleet:workers') and newest or nil
+end
+
+-- Returns the format that all write, so that each can go on with what another one wrote. Its cost doesn't depend on how many workers live.
+local function common_format(noted) return noted_format(noted) or found_format() end
+
+-- Removes a worker from all that names the workers.
+local function strike_off(worker)
+  redis.call('HDEL', 'fleet:workers', worker)
+  redis.call('SREM', 'fleet:draining', worker)
+  redis.call('SREM', 'fleet:unfit', worker)
+  redis.call('HDEL', 'fleet:trying', worker)
+  redis.call('DEL', 'fleet:alive:' .. worker)
+  note_format()
 end
 
 -- So many workers may die with a session in a handful, before it caught up. Then it is taken alone, so that a death counts against
@@ -91,7 +120,8 @@ end
 
 -- Returns how many sessions each worker has if they are shared evenly.
 local function share()
-  local workers = math.max(1, redis.call('HLEN', 'fleet:workers') - redis.call('SCARD', 'fleet:draining'))
+  local away = redis.call('SCARD', 'fleet:draining') + redis.call('SCARD', 'fleet:unfit')
+  local workers = math.max(1, redis.call('HLEN', 'fleet:workers') - away)
   return math.ceil(redis.call('SCARD', 'fleet:live') / workers)
 end
 
@@ -112,6 +142,15 @@ local function retire(inc)
   redis.call('SREM', 'fleet:live', inc)
 end
 
+-- Calls something for a session. If it raises, since the session's keys or fields have a wrong form, this is the session's fault.
+local function guarded(inc, call, ...)
+  local is_sound, error = pcall(call, inc, ...)
+  if not is_sound then
+    redis.call('SET', key(inc, 'fault'), 'Wrong: ' .. tostring(type(error) == 'table' and error.err or error))
+    retire(inc)
+  end
+end
+
 -- Closes a session's bytes with a status, unless they are closed.
 local function close(inc, status, version)
   local about = redis.call('HMGET', key(inc, 'about'), 'end', 'closed', 'owner')
@@ -121,7 +160,29 @@ local function close(inc, status, version)
   if about[3] then redis.call('PUBLISH', 'fleet:wake:' .. about[3], inc) end
 end
 
-local parts = {'about', 'bytes', 'answers', 'checkpoint', 'view', 'keys', 'signals', 'ended', 'fault'}
+-- Forgets which workers met errors at a session.
+local function forgive(inc)
+  redis.call('DEL', key(inc, 'failed'))
+  redis.call('HDEL', key(inc, 'about'), 'stuck', 'error')
+end
+
+-- Gives a session the error that workers met at it as its fault, if no other one is left to try it. Workers that failed on their first
+-- sessions count neither way: if only these are left, it waits. Returns whether it has the fault.
+local function doom(inc)
+  local has_failed = false
+  for worker in pairs(workers_shown()) do
+    if redis.call('SISMEMBER', 'fleet:unfit', worker) == 0 and redis.call('SISMEMBER', 'fleet:draining', worker) == 0 then
+      if redis.pcall('SISMEMBER', key(inc, 'failed'), worker) ~= 1 then return false end
+      has_failed = true
+    end
+  end
+  if not has_failed then return false end
+  redis.call('SET', key(inc, 'fault'), field(inc, 'about', 'error') or 'Poison')
+  retire(inc)
+  return true
+end
+
+local parts = {'about', 'bytes', 'answers', 'checkpoint', 'view', 'keys', 'signals', 'ended', 'fault', 'failed'}
 
 -- Removes all that there is of a session.
 local function forget(inc)

@@ -11,7 +11,7 @@ end
 local closed = field(inc, 'about', 'closed')
 if closed then return {'taken', closed} end
 local old = redis.call('HGET', 'fleet:names', name)
-if old and old ~= inc then close(old, 'lost', version) end
+if old and old ~= inc then guarded(old, close, 'lost', version) end
 redis.call('SET', 'fleet:lease:' .. name, inc, 'PX', lease)
 redis.call('HSET', 'fleet:names', name, inc)
 if redis.call('EXISTS', key(inc, 'about')) == 1 and redis.call('EXISTS', key(inc, 'bytes')) == 1 then

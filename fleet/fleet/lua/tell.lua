@@ -3,7 +3,7 @@
 -- ENDED(none|status) TEXT [POSITION REPORT ..]
 -- ok, with how many reports wait for the host; or lost (another's), forged (with the last id there), differs (with a position).
 local me, inc, played, version = ARGV[1], ARGV[2], ARGV[3], ARGV[4]
-local about = redis.call('HMGET', key(inc, 'about'), 'owner', 'answered', 'expire')
+local about = redis.call('HMGET', key(inc, 'about'), 'owner', 'answered', 'expire', 'stuck')
 if about[1] ~= me then return {'lost'} end
 local answers, answered = key(inc, 'answers'), tonumber(about[2] or 0)
 for i = 14, #ARGV, 2 do
@@ -22,6 +22,7 @@ for i = 14, #ARGV, 2 do
 end
 redis.call('HSET', key(inc, 'about'), 'played', played, 'answered', string.format('%.0f', answered), 'tries', 0)
 absolve(me, inc)
+if about[4] and tonumber(played) > (tonumber(about[4]) or -1) then forgive(inc) end
 if ARGV[7] ~= 'none' then
   local at = tonumber(redis.call('HGET', key(inc, 'checkpoint'), 'at') or -1)
   if ARGV[7] == 'always' or not at or at < tonumber(ARGV[8]) then

@@ -1,6 +1,6 @@
 -- Flags: allow-oom
 -- Somebody looks at a session: INCARNATION. Its worker is told.
--- Returns its worker, its fault, whether it has ended, the last id for viewers, whether it takes input, its encoding, and its terminal; or
+-- Returns its worker if that one lives, its fault, whether it has ended, the last id for viewers, whether it takes input, its encoding, and its terminal; or
 -- lost.
 local inc = ARGV[1]
 local about = redis.call('HMGET', key(inc, 'about'), 'owner', 'end', 'input', 'encoding', 'terminal')
@@ -11,4 +11,5 @@ if redis.call('EXISTS', key(inc, 'view')) == 1 then
   local entry = redis.call('XREVRANGE', key(inc, 'view'), '+', '-', 'COUNT', 1)[1]
   if entry then last = entry[1] end
 end
-return {'ok', about[1] or '', redis.call('GET', key(inc, 'fault')) or '', redis.call('EXISTS', key(inc, 'ended')), last, about[3] or '0', about[4] or 'dec', about[5] or 'vt220'}
+local owner = about[1] and is_alive(about[1]) and about[1] or ''
+return {'ok', owner, redis.call('GET', key(inc, 'fault')) or '', redis.call('EXISTS', key(inc, 'ended')), last, about[3] or '0', about[4] or 'dec', about[5] or 'vt220'}

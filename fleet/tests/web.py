@@ -47,8 +47,12 @@ def shot(browser, name):
         browser.picture(os.path.join(PICTURES, name + ".png"))
 
 
+# What is inside of the player.
+INSIDE = "document.getElementById('screen').shadowRoot"
+
+
 def lines(browser):
-    return browser.run("[...document.querySelectorAll('#screen > div')].map(e => e.textContent)")
+    return browser.run(f"[...{INSIDE}.querySelectorAll('#screen > div')].map(e => e.textContent)")
 
 
 def choose(browser, name):
@@ -111,12 +115,12 @@ def real_sessions_in_the_browser(machine, _):
 
 
 # What is copied if the first row of the screen is selected.
-COPIED = """(row => {
+COPIED = """((root, row) => {
   const copy = new ClipboardEvent("copy", { clipboardData: new DataTransfer(), bubbles: true, cancelable: true });
-  getSelection().selectAllChildren(row);
+  root.getSelection().selectAllChildren(row);
   row.dispatchEvent(copy);
   return copy.clipboardData.getData("text/plain");
-})(document.querySelector("#screen > div"))"""
+})(INSIDE, INSIDE.querySelector("#screen > div"))""".replace("INSIDE", INSIDE)
 
 
 def markup_is_text(browser, name):
@@ -129,7 +133,7 @@ def markup_is_text(browser, name):
     found = browser.run("document.querySelectorAll('img, li b, main script, iframe').length")
     check(found == 0, name, "and never markup, in a name, a title or a screen")
     check(browser.run("document.getElementById('title').textContent") == HOSTILE, name, "the title")
-    looks = browser.run("[...document.querySelectorAll('#screen span')].map(e => [e.textContent, e.className])")
+    looks = browser.run(f"[...{INSIDE}.querySelectorAll('#screen span')].map(e => [e.textContent, e.className])")
     check(
         [["Bold ", "b"], ["reverse", "b r"], ["under", "u"]] == [look for look in looks if "c" not in look[1].split()],
         name,

@@ -21,8 +21,7 @@ def version():
 @functools.cache
 def notices():
     """Returns a comment for a script that has the WebAssembly: the version, LICENCE, and the notices of others' code in it."""
-    licence = (JS.parent / "LICENCE").read_text().rsplit("\n\n", 1)[0]  # the last paragraph is about the file
-    text = f"vt220 {version()}\n\n{licence}\n\nIt contains code of others, with these notices:\n{printed('third-party', '--library')}"
+    text = f"vt220 {version()}\n\n{printed('licence', '--notice')}\nIt contains code of others, with these notices:\n{printed('third-party', '--library')}"
     assert "*/" not in text and "</" not in text, "the notices would end the comment or the script"
     return f"/*!\n{text}*/\n"
 

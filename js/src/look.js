@@ -70,6 +70,7 @@ export const STYLE = `
   #screen .c { background: Highlight; color: HighlightText; }
   #screen mark, #screen mark[class] { background: Mark; color: MarkText; }
   #screen .d { outline: 1px dashed currentColor; outline-offset: -1px; }
+  .waiting::before, .waiting::after { forced-color-adjust: none; }
 }
 @keyframes blink { to { opacity: .25; } }
 @media (prefers-reduced-motion: reduce) { #screen .k { animation: none; opacity: .6; } }

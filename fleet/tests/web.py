@@ -103,6 +103,7 @@ def real_sessions_in_the_browser(machine, _):
         markup_is_text(browser, name)
         the_editor_is_typed_into(browser, store, name)
         by_keyboard_alone(browser, name)
+        it_fits(browser, name)
         changes_arrive(browser, store, name)
         check(browser.said == [], name, f"the browser complains of nothing: {browser.said[:2]}")
     finally:
@@ -173,10 +174,26 @@ def the_editor_is_typed_into(browser, store, name):
     check(browser.run("document.activeElement.id") == "type", name, "Ctrl+] leaves the screen")
 
 
+def it_fits(browser, name):
+    """The page fits a phone, where a screen scrolls to the side, and is light or dark as the reader wants."""
+    browser.do(browser.ask("Emulation.setDeviceMetricsOverride", width=375, height=700, deviceScaleFactor=1, mobile=False))
+    sizes = browser.run("[document.documentElement.scrollWidth, innerWidth]")
+    check(sizes[0] <= sizes[1], name, f"the page fits a phone: {sizes}")
+    shot(browser, "phone")
+    browser.do(browser.ask("Emulation.clearDeviceMetricsOverride"))
+    grounds = []
+    for scheme in ("light", "dark"):
+        browser.do(browser.ask("Emulation.setEmulatedMedia", features=[{"name": "prefers-color-scheme", "value": scheme}]))
+        grounds.append(browser.run("getComputedStyle(document.body).backgroundColor"))
+        shot(browser, scheme)
+    check(grounds[0] == "rgb(255, 255, 255)" != grounds[1], name, f"light and dark: {grounds}")
+    browser.do(browser.ask("Emulation.setEmulatedMedia", features=[]))
+
+
 def by_keyboard_alone(browser, name):
     browser.run("document.body.focus(); document.activeElement.blur()")
     seen = []
-    for _ in range(12):
+    for _ in range(20):  # the player has six controls
         browser.press("Tab", code=9)
         seen.append(
             browser.run(

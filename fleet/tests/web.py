@@ -47,8 +47,12 @@ def shot(browser, name):
         browser.picture(os.path.join(PICTURES, name + ".png"))
 
 
+# What is inside of the player.
+INSIDE = "document.getElementById('screen').shadowRoot"
+
+
 def lines(browser):
-    return browser.run("[...document.querySelectorAll('#screen > div')].map(e => e.textContent)")
+    return browser.run(f"[...{INSIDE}.querySelectorAll('#screen > div')].map(e => e.textContent)")
 
 
 def choose(browser, name):
@@ -99,6 +103,7 @@ def real_sessions_in_the_browser(machine, _):
         markup_is_text(browser, name)
         the_editor_is_typed_into(browser, store, name)
         by_keyboard_alone(browser, name)
+        it_fits(browser, name)
         changes_arrive(browser, store, name)
         check(browser.said == [], name, f"the browser complains of nothing: {browser.said[:2]}")
     finally:
@@ -111,12 +116,12 @@ def real_sessions_in_the_browser(machine, _):
 
 
 # What is copied if the first row of the screen is selected.
-COPIED = """(row => {
+COPIED = """((root, row) => {
   const copy = new ClipboardEvent("copy", { clipboardData: new DataTransfer(), bubbles: true, cancelable: true });
-  getSelection().selectAllChildren(row);
+  root.getSelection().selectAllChildren(row);
   row.dispatchEvent(copy);
   return copy.clipboardData.getData("text/plain");
-})(document.querySelector("#screen > div"))"""
+})(INSIDE, INSIDE.querySelector("#screen > div"))""".replace("INSIDE", INSIDE)
 
 
 def markup_is_text(browser, name):
@@ -129,7 +134,7 @@ def markup_is_text(browser, name):
     found = browser.run("document.querySelectorAll('img, li b, main script, iframe').length")
     check(found == 0, name, "and never markup, in a name, a title or a screen")
     check(browser.run("document.getElementById('title').textContent") == HOSTILE, name, "the title")
-    looks = browser.run("[...document.querySelectorAll('#screen span')].map(e => [e.textContent, e.className])")
+    looks = browser.run(f"[...{INSIDE}.querySelectorAll('#screen span')].map(e => [e.textContent, e.className])")
     check(
         [["Bold ", "b"], ["reverse", "b r"], ["under", "u"]] == [look for look in looks if "c" not in look[1].split()],
         name,
@@ -169,10 +174,26 @@ def the_editor_is_typed_into(browser, store, name):
     check(browser.run("document.activeElement.id") == "type", name, "Ctrl+] leaves the screen")
 
 
+def it_fits(browser, name):
+    """The page fits a phone, where a screen scrolls to the side, and is light or dark as the reader wants."""
+    browser.do(browser.ask("Emulation.setDeviceMetricsOverride", width=375, height=700, deviceScaleFactor=1, mobile=False))
+    sizes = browser.run("[document.documentElement.scrollWidth, innerWidth]")
+    check(sizes[0] <= sizes[1], name, f"the page fits a phone: {sizes}")
+    shot(browser, "phone")
+    browser.do(browser.ask("Emulation.clearDeviceMetricsOverride"))
+    grounds = []
+    for scheme in ("light", "dark"):
+        browser.do(browser.ask("Emulation.setEmulatedMedia", features=[{"name": "prefers-color-scheme", "value": scheme}]))
+        grounds.append(browser.run("getComputedStyle(document.body).backgroundColor"))
+        shot(browser, scheme)
+    check(grounds[0] == "rgb(255, 255, 255)" != grounds[1], name, f"light and dark: {grounds}")
+    browser.do(browser.ask("Emulation.setEmulatedMedia", features=[]))
+
+
 def by_keyboard_alone(browser, name):
     browser.run("document.body.focus(); document.activeElement.blur()")
     seen = []
-    for _ in range(12):
+    for _ in range(20):  # the player has six controls
         browser.press("Tab", code=9)
         seen.append(
             browser.run(

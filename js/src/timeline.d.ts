@@ -23,6 +23,16 @@ export interface Span {
   column: number;
 }
 
+/** Where the screens of two recordings first differ. */
+export interface Difference {
+  position: number;
+  /** When this is in the one recording, and in the other. */
+  time: number;
+  otherTime: number;
+  /** The rows that differ, counted from 1. */
+  rows: number[];
+}
+
 /**
  * The terminal at each moment of a recording. A position is a number of bytes; the state there is that of the bytes before it, whichever
  * way a seek got there.
@@ -61,10 +71,18 @@ export declare class Timeline {
   /** Brings the terminal to the position at a time, and returns it. */
   seekTime(time: number): Terminal;
   /**
-   * Returns each span of time in which a text was on the screen, within one row. Without `matchCase`, upper and lower case are equal. In a
-   * recording in UTF-8 a character is found by what is shown for it.
-   * The result depends on the recording and the arguments alone.
+   * Returns each span of time in which a text was on the screen. A row whose last column has a character goes on in the next row, and any
+   * other one ends with a line feed. With `expression` the text is a regular expression, in which ^ and $ are the ends of such lines. Without
+   * `matchCase`, upper and lower case are equal. In a recording in UTF-8 a character is found by what is shown for it.
+   * The result depends on the recording and the arguments alone. Throws SyntaxError if the expression can't be read.
    */
-  search(text: string, options?: { matchCase?: boolean; limit?: number }): Span[];
+  search(text: string, options?: { matchCase?: boolean; expression?: boolean; limit?: number }): Span[];
+  /**
+   * Returns the first position at which the screens of this recording and of another one differ, and when that is in both, or null if they
+   * never do. The other one has the same core. Both timelines are then at that position.
+   */
+  firstDifference(other: Timeline): Difference | null;
+  /** How many of the bytes have come: a seek goes no further. It is the number of all bytes unless it is set. */
+  available: number;
 }
 export interface Timeline extends Disposable {}

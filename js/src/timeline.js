@@ -1,6 +1,7 @@
 // timeline.js: the terminal at each moment of a recording. A position is a number of bytes, and the state there is that of the bytes
 // before it. So it doesn't depend on how a seek got there: from the beginning, or from a checkpoint. This is a repaint and the pending bytes
 // of UTF-8.
+import { hits, joinedRows, pattern, placeOf } from "./finding.js";
 import { ROWS, Terminal } from "./vt220.js";
 
 /** How many bytes lie between two checkpoints. A seek plays at most about as many. */
@@ -39,11 +40,12 @@ export class Timeline {
     checked(recording);
     this.#core = core;
     this.#bytes = recording.bytes;
-    this.#times = Float64Array.from(recording.times);
-    this.#ends = Float64Array.from(recording.ends);
+    this.#times = new Float64Array(recording.times);
+    this.#ends = new Float64Array(recording.ends);
     this.#every = Math.max(1, every);
     this.terminal = new Terminal(core, { encoding, terminal });
     this.position = 0;
+    this.available = recording.bytes.length;
     this.#checkpoints = [this.#checkpoint()];
   }
 
@@ -117,7 +119,7 @@ export class Timeline {
   }
 
   seek(position) {
-    const to = Math.max(0, Math.min(Math.trunc(position) || 0, this.length));
+    const to = Math.max(0, Math.min(Math.trunc(position) || 0, this.available));
     const from = this.#checkpoints[firstIndex(this.#checkpoints.length, (i) => this.#checkpoints[i].position > to) - 1];
     if (to < this.position || from.position > this.position) this.#restore(from);
     this.#play(to);
@@ -128,20 +130,40 @@ export class Timeline {
     return this.seek(this.positionAt(time));
   }
 
-  search(text, { matchCase = false, limit = Infinity } = {}) {
-    const fold = (line) => (matchCase ? line : line.toLowerCase());
-    const { encoding, terminal } = this.terminal, wanted = fold(encoding === "utf-8" ? this.#core.shown(text) : text);
-    // A row's text has no spaces at its end, and the second cell of a character is one.
-    const screens = new Screens(this.#core, { encoding, terminal }), spans = [], end = encoding === "utf-8" ? " " : "";
-    if (wanted === "") return spans;
-    const places = new Array(ROWS).fill(-1);
+  /** Returns the number of bytes with which both recordings begin. */
+  #common(other) {
+    const a = this.#bytes, b = other.#bytes, end = Math.min(a.length, b.length);
+    let at = 0;
+    while (at < end && a[at] === b[at]) at++;
+    return at;
+  }
+
+  /** Returns the first end of a chunk after a position, or Infinity. */
+  #endAfter(position) {
+    return this.#ends[firstIndex(this.#ends.length, (i) => this.#ends[i] > position)] ?? Infinity;
+  }
+
+  firstDifference(other) {
+    const end = Math.max(this.length, other.length);
+    // All before the first byte that differs leads to equal states.
+    for (let at = this.#common(other); ; at = Math.min(this.#endAfter(at), other.#endAfter(at))) {
+      if (at > end) return null;
+      const rows = this.seek(at).changedRows(other.seek(at));
+      if (rows.length > 0) return { position: at, rows, time: this.timeOf(at), otherTime: other.timeOf(at) };
+    }
+  }
+
+  search(text, { limit = Infinity, ...how } = {}) {
+    const { encoding, terminal } = this.terminal, wanted = wantedBy(this.#core, text, encoding, how), spans = [];
+    if (wanted === null) return spans;
+    const screens = new Screens(this.#core, { encoding, terminal });
     let open = null, at = 0;
     for (let chunk = 0; chunk < this.#ends.length && spans.length < limit; chunk++) {
-      for (const row of screens.feed(this.#bytes.subarray(at, this.#ends[chunk]))) places[row - 1] = fold(screens.rowText(row) + end).indexOf(wanted);
+      screens.feed(this.#bytes.subarray(at, this.#ends[chunk]));
       at = this.#ends[chunk];
-      const row = places.findIndex((place) => place >= 0);
-      if (row >= 0) open ??= { time: this.#times[chunk], position: at, row: row + 1, column: places[row] + 1 };
-      if (row < 0 && open !== null) {
+      const place = screens.first(wanted);
+      if (place !== null) open ??= { time: this.#times[chunk], position: at, ...place };
+      if (place === null && open !== null) {
         spans.push({ ...open, until: this.#times[chunk], end: at });
         open = null;
       }
@@ -154,23 +176,43 @@ export class Timeline {
 
 if (Symbol.dispose) Timeline.prototype[Symbol.dispose] = Timeline.prototype.close;
 
-/** A terminal, and one in the state in which its rows were last looked at. */
+/** Returns the pattern of a search, or null if it is for nothing. In UTF-8 a character is found by what is shown for it. */
+function wantedBy(core, text, encoding, how) {
+  return text === "" ? null : pattern(encoding === "utf-8" ? core.shown(text) : text, how);
+}
+
+/** A terminal, and the texts of its rows, which are read again if they changed. */
 class Screens {
   constructor(core, options) {
     this.terminal = new Terminal(core, options);
     this.seen = new Terminal(core);
+    this.rows = new Array(ROWS).fill("");
+    // A row's text has no spaces at its end, and the second cell of a character is one.
+    this.end = this.terminal.encoding === "utf-8" ? " " : "";
+    this.isStale = true;
+    this.place = null;
   }
 
-  /** Feeds a chunk, and returns the rows that it changed. */
   feed(bytes) {
     this.terminal.feed(bytes);
-    const rows = this.seen.changedRows(this.terminal);
-    if (rows.length > 0) this.seen.copyFrom(this.terminal);
-    return rows;
+    const changed = this.seen.changedRows(this.terminal);
+    if (changed.length === 0) return;
+    for (const row of changed) this.rows[row - 1] = this.terminal.rowText(row);
+    this.seen.copyFrom(this.terminal);
+    this.isStale = true;
   }
 
-  rowText(row) {
-    return this.terminal.rowText(row);
+  /** Returns the first row and column of a pattern, from 1, or null. */
+  first(wanted) {
+    if (!this.isStale) return this.place;
+    const { rows, end } = this, { width } = this.terminal, [hit] = hits(wanted, joinedRows(rows, width, end));
+    this.isStale = false;
+    this.place = null;
+    if (hit !== undefined) {
+      const { row, column } = placeOf(hit[0], rows, width, end);
+      this.place = { row: row + 1, column: column + 1 };
+    }
+    return this.place;
   }
 
   close() {

@@ -44,7 +44,8 @@ async function nearby() {
 }
 
 export async function load(source = nearby()) {
-  return new Core((await WebAssembly.instantiate(await compiled(source))).exports);
+  const module = await compiled(source);
+  return new Core((await WebAssembly.instantiate(module)).exports, module);
 }
 
 /** Returns the exports of the module, and whether one has trapped, which leaves the memory as it is. After that each of them throws. */
@@ -91,8 +92,9 @@ class Core {
   #left;
   #isBroken;
 
-  constructor(exports) {
+  constructor(exports, module) {
     const { calls, isBroken } = guarded(exports);
+    this.module = module;
     this.#memory = exports.memory;
     this.calls = calls;
     this.#isBroken = isBroken;

@@ -22,6 +22,11 @@ def until(holds, what):
     raise TimeoutError(what)
 
 
+def found(selector):
+    """Returns a script that finds an element in a page, or in the first player of it."""
+    return f"[document, document.querySelector('vt220-player')?.shadowRoot].map((root) => root?.querySelector({json.dumps(selector)})).find(Boolean)"
+
+
 class Page:
     """What the pages of both browsers have. `evaluate` awaits a promise."""
 
@@ -95,7 +100,7 @@ class Chromium(Page):
 
     def click(self, selector, part=0.5, to=None, count=1):
         """Clicks an element at a part of its width, or drags the mouse from there to another part. `count` is 2 for the second of a double click."""
-        place = self.evaluate(f"(() => {{ const e = document.querySelector({json.dumps(selector)}); e.scrollIntoView({{ block: 'nearest' }}); return e.getBoundingClientRect().toJSON(); }})()")
+        place = self.evaluate(f"(() => {{ const e = {found(selector)}; e.scrollIntoView({{ block: 'nearest' }}); return e.getBoundingClientRect().toJSON(); }})()")
         words = {"y": place["y"] + place["height"] / 2, "button": "left", "clickCount": count}
         end = part if to is None else to
         for kind, at in (("mousePressed", part), *([("mouseMoved", end)] if to is not None else []), ("mouseReleased", end)):
@@ -122,7 +127,7 @@ class Chromium(Page):
 
     def pixels(self, selector, part, size=8):
         """Returns a picture of a square inside an element, at a part of its width."""
-        place = self.evaluate(f"document.querySelector({json.dumps(selector)}).getBoundingClientRect().toJSON()")
+        place = self.evaluate(f"{found(selector)}.getBoundingClientRect().toJSON()")
         clip = {"x": round(place["x"] + part * place["width"]), "y": round(place["y"] + (place["height"] - size) / 2), "width": size, "height": size, "scale": 1}
         return self.call("Page.captureScreenshot", format="png", clip=clip)["data"]
 

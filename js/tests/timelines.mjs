@@ -27,13 +27,18 @@ function recording() {
   return { bytes: data, times, ends };
 }
 
+/** Returns the text of a screen from a row on, in which a row with a character in its last column goes on in the next one. */
+function unwrapped(t, from = 1) {
+  return t.text().split("\n").slice(from - 1, 24).map((row) => (row.length === t.width ? row : row + "\n")).join("");
+}
+
 function scan({ Terminal }, core, { bytes, times, ends }, needle, matchCase) {
   const t = new Terminal(core), fold = (text) => (matchCase ? text : text.toLowerCase()), spans = [];
   let at = 0, isOn = false;
   ends.forEach((end, i) => {
     t.feed(bytes.subarray(at, end));
     at = end;
-    const is = fold(t.text()).includes(fold(needle));
+    const is = fold(unwrapped(t)).includes(fold(needle));
     if (is && !isOn) spans.push({ time: times[i], position: end, until: Infinity });
     if (!is && isOn) spans[spans.length - 1].until = times[i];
     isOn = is;
@@ -68,8 +73,8 @@ function searches(vt220, core, made, check) {
     const isSame = found.length === wanted.length && found.every((span, i) => ["time", "position", "until"].every((key) => span[key] === wanted[i][key]));
     check(`the spans of ${needle}: ${found.length}, not ${wanted.length}`, isSame && (needle === "nowhere" || matchCase || found.length > 3));
     for (const { position, row, column } of found.slice(0, 20)) {
-      const at = line.seek(position).rowText(row).slice(column - 1).toLowerCase();
-      check(`the place of ${needle}`, at.startsWith(needle.trimEnd().toLowerCase()));
+      const at = unwrapped(line.seek(position), row).slice(column - 1).toLowerCase();
+      check(`the place of ${needle}`, at.startsWith(needle.toLowerCase()));
     }
   }
   check("a limit", line.search("word1", { limit: 2 }).length === 2 && line.search("").length === 0);
@@ -78,6 +83,48 @@ function searches(vt220, core, made, check) {
   wide.ends = [wide.bytes.length - 5, wide.bytes.length];
   const [span] = new vt220.Timeline(core, wide).search("far off");
   check("a text right of column 80 goes with the width", span.time === 1 && span.until === 2 && span.row === 5 && span.column === 100);
+}
+
+/** Returns a recording of texts, each a second after the one before. */
+function spoken(...texts) {
+  const parts = texts.map(bytes), whole = new Uint8Array(parts.reduce((sum, part) => sum + part.length, 0)), ends = [];
+  let at = 0;
+  for (const part of parts) {
+    whole.set(part, at);
+    ends.push((at += part.length));
+  }
+  return { bytes: whole, times: texts.map((_, i) => i + 1), ends };
+}
+
+/** Searches over the ends of rows, and by expressions. */
+function patterns({ Timeline }, core, check) {
+  const line = new Timeline(core, spoken("\x1b[5;78Hwrapped\r\n", "Size: 12 KB\r\nsize: 7\r\n", "\x1b[2J\x1b[3;77Hwra\r\npped"));
+  const found = (text, how) => line.search(text, how).map(({ time, until, row, column }) => [time, until, row, column].join());
+  const wanted = [
+    ["wrapped", {}, ["1,3,5,78"]], ["ped", {}, ["1,Infinity,6,2"]], ["s\\w+: \\d+", { expression: true }, ["2,3,7,1"]], ["^size", { expression: true, matchCase: true }, ["2,3,8,1"]],
+    ["Size: [0-9]+ KB$", { expression: true }, ["2,3,7,1"]], ["size: .", {}, []], ["x*", { expression: true }, []],
+  ];
+  for (const [text, how, spans] of wanted) check(`the spans of ${text}: ${found(text, how)}`, String(found(text, how)) === String(spans));
+  let refused = null;
+  try { line.search("(", { expression: true }); } catch (error) { refused = error.name; }
+  check("an expression that can't be read", refused === "SyntaxError" && line.search("(").length === 0);
+}
+
+function differences({ Timeline }, core, check) {
+  const of = (...texts) => new Timeline(core, spoken(...texts)), first = of("one\r\n", "two", "\r\nfour");
+  check("no difference", first.firstDifference(of("one\r\ntwo", "\r\n", "four")) === null);
+  const found = first.firstDifference(of("one", "\r\n", "", "", "twx", "\r\nfour"));
+  check(`a difference: ${JSON.stringify(found)}`, found.time === 2 && found.otherTime === 5 && String(found.rows) === "2" && found.position === 8);
+  const short = first.firstDifference(of("one\r\n"));
+  check("a recording that ends earlier", short.time === 2 && String(short.rows) === "2");
+}
+
+function availability({ Timeline }, core, check) {
+  const line = new Timeline(core, spoken("one", "two"));
+  line.available = 3;
+  check("what has come", line.seek(6).text().startsWith("one\n") && line.position === 3);
+  line.available = 6;
+  check("what has come later", line.seek(6).text().startsWith("onetwo\n"));
 }
 
 function refusals({ Timeline }, core, check) {
@@ -97,5 +144,8 @@ export function timelines(vt220, core, check) {
   const made = recording();
   seeks(vt220, core, made, check);
   searches(vt220, core, made, check);
+  patterns(vt220, core, check);
+  differences(vt220, core, check);
+  availability(vt220, core, check);
   refusals(vt220, core, check);
 }

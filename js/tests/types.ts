@@ -2,7 +2,7 @@
 import { COLUMNS, load, ROWS, Terminal, Vt220Error } from "vt220";
 import type { Attributes, Cell, Code, Core, Cursor, Encoding, Held, Margins, Modes, Saved, Sets, TerminalName } from "vt220";
 import { Timeline } from "vt220/timeline";
-import type { Recording, Span } from "vt220/timeline";
+import type { Difference, Recording, Span } from "vt220/timeline";
 
 export async function use(bytes: Uint8Array): Promise<string> {
   const core: Core = await load(), from: Core = await load(bytes), rows: 24 = ROWS, columns: 132 = COLUMNS;
@@ -14,7 +14,8 @@ export async function use(bytes: Uint8Array): Promise<string> {
   const brush: Attributes = terminal.brush, sets: Sets = terminal.sets, saved: Saved = terminal.saved, held: Held = terminal.held;
   const parts: [Uint8Array, Uint8Array, boolean, number[], boolean[]] = [terminal.repaint(), terminal.update(other), terminal.sameState(other), terminal.changedRows(other), terminal.rowChanges(other, 1)];
   const recording: Recording = { bytes, times: [0], ends: Float64Array.of(bytes.length) };
-  const line = new Timeline(core, recording, { every: 100, encoding, terminal: name }), spans: Span[] = line.search("x", { matchCase: true, limit: 3 });
+  const line = new Timeline(core, recording, { every: 100, encoding, terminal: name }), spans: Span[] = line.search("x", { matchCase: true, expression: true, limit: 3 });
+  const difference: Difference | null = line.firstDifference(line), available: number = line.available;
   try {
     terminal[Symbol.dispose]();
   } catch (error) {
@@ -32,5 +33,5 @@ export async function use(bytes: Uint8Array): Promise<string> {
   new Terminal(core, { encoding: "latin-1" });
   // @ts-expect-error: no such terminal
   new Terminal(core, { terminal: "vt100" });
-  return [rows, columns, replies, lines, cells, cursor, margins, modes, brush, sets, saved, held, parts, pending, shown, spans, isAlternate, core.key("Up", modes), core.keyLength(bytes), line.seek(1).text()].join();
+  return [rows, columns, replies, lines, cells, cursor, margins, modes, brush, sets, saved, held, parts, pending, shown, spans, difference, available, isAlternate, core.key("Up", modes), core.keyLength(bytes), line.seek(1).text()].join();
 }

@@ -399,9 +399,18 @@ def unpacked(text):
     return gzip.decompress(base64.b64decode(text))
 
 
-def test_a_page_plays_a_failure(tmp_path, monkeypatch):
-    (tmp_path / "template").write_text("@TITLE@|@NOTES@|@OPTIONS@|@BYTES@|@CHUNKS@")
+def inside(text):
+    """Returns the recordings in the players of a page."""
+    return [json.loads(each) for each in re.findall(r'<script type="application/json">([^<]*)</script>', text)]
+
+
+@pytest.fixture
+def template(tmp_path, monkeypatch):
+    (tmp_path / "template").write_text("@TITLE@|@PLAYERS@")
     monkeypatch.setenv("VT220_PAGE", str(tmp_path / "template"))
+
+
+def test_a_page_plays_a_failure(tmp_path, template):
     with shell("printf '1 < 2? '; read answer; echo thanks; read more", reports=Reports(tmp_path / "r", "stable-1")) as rig:
         rig.wait("2")
         rig.keys("<no>")
@@ -409,19 +418,19 @@ def test_a_page_plays_a_failure(tmp_path, monkeypatch):
         rig.wait("thanks")
         words = rig.report()
     path = tmp_path / "r" / "stable-1.html"
-    assert f"\npage:      {path}\n" in words
-    title, notes, options, content, chunks = path.read_text().split("|")
-    assert "1 &lt; 2?" in title and notes == "" and "<" not in options
-    lines = [tuple(map(int, line.split())) for line in unpacked(chunks).decode().split("\n")]
-    assert unpacked(content) == rig.recording and sum(size for _, size in lines) == len(rig.recording) and lines == sorted(lines, key=lambda line: line[0])
-    begun = json.loads(options)
+    assert f"\npage:      {path}\n" in words and "both runs" not in words
+    title, players = path.read_text().split("|")
+    (played,) = inside(players)
+    assert "1 &lt; 2?" in title and played["notes"] == [] and "1 < 2?" in played["title"]
+    lines = [tuple(map(int, line.split())) for line in unpacked(played["chunks"]).decode().split("\n")]
+    assert unpacked(played["bytes"]) == rig.recording and sum(size for _, size in lines) == len(rig.recording) and lines == sorted(lines, key=lambda line: line[0])
+    begun = played["options"]
     assert [label for _, label in begun["markers"]] == ["<no>", "\\n"] and begun["poster"] == lines[-1][0] / 1e6 and begun["start"] == 0
 
 
-def test_a_page_has_no_other_options(tmp_path, monkeypatch):
-    (tmp_path / "template").write_text("@NOTES@@OPTIONS@")
-    monkeypatch.setenv("VT220_PAGE", str(tmp_path / "template"))
-    assert "<li>1 &lt; 2</li>" in page(b"", [], "", ["1 < 2"]) and '"loop": true' in page(b"", [], "", loop=True)
+def test_a_page_has_no_other_options(template, monkeypatch):
+    (played,) = inside(page(b"", [], "", ["1 < 2"], loop=True))
+    assert played["notes"] == ["1 < 2"] and played["options"]["loop"] is True
     with pytest.raises(TypeError, match="size"):
         page(b"", [], "", size=1)
     monkeypatch.setenv("VT220_PAGE", "")
@@ -765,8 +774,9 @@ def test_nothing_is_left_when_another_fixture_fails(tmp_path):
     assert not marked(token.encode())
 
 
-def inner(directory, *options):
-    return [sys.executable, "-B", "-m", "pytest", "-p", "vt220.pytest_plugin", "-p", "no:cacheprovider", "-q", "--vt-timeout", str(LONG), *options,
+def inner(directory, *options, keeps=False):
+    """Returns the command of pytest, perhaps with the cache, which keeps the recordings of good runs."""
+    return [sys.executable, "-B", "-m", "pytest", "-p", "vt220.pytest_plugin", *([] if keeps else ["-p", "no:cacheprovider"]), "-q", "--vt-timeout", str(LONG), *options,
             str(directory)]
 
 
@@ -799,6 +809,23 @@ def test_the_plugin_stores_compares_and_names_stale_screens(tmp_path):
     assert sorted(path.name for path in (tmp_path / "vt220-failures").iterdir()) == [f"test_it.py-test_two-1.{kind}" for kind in ("bytes", "cast", "svg")]
     go("--update-screens")
     assert go().returncode == 0 and not list((tmp_path / "vt220-failures").iterdir())
+
+
+def test_a_failure_is_next_to_the_last_good_run(tmp_path, template):
+    def go(word, keeps=True):
+        (tmp_path / "test_it.py").write_text(f"def test_it(vt):\n    vt.run('echo', '{word}').wait('good')\n")
+        return subprocess.run(inner(tmp_path, keeps=keeps), cwd=tmp_path, env=inner_environment(), capture_output=True, text=True)
+
+    def pages():
+        return [*(tmp_path / "vt220-failures").glob("*.both.html")]
+
+    assert go("bad").returncode == 1 and not pages()
+    assert go("good").returncode == 0 and not pages()
+    for _ in range(2):  # a failure leaves the recording of the good run
+        done = go("bad")
+        assert done.returncode == 1 and f"both runs: {pages()[0]}" in done.stdout, done.stdout
+        assert [unpacked(played["bytes"]) for played in inside(pages()[0].read_text())] == [b"bad\r\n", b"good\r\n"]
+    assert go("bad", keeps=False).returncode == 1 and not pages()
 
 
 def test_many_rigs_in_many_threads():

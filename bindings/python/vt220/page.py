@@ -14,10 +14,10 @@ import pathlib
 import re
 from typing import Iterable, Mapping, Optional, Sequence, Tuple
 
-__all__ = ["FIELDS", "NoTemplate", "page", "template"]
+__all__ = ["FIELDS", "NoTemplate", "page", "recording", "side_by_side", "template"]
 
 # The fields that a template leaves open.
-FIELDS = ("TITLE", "NOTES", "OPTIONS", "BYTES", "CHUNKS")
+FIELDS = ("TITLE", "PLAYERS")
 # How a page plays, if its options don't name it. Times are in seconds; a marker is a time and a label.
 OPTIONS: Mapping[str, object] = {"start": 0, "poster": None, "speed": 1, "pause": 1, "autoplay": False, "loop": False, "stops": False, "controls": True,
                                 "encoding": "dec", "terminal": "vt220", "markers": ()}
@@ -49,26 +49,42 @@ def hashed(text: str) -> str:
     return f"'sha256-{base64.b64encode(hashlib.sha256(text.encode()).digest()).decode()}'"
 
 
-def _noted(notes: Sequence[str]) -> str:
-    return "".join(f"<li>{html.escape(note)}</li>" for note in notes)
+def recording(content: bytes, chunks: Iterable[Tuple[int, int]], title: str, notes: Sequence[str] = (), **options: object) -> str:
+    """Returns a recording as the element <vt220-player> takes it: JSON with its bytes, and for each chunk its microseconds and its number of bytes.
 
-
-def page(content: bytes, chunks: Iterable[Tuple[int, int]], title: str, notes: Sequence[str] = (), **options: object) -> str:
-    """Returns the page of a recording: its bytes, and for each chunk of them when it came, in microseconds, and its number of bytes.
-
-    `notes` are sentences on what the page can't show. The options are those of OPTIONS, as js/vt220-page describes them.
-    Raises NoTemplate if there is no template.
+    `notes` are sentences on what can't be shown. The options are those of OPTIONS, as js/vt220-page describes them.
     """
-    path = template()
-    if path is None:
-        raise NoTemplate("a page needs the template that `make js` builds; VT220_PAGE can name it")
     unknown = options.keys() - OPTIONS.keys()
     if unknown:
         raise TypeError(f"a page has no option {', '.join(sorted(unknown))}")
-    values = {
-        "TITLE": html.escape(title), "NOTES": _noted(notes),
-        # An end tag of a script can't be in it.
-        "OPTIONS": json.dumps({**OPTIONS, **options}).replace("<", "\\u003c"),
-        "BYTES": packed(content), "CHUNKS": packed("\n".join(f"{micros} {size}" for micros, size in chunks).encode()),
-    }
+    listed = "\n".join(f"{micros} {size}" for micros, size in chunks).encode()
+    return json.dumps({"title": title, "notes": list(notes), "options": {**OPTIONS, **options}, "bytes": packed(content), "chunks": packed(listed)})
+
+
+def _player(recorded: str, attributes: str = "") -> str:
+    # An end tag of a script can't be in it.
+    inside = recorded.replace("<", "\\u003c")
+    return f'<vt220-player{attributes}><script type="application/json">{inside}</script>Loading</vt220-player>'
+
+
+def _filled(title: str, players: str) -> str:
+    """Returns the template with a title and players. Raises NoTemplate if there is none."""
+    path = template()
+    if path is None:
+        raise NoTemplate("a page needs the template that `make js` builds; VT220_PAGE can name it")
+    values = {"TITLE": html.escape(title), "PLAYERS": players}
     return re.sub(f"@({'|'.join(FIELDS)})@", lambda match: values[match[1]], path.read_text(encoding="utf-8"))
+
+
+def page(content: bytes, chunks: Iterable[Tuple[int, int]], title: str, notes: Sequence[str] = (), **options: object) -> str:
+    """Returns the page of a recording, whose arguments are those of recording(). Raises NoTemplate if there is no template."""
+    return _filled(title, _player(recording(content, chunks, title, notes, **options), " links"))
+
+
+def side_by_side(title: str, recordings: Sequence[Tuple[str, str]]) -> str:
+    """Returns the page of two recordings, each with its heading and what recording() returns, next to each other.
+
+    It first shows the moment at which their screens first differ. Raises NoTemplate if there is no template.
+    """
+    players = "".join(f"<section><h2>{html.escape(heading)}</h2>{_player(recorded)}</section>" for heading, recorded in recordings)
+    return _filled(title, players)

@@ -8,7 +8,7 @@ from typing import Any, Dict, Iterator, List, Optional, Set
 import pytest
 
 from . import ENCODINGS
-from .rig import ENDINGS, TIMEOUT, Directory, Failure, Reports, Rig
+from .rig import ENDINGS, TIMEOUT, Directory, Failure, Reports, Rig, recorded
 
 _KEY = "vt220_screens"
 # The ids of tests that are still different when each other character is a hyphen: their parts have none.
@@ -39,6 +39,10 @@ class Session:
         self.name = file_name(request.node.nodeid)
         self.colour = config.get_terminal_writer().hasmarkup
         self.rigs: List[Rig] = []
+        self.passed = False
+        # Where the recordings of the last good run are. Without pytest's cache there are none.
+        cache = getattr(config, "cache", None)
+        self.good: Optional[pathlib.Path] = cache.mkdir("vt220") if cache is not None else None
         for old in self.directory.glob(f"{self.name}-*"):
             if re.fullmatch(rf"-\d+\.({'|'.join(ENDINGS)})", old.name[len(self.name) :]):
                 old.unlink(missing_ok=True)
@@ -49,11 +53,22 @@ class Session:
 
         The command is in UTF-8, or has the bytes of a VT220. With terminal="xterm" it has TERM=xterm-256color.
         """
-        reports = Reports(self.directory, f"{self.name}-{len(self.rigs) + 1}", self.colour)
+        reports = Reports(self.directory, f"{self.name}-{len(self.rigs) + 1}", self.colour, self.good_of(len(self.rigs) + 1))
         rig = Rig(argv, columns=columns, cwd=cwd, env=env, timeout=timeout or self.timeout, term=term, encoding=encoding or self.encoding,
                   screens=self.screens, update=self.update, reports=reports, used=lambda path: self.used.add(str(path)), terminal=terminal)
         self.rigs.append(rig)
         return rig
+
+    def good_of(self, number: int) -> Optional[pathlib.Path]:
+        """Returns the file of the recording of one of its programs in the last good run."""
+        return self.good / f"{self.name}-{number}.json" if self.good is not None else None
+
+    def keep(self) -> None:
+        """Stores the recordings of a good run."""
+        for number, rig in enumerate(self.rigs, 1):
+            path = self.good_of(number)
+            if path is not None:
+                path.write_text(recorded(rig), encoding="utf-8")
 
     def close(self) -> None:
         """Ends all programs of the test, also if one of them can't be ended."""
@@ -85,7 +100,10 @@ def pytest_runtest_makereport(item: pytest.Item, call: "pytest.CallInfo[None]") 
     if report.failed and call.excinfo is not None:
         shown = call.excinfo.value.rig if isinstance(call.excinfo.value, Failure) else None
         report.sections += [(f"vt220: {rig.argv[0]}", rig.report()) for rig in session.rigs if rig is not shown]
+    session.passed = session.passed or (call.when == "call" and report.passed)
     if call.when == "teardown":
+        if session.passed and report.passed:
+            session.keep()
         del item.stash[_SESSION]
 
 

@@ -24,7 +24,7 @@ from . import ROWS, Bytes, Modes, Terminal
 from .cast import asciicast
 from .expected import NoGlyph, expression_as_shown, expression_of_text, text_as_shown
 from .keyboard import Chord, Key, alt, ctrl, shift, spelled
-from .page import NoTemplate, page
+from .page import NoTemplate, page, recording, side_by_side
 from .picture import svg
 from .process import TERMS, Process, environment
 from .screen import MASK, Mask, Place, Screen, Stored, check_column, check_row, check_substitutes, difference, differing, renewed
@@ -32,8 +32,8 @@ from .screen import MASK, Mask, Place, Screen, Stored, check_column, check_row, 
 TIMEOUT = 10.0
 # How long a program must be silent before --update-screens stores its screen.
 SETTLED_MS = 500
-# The endings of a failure's files: the picture, the recording as bytes and as an asciicast, and the page.
-ENDINGS = ("svg", "bytes", "cast", "html")
+# The endings of a failure's files: the picture, the recording as bytes and as an asciicast, the page, and the page with the last good run.
+ENDINGS = ("svg", "bytes", "cast", "html", "both.html")
 
 Directory = Union[str, "os.PathLike[str]"]
 Condition = Union[str, Pattern[str], Callable[[Screen], object]]
@@ -118,21 +118,22 @@ class Event(NamedTuple):
 
 
 class Reports(NamedTuple):
-    """Holds the directory of a failure's files, and the beginning of their names."""
+    """Holds the directory of a failure's files, the beginning of their names, and the file of the program's recording in the last good run."""
 
     directory: pathlib.Path = pathlib.Path("vt220-failures")
     name: str = ""
     colour: bool = False
+    good: Optional[pathlib.Path] = None
 
     def write(self, name: str, rig: "Rig", marks: Sequence[Tuple[int, int]]) -> str:
         """Writes the picture, the recording and the page, and returns the lines that name them, or why they couldn't be written."""
-        picture, recording, cast, playing = (f"{self.directory / (self.name or name)}.{ending}" for ending in ENDINGS)
+        picture, recording, cast, playing, both = (f"{self.directory / (self.name or name)}.{ending}" for ending in ENDINGS)
         try:
             self.directory.mkdir(parents=True, exist_ok=True)
             pathlib.Path(recording).write_bytes(rig.recording)
             pathlib.Path(picture).write_text(svg(rig.last, marks), encoding="utf-8")
             pathlib.Path(cast).write_bytes(b"".join(_asciicast(rig)))
-            page_line = _write_page(playing, rig)
+            page_line = _write_page(playing, rig) + _write_comparison(both, rig, self.good)
         except OSError as fault:
             return f"no picture and no recording: {fault}"
         if rig.terminal.terminal == "xterm":
@@ -453,21 +454,43 @@ def _asciicast(rig: Rig) -> Iterator[bytes]:
     return asciicast(head, events, rig.encoding)
 
 
+def _chunks(rig: Rig) -> List[Tuple[int, int]]:
+    """Returns when each part of the program's output came, in microseconds, and its number of bytes."""
+    return [(int(event.at * 1e6), len(event.data)) for event in rig.events if event.who == "program"]
+
+
+def recorded(rig: Rig, written: Callable[..., str] = recording, **options: object) -> str:
+    """Returns what the program wrote, as a call of the module page writes it. The markers are what the test sent."""
+    markers = [(event.at, _short(event.data)) for event in rig.events if event.who == "test"]
+    languages = {"encoding": rig.encoding, "terminal": rig.terminal.terminal}
+    return written(bytes(rig.recording), _chunks(rig), " ".join(rig.argv), markers=markers, **languages, **options)
+
+
 def _write_page(path: str, rig: Rig) -> str:
     """Writes the page that plays what the program wrote, and returns the line that names it. Without a template there is none.
 
-    It first shows the end. Its markers are what the test sent.
+    It first shows the end.
     """
-    chunks = [(int(event.at * 1e6), len(event.data)) for event in rig.events if event.who == "program"]
-    markers = [(event.at, _short(event.data)) for event in rig.events if event.who == "test"]
-    end = chunks[-1][0] / 1e6 if chunks else 0
+    chunks = _chunks(rig)
     try:
-        options = {"encoding": rig.encoding, "terminal": rig.terminal.terminal}
-        text = page(bytes(rig.recording), chunks, " ".join(rig.argv), poster=end, markers=markers, **options)
+        text = recorded(rig, page, poster=chunks[-1][0] / 1e6 if chunks else 0)
     except NoTemplate:
         return ""
     pathlib.Path(path).write_text(text, encoding="utf-8")
     return f"page:      {path}\n"
+
+
+def _write_comparison(path: str, rig: Rig, good: Optional[pathlib.Path]) -> str:
+    """Writes the page of this run and the last good one, and returns the line that names it. Without these, or a template, there is none."""
+    try:
+        before = good.read_text(encoding="utf-8") if good else None
+        text = side_by_side(" ".join(rig.argv), [("This run", recorded(rig)), ("The last run that passed", before)]) if before else None
+    except (NoTemplate, FileNotFoundError):
+        return ""
+    if text is None:
+        return ""
+    pathlib.Path(path).write_text(text, encoding="utf-8")
+    return f"both runs: {path}\n"
 
 
 _UTF_8 = ("note: the program's output looks like UTF-8. With encoding=\"dec\" the rig's terminal reads each byte as a character of\n"

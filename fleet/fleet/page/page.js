@@ -3,7 +3,7 @@
 // markup. `vt220` is the script before this one.
 const sessions = new Map();
 const $ = (id) => document.getElementById(id);
-let core = null, large = null, chosen = null, order = [], socket = null, mayType = false, isTyping = false, wait = 500;
+let core = null, chosen = null, order = [], socket = null, mayType = false, isTyping = false, wait = 500;
 
 // The keys that go to a session, by their names in vt220-keys.h. On a PC's keyboard, Delete is at the place of the key Remove.
 const NAMED = { ArrowUp: "Up", ArrowDown: "Down", ArrowRight: "Right", ArrowLeft: "Left", Delete: "Remove" };
@@ -46,8 +46,9 @@ function play(session, bytes) {
   session.terminal.feed(bytes);
   session.small.draw(session.terminal);
   if (session.id !== chosen) return;
-  if ($("announce").checked) announce(session.terminal, large.drawn.changedRows(session.terminal));
-  large.draw(session.terminal);
+  const screen = $("screen");
+  if ($("announce").checked) announce(session.terminal, screen.view.line.terminal.changedRows(session.terminal));
+  screen.show(session.terminal);
 }
 
 function learn(session, facts) {
@@ -61,7 +62,7 @@ function learn(session, facts) {
 function describe(session) {
   const facts = session.facts;
   $("title").textContent = facts.name;
-  $("screen").setAttribute("aria-label", "Screen of " + facts.name);
+  $("screen").setAttribute("label", "Screen of " + facts.name);
   $("state").textContent = facts.fault || `${facts.state}${facts.worker ? " at " + facts.worker : ""}, host ${facts.host}`;
   $("type").hidden = !(mayType && facts.input && facts.state === "running");
   $("announcing").hidden = false;
@@ -82,11 +83,8 @@ function choose(id) {
   for (const session of sessions.values()) {
     if (session.id === id) session.button.setAttribute("aria-current", "true"); else session.button.removeAttribute("aria-current");
   }
-  if (large) large.close();
-  $("screen").replaceChildren();
-  large = new vt220.Screen(core, $("screen"));
   const session = sessions.get(id);
-  large.draw(session.terminal);
+  $("screen").show(session.terminal);
   describe(session);
 }
 
@@ -153,12 +151,14 @@ function connect() {
 
 $("filter").addEventListener("input", arrange);
 $("type").addEventListener("click", () => setTyping(!isTyping));
-$("screen").addEventListener("keydown", pressed);
+// Before the player takes a key.
+$("screen").addEventListener("keydown", pressed, { capture: true });
 $("screen").addEventListener("paste", (event) => {
   if (isTyping) send({ text: event.clipboardData.getData("text").replace(/\r?\n/g, "\r") });
 });
 $("announce").addEventListener("change", () => { $("said").textContent = ""; });
-vt220.load().then((loaded) => {
-  core = loaded;
+$("screen").addEventListener("error", ({ detail }) => { $("problem").textContent = `No terminal can run in this browser: ${detail.error.message}`; });
+$("screen").addEventListener("ready", () => vt220.Vt220Player.core.then((shared) => {
+  core = shared;
   connect();
-}, (error) => { $("problem").textContent = `No terminal can run in this browser: ${error.message}`; });
+}), { once: true });

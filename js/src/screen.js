@@ -1,5 +1,6 @@
 // screen.js: the screen as 24 elements with text, of which only those that changed are written again.
-import { ROWS, Terminal } from "../src/vt220.js";
+import { covered, pattern } from "./finding.js";
+import { ROWS, Terminal } from "./vt220.js";
 
 /** Returns the classes of a cell. */
 function look(cell, isCursor) {
@@ -10,16 +11,6 @@ function look(cell, isCursor) {
   if (cell.reverse) names.push("r");
   if (isCursor) names.push("c");
   return names.join(" ");
-}
-
-/** Returns the columns, from 0, that a text covers in a line, wherever it is there. */
-function covered(line, needle) {
-  const columns = new Set();
-  if (needle === "") return columns;
-  for (let at = line.indexOf(needle); at >= 0; at = line.indexOf(needle, at + needle.length)) {
-    for (let i = at; i < at + needle.length; i++) columns.add(i);
-  }
-  return columns;
 }
 
 /** Cuts the cells of a row into runs of equal looks. `hits` are the columns, from 0, of what was found. */
@@ -41,32 +32,47 @@ function element({ text, name, isHit }) {
   return made;
 }
 
+/** Returns what is selected in the tree of a node. In some engines only the root of a shadow tree knows it. */
+export function selectionIn(node) {
+  return node.getRootNode().getSelection?.() ?? getSelection();
+}
+
 /** Copies what is selected, without the blanks at the ends of lines. */
 function copy(event) {
-  event.clipboardData.setData("text/plain", String(getSelection()).replace(/ +$/gm, ""));
+  event.clipboardData.setData("text/plain", String(selectionIn(event.currentTarget)).replace(/ +$/gm, ""));
   event.preventDefault();
 }
+
+const NONE = new Set();
 
 export class Screen {
   constructor(core, place) {
     this.place = place;
     this.drawn = new Terminal(core);
     this.rows = Array.from({ length: ROWS }, () => place.appendChild(document.createElement("div")));
-    this.needle = "";
+    this.wanted = null;
+    /** The columns of what is found in each row, from 0. */
+    this.hits = new Array(ROWS).fill(NONE);
     this.cursorRow = 0;
     this.isStale = true;
     place.oncopy = copy;
   }
 
-  /** Frees its memory. The place keeps what was drawn last. */
+  /** Frees its memory, and removes the rows. */
   close() {
     this.drawn.close();
+    this.place.replaceChildren();
   }
 
-  /** Marks a text wherever it is on the screen, from the next draw on. */
-  find(needle) {
-    this.needle = needle.toLowerCase();
+  /** Marks a text, or what an expression finds, wherever it is on the screen, from the next draw on. */
+  find(text, how) {
+    this.wanted = text === "" ? null : pattern(text, how);
     this.isStale = true;
+  }
+
+  /** Marks rows, by their numbers from 1, and no others. */
+  mark(numbers) {
+    this.rows.forEach((row, i) => row.classList.toggle("d", numbers.includes(i + 1)));
   }
 
   draw(terminal) {
@@ -74,6 +80,7 @@ export class Screen {
     const changed = new Set(this.isStale ? this.rows.keys() : this.drawn.changedRows(terminal).map((row) => row - 1));
     changed.add(cursor.row - 1);
     if (this.cursorRow > 0) changed.add(this.cursorRow - 1);
+    for (const row of this.findAgain(terminal)) changed.add(row);
     for (const row of changed) this.drawRow(terminal, row, dectcem && cursor.row === row + 1 ? cursor.column : 0);
     this.place.style.setProperty("--columns", terminal.width);
     this.place.classList.toggle("reversed", decscnm);
@@ -82,8 +89,14 @@ export class Screen {
     this.isStale = false;
   }
 
+  /** Finds again what is marked. Returns the rows in which that changed, from 0. */
+  findAgain(terminal) {
+    const before = this.hits, rows = this.rows.map((_, i) => (this.wanted === null ? "" : terminal.rowText(i + 1)));
+    this.hits = this.wanted === null ? before.map(() => NONE) : covered(this.wanted, rows, terminal.width, terminal.encoding === "utf-8" ? " " : "");
+    return [...this.hits.keys()].filter((i) => String([...this.hits[i]]) !== String([...before[i]]));
+  }
+
   drawRow(terminal, row, cursor) {
-    const hits = covered(terminal.rowText(row + 1).toLowerCase(), this.needle);
-    this.rows[row].replaceChildren(...runs(terminal.cells(row + 1), cursor, hits).map(element));
+    this.rows[row].replaceChildren(...runs(terminal.cells(row + 1), cursor, this.hits[row]).map(element));
   }
 }

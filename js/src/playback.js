@@ -1,8 +1,10 @@
-// player.js: a position in time that moves, and the spans of a search.
+// playback.js: a position in time that moves, and the spans of a search.
 
-export class Player {
-  constructor(line, { changed = () => {}, told = () => {} } = {}) {
+export class Playback {
+  /** `find` returns the spans of a text, or a promise of them. */
+  constructor(line, { changed = () => {}, told = () => {}, find = (text, how) => line.search(text, how) } = {}) {
     this.line = line;
+    this.find = find;
     this.changed = changed;
     this.told = told;
     this.now = 0;
@@ -20,6 +22,7 @@ export class Player {
     this.from = null;
     this.spans = [];
     this.needle = "";
+    this.searches = 0;
   }
 
   tell(event) {
@@ -83,8 +86,8 @@ export class Player {
   go(time) {
     this.now = Math.max(0, Math.min(Number(time) || 0, this.line.duration));
     this.from = null;
-    this.tell("seek");
     this.changed();
+    this.tell("seek");
   }
 
   /** Shows a moment, and begins to play at another one, unless it goes somewhere before. */
@@ -104,12 +107,20 @@ export class Player {
     this.go(count === 0 ? 0 : line.time(count - 1));
   }
 
-  /** Searches all time, and goes to the span at this time, or the last one before it, or the first one. */
-  search(needle) {
+  /**
+   * Searches all time, and goes to the span at this time, or the last one before it, or the first one. Returns a promise of whether this was
+   * the last search.
+   */
+  async search(needle, how = {}) {
+    const turn = (this.searches += 1);
     this.needle = needle;
-    this.spans = needle === "" ? [] : this.line.search(needle);
-    if (this.spans.length > 0) this.goToSpan(Math.max(0, this.spans.findLastIndex((span) => span.time <= this.now)));
+    this.spans = [];
+    const spans = needle === "" ? [] : await this.find(needle, how);
+    if (turn !== this.searches) return false;
+    this.spans = spans;
+    if (spans.length > 0) this.goToSpan(Math.max(0, spans.findLastIndex((span) => span.time <= this.now)));
     else this.changed();
+    return true;
   }
 
   /** Returns the index of the span that is shown, or -1. */

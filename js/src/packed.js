@@ -1,0 +1,86 @@
+// packed.js: a recording as vt220-page writes it: JSON with the bytes and the list of chunks, both by gzip in base64.
+
+const SLICE = 1 << 20; // characters of base64, a multiple of four
+const LF = 10, SPACE = 32, ZERO = 48;
+
+function decoded(base64) {
+  const text = atob(base64), bytes = new Uint8Array(text.length);
+  for (let i = 0; i < text.length; i++) bytes[i] = text.charCodeAt(i);
+  return bytes;
+}
+
+/** Returns a stream of the bytes that are packed, a slice at a time. */
+function unpacking(base64) {
+  let at = 0;
+  const source = new ReadableStream({
+    pull(control) {
+      control.enqueue(decoded(base64.slice(at, at + SLICE)));
+      at += SLICE;
+      if (at >= base64.length) control.close();
+    },
+  });
+  return source.pipeThrough(new DecompressionStream("gzip"));
+}
+
+/** Returns a promise of the bytes that are packed. */
+export async function unpacked(base64) {
+  return new Uint8Array(await new Response(unpacking(base64)).arrayBuffer());
+}
+
+/** Returns the times and the ends of chunks, of their lines 'MICROS BYTES'. */
+function listed(list) {
+  const numbers = [];
+  let value = 0, isNumber = false;
+  for (const code of list) {
+    if (code !== LF && code !== SPACE) {
+      value = 10 * value + code - ZERO;
+      isNumber = true;
+    } else if (isNumber) {
+      numbers.push(value);
+      value = 0;
+      isNumber = false;
+    }
+  }
+  if (isNumber) numbers.push(value);
+  const count = numbers.length / 2, times = new Float64Array(count), ends = new Float64Array(count);
+  for (let i = 0, end = 0; i < count; i++) {
+    times[i] = numbers[2 * i] / 1e6;
+    ends[i] = end += numbers[2 * i + 1];
+  }
+  return { times, ends };
+}
+
+/** Returns a promise of a recording whose bytes are all zero so far, and of the call that fills them. It tells `arrived` how many have come. */
+export async function opened({ bytes: packed, chunks }) {
+  const { times, ends } = listed(await unpacked(chunks)), bytes = new Uint8Array(ends[ends.length - 1] ?? 0);
+  const fill = async (arrived) => {
+    const reader = unpacking(packed).getReader();
+    for (let at = 0; ; ) {
+      const { done, value } = await reader.read();
+      if (done && at !== bytes.length) throw new RangeError("the bytes are cut short");
+      if (done) return;
+      bytes.set(value, at);
+      at += value.length;
+      await arrived(at);
+    }
+  };
+  return { recording: { bytes, times, ends }, fill };
+}
+
+/** Returns the text that a source is or leads to: an address, JSON, a file, or bytes. */
+async function textOf(source) {
+  if (source instanceof Blob) return source.text();
+  if (source instanceof ArrayBuffer || ArrayBuffer.isView(source)) return new TextDecoder().decode(source);
+  if (/^\s*\{/.test(source)) return source;
+  const response = await fetch(source);
+  if (!response.ok) throw new TypeError(`${source} has the status ${response.status}`);
+  return response.text();
+}
+
+/** Returns a promise of what a source has: `packed`, or the `recording` that it is. */
+export async function source(wanted) {
+  if (wanted?.bytes instanceof Uint8Array) return { recording: wanted };
+  const packed = JSON.parse(await textOf(wanted));
+  if (typeof packed.bytes !== "string" || typeof packed.chunks !== "string") throw new TypeError("it isn't a recording that vt220-page wrote");
+  return { packed };
+}

@@ -1,0 +1,79 @@
+import type { Recording, Span } from "./timeline.js";
+import type { Core, Encoding, Source, Terminal, TerminalName } from "./vt220.js";
+
+/** A marker: its time in seconds, perhaps with its label. */
+export type Marker = number | [time: number, label: string];
+
+/** How a recording plays, as vt220-page writes it. */
+export interface Options {
+  start: number;
+  poster: number | null;
+  speed: number;
+  pause: number;
+  autoplay: boolean;
+  loop: boolean | number;
+  stops: boolean;
+  controls: boolean;
+  encoding: Encoding;
+  terminal: TerminalName;
+  markers: [time: number, label: string][];
+}
+
+/**
+ * The element `<vt220-player>`. It plays a recording that `vt220-page --data` wrote: at the address `src`, given as the property `src`, or in a
+ * `<script type="application/json">` inside of the element. With the attribute `live` it shows what comes from a WebSocket or an EventSource.
+ *
+ * All players of a page share one core. Each property of an attribute is null if the attribute isn't there; the recording's own value counts then.
+ *
+ * It dispatches these events, whose `detail` has the `time` in seconds: `ready` (the first frame is shown), `play`, `pause`, `ended`, `seeked`,
+ * `marker` (also with `index` and `label`), `offline` (a live one lost its connection, and connects again). `error` has a `reason` and the `error`.
+ */
+export declare class Vt220Player extends HTMLElement {
+  /** What load() takes for the shared core; set it before the first player is made. */
+  static wasm: Source | Promise<Source> | undefined;
+  /** A promise of the shared core. */
+  static readonly core: Promise<Core>;
+  /** A promise that the whole recording has come, or can't. */
+  readonly loaded: Promise<void>;
+  /** The address of the recording, or the recording: a file or bytes that vt220-page wrote, or the bytes with their times. */
+  src: string | Blob | ArrayBuffer | Uint8Array | Recording | null;
+  /** `start`: where it begins to play, in seconds. */
+  startAt: number | null;
+  /** `poster`: the moment that is shown before it plays. */
+  poster: number | null;
+  speed: number | null;
+  /** `idle-limit`: the longest pause that is played while pauses are skipped, in seconds. */
+  idleTimeLimit: number | null;
+  /** `autoplay` */
+  autoPlay: boolean | null;
+  /** `loop`: plays again at its end, without end or so many times. */
+  loop: boolean | number | null;
+  markers: Marker[] | null;
+  /** `pause-on-markers` */
+  pauseOnMarkers: boolean | null;
+  encoding: Encoding | null;
+  terminal: TerminalName | null;
+  /** `links`: follows #t=SECONDS and #q=TEXT of the page's address, and has a button that copies such a link. */
+  links: boolean | null;
+  /** Plays, as soon as it is ready. */
+  play(): Promise<void>;
+  pause(): Promise<void>;
+  /** Goes to a moment in seconds, as "M:SS", as "50%", or to a marker by its index or a direction. */
+  seek(where: number | string | { marker: number | "prev" | "next" }): Promise<void>;
+  /** Searches all time, as the controls for case and expressions say, and returns what was found. */
+  search(text: string): Promise<Span[]>;
+  /** Returns the moment that is shown, in seconds. */
+  getCurrentTime(): number;
+  /** Returns how long the recording is, in seconds, or null if it isn't ready. */
+  getDuration(): number | null;
+  /** Plays bytes on a player with the attribute `live`. Throws Vt220Error if it isn't ready. */
+  feed(bytes: Uint8Array): void;
+  /** Shows the state of a terminal of the shared core on a player with the attribute `live`. */
+  show(terminal: Terminal): void;
+}
+
+declare global {
+  interface HTMLElementTagNameMap {
+    "vt220-player": Vt220Player;
+  }
+}

@@ -1,0 +1,297 @@
+// player.js: the element <vt220-player>. player.d.ts describes it.
+import { Live, connected } from "./live.js";
+import { MARKUP, STYLE } from "./look.js";
+import { lacking } from "./notes.js";
+import { opened, source } from "./packed.js";
+import { Searcher } from "./searcher.js";
+import { Timeline } from "./timeline.js";
+import { View, seconds } from "./view.js";
+import { Vt220Error, load } from "./vt220.js";
+
+// How a recording plays, if neither it nor an attribute says so.
+const DEFAULTS = { start: 0, poster: null, speed: 1, pause: 1, autoplay: false, loop: false, stops: false, controls: true, encoding: "dec", terminal: "vt220", markers: [] };
+const FLAG = { read: () => true, write: (value) => (value ? "" : null) };
+const TIME = { read: seconds, write: String }, NUMBER = { read: Number, write: String }, TEXT = { read: String, write: String };
+const LOOP = { read: (text) => text === "" || Number(text), write: (value) => (value === true ? "" : value === false ? null : String(value)) };
+const MARKERS = { read: (text) => JSON.parse(text).map((marker) => (Array.isArray(marker) ? marker : [marker, ""])), write: JSON.stringify };
+// The attributes: the property and the option of each, and its form.
+const ATTRIBUTES = {
+  start: ["startAt", "start", TIME], poster: ["poster", "poster", TIME], speed: ["speed", "speed", NUMBER], "idle-limit": ["idleTimeLimit", "pause", NUMBER],
+  autoplay: ["autoPlay", "autoplay", FLAG], loop: ["loop", "loop", LOOP], markers: ["markers", "markers", MARKERS], "pause-on-markers": ["pauseOnMarkers", "stops", FLAG],
+  encoding: ["encoding", "encoding", TEXT], terminal: ["terminal", "terminal", TEXT], links: ["links", "links", FLAG],
+};
+const LONGEST_TURN = 30; // milliseconds without a turn of the page
+const EVENTS = { seek: "seeked" };
+// In node, in which nothing can be shown, the module can be imported.
+const Base = globalThis.HTMLElement ?? class {};
+
+/** The styles of all players. */
+let sheet = null;
+
+/** Returns a promise of the next turn of the page. */
+const turn = () => new Promise((resolve) => setTimeout(resolve));
+
+export class Vt220Player extends Base {
+  /** What load() takes for the core that all players share; set it before the first one. */
+  static wasm = undefined;
+  static #core = null;
+  #given = null;
+  #openings = 0;
+  #parts = [];
+  #view = null;
+
+  static get observedAttributes() {
+    return ["src", "live", "speed", "label"];
+  }
+
+  /** A promise of the core that all players share. */
+  static get core() {
+    return (Vt220Player.#core ??= load(Vt220Player.wasm));
+  }
+
+  constructor() {
+    super();
+    if (sheet === null) {
+      sheet = new CSSStyleSheet();
+      sheet.replaceSync(STYLE);
+    }
+    const root = this.attachShadow({ mode: "open", delegatesFocus: false });
+    root.innerHTML = MARKUP;
+    root.adoptedStyleSheets = [sheet];
+    /** A promise that the whole recording has come, or can't. */
+    this.loaded = Promise.resolve();
+    /** A promise of the end of the notes, once the recording has come. */
+    this.noted = Promise.resolve();
+  }
+
+  connectedCallback() {
+    if (document.readyState === "loading") document.addEventListener("DOMContentLoaded", () => this.isConnected && this.#open(), { once: true });
+    else this.#open();
+  }
+
+  disconnectedCallback() {
+    this.#close();
+  }
+
+  attributeChangedCallback(name, before, now) {
+    if (name === "speed") this.#view?.setSpeed(now);
+    else if (name === "label") this.shadowRoot.getElementById("screen").setAttribute("aria-label", now ?? "Terminal screen");
+    else if (this.isConnected && before !== now && document.readyState !== "loading") {
+      this.#given = null;
+      this.#open();
+    }
+  }
+
+  /** The address of the recording, or the recording that was given. */
+  get src() {
+    return this.#given ?? this.getAttribute("src");
+  }
+
+  set src(value) {
+    if (typeof value === "string") return this.setAttribute("src", value);
+    this.#given = value;
+    if (this.isConnected) this.#open();
+  }
+
+  /** Moves the focus to the screen. */
+  focus(options) {
+    this.shadowRoot.getElementById("screen").focus(options);
+  }
+
+  /** What is inside, once it is ready, or null. */
+  get view() {
+    return this.#view;
+  }
+
+  #close() {
+    this.#openings += 1;
+    this.#view = null;
+    for (const part of this.#parts.splice(0)) part.close();
+    this.shadowRoot.getElementById("controls").disabled = true;
+  }
+
+  /** Returns what is to be played: what was given, at the address, or inside of the element; or null. */
+  #wanted() {
+    return this.src ?? this.querySelector(':scope > script[type="application/json"]')?.textContent ?? null;
+  }
+
+  #open() {
+    this.#close();
+    const opening = this.#openings, isOver = () => opening !== this.#openings, wanted = this.#wanted(), live = this.getAttribute("live");
+    if (live !== null || (typeof wanted === "string" && /^wss?:/.test(wanted))) this.loaded = this.#attempt(isOver, (core) => this.#follow(live ?? wanted, core, isOver));
+    else if (wanted !== null) this.loaded = this.#attempt(isOver, (core, because) => this.#load(wanted, core, because, isOver));
+  }
+
+  /** Does a step after the core has been loaded. If that fails, it says why. */
+  async #attempt(isOver, step) {
+    let reason = "This needs a browser of 2023 or later with WebAssembly.";
+    try {
+      const core = await Vt220Player.core;
+      if (!isOver()) await step(core, (text) => (reason = text));
+    } catch (error) {
+      if (isOver()) return;
+      this.#close();
+      this.shadowRoot.getElementById("said").textContent = `${reason} (${error.message})`;
+      this.dispatchEvent(new CustomEvent("error", { detail: { reason, error } }));
+    }
+  }
+
+  /** The options of a recording, and those that attributes name. */
+  #options(recorded) {
+    const options = { links: false, isLive: false, ...DEFAULTS, ...recorded };
+    for (const [attribute, [, option, form]] of Object.entries(ATTRIBUTES)) {
+      if (this.hasAttribute(attribute)) options[option] = form.read(this.getAttribute(attribute));
+    }
+    if (!options.controls) this.toggleAttribute("no-controls", true);
+    return options;
+  }
+
+  async #load(wanted, core, because, isOver) {
+    because("The recording can't be fetched.");
+    const { packed, recording, notes = [] } = await source(wanted);
+    because("The recording is damaged.");
+    const options = this.#options(packed?.options), made = packed ? await opened(packed) : { recording };
+    if (isOver()) return;
+    const { encoding, terminal } = options, line = new Timeline(core, made.recording, { encoding, terminal });
+    const searcher = new Searcher(core, line, made.recording, { encoding, terminal });
+    this.#parts.push(searcher, line);
+    if (made.fill) await this.#fill(made.fill, line, () => this.#begin(core, line, searcher, options, packed.notes ?? notes), options, isOver);
+    else this.#begin(core, line, searcher, options, notes);
+    if (!isOver()) this.noted = this.#note(core, line, made.recording.bytes, isOver);
+  }
+
+  /** Adds a note on characters that a VT220 lacks, after the first frame. */
+  async #note(core, line, bytes, isOver) {
+    if (line.terminal.encoding !== "utf-8") return;
+    await turn();
+    const note = await lacking(core, bytes);
+    if (!isOver()) this.#view.addNotes([note]);
+  }
+
+  /** Fills a timeline. It begins as soon as the first frame's bytes have come. */
+  async #fill(fill, line, begin, options, isOver) {
+    const first = line.positionAt(options.poster ?? options.start);
+    let last = performance.now();
+    line.available = 0;
+    await fill(async (count) => {
+      if (isOver()) throw new Vt220Error("CLOSED", "another recording was opened");
+      line.available = count;
+      if (this.#view === null && count >= first) begin();
+      else if (performance.now() - last < LONGEST_TURN) return;
+      await turn();
+      last = performance.now();
+    });
+    if (this.#view === null) begin();
+    else this.#view.draw();
+  }
+
+  #begin(core, line, searcher, options, notes) {
+    this.#show(core, line, searcher, options);
+    this.#view.addNotes(notes);
+    this.tell("ready", this.getCurrentTime());
+    if (options.autoplay) this.#view.toggle();
+  }
+
+  #show(core, line, searcher, options) {
+    this.#view = new View(this, core, line, searcher, options);
+    this.#parts.push(this.#view);
+    this.#view.start();
+  }
+
+  /** Shows a terminal that plays what comes from an address, or what feed() gets. */
+  #follow(address, core, isOver) {
+    const options = this.#options({ isLive: true }), live = new Live(core, options);
+    this.#show(core, live, null, options);
+    this.#parts.push(live);
+    if (address === "") return this.tell("ready", 0);
+    let isReady = false;
+    const came = (bytes) => {
+      if (isOver()) return;
+      this.feed(bytes);
+      if (!isReady) this.tell("ready", 0);
+      isReady = true;
+    };
+    this.#parts.push({ close: connected(new URL(address, document.baseURI).href, came, () => this.tell("offline", 0)) });
+  }
+
+  /** Returns what is inside of a live player that is ready. */
+  #live() {
+    if (!this.#view?.options.isLive) throw new Vt220Error("CLOSED", "only a live player that is ready shows what comes");
+    return this.#view;
+  }
+
+  /** Plays bytes on a live player: one that has the attribute `live`. */
+  feed(bytes) {
+    const view = this.#live();
+    view.line.feed(bytes);
+    view.draw();
+  }
+
+  /** Shows the state of a terminal of the shared core on a live player. */
+  show(terminal) {
+    const view = this.#live();
+    view.line.terminal.copyFrom(terminal);
+    view.draw();
+  }
+
+  /** Tells of an event, as a DOM event. */
+  tell(event, time) {
+    const markers = this.#view?.options.markers ?? [], index = event === "marker" ? markers.findIndex(([each]) => each === time) : -1;
+    const detail = index < 0 ? { time } : { index, time, label: markers[index][1] };
+    this.dispatchEvent(new CustomEvent(EVENTS[event] ?? event, { detail }));
+  }
+
+  /** Returns what is inside as soon as it is ready. */
+  #ready() {
+    if (this.#view !== null) return Promise.resolve(this.#view);
+    return new Promise((resolve) => this.addEventListener("ready", () => resolve(this.#view), { once: true }));
+  }
+
+  async play() {
+    const view = await this.#ready();
+    if (!view.player.isPlaying) view.toggle();
+  }
+
+  async pause() {
+    (await this.#ready()).player.pause();
+  }
+
+  async seek(where) {
+    const view = await this.#ready(), { player } = view;
+    if (typeof where !== "object") return player.go(/%$/.test(where) ? (view.line.duration * parseFloat(where)) / 100 : seconds(where));
+    if (where.marker === "next" || where.marker === "prev") return view.marker(where.marker === "next" ? 1 : -1);
+    if (where.marker in player.markers) player.go(player.markers[where.marker]);
+  }
+
+  async search(text) {
+    await (await this.#ready()).search(text);
+    return this.#view.player.spans;
+  }
+
+  getCurrentTime() {
+    return this.#view?.player.now ?? 0;
+  }
+
+  getDuration() {
+    return this.#view?.line.duration ?? null;
+  }
+}
+
+// Each attribute as a property.
+for (const [attribute, [property, , form]] of Object.entries(ATTRIBUTES)) {
+  Object.defineProperty(Vt220Player.prototype, property, {
+    get() {
+      return this.hasAttribute(attribute) ? form.read(this.getAttribute(attribute)) : null;
+    },
+    set(value) {
+      const text = value === null ? null : form.write(value);
+      if (text === null) this.removeAttribute(attribute);
+      else this.setAttribute(attribute, text);
+    },
+    configurable: true,
+    enumerable: true,
+  });
+}
+
+/** Defines the element, if there are elements. */
+if (globalThis.customElements && !customElements.get("vt220-player")) customElements.define("vt220-player", Vt220Player);

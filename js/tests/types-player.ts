@@ -1,0 +1,19 @@
+// Uses the types of the element; tsc --strict has to accept it, and to refuse the line after @ts-expect-error.
+import { Vt220Player } from "vt220/player";
+
+export async function use(bytes: Uint8Array): Promise<number | null> {
+  const player: Vt220Player = document.createElement("vt220-player");
+  for (const source of ["x.json", new Blob([]), bytes, { bytes, times: [0], ends: [bytes.length] }, null]) player.src = source;
+  Object.assign(player, { startAt: 3, poster: null, autoPlay: true });
+  player.loop = 3;
+  player.markers = [1, [2, "two"]];
+  Vt220Player.wasm = fetch("vt220.wasm");
+  await player.loaded;
+  await player.seek({ marker: "next" });
+  await player.seek("50%");
+  // @ts-expect-error: no such direction
+  await player.seek({ marker: "last" });
+  player.feed(bytes);
+  const [span] = await player.search("x");
+  return player.getDuration() ?? span?.time ?? null;
+}

@@ -48,6 +48,25 @@ static inline bool same_bytes(const bytes *b, const uint8_t *other, size_t len) 
     return b->len == len && (len == 0 || memcmp(b->at, other, len) == 0);
 }
 
+static inline void print_bytes(const char *title, const uint8_t *from, size_t len) {
+    fprintf(stderr, "  %s:", title);
+    for (size_t i = 0; i < len; i++) fprintf(stderr, " %02X", from[i]);
+    fputc('\n', stderr);
+}
+
+/* Checks that bytes are the wanted ones, and prints both otherwise. */
+static inline void check_same(const bytes *wanted, const uint8_t *found, size_t len, const char *where, const char *what) {
+    bool is = same_bytes(wanted, found, len);
+    check(is, what, where);
+    if (!is) print_bytes("expected", wanted->at, wanted->len), print_bytes("got", found, len);
+}
+
+/* Checks that a number is the wanted one, and prints both otherwise. */
+static inline void check_number(uint64_t wanted, uint64_t found, const char *where, const char *what) {
+    check(wanted == found, what, where);
+    if (wanted != found) fprintf(stderr, "  expected: %llu\n  got: %llu\n", (unsigned long long)wanted, (unsigned long long)found);
+}
+
 /* Plays a whole piece with so much room for reports, and appends these. What lies behind them must not be touched. */
 static inline void play(vt220 *t, const uint8_t *from, size_t len, uint8_t *room, size_t size, bytes *reports) {
     size_t at = 0;

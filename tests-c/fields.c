@@ -102,7 +102,8 @@ static void compare(const char *row, const fields *wanted, const uint8_t *data, 
     for (size_t i = 0; i < wanted->count; i++) {
         size_t at = 0;
         while (at < count && strcmp(found.all[at].name, wanted->all[i].name) != 0) at++;
-        check(at < count && found.all[at].value == wanted->all[i].value, wanted->all[i].name, row);
+        if (at == count) check(false, wanted->all[i].name, row);
+        else check_number(wanted->all[i].value, found.all[at].value, row, wanted->all[i].name);
     }
 }
 

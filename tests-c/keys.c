@@ -100,6 +100,7 @@ static void check_key(const row *is, const char *key) {
             outcome now = sent_by(key, strlen(key), setting, others);
             bool holds = is->status == VT220_OK ? has_sent(&now, is->bytes, is->len) : is_error(&now, is->status);
             check(holds, key, is->pattern);
+            if (!holds) print_bytes("expected", is->bytes, is->len), print_bytes("got", now.out, now.written);
         }
     }
     check_sequence(is, key);

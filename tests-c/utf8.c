@@ -1,6 +1,6 @@
-/* utf8: input in UTF-8. The characters and cells are those of the tables of docs/SPECIFICATION.md and of Unicode, and what is ill-formed
- * is as in the Unicode Standard, 3.9. */
-#include "check.h"
+/* utf8 FILE: input in UTF-8. The vectors of FILE, which is tests-c/vectors.txt, are played whole and in cuts. The characters and cells of
+ * the rest are those of the tables of docs/SPECIFICATION.md and of Unicode. */
+#include "rows.h"
 
 static vt220_scratch s = VT220_INIT;
 static uint8_t text[VT220_TEXT_LIMIT];
@@ -35,62 +35,32 @@ static bool is_pending(const vt220_utf8 *u, const char *bytes) {
     return u->len == len && memcmp(u->bytes, bytes, len) == 0 && memcmp(u->bytes + len, none, 3 - len) == 0;
 }
 
-/* What is fed, the first lines of the screen, the cursor's row and column, the bells, and what is pending at the end. */
-static const struct row {
-    const char *bytes;
-    size_t len;
-    const char *lines;
-    size_t row, col;
-    uint64_t bells;
-    const char *pending;
-} rows[] = {
-#define FED(literal) literal, sizeof(literal) - 1
-    {FED(""), "\n", 1, 1, 0, ""},
-    {FED("Grüße"), "Grüße\n", 1, 6, 0, ""},
-    {FED("┏━┓ “a” – …"), "┌─┐ \"a\" - .\n", 1, 12, 0, ""},
-    {FED("日本x"), "␦ ␦ x\n", 1, 6, 0, ""},
-    {FED("e\u0301x"), "ex\n", 1, 3, 0, ""},
-    {FED("\033[1;80H日"), "\n␦\n", 2, 3, 0, ""},
-    {FED("\033[1;79H日"), "", 1, 80, 0, ""},
-    /* ill-formed: a lone continuation byte, a lead byte before ASCII, an overlong form, a surrogate, and a cut character of four bytes */
-    {FED("a\x80z"), "a␦z\n", 1, 4, 0, ""},
-    {FED("a\xC3z"), "a␦z\n", 1, 4, 0, ""},
-    {FED("\xC0\xAF"), "␦␦\n", 1, 3, 0, ""},
-    {FED("\xED\xA0\x80"), "␦␦␦\n", 1, 4, 0, ""},
-    {FED("\xF0\x9F\x98z"), "␦z\n", 1, 3, 0, ""},
-    {FED("\xF0\x9F\x98\xC3\xA9"), "␦é\n", 1, 3, 0, ""},
-    /* what isn't complete isn't shown */
-    {FED("a\xC3"), "a\n", 1, 2, 0, "\xC3"},
-    {FED("a\xE2\x96"), "a\n", 1, 2, 0, "\xE2\x96"},
-    {FED("a\xF0\x9F\x98"), "a\n", 1, 2, 0, "\xF0\x9F\x98"},
-    /* BEL rings after a character, and after what it shows to be ill-formed; not in a string */
-    {FED("é\a"), "é\n", 1, 2, 1, ""},
-    {FED("\xE2\x96\a\a"), "␦\n", 1, 2, 2, ""},
-    {FED("\033P\xE2\a\033\\é"), "é\n", 1, 2, 0, ""},
-    /* a character ends a control sequence, and is content in a string */
-    {FED("\033[3é1m"), "é1m\n", 1, 4, 0, ""},
-    {FED("\033]0;\xC2\x9Cé\ax"), "x\n", 1, 2, 0, ""},
-    {FED("\xC2\x85\xC2\x9B" "1mx"), "1mx\n", 1, 4, 0, ""},
-    /* the sets of ASCII bytes stay */
-    {FED("\033(0lqk é q"), "┌─┐ é ─\n", 1, 8, 0, ""},
-};
+/* Feeds bytes in chunks of so many, with their log. Appends the replies and the lines. */
+static void feed_log(vt220 *t, vt220_utf8 *u, const bytes *input, size_t chunk, bytes *replies, bytes *lines) {
+    static uint8_t room[VT220_REPORT_LIMIT], off[VT220_UTF8_LINES_LIMIT];
+    for (size_t at = 0, written, filled; at < input->len;) {
+        size_t part = input->len - at < chunk ? input->len - at : chunk;
+        size_t taken = vt220_feed_log_utf8(t, &s, u, input->at + at, part, room, sizeof room, &written, off, sizeof off, &filled);
+        if (taken == 0 || taken > part || written > sizeof room || filled > sizeof off) abort();
+        append(replies, room, written), append(lines, off, filled);
+        at += taken;
+    }
+}
 
-static void whole_and_cut(void) {
-    uint8_t reports[VT220_REPORT_LIMIT * 64];
-    for (size_t i = 0; i < sizeof rows / sizeof rows[0]; i++) {
-        for (size_t chunk = 1; chunk <= 8; chunk++) {
-            const struct row *row = rows + i;
-            vt220 t = opened();
-            vt220_utf8 u = {{0}, 0};
-            vt220_cursor_place cursor;
-            CHECK(feed(&t, &u, (const uint8_t *)row->bytes, row->len, chunk == 8 ? row->len + 1 : chunk, reports) == 0);
-            check(shows(&t, row->lines), row->bytes, "lines");
-            CHECK(vt220_cursor(&t, &cursor));
-            check(cursor.row == row->row && cursor.col == row->col, row->bytes, "cursor");
-            check(vt220_bells(&t) == row->bells, row->bytes, "bells");
-            check(is_pending(&u, row->pending), row->bytes, "pending");
-            vt220_close(&t);
-        }
+static void each_way(const row *r) {
+    static uint8_t room[4096 * VT220_REPORT_LIMIT];
+    for (size_t chunk = 1; chunk <= 8; chunk++) {
+        size_t size = chunk == 8 ? r->input.len + 1 : chunk;
+        vt220 t = opened(), v = opened();
+        vt220_utf8 u = {{0}, 0}, w = {{0}, 0};
+        bytes replies = {NULL, 0, 0}, others = {NULL, 0, 0}, lines = {NULL, 0, 0};
+        append(&replies, room, feed(&t, &u, r->input.at, r->input.len, size, room));
+        feed_log(&v, &w, &r->input, size, &others, &lines);
+        check_row(r, &t, &s, &replies), check_row(r, &v, &s, &others);
+        check_same(&r->lines, lines.at, lines.len, r->name, "the lines");
+        check_same(&r->pending, u.bytes, u.len, r->name, "what is pending"), check_same(&r->pending, w.bytes, w.len, r->name, "what is pending");
+        free(replies.at), free(others.at), free(lines.at);
+        vt220_close(&t), vt220_close(&v);
     }
 }
 
@@ -253,9 +223,10 @@ static void shown_as_fed(void) {
     CHECK(true);
 }
 
-int main(void) {
+int main(int argc, char **argv) {
+    if (argc != 2) return 2;
     CHECK(vt220_scratch_open(&s) == VT220_OK);
-    whole_and_cut();
+    CHECK(each_row(argv[1], "utf-8", "vt220", each_way) > 50);
     ascii_and_replies();
     any_content();
     refusals();

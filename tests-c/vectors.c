@@ -30,14 +30,16 @@ static void one_way(const char *name, unsigned cut, size_t size, const bytes *in
         play(&t, input->at + at, piece, room, size, &sent);
         at += piece;
     }
-    CHECK(same_bytes(&sent, reports->at, reports->len));
-    CHECK(vt220_text(&t, &scratch, out, sizeof out, &written) == VT220_OK && same_bytes(text, out, written));
+    check_same(reports, sent.at, sent.len, name, "the reports");
+    CHECK(vt220_text(&t, &scratch, out, sizeof out, &written) == VT220_OK);
+    check_same(text, out, written, name, "the text");
     uint32_t status = vt220_repaint(&t, &scratch, out, sizeof out, &written);
     if (repaint == NULL) {
         CHECK(status == VT220_PARTIAL && written == 0 && !vt220_is_between(&t) && vt220_held_kind(&t) != VT220_HELD_NOTHING);
         CHECK(vt220_update(&copy, &t, &scratch, out, sizeof out, &written) == VT220_PARTIAL && written == 0);
     } else {
-        CHECK(status == VT220_OK && same_bytes(repaint, out, written) && vt220_is_between(&t) && vt220_held_kind(&t) == VT220_HELD_NOTHING);
+        check_same(repaint, out, written, name, "the repaint");
+        CHECK(status == VT220_OK && vt220_is_between(&t) && vt220_held_kind(&t) == VT220_HELD_NOTHING);
         /* the repaint, played on a terminal in another state; and an update that does the same */
         vt220 other = VT220_INIT;
         CHECK(vt220_open(&other) == VT220_OK);

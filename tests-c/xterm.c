@@ -1,6 +1,6 @@
-/* xterm FILE: what programs send under TERM=xterm. The rows of FILE, which is tests-c/xterm.txt, are played whole, byte by byte and by
+/* xterm FILE: what programs send under TERM=xterm. The vectors of FILE, which is tests-c/vectors.txt, are played whole, byte by byte and by
  * threes, and each is rebuilt by its repaint. The rest is by hand from the header. */
-#include "check.h"
+#include "rows.h"
 
 enum { LEN = 40000, BLOCK = 16384 };
 
@@ -57,56 +57,6 @@ static void feed_log(pair *p, const uint8_t *bytes, size_t len, size_t chunk, si
 
 /* --- the rows --- */
 
-typedef struct row {
-    const char *name;
-    struct bytes data, reports, pending;
-    char text[1024], lines[1024], brush[64];
-    unsigned long cursor_row, cursor_col, alternate, paste, bells;
-} row;
-
-static void append_hex(struct bytes *to, const char *hex) {
-    char *end;
-    for (unsigned long byte = strtoul(hex, &end, 16); end != hex; byte = strtoul(hex, &end, 16)) {
-        uint8_t one = (uint8_t)byte;
-        append(to, &one, 1);
-        hex = end;
-    }
-}
-
-/* Copies a text, in which \n is a line feed. */
-static void copy_text(char *to, const char *from) {
-    for (; *from != 0; from++) {
-        if (from[0] == '\\' && from[1] == 'n') *to++ = '\n', from++;
-        else *to++ = *from;
-    }
-    *to = 0;
-}
-
-static void set_field(row *r, const char *field, char *value) {
-    if (strcmp(field, "text") == 0) copy_text(r->text, value);
-    else if (strcmp(field, "lines") == 0) copy_text(r->lines, value);
-    else if (strcmp(field, "brush") == 0) snprintf(r->brush, sizeof r->brush, "%s", value);
-    else if (strcmp(field, "reports") == 0) append_hex(&r->reports, value);
-    else if (strcmp(field, "pending") == 0) append_hex(&r->pending, value);
-    else if (strcmp(field, "alternate") == 0) r->alternate = strtoul(value, NULL, 10);
-    else if (strcmp(field, "paste") == 0) r->paste = strtoul(value, NULL, 10);
-    else if (strcmp(field, "bells") == 0) r->bells = strtoul(value, NULL, 10);
-    else if (strcmp(field, "cursor") == 0) r->cursor_row = strtoul(value, &value, 10), r->cursor_col = strtoul(value + 1, NULL, 10);
-    else check(false, field, "a field's name");
-}
-
-static row read_row(char *line) {
-    row r = {.name = strsep(&line, "\t"), .cursor_row = 1, .cursor_col = 1};
-    append_hex(&r.data, strsep(&line, "\t"));
-    for (char *field = strsep(&line, "\t\n"); field != NULL && *field != 0; field = strsep(&line, "\t\n")) {
-        char *value = strchr(field, '=');
-        if (value == NULL) abort();
-        *value = 0;
-        set_field(&r, field, value + 1);
-    }
-    return r;
-}
-
 /* Returns whether the screen has this text, and no other rows. */
 static bool shows(const vt220 *t, const char *text) {
     static char found[VT220_TEXT_LIMIT + 1];
@@ -114,15 +64,6 @@ static bool shows(const vt220 *t, const char *text) {
     CHECK(vt220_text(t, &s, (uint8_t *)found, VT220_TEXT_LIMIT, &len) == VT220_OK);
     while (len > 0 && found[len - 1] == '\n') len--;
     return len == strlen(text) && memcmp(found, text, len) == 0;
-}
-
-static bool has_brush(const vt220 *t, const char *names) {
-    vt220_brush_look look;
-    char found[64];
-    CHECK(vt220_brush(t, &look));
-    snprintf(found, sizeof found, "%s%s%s%s", look.bold ? " bold" : "", look.underline ? " underline" : "", look.blink ? " blink" : "",
-             look.reverse ? " reverse" : "");
-    return strcmp(found[0] == 0 ? found : found + 1, names) == 0;
 }
 
 static bool has_pending(const vt220_xterm *x, const struct bytes *wanted) {
@@ -134,18 +75,13 @@ static bool has_pending(const vt220_xterm *x, const struct bytes *wanted) {
 static void play_row(const row *r, size_t chunk, const sizes *size) {
     pair p = opened();
     struct bytes replies = {0}, lines = {0};
-    vt220_cursor_place cursor;
-    if (size == NULL) feed(&p, r->data.at, r->data.len, chunk, &replies);
-    else feed_log(&p, r->data.at, r->data.len, chunk, *size, &replies, &lines);
-    check(size == NULL || same_bytes(&lines, (const uint8_t *)r->lines, strlen(r->lines)), r->name, "the lines");
-    check(shows(&p.t, r->text), r->name, "the text");
-    check(vt220_cursor(&p.t, &cursor) && cursor.row == r->cursor_row && cursor.col == r->cursor_col, r->name, "the cursor");
-    check(vt220_xterm_alternate(&p.x) == (r->alternate != 0), r->name, "the page");
-    check(vt220_xterm_bracketed_paste(&p.x) == (r->paste != 0), r->name, "bracketed paste");
-    check(has_brush(&p.t, r->brush), r->name, "the brush");
-    check(vt220_bells(&p.t) == r->bells, r->name, "the bells");
-    check(same_bytes(&replies, r->reports.at, r->reports.len), r->name, "the replies");
-    check(has_pending(&p.x, &r->pending), r->name, "what is pending");
+    if (size == NULL) feed(&p, r->input.at, r->input.len, chunk, &replies);
+    else feed_log(&p, r->input.at, r->input.len, chunk, *size, &replies, &lines);
+    check_row(r, &p.t, &s, &replies);
+    if (size != NULL) check_same(&r->lines, lines.at, lines.len, r->name, "the lines");
+    check_number(r->alternate, vt220_xterm_alternate(&p.x), r->name, "the page");
+    check_number(r->paste, vt220_xterm_bracketed_paste(&p.x), r->name, "bracketed paste");
+    check(has_pending(&p.x, &r->pending), "what is pending", r->name);
     free(replies.at), free(lines.at);
     closed(&p);
 }
@@ -207,7 +143,7 @@ static void rebuild_over_others(const pair *p, const char *name) {
 static void rebuild_row(const row *r) {
     pair p = opened();
     struct bytes replies = {0};
-    feed(&p, r->data.at, r->data.len, LEN, &replies);
+    feed(&p, r->input.at, r->input.len, LEN, &replies);
     rebuild_over_others(&p, r->name);
     free(replies.at);
     closed(&p);
@@ -251,23 +187,10 @@ static void repaint_into(void) {
     closed(&p);
 }
 
-static void rows(const char *path) {
-    static char line[4096];
-    size_t count = 0;
-    FILE *file = fopen(path, "r");
-    if (file == NULL) abort();
-    while (fgets(line, sizeof line, file) != NULL) {
-        if (line[0] == '#') continue;
-        row r = read_row(line);
-        const sizes *const buffers[] = {NULL, &smallest, &large};
-        for (size_t i = 0; i < sizeof buffers / sizeof buffers[0]; i++)
-            play_row(&r, 1, buffers[i]), play_row(&r, 3, buffers[i]), play_row(&r, LEN, buffers[i]);
-        rebuild_row(&r);
-        free(r.data.at), free(r.reports.at), free(r.pending.at);
-        count++;
-    }
-    fclose(file);
-    CHECK(count > 30);
+static void each_way(const row *r) {
+    const sizes *const buffers[] = {NULL, &smallest, &large};
+    for (size_t i = 0; i < sizeof buffers / sizeof buffers[0]; i++) play_row(r, 1, buffers[i]), play_row(r, 3, buffers[i]), play_row(r, LEN, buffers[i]);
+    rebuild_row(r);
 }
 
 /* --- handles and buffers --- */
@@ -476,7 +399,7 @@ int main(int argc, char **argv) {
     uint8_t *input = (uint8_t *)malloc(LEN);
     if (argc != 2 || input == NULL) return 2;
     CHECK(vt220_scratch_open(&s) == VT220_OK);
-    rows(argv[1]);
+    CHECK(each_row(argv[1], "utf-8", "xterm", each_way) > 100);
     rebuild_widths();
     repaint_into();
     handles();

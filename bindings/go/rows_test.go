@@ -2,8 +2,11 @@ package vt220
 
 import (
 	"errors"
+	"fmt"
 	"io/fs"
 	"os"
+	"regexp"
+	"strconv"
 	"strings"
 	"testing"
 )
@@ -30,17 +33,84 @@ func rowsOf(t *testing.T, variable, name string) (rows [][]string) {
 	return rows
 }
 
-// eachWay feeds the input of each row whole and byte by byte, and compares what that leads to with what the row has.
-func eachWay[Row comparable](t *testing.T, rows [][]string, least int, wanted func([]string) Row, fed func([]byte, int) Row) {
-	for _, fields := range rows {
-		input, row := unhex(t, fields[1]), wanted(fields[2:])
-		for _, size := range []int{len(input), 1} {
-			if found := fed(input, size); found != row {
-				t.Errorf("%s in chunks of %d: %+v, and not %+v", fields[0], size, found, row)
-			}
+// escaped is an escape of tests-c/vectors.txt.
+var escaped = regexp.MustCompile(`\\(x..|.)`)
+
+// spelled returns the bytes that a field spells.
+func spelled(field string) string {
+	return escaped.ReplaceAllStringFunc(field, func(found string) string {
+		switch found[1] {
+		case 'x':
+			number, _ := strconv.ParseUint(found[2:], 16, 8)
+			return string([]byte{byte(number)})
+		case 'e':
+			return "\x1b"
+		case 'n':
+			return "\n"
+		case 'r':
+			return "\r"
+		}
+		return found[1:]
+	})
+}
+
+// row is what a vector of tests-c/vectors.txt has: what its terminal shows and returned, by the names there.
+type row struct{ text, cursor, wrap, brush, alternate, paste, bells, pending, reports, lines string }
+
+// wantedOf returns the row that some fields describe.
+func wantedOf(t *testing.T, fields []string) row {
+	wanted := row{cursor: "1;1", wrap: "0", alternate: "0", paste: "0", bells: "0"}
+	places := map[string]*string{"text": &wanted.text, "cursor": &wanted.cursor, "wrap": &wanted.wrap, "brush": &wanted.brush, "alternate": &wanted.alternate,
+		"paste": &wanted.paste, "bells": &wanted.bells, "pending": &wanted.pending, "reports": &wanted.reports, "lines": &wanted.lines, "differs": new(string)}
+	for _, field := range fields {
+		name, value, _ := strings.Cut(field, "=")
+		if places[name] == nil {
+			t.Fatal(field)
+		}
+		*places[name] = spelled(value)
+	}
+	return wanted
+}
+
+// flag returns how a vector has a flag.
+func flag(isSet bool) string { return map[bool]string{true: "1", false: "0"}[isSet] }
+
+// shownBy returns what a terminal itself shows. The rest is as at power-up.
+func shownBy(t *testing.T, terminal *Terminal, s *Scratch) row {
+	text, err := terminal.Show(s)
+	if err != nil {
+		t.Fatal(err)
+	}
+	cursor, brush := terminal.Cursor(), terminal.Brush()
+	var names []string
+	for _, one := range []struct {
+		name  string
+		isSet bool
+	}{{"bold", brush.Bold}, {"underline", brush.Underline}, {"blink", brush.Blink}, {"reverse", brush.Reverse}} {
+		if one.isSet {
+			names = append(names, one.name)
 		}
 	}
-	if len(rows) < least {
-		t.Errorf("%d rows", len(rows))
+	return row{text: strings.TrimRight(text, "\n"), cursor: fmt.Sprintf("%d;%d", cursor.Row, cursor.Col), wrap: flag(cursor.Wrap),
+		brush: strings.Join(names, " "), alternate: "0", paste: "0", bells: fmt.Sprint(terminal.Bells())}
+}
+
+// eachWay feeds the input of each vector for a terminal whole and byte by byte, and compares what that leads to with what the vector has.
+func eachWay(t *testing.T, terminal string, fed func([]byte, int) row) {
+	count := 0
+	for _, fields := range rowsOf(t, "VT220_ROWS", "tests-c/vectors.txt") {
+		if fields[2] != terminal {
+			continue
+		}
+		input, wanted := []byte(spelled(fields[3])), wantedOf(t, fields[4:])
+		for _, size := range []int{len(input), 1} {
+			if found := fed(input, size); found != wanted {
+				t.Errorf("%s in chunks of %d: %+v, and not %+v", fields[0], size, found, wanted)
+			}
+		}
+		count++
+	}
+	if count < 50 {
+		t.Errorf("%d vectors", count)
 	}
 }

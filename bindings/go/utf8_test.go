@@ -1,33 +1,8 @@
 package vt220
 
-import (
-	"strings"
-	"testing"
-)
+import "testing"
 
-// row is what a row of tests-c/utf8.txt has.
-type row struct{ text, pending, reports, lines string }
-
-func rowOf(t *testing.T, fields []string) (wanted row) {
-	for _, field := range fields {
-		name, value, _ := strings.Cut(field, "=")
-		bytes := func() string { return string(unhex(t, value)) }
-		switch name {
-		case "text":
-			wanted.text = strings.ReplaceAll(value, `\n`, "\n")
-		case "pending":
-			wanted.pending = bytes()
-		case "reports":
-			wanted.reports = bytes()
-		case "lines":
-			wanted.lines = strings.ReplaceAll(value, `\n`, "\n")
-		default:
-			t.Fatal(field)
-		}
-	}
-	return wanted
-}
-
+// fed returns what chunks of a size lead to, with the log and without one.
 func fed(t *testing.T, s *Scratch, input []byte, size int) (found row) {
 	var d, again Decoder
 	terminal, other := open(t, ""), open(t, "")
@@ -44,18 +19,14 @@ func fed(t *testing.T, s *Scratch, input []byte, size int) (found row) {
 		found.lines += string(lines)
 		input = input[len(piece):]
 	}
-	text, err := terminal.Text(s)
-	if err != nil {
-		t.Fatal(err)
-	}
-	found.text, found.pending = strings.TrimRight(text, "\n"), string(d.Pending())
-	return found
+	shown := shownBy(t, terminal, s)
+	shown.pending, shown.reports, shown.lines = string(d.Pending()), found.reports, found.lines
+	return shown
 }
 
 func TestUTF8(t *testing.T) {
-	s, rows := scratch(t), rowsOf(t, "VT220_UTF8", "tests-c/utf8.txt")
-	wanted := func(fields []string) row { return rowOf(t, fields) }
-	eachWay(t, rows, 30, wanted, func(input []byte, size int) row { return fed(t, s, input, size) })
+	s := scratch(t)
+	eachWay(t, "vt220", func(input []byte, size int) row { return fed(t, s, input, size) })
 }
 
 // By the tables of docs/SPECIFICATION.md, 'UTF-8'.

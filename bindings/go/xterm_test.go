@@ -1,44 +1,9 @@
 package vt220
 
 import (
-	"fmt"
 	"strings"
 	"testing"
 )
-
-// xtermRow is what a row of tests-c/xterm.txt has.
-type xtermRow struct{ text, lines, cursor, alternate, paste, brush, bells, pending, reports string }
-
-func xtermRowOf(t *testing.T, fields []string) (wanted xtermRow) {
-	wanted = xtermRow{cursor: "1;1", alternate: "0", paste: "0", bells: "0"}
-	for _, field := range fields {
-		name, value, _ := strings.Cut(field, "=")
-		bytes := func() string { return string(unhex(t, value)) }
-		switch name {
-		case "text":
-			wanted.text = strings.ReplaceAll(value, `\n`, "\n")
-		case "lines":
-			wanted.lines = strings.ReplaceAll(value, `\n`, "\n")
-		case "cursor":
-			wanted.cursor = value
-		case "alternate":
-			wanted.alternate = value
-		case "paste":
-			wanted.paste = value
-		case "brush":
-			wanted.brush = value
-		case "bells":
-			wanted.bells = value
-		case "pending":
-			wanted.pending = bytes()
-		case "reports":
-			wanted.reports = bytes()
-		default:
-			t.Fatal(field)
-		}
-	}
-	return wanted
-}
 
 func xterm(t *testing.T) *Xterm {
 	x, err := NewXterm()
@@ -67,7 +32,7 @@ func rebuilds(t *testing.T, terminal *Terminal, x *Xterm, s *Scratch) bool {
 }
 
 // fedXterm returns what chunks of a size lead to, with the log and without one. Another terminal is copied from it after each chunk.
-func fedXterm(t *testing.T, s *Scratch, input []byte, size int) (found xtermRow) {
+func fedXterm(t *testing.T, s *Scratch, input []byte, size int) (found row) {
 	terminal, x, other, copied := open(t, ""), xterm(t), open(t, ""), xterm(t)
 	defer x.Close()
 	defer copied.Close()
@@ -91,31 +56,15 @@ func fedXterm(t *testing.T, s *Scratch, input []byte, size int) (found xtermRow)
 		found.lines += string(lines)
 		input = input[len(piece):]
 	}
-	text, err := terminal.Text(s)
-	cursor, brush := terminal.Cursor(), terminal.Brush()
-	if err != nil {
-		t.Fatal(err)
-	}
-	var names []string
-	for _, one := range []struct {
-		name  string
-		isSet bool
-	}{{"bold", brush.Bold}, {"underline", brush.Underline}, {"blink", brush.Blink}, {"reverse", brush.Reverse}} {
-		if one.isSet {
-			names = append(names, one.name)
-		}
-	}
-	found.text, found.cursor = strings.TrimRight(text, "\n"), fmt.Sprintf("%d;%d", cursor.Row, cursor.Col)
-	found.alternate = map[bool]string{true: "1", false: "0"}[x.Alternate()]
-	found.paste = map[bool]string{true: "1", false: "0"}[x.BracketedPaste()]
-	found.brush, found.bells, found.pending = strings.Join(names, " "), fmt.Sprint(terminal.Bells()), string(x.Pending())
-	return found
+	shown := shownBy(t, terminal, s)
+	shown.alternate, shown.paste, shown.pending = flag(x.Alternate()), flag(x.BracketedPaste()), string(x.Pending())
+	shown.reports, shown.lines = found.reports, found.lines
+	return shown
 }
 
 func TestXterm(t *testing.T) {
-	s, rows := scratch(t), rowsOf(t, "VT220_XTERM", "tests-c/xterm.txt")
-	wanted := func(fields []string) xtermRow { return xtermRowOf(t, fields) }
-	eachWay(t, rows, 40, wanted, func(input []byte, size int) xtermRow { return fedXterm(t, s, input, size) })
+	s := scratch(t)
+	eachWay(t, "xterm", func(input []byte, size int) row { return fedXterm(t, s, input, size) })
 }
 
 func TestXtermClosed(t *testing.T) {

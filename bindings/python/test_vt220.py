@@ -3,10 +3,12 @@ import pathlib
 import sys
 import vt220
 
-# What each reader returns, how UTF-8 is fed, and what programs send under TERM=xterm, as all bindings are tested with.
-FIELDS = pathlib.Path(__file__).resolve().parents[2] / "tests-c/fields.txt"
-UTF8 = FIELDS.parent / "utf8.txt"
-XTERM = FIELDS.parent / "xterm.txt"
+TOP = pathlib.Path(__file__).resolve().parents[2]
+sys.path.insert(0, str(TOP / "tests"))
+from vectors import vectors
+
+# What each reader returns, as all bindings are tested with.
+FIELDS = TOP / "tests-c/fields.txt"
 
 passed = failed = 0
 
@@ -18,6 +20,10 @@ def check(is_so, name, what):
     else:
         failed += 1
         print(f"failed: {name}: {what}", file=sys.stderr)
+
+
+def check_same(found, wanted, name, what):
+    check(found == wanted, name, f"{what}: expected {wanted.hex(' ')}, got {found.hex(' ')}")
 
 
 def raises(fault, call, *arguments):
@@ -32,15 +38,16 @@ def vector(name, data, text, reports, repaint):
     for cut in (len(data) + 1, 1, 5):
         terminal = vt220.Terminal()
         sent = b"".join(terminal.feed(data[at : at + cut]) for at in range(0, len(data), cut))
-        check(sent == reports, name, "reports")
-        check(terminal.text().encode() == text, name, "text")
+        check_same(sent, reports, name, "reports")
+        check_same(terminal.text().encode(), text, name, "text")
         other, shown = vt220.Terminal(), vt220.Terminal()
         if repaint is None:
             check(raises(vt220.Partial, terminal.repaint), name, "the repaint is refused")
             check(raises(vt220.Partial, shown.update, terminal), name, "the update is refused")
             check(not terminal.is_between() and terminal.held() != "nothing", name, "held")
             continue
-        check(terminal.repaint() == repaint and terminal.held() == "nothing", name, "repaint")
+        check_same(terminal.repaint(), repaint, name, "repaint")
+        check(terminal.held() == "nothing", name, "nothing is held")
         for start in (other, shown):
             start.feed(b"any\033[5mthing\033[?3h")
         check(other.feed(repaint) == b"" and other.same_state(terminal), name, "the repaint, played")
@@ -127,12 +134,15 @@ def one_field_at_a_time():
     check(len(rows) >= 50, "fields", f"{len(rows)} rows")
 
 
-def fed(data, size, feed):
-    """Returns what a new terminal that is fed chunks of a size has and returned, by the names of tests-c/utf8.txt."""
-    with vt220.Terminal("utf-8") as terminal:
-        told = [feed(terminal, data[at : at + size]) for at in range(0, len(data), size)]
-        return {"text": terminal.text().rstrip("\n"), "pending": terminal.pending(), "reports": b"".join(reports for reports, _ in told),
-                "lines": "".join(lines for _, lines in told)}
+def fed(of, size, feed):
+    """Returns what a new terminal that is fed the input of a vector in chunks of a size has and returned, by the names of tests-c/vectors.txt."""
+    with vt220.Terminal(of.encoding, of.terminal) as terminal:
+        told = [feed(terminal, of.input[at : at + size]) for at in range(0, len(of.input), size)]
+        cursor, brush = terminal.cursor(), terminal.brush()
+        return {"text": terminal.show().rstrip("\n"), "cursor": f"{cursor.row};{cursor.col}", "wrap": str(int(cursor.wrap)), "bells": str(terminal.bells()),
+                "brush": " ".join(name for name in ("bold", "underline", "blink", "reverse") if getattr(brush, name)),
+                "alternate": str(int(terminal.alternate())), "paste": str(int(terminal.bracketed_paste())), "pending": terminal.pending(),
+                "reports": b"".join(reports for reports, _ in told), "lines": "".join(lines for _, lines in told)}
 
 
 def resumed(data, at):
@@ -147,30 +157,6 @@ def resumed(data, at):
         copied.feed(data[at:])
         second.feed(data[at:])
         return all(one.same_state(whole) and one.pending() == whole.pending() for one in (second, copied))
-
-
-def utf8():
-    """Each row of tests-c/utf8.txt, whole and byte by byte, and from a checkpoint at each byte."""
-    rows = [line.split("\t") for line in UTF8.read_text(encoding="utf-8").splitlines() if not line.startswith("#")]
-    for name, data, *fields in rows:
-        data, wanted = bytes.fromhex(data), {"text": "", "pending": "", "reports": "", "lines": ""} | dict(field.split("=", 1) for field in fields)
-        wanted = {of: bytes.fromhex(value) if of in ("pending", "reports") else value.replace("\\n", "\n") for of, value in wanted.items()}
-        for size in (len(data), 1):
-            check(fed(data, size, vt220.Terminal.feed_log) == wanted, "utf8", f"{name}: chunks of {size}")
-            found = fed(data, size, lambda terminal, piece: (terminal.feed(piece), ""))
-            check(found == {**wanted, "lines": ""}, "utf8", f"{name}: chunks of {size} without the log")
-        check(all(resumed(data, at) for at in range(len(data))), "utf8", f"{name}: checkpoints")
-    check(len(rows) >= 30, "utf8", f"{len(rows)} rows")
-
-
-def fed_xterm(data, size, feed):
-    """Returns what a new terminal of TERM=xterm that is fed chunks of a size has and returned, by the names of tests-c/xterm.txt."""
-    with vt220.Terminal(terminal="xterm") as terminal:
-        told = [feed(terminal, data[at : at + size]) for at in range(0, len(data), size)]
-        cursor, brush = terminal.cursor(), terminal.brush()
-        return {"text": terminal.text().rstrip("\n"), "cursor": f"{cursor.row};{cursor.col}", "alternate": str(int(terminal.alternate())), "paste": str(int(terminal.bracketed_paste())),
-                "brush": " ".join(name for name in ("bold", "underline", "blink", "reverse") if getattr(brush, name)), "bells": str(terminal.bells()),
-                "pending": terminal.pending(), "reports": b"".join(reports for reports, _ in told), "lines": "".join(lines for _, lines in told)}
 
 
 def both_pages(terminal):
@@ -202,20 +188,24 @@ def rebuilt_xterm(data, at):
         return silent and same and second.pending() == first.pending() and first.feed_log(data[at:]) == second.feed_log(data[at:]) and both_pages(first) == both_pages(second)
 
 
-def xterm():
-    """Each row of tests-c/xterm.txt, whole and byte by byte, and from a copy and a repaint at each byte."""
-    rows = [line.split("\t") for line in XTERM.read_text(encoding="utf-8").splitlines() if not line.startswith("#")]
-    at_power_up = {"text": "", "cursor": "1;1", "alternate": "0", "paste": "0", "brush": "", "bells": "0", "pending": "", "reports": "", "lines": ""}
-    for name, data, *fields in rows:
-        data, wanted = bytes.fromhex(data), at_power_up | dict(field.split("=", 1) for field in fields)
-        wanted = {of: bytes.fromhex(value) if of in ("pending", "reports") else value.replace("\\n", "\n") for of, value in wanted.items()}
-        for size in (len(data), 1):
-            check(fed_xterm(data, size, vt220.Terminal.feed_log) == wanted, "xterm", f"{name}: chunks of {size}")
-            found = fed_xterm(data, size, lambda terminal, piece: (terminal.feed(piece), ""))
-            check(found == {**wanted, "lines": ""}, "xterm", f"{name}: chunks of {size} without the log")
-        check(all(copied_xterm(data, at) for at in range(len(data))), "xterm", f"{name}: copies")
-        check(all(rebuilt_xterm(data, at) for at in range(len(data))), "xterm", f"{name}: repaints")
-    check(len(rows) >= 40, "xterm", f"{len(rows)} rows")
+def differences(found, wanted):
+    return ", ".join(f"{of} {found[of]!r}, and not {wanted[of]!r}" for of in wanted if found[of] != wanted[of])
+
+
+def rows():
+    """Each vector of tests-c/vectors.txt, whole and byte by byte, and from a checkpoint at each byte."""
+    ways = {"vt220": [resumed], "xterm": [copied_xterm, rebuilt_xterm]}
+    counts = dict.fromkeys(ways, 0)
+    for one in vectors():
+        counts[one.terminal] += 1
+        for size in (len(one.input), 1):
+            differs = differences(fed(one, size, vt220.Terminal.feed_log), one.wanted)
+            check(not differs, one.terminal, f"{one.name}: chunks of {size}: {differs}")
+            differs = differences(fed(one, size, lambda terminal, piece: (terminal.feed(piece), "")), {**one.wanted, "lines": ""})
+            check(not differs, one.terminal, f"{one.name}: chunks of {size} without the log: {differs}")
+        for way in ways[one.terminal]:
+            check(all(way(one.input, at) for at in range(len(one.input))), one.terminal, f"{one.name}: {way.__name__}")
+    check(min(counts.values()) > 50, "rows", f"{counts}")
 
 
 def terminals():
@@ -269,9 +259,8 @@ with open(sys.argv[1]) as file:
 readers()
 parts()
 one_field_at_a_time()
-utf8()
+rows()
 encodings()
-xterm()
 terminals()
 print(f"python: {passed} passed, {failed} failed")
 sys.exit(failed != 0)

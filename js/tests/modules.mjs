@@ -37,8 +37,7 @@ mine.next();
 keys(core, await readFile(new URL("../../tests-c/keys.txt", import.meta.url), "utf8"), check);
 await calls(vt220, wasm, check);
 timelines(vt220, core, check);
-const table = (name) => readFile(new URL(`../../tests-c/${name}.txt`, import.meta.url), "utf8");
-tables(vt220, core, { utf8: await table("utf8"), xterm: await table("xterm") }, check);
+tables(vt220, core, await readFile(new URL("../../tests-c/vectors.txt", import.meta.url), "utf8"), check);
 
 const script = `import { load, Terminal } from ${JSON.stringify(pathToFileURL(`${place}/src/node.js`).href)};
 import { parentPort } from "node:worker_threads";

@@ -1,22 +1,32 @@
-// UTF-8 and TERM=xterm: each row of tests-c/utf8.txt and tests-c/xterm.txt, whole and byte by byte, and from a checkpoint at each byte.
+// UTF-8 and TERM=xterm: each vector of tests-c/vectors.txt, whole and byte by byte, and from a checkpoint at each byte.
 const bytes = (hex) => Uint8Array.from(hex.match(/[0-9A-F]{2}/g) ?? [], (digits) => parseInt(digits, 16));
 const hex = (data) => Array.from(data, (byte) => byte.toString(16).toUpperCase().padStart(2, "0")).join(" ");
 const ascii = (text) => Uint8Array.from(text, (c) => c.charCodeAt(0));
 const equal = (a, b) => a.length === b.length && a.every((byte, i) => byte === b[i]);
 
-/** The tables: how a terminal is made for each, what it has at power-up, and how many rows there are at least. */
-const COMMON = { text: "", pending: "", reports: "", lines: "" };
-const TABLES = {
-  utf8: { options: { encoding: "utf-8" }, atPowerUp: COMMON, least: 30 },
-  xterm: { options: { terminal: "xterm" }, atPowerUp: { ...COMMON, cursor: "1;1", alternate: "0", paste: "0", brush: "", bells: "0" }, least: 50 },
-};
+/** The vectors of each terminal: how it is made, and how many there are at least. */
+const TERMINALS = { vt220: { options: { encoding: "utf-8" }, least: 50 }, xterm: { options: { terminal: "xterm" }, least: 100 } };
+const AT_POWER_UP = { text: "", cursor: "1;1", wrap: "0", brush: "", alternate: "0", paste: "0", bells: "0", pending: "", reports: "", lines: "" };
+const ESCAPES = { e: 0x1b, n: 0x0a, r: 0x0d, "\\": 0x5c };
 
-/** Returns what is read of a terminal, by the names of the tables. */
+/** Returns the bytes that a field spells. */
+function spelled(field) {
+  const parts = field.match(/\\x..|\\.|[^\\]+/g) ?? [];
+  return Uint8Array.from(parts.flatMap((part) => {
+    if (part[0] !== "\\") return [...new TextEncoder().encode(part)];
+    return [part[1] === "x" ? parseInt(part.slice(2), 16) : ESCAPES[part[1]]];
+  }));
+}
+
+/** Returns a field's value: bytes in hexadecimal, or text. */
+const value = (name, field) => (["pending", "reports"].includes(name) ? hex(spelled(field)) : new TextDecoder().decode(spelled(field)));
+
+/** Returns what is read of a terminal, by the names of the vectors. */
 function read(terminal) {
   const { cursor, brush, alternate, bracketedPaste, bells, pending } = terminal;
   return {
-    text: terminal.text().replace(/\n+$/, ""), pending: hex(pending), cursor: `${cursor.row};${cursor.column}`, alternate: String(Number(alternate)),
-    paste: String(Number(bracketedPaste)),
+    text: terminal.show().replace(/\n+$/, ""), pending: hex(pending), cursor: `${cursor.row};${cursor.column}`, wrap: String(Number(cursor.wrap)),
+    alternate: String(Number(alternate)), paste: String(Number(bracketedPaste)),
     brush: ["bold", "underline", "blink", "reverse"].filter((name) => brush[name]).join(" "), bells: String(bells),
   };
 }
@@ -56,24 +66,24 @@ function resumes(core, Terminal, options, input, at) {
   return isSame;
 }
 
-function rows({ Terminal }, core, of, file, check) {
-  const { options, atPowerUp, least } = TABLES[of];
-  let count = 0;
-  for (const line of file.split("\n")) {
-    if (line === "" || line.startsWith("#")) continue;
-    count++;
-    const [name, digits, ...fields] = line.split("\t"), input = bytes(digits);
-    const changed = fields.map((field) => [field.slice(0, field.indexOf("=")), field.slice(field.indexOf("=") + 1).replaceAll("\\n", "\n")]);
-    const wanted = { ...atPowerUp, ...Object.fromEntries(changed) };
-    for (const size of [input.length, 1]) {
-      for (const log of [false, true]) {
-        const found = fed(core, Terminal, options, input, size, log), due = { ...wanted, lines: log ? wanted.lines : "" };
-        for (const field of Object.keys(due)) check(`${of}, ${name}: ${field}`, found[field] === due[field]);
-      }
+/** Checks a vector: whole and byte by byte, with the log and without one, and from a checkpoint at each byte. */
+function row({ Terminal }, core, [name, , of, field, ...fields], check) {
+  const { options } = TERMINALS[of], input = spelled(field);
+  const changed = fields.map((one) => [one.slice(0, one.indexOf("=")), one.slice(one.indexOf("=") + 1)]).filter(([one]) => one !== "differs");
+  const wanted = { ...AT_POWER_UP, ...Object.fromEntries(changed.map(([one, spelling]) => [one, value(one, spelling)])) };
+  for (const size of [input.length, 1]) {
+    for (const log of [false, true]) {
+      const found = fed(core, Terminal, options, input, size, log), due = { ...wanted, lines: log ? wanted.lines : "" };
+      for (const one of Object.keys(due)) check(`${of}, ${name}: ${one} is ${JSON.stringify(found[one])}, and not ${JSON.stringify(due[one])}`, found[one] === due[one]);
     }
-    for (let at = 0; at < input.length; at++) check(`${of}, ${name}: a checkpoint at ${at}`, resumes(core, Terminal, options, input, at));
   }
-  check(`the rows of ${of}`, count >= least);
+  for (let at = 0; at < input.length; at++) check(`${of}, ${name}: a checkpoint at ${at}`, resumes(core, Terminal, options, input, at));
+}
+
+function rows(vt220, core, file, check) {
+  const all = file.split("\n").filter((line) => line !== "" && !line.startsWith("#")).map((line) => line.split("\t"));
+  for (const fields of all) row(vt220, core, fields, check);
+  for (const [of, { least }] of Object.entries(TERMINALS)) check(`the vectors of ${of}`, all.filter((fields) => fields[2] === of).length >= least);
 }
 
 // By the tables of docs/SPECIFICATION.md, 'UTF-8'.
@@ -172,8 +182,8 @@ function pagesInTime(vt220, core, check) {
   }
 }
 
-export function tables(vt220, core, files, check) {
-  for (const of of Object.keys(TABLES)) rows(vt220, core, of, files[of], check);
+export function tables(vt220, core, file, check) {
+  rows(vt220, core, file, check);
   encodings(vt220, core, check);
   terminals(vt220, core, check);
   timelines(vt220, core, check);

@@ -1,50 +1,25 @@
-//! UTF-8 through Rust: VT220_UTF8 names the file of rows.
+//! UTF-8 through Rust: VT220_ROWS names the file of vectors.
 mod rows;
 
-use rows::{bytes_of, each_way, rows_of};
+use rows::{each_way, Row};
 use vt220::{shown, Decoder, Scratch, Terminal};
 
-/// What a row has: the text, the pending bytes, the reports and the lines that scroll off.
-#[derive(Debug, Default, PartialEq)]
-struct Row {
-    text: String,
-    pending: Vec<u8>,
-    reports: Vec<u8>,
-    lines: String,
-}
-
-fn row_of(fields: &[String]) -> Row {
-    let mut row = Row::default();
-    for field in fields {
-        match field.split_once('=').unwrap() {
-            ("text", text) => row.text = text.replace("\\n", "\n"),
-            ("pending", hex) => row.pending = bytes_of(hex),
-            ("reports", hex) => row.reports = bytes_of(hex),
-            ("lines", lines) => row.lines = lines.replace("\\n", "\n"),
-            other => panic!("{other:?}"),
-        }
-    }
-    row
-}
-
 fn fed(input: &[u8], size: usize, scratch: &mut Scratch) -> Row {
-    let (mut terminal, mut other, mut decoder, mut again, mut row) =
-        (Terminal::new().unwrap(), Terminal::new().unwrap(), Decoder::new(), Decoder::new(), Row::default());
+    let (mut terminal, mut other, mut decoder, mut again) = (Terminal::new().unwrap(), Terminal::new().unwrap(), Decoder::new(), Decoder::new());
+    let (mut reports, mut lines) = (Vec::new(), String::new());
     for piece in input.chunks(size) {
-        let (reports, lines) = terminal.feed_log_utf8(&mut decoder, piece, scratch);
-        assert_eq!(other.feed_utf8(&mut again, piece), reports);
+        let (now, off) = terminal.feed_log_utf8(&mut decoder, piece, scratch);
+        assert_eq!(other.feed_utf8(&mut again, piece), now);
         assert!(other.same_state(&terminal) && again == decoder);
-        row.reports.extend(reports);
-        row.lines.push_str(&lines);
+        reports.extend(now);
+        lines += &off;
     }
-    row.text = terminal.text(scratch).trim_end_matches('\n').to_string();
-    row.pending = decoder.pending().to_vec();
-    row
+    Row { pending: decoder.pending().to_vec(), reports, lines, ..Row::of(&terminal, scratch) }
 }
 
 #[test]
 fn rows() {
-    each_way(rows_of("VT220_UTF8", "tests-c/utf8.txt"), 30, row_of, fed);
+    each_way("vt220", fed);
 }
 
 // By the tables of docs/SPECIFICATION.md, 'UTF-8'.

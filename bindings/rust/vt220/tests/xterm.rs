@@ -1,42 +1,8 @@
-//! What programs send under TERM=xterm, through Rust: VT220_XTERM names the file of rows.
+//! What programs send under TERM=xterm, through Rust: VT220_ROWS names the file of vectors.
 mod rows;
 
-use rows::{bytes_of, each_way, rows_of};
+use rows::{each_way, Row};
 use vt220::{Error, Scratch, Terminal, Xterm};
-
-/// A row's values: the screen, the lines that scroll off, the cursor, the page, bracketed paste, the attributes, the bells, the pending bytes and the reports.
-#[derive(Debug, PartialEq)]
-struct Row {
-    text: String,
-    lines: String,
-    cursor: String,
-    alternate: bool,
-    paste: bool,
-    brush: String,
-    bells: u64,
-    pending: Vec<u8>,
-    reports: Vec<u8>,
-}
-
-fn row_of(fields: &[String]) -> Row {
-    let none = String::new;
-    let mut row = Row { text: none(), lines: none(), cursor: "1;1".to_string(), alternate: false, paste: false, brush: none(), bells: 0, pending: vec![], reports: vec![] };
-    for field in fields {
-        match field.split_once('=').unwrap() {
-            ("text", text) => row.text = text.replace("\\n", "\n"),
-            ("lines", lines) => row.lines = lines.replace("\\n", "\n"),
-            ("cursor", place) => row.cursor = place.to_string(),
-            ("alternate", shown) => row.alternate = shown == "1",
-            ("paste", wanted) => row.paste = wanted == "1",
-            ("brush", names) => row.brush = names.to_string(),
-            ("bells", count) => row.bells = count.parse().unwrap(),
-            ("pending", hex) => row.pending = bytes_of(hex),
-            ("reports", hex) => row.reports = bytes_of(hex),
-            other => panic!("{other:?}"),
-        }
-    }
-    row
-}
 
 /// Returns whether the repaint of a terminal and what it needs rebuilds both on others.
 fn rebuilds(terminal: &Terminal, xterm: &Xterm, scratch: &mut Scratch) -> bool {
@@ -68,24 +34,13 @@ fn fed(input: &[u8], size: usize, scratch: &mut Scratch) -> Row {
         reports.extend(now);
         lines += &off;
     }
-    let (cursor, brush) = (terminal.cursor(), terminal.brush());
-    let set = [(brush.bold, "bold"), (brush.underline, "underline"), (brush.blink, "blink"), (brush.reverse, "reverse")];
-    Row {
-        text: terminal.text(scratch).trim_end_matches('\n').to_string(),
-        lines,
-        cursor: format!("{};{}", cursor.row, cursor.col),
-        alternate: xterm.alternate(),
-        paste: xterm.bracketed_paste(),
-        brush: set.iter().filter(|(is_set, _)| *is_set).map(|(_, name)| *name).collect::<Vec<_>>().join(" "),
-        bells: terminal.bells(),
-        pending: xterm.pending().pending().to_vec(),
-        reports,
-    }
+    let (alternate, paste, pending) = (xterm.alternate(), xterm.bracketed_paste(), xterm.pending().pending().to_vec());
+    Row { alternate, paste, pending, reports, lines, ..Row::of(&terminal, scratch) }
 }
 
 #[test]
 fn rows() {
-    each_way(rows_of("VT220_XTERM", "tests-c/xterm.txt"), 40, row_of, fed);
+    each_way("xterm", fed);
 }
 
 #[test]

@@ -1,0 +1,28 @@
+//! Prints the text of a screen by the alacritty_terminal crate, which reads UTF-8.
+use alacritty_terminal::ansi::Processor;
+use alacritty_terminal::config::Config;
+use alacritty_terminal::event::VoidListener;
+use alacritty_terminal::index::{Column, Line};
+use alacritty_terminal::term::cell::Flags;
+use alacritty_terminal::term::test::TermSize;
+use alacritty_terminal::term::Term;
+use std::io::{Read, Write};
+
+const ROWS: usize = 24;
+const COLUMNS: usize = 80;
+
+fn main() -> std::io::Result<()> {
+    let mut data = Vec::new();
+    std::io::stdin().read_to_end(&mut data)?;
+    let (mut terminal, mut parser) = (Term::new(&Config::default(), &TermSize::new(COLUMNS, ROWS), VoidListener), Processor::new());
+    for byte in data {
+        parser.advance(&mut terminal, byte);
+    }
+    for row in 0..ROWS {
+        let cells = (0..COLUMNS).map(|column| &terminal.grid()[Line(row as i32)][Column(column)]);
+        let shown = cells.filter(|cell| !cell.flags.contains(Flags::WIDE_CHAR_SPACER));
+        let line: String = shown.map(|cell| if cell.c == '\t' { ' ' } else { cell.c }).collect();
+        std::io::stdout().write_all(format!("{}\n", line.trim_end_matches(' ')).as_bytes())?;
+    }
+    Ok(())
+}

@@ -1,0 +1,96 @@
+/* The vectors of tests-c/vectors.txt, whose head describes their form. */
+#ifndef ROWS_H
+#define ROWS_H
+
+#include "check.h"
+
+/* A vector. What its line doesn't name is as at power-up. */
+typedef struct row {
+    const char *name, *encoding, *terminal;
+    bytes input, text, reports, pending, lines;
+    char brush[64];
+    unsigned long cursor_row, cursor_col, wrap, alternate, paste, bells;
+} row;
+
+/* Appends the bytes that a field spells. */
+static inline void append_spelled(bytes *to, const char *field) {
+    for (const char *at = field; *at != 0; at++) {
+        uint8_t one = (uint8_t)*at;
+        if (at[0] == '\\' && at[1] == 'x') {
+            const char digits[3] = {at[2], at[3], 0};
+            one = (uint8_t)strtoul(digits, NULL, 16);
+            at += 3;
+        } else if (at[0] == '\\') {
+            at++;
+            one = (uint8_t)(*at == 'e' ? '\033' : *at == 'n' ? '\n' : *at == 'r' ? '\r' : *at);
+        }
+        append(to, &one, 1);
+    }
+}
+
+static inline void set_field(row *r, const char *field, char *value) {
+    const struct {
+        const char *name;
+        bytes *bytes;
+        unsigned long *number;
+    } places[] = {{"text", &r->text, NULL},        {"reports", &r->reports, NULL},        {"pending", &r->pending, NULL}, {"lines", &r->lines, NULL},
+                  {"wrap", NULL, &r->wrap},        {"alternate", NULL, &r->alternate},    {"paste", NULL, &r->paste},     {"bells", NULL, &r->bells}};
+    for (size_t i = 0; i < sizeof places / sizeof places[0]; i++) {
+        if (strcmp(field, places[i].name) != 0) continue;
+        if (places[i].bytes != NULL) append_spelled(places[i].bytes, value);
+        else *places[i].number = strtoul(value, NULL, 10);
+        return;
+    }
+    if (strcmp(field, "cursor") == 0) r->cursor_row = strtoul(value, &value, 10), r->cursor_col = strtoul(value + 1, NULL, 10);
+    else if (strcmp(field, "brush") == 0) snprintf(r->brush, sizeof r->brush, "%s", value);
+    else check(strcmp(field, "differs") == 0, field, "a field's name");
+}
+
+static inline row read_row(char *line) {
+    row r = {.name = strsep(&line, "\t"), .encoding = strsep(&line, "\t"), .terminal = strsep(&line, "\t"), .cursor_row = 1, .cursor_col = 1};
+    append_spelled(&r.input, strsep(&line, "\t\n"));
+    for (char *field = strsep(&line, "\t\n"); field != NULL && *field != 0; field = strsep(&line, "\t\n")) {
+        char *value = strchr(field, '=');
+        if (value == NULL) abort();
+        *value = 0;
+        set_field(&r, field, value + 1);
+    }
+    return r;
+}
+
+/* Calls `use` with each vector of a file that is for this encoding and terminal. Returns how many there are. */
+static inline size_t each_row(const char *path, const char *encoding, const char *terminal, void (*use)(const row *)) {
+    static char line[4096];
+    size_t count = 0;
+    FILE *file = fopen(path, "r");
+    if (file == NULL) abort();
+    while (fgets(line, sizeof line, file) != NULL) {
+        if (line[0] == '#' || line[0] == '\n') continue;
+        row r = read_row(line);
+        if (strcmp(r.encoding, encoding) == 0 && strcmp(r.terminal, terminal) == 0) use(&r), count++;
+        free(r.input.at), free(r.text.at), free(r.reports.at), free(r.pending.at), free(r.lines.at);
+    }
+    fclose(file);
+    return count;
+}
+
+/* Checks what a terminal has after a vector: the screen, the cursor, the brush, the bells and the replies. */
+static inline void check_row(const row *r, const vt220 *t, vt220_scratch *s, const bytes *replies) {
+    static uint8_t shown[VT220_SHOW_LIMIT];
+    vt220_cursor_place cursor;
+    vt220_brush_look look;
+    char found[64];
+    size_t len;
+    CHECK(vt220_show(t, s, shown, sizeof shown, &len) == VT220_OK && vt220_cursor(t, &cursor) && vt220_brush(t, &look));
+    while (len > 0 && shown[len - 1] == '\n') len--;
+    check_same(&r->text, shown, len, r->name, "the text");
+    check_same(&r->reports, replies->at, replies->len, r->name, "the replies");
+    check_number(r->cursor_row, cursor.row, r->name, "the cursor's row");
+    check_number(r->cursor_col, cursor.col, r->name, "the cursor's column");
+    check_number(r->wrap, cursor.wrap, r->name, "the wrap flag");
+    check_number(r->bells, vt220_bells(t), r->name, "the bells");
+    snprintf(found, sizeof found, "%s%s%s%s", look.bold ? " bold" : "", look.underline ? " underline" : "", look.blink ? " blink" : "", look.reverse ? " reverse" : "");
+    check(strcmp(found[0] == 0 ? found : found + 1, r->brush) == 0, "the brush", r->name);
+}
+
+#endif

@@ -10,6 +10,9 @@ pub mod trace
 pub mod utf8
 pub mod xterm
 pub mod xterm_paint
+pub mod laws_trace
+pub mod laws_utf8
+pub mod laws_xterm
 pub mod device
 pub mod recording
 pub mod output

@@ -4,6 +4,7 @@ pub mod content;
 pub mod detection;
 pub mod fault;
 pub mod heading;
+pub mod laws;
 pub mod reading;
 pub mod seconds;
 pub mod taking;

@@ -1,4 +1,5 @@
 //! The calls of vt_trace.
+pub mod bytes;
 pub mod laws;
 pub mod lines;
 pub mod names;

@@ -6,8 +6,10 @@ pub mod Ttyrec
 pub mod Fault
 pub mod Heading
 pub mod Seconds
-pub mod Reading
-pub mod Moment
+pub mod Timeline
 pub mod Taken
 pub mod Timing
+pub mod Moment
 pub mod Characters
+pub mod Reading
+pub mod Gathered

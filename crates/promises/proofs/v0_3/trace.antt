@@ -1,7 +1,7 @@
-pub mod Ignored
-pub mod Trace
 pub mod Lines
+pub mod Trace
 pub mod Skipped
+pub mod Ignored
 pub mod Summary
 pub mod Names
 pub mod Counted

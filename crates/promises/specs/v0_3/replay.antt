@@ -9,3 +9,4 @@ pub mod Log
 pub mod Request
 pub mod Showing
 pub mod Words
+pub mod EventTable

@@ -3,5 +3,5 @@ pub mod Translation
 pub mod Cells
 pub mod Similar
 pub mod Play
-pub mod Placing
 pub mod Showing
+pub mod Placing

@@ -4,7 +4,8 @@ ghost use Rattle.std.specs.Prelude.{[], IfErr, IfOk, ◌≡◌};
 ghost use Rattle.vt_cli.specs.CommandLine.{AreSettings};
 
 use std::alloc::Global;
-use vt_cli::{Refused, Settings};
+use vt_cli::Refused;
+use vt_cli::Settings;
 
 /// Promises what `vt_cli::settings` promises.
 pub fn settings(alloc: Global, words: Vec<String>) -> Result<Settings, Refused>

@@ -1,32 +1,11 @@
 //! The calls of vt_trace/src/laws.
-ghost use Rattle.promises.specs.v0_3.glyph.LookUp.{contains};
-ghost use Rattle.promises.specs.v0_3.syntax.Reading.{events_of};
-ghost use Rattle.promises.specs.v0_3.syntax.Spelling.{IsEvent};
 ghost use Rattle.promises.specs.v0_3.term.Play.{play};
-ghost use Rattle.promises.specs.v0_3.trace.Ignored.{HasNoEffect, is_ignored};
-ghost use Rattle.promises.specs.v0_3.trace.Names.{names, numbered};
-ghost use Rattle.promises.specs.v0_3.trace.Skipped.{all_kinds, kinds_of};
-ghost use Rattle.promises.specs.v0_3.trace.Summary.{ignored_lines, IsByteAtMost, kind_line, kind_number, single_line};
-ghost use Rattle.promises.specs.v0_3.trace.Summary.{times_ignored, times_named, times_skipped, without_values};
-ghost use Rattle.promises.specs.v0_3.trace.Trace.{trace, tracer_all, tracer_at_start};
-ghost use Rattle.std.specs.List.{list_all, range_with_len, sum_by};
-ghost use Rattle.std.specs.Prelude.{All, false, length, List, true, ℕ, ◌++◌, ◌+◌, ◌≡◌};
-ghost use Rattle.vt_syntax.specs.declared.event.Event.{Event};
-ghost use Rattle.vt_syntax.specs.declared.held.Held.TheVariants.{Nothing};
+ghost use Rattle.promises.specs.v0_3.trace.Trace.{trace, tracer_all};
+ghost use Rattle.std.specs.Prelude.{List, ℕ, ◌++◌, ◌≡◌};
 ghost use Rattle.vt_term.specs.Sound.{IsSound};
 ghost use Rattle.vt_term.specs.State.{State};
-ghost use Rattle.vt_trace.specs.Ignored.{DoesSomething};
-ghost use Rattle.vt_trace.specs.Summary.{HasPart};
-ghost use Rattle.vt_trace.specs.Trace.{IsAfter};
 ghost use Rattle.vt_trace.specs.declared.tracing.Tracer.{Tracer};
 
-/// Promises what `laws_trace::ignored` promises.
-pub fn ignored()
-    ensures has_no_effect { (event : Event) → is_ignored event ≡ true → HasNoEffect event }
-    ensures named { (event : Event) → is_ignored event ≡ false → DoesSomething event }
-{
-    laws_trace::ignored()
-}
 
 /// Promises what `vt_trace::laws::cuts` promises.
 pub fn cuts()
@@ -36,35 +15,4 @@ pub fn cuts()
         → tracer_all s t (a ++ b) ≡ tracer_all (play s a).state (tracer_all s t a) b }
 {
     vt_trace::laws::cuts()
-}
-
-/// Promises what `laws_trace::kinds` promises.
-pub fn kinds()
-    ensures events { (a b : Event) → IsEvent a → IsEvent b → IsByteAtMost a → IsByteAtMost b → kind_number a ≡ kind_number b
-        → without_values a ≡ without_values b }
-    ensures no_event { (event : Event) → IsEvent event → contains all_kinds (kind_number event) ≡ false }
-    ensures no_other { (bytes : List ℕ) → list_all (contains all_kinds) (kinds_of bytes) ≡ true }
-    ensures lines { (times : ℕ → ℕ) (event : Event) → IsEvent event → IsByteAtMost event
-        → HasPart (kind_line times event) (ignored_lines times) }
-    ensures other_lines { (times : ℕ → ℕ) (kind : ℕ) → contains all_kinds kind ≡ true
-        → HasPart (single_line times kind) (ignored_lines times) }
-{
-    laws_trace::kinds()
-}
-
-/// Promises what `laws_trace::sums` promises.
-pub fn sums()
-    ensures { (bytes : List ℕ) → All IsByteAtMost (events_of bytes)
-        → sum_by (λ number. times_ignored number (events_of bytes) + times_skipped number (kinds_of bytes)) (range_with_len 0 13312)
-        + sum_by (λ number. times_named (numbered number) (events_of bytes)) (range_with_len 0 (length names))
-        ≡ length (events_of bytes) + length (kinds_of bytes) }
-{
-    laws_trace::sums()
-}
-
-/// Promises what `laws_trace::places` promises.
-pub fn places()
-    ensures { (s : State) (bytes : List ℕ) → s.held ≡ Nothing → IsAfter bytes (tracer_all s tracer_at_start bytes) }
-{
-    laws_trace::places()
 }

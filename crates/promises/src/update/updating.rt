@@ -10,7 +10,8 @@ ghost use Rattle.vt_syntax.specs.declared.held.Held.TheVariants.{Nothing};
 ghost use Rattle.vt_update.specs.Leads.{Updates};
 
 use vt_term::Terminal;
-use vt_update::{UPDATE_LIMIT, UpdateError};
+use vt_update::UPDATE_LIMIT;
+use vt_update::UpdateError;
 
 /// Promises what `vt_update::update` promises.
 pub fn update(shown: &mut Terminal, to: &Terminal, out: &mut Vec<u8>) -> Result<(), UpdateError>

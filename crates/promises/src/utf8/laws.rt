@@ -1,24 +1,19 @@
 //! The calls of vt_utf8/src/laws.
 ghost use Rattle.promises.specs.v0_3.glyph.Tables.{IsGlyph};
-ghost use Rattle.promises.specs.v0_3.screen.Grid.{AllCells};
 ghost use Rattle.promises.specs.v0_3.term.Play.{both, joined, play};
 ghost use Rattle.promises.specs.v0_3.term.Scrolling.{scrolled_off};
-ghost use Rattle.promises.specs.v0_3.term.State.{at_place, last_column, power_up};
-ghost use Rattle.promises.specs.v0_3.term.Text.{text};
 ghost use Rattle.promises.specs.v0_3.term.Writing.{write_glyph};
 ghost use Rattle.promises.specs.v0_3.utf8.Cells.{cells};
 ghost use Rattle.promises.specs.v0_3.utf8.Decoding.{pending_after, read};
-ghost use Rattle.promises.specs.v0_3.utf8.Placing.{placed_text, shows_space};
 ghost use Rattle.promises.specs.v0_3.utf8.Play.{play_utf8, play_utf8_all, translated, translated_all};
 ghost use Rattle.promises.specs.v0_3.utf8.Similar.{shown};
-ghost use Rattle.promises.specs.v0_3.utf8.Translation.{glyph_off, is_at_end, IsPlain, translation, unshifted};
-ghost use Rattle.promises.specs.v0_3.utf8.Translation.{write_wide, written};
-ghost use Rattle.std.specs.Prelude.{[], All, encode_utf8, false, List, None, replicate, ℕ, ◌++◌, ◌+◌, ◌<◌, ◌∷◌, ◌≡◌};
-ghost use Rattle.std.specs.Prelude.{◌≤◌};
+ghost use Rattle.promises.specs.v0_3.utf8.Translation.{glyph_off, IsPlain, translation, unshifted, write_wide};
+ghost use Rattle.promises.specs.v0_3.utf8.Translation.{written};
+ghost use Rattle.std.specs.Prelude.{[], All, List, None, ℕ, ◌++◌, ◌<◌, ◌∷◌, ◌≡◌, ◌≤◌};
 ghost use Rattle.vt_syntax.specs.declared.held.Held.TheVariants.{Nothing};
 ghost use Rattle.vt_term.specs.Sound.{IsSound};
 ghost use Rattle.vt_term.specs.State.{State};
-ghost use Rattle.vt_utf8.specs.Placing.{TakesText};
+
 
 /// Promises what `vt_utf8::laws::soundness` promises.
 pub fn soundness()
@@ -95,34 +90,4 @@ pub fn writes()
     ensures none { (s : State) (c : ℕ) → s.held ≡ Nothing → 0x80 ≤ c → cells c ≡ 0 → translation s c ≡ [] }
 {
     vt_utf8::laws::writes()
-}
-
-/// Promises what `laws_utf8::moves` promises.
-pub fn moves()
-    ensures fits { (s : State) (c : ℕ) → IsSound s → s.held ≡ Nothing → s.display.sets.pending ≡ None → 0x80 ≤ c
-        → s.display.cursor.wrap ≡ false → s.display.cursor.col + cells c ≤ last_column s.display
-        → (play s (translation s c)).state.display.cursor
-        ≡ at_place s.display.cursor.row (s.display.cursor.col + cells c) }
-    ensures like_x { (s : State) (c : ℕ) → IsSound s → s.held ≡ Nothing → s.display.sets.pending ≡ None → 0x80 ≤ c
-        → (cells c ≡ 2 → is_at_end s.display ≡ false)
-        → (play s (translation s c)).state.display.cursor ≡ (play s (replicate (cells c) 0x78)).state.display.cursor }
-{
-    laws_utf8::moves()
-}
-
-/// Promises what `laws_utf8::round_trip` promises.
-pub fn round_trip()
-    ensures glyph { (s : State) (n : ℕ) → IsSound s → TakesText s → IsGlyph n
-        → play_utf8 s [] (encode_utf8 n)
-        ≡ record { state = record s { display = write_glyph n s.display }; reports = [] } }
-    ensures text { (s t : State) → IsSound s → IsSound t → TakesText t → AllCells shows_space t.display.grid
-        → last_column t.display ≡ last_column s.display
-        → text (play_utf8 t [] (placed_text s)).state ≡ text s }
-    ensures silent { (s t : State) → IsSound s → IsSound t → TakesText t → AllCells shows_space t.display.grid
-        → last_column t.display ≡ last_column s.display
-        → (play_utf8 t [] (placed_text s)).reports ≡ [] }
-    ensures power_up { (s : State) → IsSound s → last_column s.display ≡ 80
-        → text (play_utf8 power_up [] (placed_text s)).state ≡ text s }
-{
-    laws_utf8::round_trip()
 }

@@ -1,7 +1,8 @@
 //! The calls of vt_vectors/src/vectors.
 ghost use Rattle.std.specs.Prelude.{count_by, length, ◌<◌, ◌==◌, ◌≡◌, ◌≤◌};
 
-use vt_vectors::{VECTOR_COUNT, Vector};
+use vt_vectors::VECTOR_COUNT;
+use vt_vectors::Vector;
 
 /// Promises what `vt_vectors::vector_count` promises.
 pub fn vector_count() -> usize

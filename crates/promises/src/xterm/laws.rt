@@ -5,23 +5,22 @@ ghost use Rattle.promises.specs.v0_3.term.Play.{joined, play};
 ghost use Rattle.promises.specs.v0_3.term.Saving.{restore_cursor, save_cursor};
 ghost use Rattle.promises.specs.v0_3.term.Scrolling.{scrolled_off};
 ghost use Rattle.promises.specs.v0_3.term.State.{power_up};
-ghost use Rattle.promises.specs.v0_3.term.Writing.{write_glyph};
 ghost use Rattle.promises.specs.v0_3.utf8.Decoding.{pending_after};
 ghost use Rattle.promises.specs.v0_3.xterm.Front.{into_alternate, is_page_function, is_paste_function};
 ghost use Rattle.promises.specs.v0_3.xterm.Front.{through_alternate, xterm_effect};
 ghost use Rattle.promises.specs.v0_3.xterm.Pages.{show_and_save};
 ghost use Rattle.promises.specs.v0_3.xterm.Play.{behind, both, front_at_power_up, nothing_played, play_bytes};
 ghost use Rattle.promises.specs.v0_3.xterm.Play.{play_xterm, play_xterm_all, xterm_log};
-ghost use Rattle.promises.specs.v0_3.xterm.Repeating.{repeat, room, times};
 ghost use Rattle.promises.specs.v0_3.xterm.Terminals.{PlaysTerminals};
 ghost use Rattle.std.specs.List.{list_any};
-ghost use Rattle.std.specs.Prelude.{[], All, false, if◌then◌else◌, List, min, true, ℕ, ◌++◌, ◌+◌, ◌<◌, ◌≡◌};
+ghost use Rattle.std.specs.Prelude.{[], All, false, if◌then◌else◌, List, true, ℕ, ◌++◌, ◌<◌, ◌≡◌};
 ghost use Rattle.vt_syntax.specs.declared.event.Event.{Event};
 ghost use Rattle.vt_term.specs.Pages.{IsSoundPage};
 ghost use Rattle.vt_term.specs.Sound.{IsSound, IsSoundDisplay};
 ghost use Rattle.vt_term.specs.State.{Display};
 ghost use Rattle.vt_xterm.specs.Pages.{Screens};
 ghost use Rattle.vt_xterm.specs.Play.{IsSoundWhole, Whole};
+
 
 /// Promises what `vt_xterm::laws::soundness` promises.
 pub fn soundness()
@@ -76,14 +75,6 @@ pub fn alternate()
         } }
 {
     vt_xterm::laws::alternate()
-}
-
-/// Promises what `laws_xterm::repeats` promises.
-pub fn repeats()
-    ensures { (s : Display) (glyph n : ℕ) → IsSoundDisplay s → s.modes.decawm ≡ true
-        → repeat n (write_glyph glyph s) ≡ times (min n (room (write_glyph glyph s)) + 1) (write_glyph glyph) s }
-{
-    laws_xterm::repeats()
 }
 
 /// Promises what `vt_xterm::laws::pages` promises.

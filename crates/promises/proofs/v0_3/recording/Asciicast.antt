@@ -5,8 +5,8 @@ use Rattle.promises.proofs.v0_3.recording.Lines.{lines_of-same}
 use Rattle.promises.proofs.v0_3.recording.Seconds.{micros_of_number-same}
 use Rattle.promises.specs.v0_3.recording.Asciicast as frozen
 use Rattle.std.proofs.Common.{refl, ◌≡◌}
-use Rattle.std.specs.Prelude.{Some, ℕ, ◌&&◌, ◌+◌, ◌∷◌}
-use Rattle.std.specs.Prelude.{[], bytes_eq, codes, cond, length, List, None, Option, option_and_then, option_map}
+use Rattle.std.specs.Prelude.{[], cond, length, List, None, Option, option_and_then, option_map, Some, ℕ, ◌&&◌, ◌+◌}
+use Rattle.std.specs.Prelude.{◌∷◌}
 use Rattle.vt_recording.specs.Asciicast as today
 use Rattle.vt_recording.specs.Asciicast.{and_then, begins_array, ends_array, heard_in, is_silent, is_text, json_text}
 use Rattle.vt_recording.specs.Asciicast.{number_in, start_of, string_in, time_behind, version_in}
@@ -53,7 +53,7 @@ string_in-same = refl
 pub event_from-same : frozen.event_from ≡ today.event_from
 event_from-same = λ ι time code text.
     option_and_then
-    (λ micros. option_and_then (λ c. option_map (λ t. (micros, bytes_eq c (codes "o"), t)) text) code)
+    (λ micros. option_and_then (λ c. option_map (λ t. (micros, c, t)) text) code)
     (option_and_then (micros_of_number-same ι) time)
 
 pub event_of-at : (x0 : List Token) → frozen.event_of x0 ≡ today.event_of x0
@@ -75,6 +75,9 @@ clock_after-same = refl
 
 pub in_time-same : frozen.in_time ≡ today.in_time
 in_time-same = refl
+
+pub is_output-same : frozen.is_output ≡ today.is_output
+is_output-same = refl
 
 pub heard-same : frozen.heard ≡ today.heard
 heard-same = refl

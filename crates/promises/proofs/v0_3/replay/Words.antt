@@ -9,11 +9,12 @@ use Rattle.promises.proofs.v0_3.trace.Trace.{end_lines-same, trace-same, tracer_
 use Rattle.promises.specs.v0_3.replay.Words as frozen
 use Rattle.std.proofs.Common.{◌≡◌}
 use Rattle.std.specs.Prelude.{List, Result, ℕ}
-use Rattle.vt_cli.specs.declared.what.Word.TheVariants.{Content, Log, Pages, Replay, Summary, Trace}
+use Rattle.vt_cli.specs.declared.what.Word.TheVariants.{Content, Events, Log, Pages, Replay, Summary, Trace}
 use Rattle.vt_cli.specs.declared.what.Word.{Word}
 use Rattle.vt_device.specs.Runs.{Flags}
 use Rattle.vt_output.specs.Output.{all, always, nothing, OutputTable}
 use Rattle.vt_recording.specs.declared.fault.Fault.{Fault}
+use Rattle.vt_recording.specs.declared.format.Encoding.TheVariants.{Dec}
 use Rattle.vt_recording.specs.declared.format.Encoding.{Encoding}
 use Rattle.vt_recording.specs.declared.format.TerminalType.TheVariants.{Xterm}
 use Rattle.vt_recording.specs.declared.format.TerminalType.{TerminalType}
@@ -46,6 +47,7 @@ due_of-at Log terminal encoding = λ ι.
 due_of-at Pages terminal encoding = λ ι. (of_decoded-same ι) encoding (pages_written-same ι) (screen-same ι)
 due_of-at Trace terminal encoding = λ ι. (of_decoded-same ι) encoding (trace_written-same ι) (trace_ending-same ι)
 due_of-at Summary terminal encoding = λ ι. (of_decoded-same ι) encoding nothing (summary-same ι)
+due_of-at Events terminal encoding = λ ι. (of_decoded-same ι) Dec all nothing
 due_of-at Content terminal encoding = λ ι. (of_decoded-same ι) encoding all nothing
 
 pub due_of-same : frozen.due_of ≡ today.due_of

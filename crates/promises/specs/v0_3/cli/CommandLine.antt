@@ -18,7 +18,7 @@ use Rattle.vt_cli.specs.declared.asked.Refused.{Refused}
 use Rattle.vt_cli.specs.declared.asked.Settings.{Settings}
 use Rattle.vt_cli.specs.declared.what.What.TheVariants as what
 use Rattle.vt_cli.specs.declared.what.What.{What}
-use Rattle.vt_cli.specs.declared.what.Word.TheVariants.{Content, Log, Pages, Replay, Summary, Trace}
+use Rattle.vt_cli.specs.declared.what.Word.TheVariants.{Content, Events, Log, Pages, Replay, Summary, Trace}
 use Rattle.vt_cli.specs.declared.what.Word.{Word}
 
 -- an option with a number from low to high
@@ -55,6 +55,7 @@ word_name Log = codes "log"
 word_name Pages = codes "pages"
 word_name Trace = codes "trace"
 word_name Summary = codes "summary"
+word_name Events = codes "events"
 word_name Content = codes "content"
 
 -- an option with a text
@@ -90,13 +91,13 @@ with_lines a = with_word (with_word (with_word (with_word a (Replay what.Show)) 
 
 -- with those for what the host sent
 abbrev pub with_events : App → App
-with_events a = with_word (with_word (with_word a Trace) Summary) Content
+with_events a = with_word (with_word (with_word (with_word a Trace) Summary) Events) Content
 
 -- a subcommand is required, and it has a version
 abbrev pub as_program : App → App
 as_program a = on_top (λ s. record s { subcommand_required = true; has_version = true }) a
 
--- the program's command, with the eleven subcommands
+-- the program's command, with the twelve subcommands
 abbrev pub vt220 : App
 vt220 = as_program (with_events (with_lines (with_replays (new_app (codes "vt220")))))
 

@@ -47,9 +47,9 @@ document_in line = cond (is_text line) (document line) None
 abbrev pub version_in : List ℕ → Option ℕ
 version_in line = option_and_then version_of (document_in line)
 
--- a time in microseconds, whether it is output, and its text
+-- a time in microseconds, its code, and its text
 abbrev pub Event : Type 0
-Event = ℕ × Bool × List ℕ
+Event = ℕ × List ℕ × List ℕ
 
 abbrev pub begins_array : Token → Bool
 begins_array token.begin_array = true
@@ -67,11 +67,11 @@ abbrev pub string_in : Token → Option (List ℕ)
 string_in (token.string s) = Some s
 string_in _ = None
 
--- the event of a time, a code and a text: `o` is output
+-- the event of a time, a code and a text
 abbrev pub event_from : (time code text : Option (List ℕ)) → Option Event
 event_from time code text =
     option_and_then
-    (λ micros. option_and_then (λ c. option_map (λ t. (micros, bytes_eq c (codes "o"), t)) text) code)
+    (λ micros. option_and_then (λ c. option_map (λ t. (micros, c, t)) text) code)
     (option_and_then micros_of_number time)
 
 -- an array of a number and two strings
@@ -95,6 +95,10 @@ abbrev pub in_time : (until : Option ℕ) → (time : ℕ) → Bool
 in_time None time = true
 in_time (Some until) time = nat_le time until
 
+-- the code of output
+abbrev pub is_output : (code : List ℕ) → Bool
+is_output code = bytes_eq code (codes "o")
+
 -- the characters of an event that are wanted
 abbrev pub heard : (until : Option ℕ) → (time : ℕ) → (output : Bool) → (text : List ℕ) → List ℕ
 heard until time output text = cond (output && in_time until time) (chars text) []
@@ -117,7 +121,7 @@ time_behind false (Some e) version clock = Some (clock_after version clock e.0)
 abbrev pub heard_in : (silent : Bool) → Option Event → (version : ℕ) → (until : Option ℕ) → (clock : ℕ) → List ℕ
 heard_in true event version until clock = []
 heard_in false None version until clock = []
-heard_in false (Some e) version until clock = heard until (clock_after version clock e.0) e.1 e.2
+heard_in false (Some e) version until clock = heard until (clock_after version clock e.0) (is_output e.1) e.2
 
 -- characters and then the other lines, as a function of the time, unless the format is broken at this byte
 abbrev pub and_then : (time : Option ℕ) → List ℕ → (at : ℕ) → (ℕ → Cast) → Cast

@@ -2,7 +2,7 @@
 use Rattle.promises.specs.v0_3.recording.Heading.{heading_of}
 use Rattle.std.specs.Prelude.{[], Bool, codes, cond, false, List, nat_eq, None, Option, Some, unwrap_or, ℕ, ◌++◌, ◌∷◌}
 use Rattle.vt_cli.specs.declared.asked.Request.{Request}
-use Rattle.vt_cli.specs.declared.what.Word.TheVariants.{Content, Log, Pages, Replay, Summary, Trace}
+use Rattle.vt_cli.specs.declared.what.Word.TheVariants.{Content, Events, Log, Pages, Replay, Summary, Trace}
 use Rattle.vt_cli.specs.declared.what.Word.{Word}
 use Rattle.vt_recording.specs.declared.format.Encoding.TheVariants.{Dec, Utf8}
 use Rattle.vt_recording.specs.declared.format.Encoding.{Encoding}
@@ -38,13 +38,14 @@ wide_for (Some wide) columns = wide
 wide_for None (Some columns) = nat_eq columns 132
 wide_for None None = false
 
--- whether the terminal that the recording names decides: content is the host's bytes, for whatever terminal they are
+-- whether the terminal that the recording names decides: events and content are what the host sent, for whatever terminal that is
 abbrev pub named_for : Word → (named : Option TerminalType) → Option TerminalType
 named_for (Replay what) named = named
 named_for Log named = named
 named_for Pages named = named
 named_for Trace named = named
 named_for Summary named = named
+named_for Events named = None
 named_for Content named = None
 
 abbrev pub host_by : TerminalType → Request → Format → (columns : Option ℕ) → Host
@@ -80,4 +81,5 @@ opening Log host = cond host.wide (widening host.terminal) []
 opening Pages host = cond host.wide (widening host.terminal) []
 opening Trace host = []
 opening Summary host = []
+opening Events host = []
 opening Content host = cond host.wide (widening_shown host.terminal) []

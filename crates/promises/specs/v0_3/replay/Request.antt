@@ -2,17 +2,21 @@
 use Rattle.promises.specs.v0_3.recording.Detection.{detected}
 use Rattle.promises.specs.v0_3.recording.Reading.{ReadTable}
 use Rattle.promises.specs.v0_3.recording.Taken.{IsTaken}
+use Rattle.promises.specs.v0_3.replay.EventTable.{IsTableTaken}
 use Rattle.promises.specs.v0_3.replay.Host.{host_of, opening, plain_host}
 use Rattle.promises.specs.v0_3.replay.Words.{WordTable}
-use Rattle.std.specs.Prelude.{[], Bool, Err, false, length, List, None, not, Ok, Option, Result, Some, true, ℕ, ◌++◌}
-use Rattle.std.specs.Prelude.{◌≡◌, ◌≤◌, ◌⊎◌}
+use Rattle.std.specs.Prelude.{[], Bool, Err, false, length, List, None, not, Ok, Option, Result, Some, true, ℕ, ◌&&◌}
+use Rattle.std.specs.Prelude.{◌++◌, ◌≡◌, ◌≤◌, ◌⊎◌}
 use Rattle.vt_cli.specs.declared.asked.Request.{Request}
+use Rattle.vt_cli.specs.declared.what.Word.TheVariants.{Content, Events, Log, Pages, Replay, Summary, Trace}
+use Rattle.vt_cli.specs.declared.what.Word.{Word}
 use Rattle.vt_device.specs.Runs.{Flags}
 use Rattle.vt_recording.specs.declared.detection.Detected.TheVariants.{Compressed, Recording}
 use Rattle.vt_recording.specs.declared.detection.Detected.{Detected}
 use Rattle.vt_recording.specs.declared.fault.Fault.TheVariants as fault
 use Rattle.vt_recording.specs.declared.fault.Fault.{Fault}
 use Rattle.vt_recording.specs.declared.format.Break.{Break}
+use Rattle.vt_recording.specs.declared.format.Encoding.{Encoding}
 use Rattle.vt_recording.specs.declared.format.Format.TheVariants as format
 use Rattle.vt_recording.specs.declared.format.Format.{Format}
 use Rattle.vt_recording.specs.declared.format.Moment.TheVariants.{Bytes, Micros}
@@ -26,13 +30,24 @@ abbrev pub asks_wide : Option Bool → Bool
 asks_wide (Some wide) = wide
 asks_wide None = false
 
--- the input is played as it comes: it is the host's bytes, all of them are wanted, and no others come first
-abbrev pub is_streamed : Format → Option Moment → (wide : Option Bool) → Bool
-is_streamed format.Raw None wide = not (asks_wide wide)
-is_streamed format.Raw (Some m) wide = false
-is_streamed format.Script until wide = false
-is_streamed format.Ttyrec until wide = false
-is_streamed format.Asciicast until wide = false
+-- the input is played as it comes: it is the host's bytes, all of them are wanted, no others come first, and they aren't
+-- listed as events
+abbrev pub is_streamed : Format → Option Moment → (wide : Option Bool) → (events : Bool) → Bool
+is_streamed format.Raw None wide events = not (asks_wide wide) && not events
+is_streamed format.Raw (Some m) wide events = false
+is_streamed format.Script until wide events = false
+is_streamed format.Ttyrec until wide events = false
+is_streamed format.Asciicast until wide events = false
+
+-- the word lists the events of a recording, and plays nothing of it
+abbrev pub lists_events : Word → Bool
+lists_events (Replay what) = false
+lists_events Log = false
+lists_events Pages = false
+lists_events Trace = false
+lists_events Summary = false
+lists_events Events = true
+lists_events Content = false
 
 -- how a request ends: a fault of the word comes first, then that the recording is broken
 abbrev pub ended_of : (broken : Option Break) → Result (Unit {0}) Fault → Result (Unit {0}) Fault
@@ -59,12 +74,20 @@ pub record IsPlayed' (o : Outcome) (r : Request) (host : Host) (content : List �
   pub ended : o.ended ≡ ended_of broken played
   pub replaces : o.replaced ≡ replaced
 
+-- what is taken out of a recording for a word: the table of its events, or its content
+abbrev pub IsTakenBy : (events : Bool) → Format → Encoding → (until : Option Moment) → (timing : Option (List ℕ)) → (bytes content : List ℕ)
+    → (broken : Option Break) → (replaced : ℕ) → Type 0
+IsTakenBy true format encoding until timing bytes content broken replaced =
+    IsTableTaken format until timing bytes content broken replaced
+IsTakenBy false format encoding until timing bytes content broken replaced =
+    IsTaken format encoding until timing bytes content broken replaced
+
 -- what is played of a recording: the opening and the content
 pub record IsPrepared' (r : Request) (format : Format) (timing : Option (List ℕ)) (b : List ℕ) (host : Host) (bytes : List ℕ)
     (broken : Option Break) (replaced : ℕ) : Type 0 where
   pub host_is : host ≡ host_of r format b
   pub content : List ℕ
-  pub taken : IsTaken format host.encoding r.until timing b content broken replaced
+  pub taken : IsTakenBy (lists_events r.word) format host.encoding r.until timing b content broken replaced
   pub joined : bytes ≡ opening r.word host ++ content
 
 -- the input was read whole and taken apart, and the word was carried out on what is played of it
@@ -94,7 +117,7 @@ OutcomeBy false o r format timing b w f = IsTakenApart o r format timing b w f �
 
 -- what an outcome says of an input in a format, b being the bytes read and w the bytes written
 abbrev pub OutcomeTable : Outcome → Request → Format → (timing : Option (List ℕ)) → (b w : List ℕ) → Flags → Type 0
-OutcomeTable o r format timing b w f = OutcomeBy (is_streamed format r.until r.wide) o r format timing b w f
+OutcomeTable o r format timing b w f = OutcomeBy (is_streamed format r.until r.wide (lists_events r.word)) o r format timing b w f
 
 -- the format that the beginning shows: a compressed file is played as it is
 abbrev pub shown_format : Detected → Format

@@ -9,10 +9,11 @@ use Rattle.promises.specs.v0_3.term.State.{power_up}
 use Rattle.promises.specs.v0_3.trace.Summary.{summary}
 use Rattle.promises.specs.v0_3.trace.Trace.{end_lines, trace, tracer_all, tracer_at_start}
 use Rattle.std.specs.Prelude.{List, Result, ℕ}
-use Rattle.vt_cli.specs.declared.what.Word.TheVariants.{Content, Log, Pages, Replay, Summary, Trace}
+use Rattle.vt_cli.specs.declared.what.Word.TheVariants.{Content, Events, Log, Pages, Replay, Summary, Trace}
 use Rattle.vt_cli.specs.declared.what.Word.{Word}
 use Rattle.vt_device.specs.Runs.{Flags}
 use Rattle.vt_recording.specs.declared.fault.Fault.{Fault}
+use Rattle.vt_recording.specs.declared.format.Encoding.TheVariants.{Dec}
 use Rattle.vt_recording.specs.declared.format.Encoding.{Encoding}
 use Rattle.vt_recording.specs.declared.format.TerminalType.TheVariants.{Xterm}
 use Rattle.vt_recording.specs.declared.format.TerminalType.{TerminalType}
@@ -36,7 +37,7 @@ of_decoded encoding written ending = record {
   there = always;
 }
 
--- a row a word, for a terminal and in an encoding. A replay and a log play xterm; what content writes then is below
+-- a row a word, for a terminal and in an encoding. The table of events is ready before it is written. A replay and a log play xterm; what content writes then is below
 abbrev pub due_of : Word → TerminalType → Encoding → Due
 due_of (Replay what) terminal encoding = replayed (language_of terminal encoding) what
 due_of Log terminal encoding =
@@ -45,6 +46,7 @@ due_of Log terminal encoding =
 due_of Pages terminal encoding = of_decoded encoding pages_written screen
 due_of Trace terminal encoding = of_decoded encoding trace_written trace_ending
 due_of Summary terminal encoding = of_decoded encoding nothing summary
+due_of Events terminal encoding = of_decoded Dec all nothing
 due_of Content terminal encoding = of_decoded encoding all nothing
 
 -- what each answer says, by the word. Under TERM=xterm content is what a VT220 is sent, so that it shows the same

@@ -1,0 +1,2 @@
+//! The calls of vt_laws_trace.
+pub mod lib;

@@ -1,0 +1,2 @@
+//! The calls of vt_laws_utf8.
+pub mod lib;

@@ -1,5 +1,5 @@
 -- What a command without options writes.
-use Rattle.std.proofs.Common.{◌≡◌, ℕ, Bool, true, List, Option, Some, None, refl, sym, ap, subst, ◌∙◌}
+use Rattle.std.proofs.Common.{◌≡◌, ℕ, Bool, true, false, List, Option, Some, None, refl, sym, ap, subst, ◌∙◌}
 use Rattle.std.specs.Prelude.{codes, option_map, string_bytes, if◌then◌else◌}
 use Rattle.std.specs.Str.{bytes_eq}
 use Rattle.std.specs.declared.alloc.Global.{Global}
@@ -14,13 +14,13 @@ use Rattle.vt_recording.specs.declared.format.TerminalType.TheVariants.{Vt220}
 use Rattle.vt_cli.specs.declared.asked.Request.{Request}
 use Rattle.vt_cli.specs.declared.what.What.TheVariants as what
 use Rattle.vt_cli.specs.declared.what.Word.{Word}
-use Rattle.vt_cli.specs.declared.what.Word.TheVariants.{Replay, Log, Pages, Trace, Summary, Content}
+use Rattle.vt_cli.specs.declared.what.Word.TheVariants.{Replay, Log, Pages, Trace, Summary, Events, Content}
 use Rattle.vt_cli.specs.CommandLine.{vt220, word_name, found_in}
 use Rattle.vt_cli.specs.Request.{IsFound, IsRequest}
 use Rattle.vt_replay.specs.declared.requests.Outcome.{Outcome}
 use Rattle.vt_replay.specs.Host.{terminal_for, encoding_for, named_for, plain_host}
 use Rattle.vt_replay.specs.Words.{WordTable}
-use Rattle.vt_replay.specs.Request.{is_streamed, format_of, IsStreamed, OutcomeBy, OutcomeTable}
+use Rattle.vt_replay.specs.Request.{is_streamed, lists_events, format_of, IsStreamed, OutcomeBy, OutcomeTable}
 use Rattle.laws_program.specs.Plain.{IsPlainCommand}
 use Rattle.laws_program.proofs.Found.{Options, Asked, options_in, asked_by, asked, no_options, AsksPlainly}
 
@@ -37,7 +37,8 @@ word_of name =
     if bytes_eq name (codes "log") then Some Log else (
     if bytes_eq name (codes "pages") then Some Pages else (
     if bytes_eq name (codes "trace") then Some Trace else (
-    if bytes_eq name (codes "summary") then Some Summary else Some Content)))))))))
+    if bytes_eq name (codes "summary") then Some Summary else (
+    if bytes_eq name (codes "events") then Some Events else Some Content))))))))))
 
 own-name : (word : Word) → word_of (word_name word) ≡ Some word
 own-name (Replay what.Text) = refl
@@ -50,6 +51,7 @@ own-name Log = refl
 own-name Pages = refl
 own-name Trace = refl
 own-name Summary = refl
+own-name Events = refl
 own-name Content = refl
 
 some-word : (a b : Word) → Some a ≡ Some b → a ≡ b
@@ -102,6 +104,7 @@ named-none Log = refl
 named-none Pages = refl
 named-none Trace = refl
 named-none Summary = refl
+named-none Events = refl
 named-none Content = refl
 
 plain-terminal : (word : Word) (file : Option Text) (r : Request) → AsksFor word file r → (plain_host r).terminal ≡ Vt220
@@ -115,19 +118,20 @@ plain-encoding word file r asks =
     ∙ ap (λ (s : Options). encoding_for Vt220 s.encoding Raw) asks.options_are
 
 is-streamed : (word : Word) (file : Option Text) (r : Request) (beginning : List ℕ) → AsksFor word file r
-    → is_streamed (format_of r.format beginning) r.until r.wide ≡ true
-is-streamed word file r beginning asks =
-    ap (λ (s : Options). is_streamed (format_of s.format beginning) s.until s.wide) asks.options_are
+    → lists_events word ≡ false → is_streamed (format_of r.format beginning) r.until r.wide (lists_events r.word) ≡ true
+is-streamed word file r beginning asks plays =
+    ap (λ (s : Options). is_streamed (format_of s.format beginning) s.until s.wide (lists_events r.word)) asks.options_are
+    ∙ ap (λ (e : Bool). is_streamed Raw None None e) (ap lists_events asks.word_is ∙ plays)
 
-pub plain-table : (word : Word) → AsksPlainly word → (file : Option Text) (words : List (String Global)) (r : Request) (o : Outcome)
+pub plain-table : (word : Word) → AsksPlainly word → lists_events word ≡ false → (file : Option Text) (words : List (String Global)) (r : Request) (o : Outcome)
     (beginning : List ℕ) (timing : Option (List ℕ)) (b w : List ℕ) (f : Flags)
     → IsPlainCommand (word_name word) file words → IsRequest words r
     → OutcomeTable o r (format_of r.format beginning) timing b w f
     → (WordTable o.ended word Vt220 Dec r.piece b w f r.limit) × (option_map (λ f. string_bytes f) r.file ≡ file)
-plain-table word plainly file words r o beginning timing b w f plain request table =
+plain-table word plainly plays file words r o beginning timing b w f plain request table =
     let asks = asks-for word file words r plainly plain request in
     let streamed : IsStreamed o r b w f =
-    subst (λ (s : Bool). OutcomeBy s o r (format_of r.format beginning) timing b w f) (is-streamed word file r beginning asks) table in (
+    subst (λ (s : Bool). OutcomeBy s o r (format_of r.format beginning) timing b w f) (is-streamed word file r beginning asks plays) table in (
       subst (λ (x : Word). WordTable o.ended x Vt220 Dec r.piece b w f r.limit) asks.word_is
           (subst (λ (e : Encoding). WordTable o.ended r.word Vt220 e r.piece b w f r.limit) (plain-encoding word file r asks)
           (subst (λ (t : TerminalType). WordTable o.ended r.word t (plain_host r).encoding r.piece b w f r.limit)

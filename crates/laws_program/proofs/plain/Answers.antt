@@ -1,3 +1,4 @@
+use Rattle.std.proofs.Common.{refl}
 use Rattle.vt_cli.specs.declared.what.What.TheVariants as what
 use Rattle.vt_cli.specs.declared.what.Word.TheVariants.{Replay, Log}
 use Rattle.laws_program.proofs.Found.{text-asks, repaint-asks, show-asks, log-asks}
@@ -6,8 +7,8 @@ use Rattle.laws_program.proofs.plain.Goals as goal
 
 pub returns : goal.returns
 returns c = record {
-  text = plain-table (Replay what.Text) text-asks;
-  repaint = plain-table (Replay what.Repaint) repaint-asks;
-  show = plain-table (Replay what.Show) show-asks;
-  log = plain-table Log log-asks;
+  text = plain-table (Replay what.Text) text-asks refl;
+  repaint = plain-table (Replay what.Repaint) repaint-asks refl;
+  show = plain-table (Replay what.Show) show-asks refl;
+  log = plain-table Log log-asks refl;
 }

@@ -45,17 +45,20 @@ def saved_bytes(saved: Saved):
 
 
 def cells_bytes(terminal):
-    if not terminal.wrap and all(cell == BLANK for line in terminal.cells for cell in line):
+    blank = [BLANK] * terminal.width
+    if not terminal.wrap and all(line == blank for line in terminal.cells):
         return b""
-    pieces = [SPELLING_SETS]
-    for row in range(1, ROWS + 1):
-        left = BLANK
-        for column, cell in enumerate(terminal.cells[row - 1], 1):
-            if cell != BLANK:
-                if column == 1 or left == BLANK or left[1] != cell[1]:
-                    pieces.append(csi(row, column, final="H") + brush_bytes(cell[1]))
-                pieces.append(spelling(cell[0]))
-            left = cell
+    return SPELLING_SETS + b"".join(row_bytes(row, line) for row, line in enumerate(terminal.cells, 1) if line != blank)
+
+
+def row_bytes(row, line):
+    pieces, left = [], BLANK
+    for column, cell in enumerate(line, 1):
+        if cell != BLANK:
+            if column == 1 or left == BLANK or left[1] != cell[1]:
+                pieces.append(csi(row, column, final="H") + brush_bytes(cell[1]))
+            pieces.append(spelling(cell[0]))
+        left = cell
     return b"".join(pieces)
 
 

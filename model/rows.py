@@ -50,7 +50,9 @@ def value_of(field, value):
 
 def shown(wanted, model, reports, repaint):
     """Returns what a model shows of the fields that a row wants."""
-    found = {"reports": reports, "text": model.text().rstrip("\n"), "lines": "".join(model.scrolled_off), "pending": getattr(model, "pending", b"")}
+    found = {"reports": reports, "lines": "".join(model.scrolled_off), "pending": getattr(model, "pending", b"")}
+    if "text" in wanted:
+        found["text"] = model.text().rstrip("\n")
     if "repaint" in wanted:
         found["repaint"] = None if model.sequence else repaint(model)
     if "paste" in wanted:

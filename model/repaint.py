@@ -1,5 +1,5 @@
 """The repaint of the model's state, by docs/SPECIFICATION.md, 'Repaint'."""
-from terminal import ANSI_MODES, ATTRIBUTES, BLANK, PRIVATE_MODES, ROWS, SETS, SET_AT_POWER_UP, SPECIAL, WIDE, Brush, Saved, Sets
+from terminal import ANSI_MODES, ATTRIBUTES, BLANK, PRIVATE_MODES, ROWS, SETS, SET_AT_POWER_UP, SPECIAL, WIDE, Brush, Saved, Sets, Terminal
 
 SPELLING_SETS = b"\033(B\033*<\033+0\017"
 SUPPLEMENTAL_CODES = {glyph: code for code, glyph in reversed(SETS["<"].items())}
@@ -45,17 +45,20 @@ def saved_bytes(saved: Saved):
 
 
 def cells_bytes(terminal):
-    if not terminal.wrap and all(cell == BLANK for line in terminal.cells for cell in line):
+    blank = [BLANK] * terminal.width
+    if not terminal.wrap and all(line == blank for line in terminal.cells):
         return b""
-    pieces = [SPELLING_SETS]
-    for row in range(1, ROWS + 1):
-        left = BLANK
-        for column, cell in enumerate(terminal.cells[row - 1], 1):
-            if cell != BLANK:
-                if column == 1 or left == BLANK or left[1] != cell[1]:
-                    pieces.append(csi(row, column, final="H") + brush_bytes(cell[1]))
-                pieces.append(spelling(cell[0]))
-            left = cell
+    return SPELLING_SETS + b"".join(row_bytes(row, line) for row, line in enumerate(terminal.cells, 1) if line != blank)
+
+
+def row_bytes(row, line):
+    pieces, left = [], BLANK
+    for column, cell in enumerate(line, 1):
+        if cell != BLANK:
+            if column == 1 or left == BLANK or left[1] != cell[1]:
+                pieces.append(csi(row, column, final="H") + brush_bytes(cell[1]))
+            pieces.append(spelling(cell[0]))
+        left = cell
     return b"".join(pieces)
 
 
@@ -77,10 +80,9 @@ def modes_bytes(terminal):
     return made + (b"\033=" if terminal.keypad else b"") + (b"\033 G" if terminal.eight_bit else b"")
 
 
-def repaint(terminal):
-    """Returns the repaint of a terminal that is between sequences."""
+def items(terminal):
+    """Returns the items after RIS."""
     return b"".join([
-        b"\033c",
         stops_bytes(terminal),
         saved_bytes(terminal.saved),
         cells_bytes(terminal),
@@ -92,3 +94,28 @@ def repaint(terminal):
         modes_bytes(terminal),
         {None: b"", 2: b"\033N", 3: b"\033O"}[terminal.single_shift],
     ])
+
+
+def repaint(terminal):
+    """Returns the repaint of a terminal that is between sequences."""
+    return b"\033c" + items(terminal)
+
+
+def session_repaint(session):
+    """Returns the repaint under TERM=xterm, of both pages."""
+    other = Terminal()
+    other.cells, other.saved, other.width = session.other_cells, session.other_saved, len(session.other_cells[0])
+    return b"".join([
+        b"\033[?40h\033c",
+        switch(47, not session.is_alternate),
+        items(other),
+        switch(47, session.is_alternate),
+        switch(3, False),
+        items(session),
+        switch(40, session.allows_columns),
+        switch(2004, True) if session.paste else b"",
+    ])
+
+
+def switch(mode, is_set):
+    return b"\033[?%d%c" % (mode, b"lh"[is_set])

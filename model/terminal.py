@@ -72,8 +72,8 @@ class Terminal:
         self.scrolled_off = []
         self.power_up()
 
-    def power_up(self):
-        self.set_width(NARROW)
+    def power_up(self, width=NARROW):
+        self.set_width(width)
         self.row, self.column, self.wrap = 1, 1, False
         self.brush, self.sets, self.single_shift = PLAIN, Sets(), None
         self.top, self.bottom = 1, ROWS
@@ -201,7 +201,7 @@ class Terminal:
         if byte == 0x08:
             self.move_to(self.row, max(1, self.column - 1))
         elif byte == 0x09:
-            self.move_to(self.row, min([stop for stop in self.stops if self.column < stop <= self.width], default=self.width))
+            self.tab()
         elif byte in (0x0A, 0x0B, 0x0C):
             self.next_line() if "LNM" in self.modes else self.index()
         elif byte == 0x0D:
@@ -399,14 +399,16 @@ class Terminal:
     def home(self):
         self.move_to(self.origin(), 1)
 
+    def tab(self):
+        self.move_to(self.row, min([stop for stop in self.stops if self.column < stop <= self.width], default=self.width))
+
     def next_line(self):
         self.column = 1
         self.index()
 
     def index(self):
         if self.row == self.bottom:
-            if self.top == 1:
-                self.scrolled_off.append(self.line_text(1))
+            self.scroll_off(1)
             self.scroll(self.top, 1)
             self.wrap = False
         else:
@@ -425,19 +427,28 @@ class Terminal:
         gap = [[BLANK] * self.width for _ in range(min(abs(n), len(rows)))]
         self.cells[first - 1:self.bottom] = rows[n:] + gap if n > 0 else (gap + rows)[: len(rows)]
 
+    def scroll_off(self, n):
+        """Logs the rows that a move up by n takes off the screen."""
+        if self.top == 1:
+            self.scrolled_off += [self.line_text(row) for row in range(1, min(n, self.bottom) + 1)]
+
     def report(self, words):
         self.reports.append((b"\x9b" if self.eight_bit else b"\x1b[") + words.encode())
 
     # Output.
 
     def line_text(self, row):
-        return "".join(glyph for glyph, _ in self.cells[row - 1]).rstrip(" ") + "\n"
+        return "".join([glyph for glyph, _ in self.cells[row - 1]]).rstrip(" ") + "\n"
 
     def text(self):
         return "".join(self.line_text(row) for row in range(1, ROWS + 1))
 
     def held(self):
         return self.sequence["kind"] if self.sequence else "none"
+
+    def state(self):
+        """Returns all that a terminal keeps, without what it has written."""
+        return {name: part for name, part in vars(self).items() if name not in ("reports", "scrolled_off")}
 
 
 MOVES = {

@@ -107,14 +107,15 @@ static void compare(const char *row, const fields *wanted, const uint8_t *data, 
     }
 }
 
-/* Reads a row: its name, its bytes in hex, and its fields, with tabs between. The fields of the first row are those at power-up. */
+/* Reads a row: its name, its bytes in hex, and its fields, if it has any, with tabs between. The fields of the first row are those at
+ * power-up. */
 static void one_row(char *line, fields *at_power_up, bool is_first) {
     static fields wanted;
     uint8_t data[64];
     size_t len = 0;
     char *name = line, *at = strchr(line, '\t') + 1;
     at[-1] = 0;
-    for (; *at != '\t'; at += *at == ' ') data[len++] = (uint8_t)strtoul(at, &at, 16);
+    for (; *at != '\t' && *at != '\n'; at += *at == ' ') data[len++] = (uint8_t)strtoul(at, &at, 16);
     wanted = *at_power_up;
     for (char *part = strtok(at, "\t\n"); part != NULL; part = strtok(NULL, "\t\n")) {
         char *value = strchr(part, '=');

@@ -6,7 +6,7 @@ use super::Row;
 use super::parts::joined;
 
 /// The number of these vectors.
-pub(super) const COUNT: usize = 16;
+pub(super) const COUNT: usize = 17;
 
 const ROWS: &[Row; COUNT] = &[
     Row {
@@ -138,6 +138,15 @@ const ROWS: &[Row; COUNT] = &[
         text: joined!("A\n" EMPTY 23),
         reports: b"",
         repaint: Some(joined!("\x1bc" HEAD "\x1b[1;1H" REVERSE "A\x1b[1;2H" REVERSE SETS)),
+    },
+    Row {
+        name: "attributes: ECH erases protected cells",
+        input: b"\x1b[1\"qABC\x1b[0\"qD\r\x1b[2X",
+        text: joined!("  CD\n" EMPTY 23),
+        reports: b"",
+        repaint: Some(
+            joined!("\x1bc" HEAD "\x1b[1;3H\x1b[0m\x1b[1\"qC\x1b[1;4H" PLAIN "D\x1b[1;1H" PLAIN SETS),
+        ),
     },
 ];
 

@@ -6,7 +6,7 @@ use super::Row;
 use super::parts::joined;
 
 /// The number of these vectors.
-pub(super) const COUNT: usize = 11;
+pub(super) const COUNT: usize = 13;
 
 const ROWS: &[Row; COUNT] = &[
     Row {
@@ -34,6 +34,16 @@ const ROWS: &[Row; COUNT] = &[
         )),
     },
     Row {
+        name: "modes: a form feed is a new line under LNM",
+        input: b"\x1b[20hA\x0cB",
+        text: joined!("A\nB\n" EMPTY 22),
+        reports: b"",
+        repaint: Some(joined!(
+            "\x1bc" HEAD "\x1b[1;1H" PLAIN "A\x1b[2;1H" PLAIN "B\x1b[2;2H" PLAIN SETS
+            "\x1b[20h"
+        )),
+    },
+    Row {
         name: "modes: modes without effect here are kept all the same",
         input: b"\x1b=\x1b[?25l\x1b[2;4h",
         text: joined!(EMPTY 24),
@@ -46,6 +56,13 @@ const ROWS: &[Row; COUNT] = &[
         text: joined!(EMPTY 24),
         reports: b"",
         repaint: Some(joined!("\x1bc\x1b[1;1H" PLAIN SETS "\x1b[12l")),
+    },
+    Row {
+        name: "modes: the keypad and 8-bit reports",
+        input: b"\x1b G\x1b=",
+        text: joined!(EMPTY 24),
+        reports: b"",
+        repaint: Some(joined!("\x1bc\x1b[1;1H" PLAIN SETS "\x1b=\x1b G")),
     },
     Row {
         name: "modes: the repaint of a full line, played inside a string on a terminal that was used: the state of the full line",

@@ -6,7 +6,7 @@ use super::Row;
 use super::parts::joined;
 
 /// The number of these vectors.
-pub(super) const COUNT: usize = 17;
+pub(super) const COUNT: usize = 18;
 
 const ROWS: &[Row; COUNT] = &[
     Row {
@@ -143,6 +143,15 @@ const ROWS: &[Row; COUNT] = &[
         reports: b"",
         repaint: Some(
             joined!("\x1bc" HEAD "\x1b[1;1H" PLAIN "A\x1b[2;2H" PLAIN "B\x1b[3;3H" PLAIN "C\x1b[3;4H" PLAIN SETS),
+        ),
+    },
+    Row {
+        name: "plain: a VT in the last row scrolls, and resets the wrap flag",
+        input: b"\x1b[24;80Hx\x0by",
+        text: joined!(EMPTY 22 "                                                                               x\n                                                                               y\n"),
+        reports: b"",
+        repaint: Some(
+            joined!("\x1bc" HEAD "\x1b[23;80H" PLAIN "x\x1b[24;80H" PLAIN "y\x1b[24;80H" PLAIN "y" PLAIN SETS),
         ),
     },
 ];

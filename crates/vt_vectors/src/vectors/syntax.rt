@@ -11,7 +11,7 @@ use super::parts::joined;
 const FIRST: usize = 12;
 
 /// The number of rows of the second table.
-const SECOND: usize = 12;
+const SECOND: usize = 14;
 
 /// The number of these vectors.
 pub(super) const COUNT: usize = FIRST + SECOND;
@@ -187,6 +187,20 @@ const SECOND_ROWS: &[Row; SECOND] = &[
         text: joined!("␦A\n" EMPTY 23),
         reports: b"",
         repaint: Some(joined!("\x1bc" HEAD "\x1b[1;1H" PLAIN "\x1bN$A\x1b[1;3H" PLAIN SETS)),
+    },
+    Row {
+        name: "syntax: a DEL in a sequence is left out",
+        input: b"\x1b[5\x7fCA",
+        text: joined!("     A\n" EMPTY 23),
+        reports: b"",
+        repaint: Some(joined!("\x1bc" HEAD "\x1b[1;6H" PLAIN "A\x1b[1;7H" PLAIN SETS)),
+    },
+    Row {
+        name: "syntax: an escape sequence with two intermediates: no function",
+        input: b"\x1b(#0q\x1b#(0q",
+        text: joined!("qq\n" EMPTY 23),
+        reports: b"",
+        repaint: Some(joined!("\x1bc" HEAD "\x1b[1;1H" PLAIN "qq\x1b[1;3H" PLAIN SETS)),
     },
 ];
 

@@ -1,0 +1,112 @@
+"""The rows by hand: the vectors of a VT220, and the lists of tests-c/. A row is bytes that are played on a new terminal, and what is wanted then."""
+import csv
+import dataclasses
+import pathlib
+import sys
+
+TOP = pathlib.Path(__file__).resolve().parents[1]
+sys.path.append(str(TOP / "tests"))
+
+from terminal import ATTRIBUTES
+from utf8 import has_known_width
+from vectors import vectors
+
+VT220, UTF8, XTERM = ("dec", "vt220"), ("utf-8", "vt220"), ("utf-8", "xterm")
+
+
+@dataclasses.dataclass
+class Row:
+    """The encoding and the terminal are its kind."""
+
+    name: str
+    kind: tuple
+    data: bytes
+    wanted: dict
+
+
+def all_rows():
+    return [*vectors_of_a_vt220(), *rows_of_fields(), *vectors_of_today()]
+
+
+def vectors_of_a_vt220():
+    with open(TOP / "crates/vectors/stdout", newline="") as file:
+        for line in csv.DictReader(file, delimiter="\t", quoting=csv.QUOTE_NONE):
+            wanted = {of: None if line[of] == "-" else bytes.fromhex(line[of]) for of in ("text", "reports", "repaint")}
+            wanted["text"] = wanted["text"].decode().rstrip("\n")
+            yield Row(line["name"], VT220, bytes.fromhex(line["input"]), wanted)
+
+
+def rows_of_fields():
+    """Returns the rows of tests-c/fields.txt. Such a row has what isn't as at power-up, which the first row has. The model counts no bells."""
+    at_power_up = {f"stop.{column}": 0 for column in range(1, 133)}
+    for line in (TOP / "tests-c/fields.txt").read_text().splitlines():
+        if not line.startswith("#"):
+            title, data, *fields = line.split("\t")
+            wanted = at_power_up | {of: int(value) for of, value in (field.split("=", 1) for field in fields) if of != "bells"}
+            if title == "power-up":
+                at_power_up = wanted
+            yield Row(title, VT220, bytes.fromhex(data), wanted)
+
+
+def vectors_of_today():
+    """Returns the vectors of UTF-8 and of TERM=xterm, without those that have a character whose width the model can't know."""
+    for vector in vectors():
+        characters = vector.input.decode(errors="replace").replace("\N{REPLACEMENT CHARACTER}", "")
+        if all(character.isascii() or has_known_width(character) for character in characters):
+            wanted = {of: value for of, value in vector.wanted.items() if of != "bells"}
+            yield Row(vector.name, (vector.encoding, vector.terminal), vector.input, wanted)
+
+
+def shown(wanted, model, reports, repaint):
+    """Returns what a model shows of the fields that a row wants."""
+    found = {"reports": reports}
+    if "repaint" in wanted:
+        found |= {"text": model.text().rstrip("\n"), "repaint": None if model.sequence else repaint(model)}
+    if "pending" in wanted:
+        found |= screen(model)
+    if "width" in wanted:
+        found |= parts(model)
+    return {of: found.get(of) for of in wanted}
+
+
+def attributes(brush):
+    return [name for name in ATTRIBUTES.values() if getattr(brush, name)]
+
+
+def screen(model):
+    """Returns what a vector of UTF-8 or of TERM=xterm wants, by the names of tests/vectors.py."""
+    flags = {"wrap": model.wrap, "alternate": getattr(model, "is_alternate", False), "paste": getattr(model, "paste", False)}
+    return {of: str(int(flag)) for of, flag in flags.items()} | {
+        "text": "\n".join(map(with_attributes, model.cells)).rstrip("\n"), "cursor": f"{model.row};{model.column}",
+        "brush": " ".join(attributes(model.brush)), "pending": model.pending, "lines": "".join(model.scrolled_off)}
+
+
+def with_attributes(cells):
+    """Returns a line with SGR where the attributes change, without the plain spaces at its end."""
+    line, now = "", []
+    for glyph, brush in cells:
+        if attributes(brush) != now:
+            now = attributes(brush)
+            line += f"\033[{';'.join(['0', *(str(number) for number, name in ATTRIBUTES.items() if name in now)])}m"
+        line += glyph
+    return line + "\033[0m" if now else line.rstrip(" ")
+
+
+def parts(model):
+    """Returns the parts of a VT220, by the names of tests-c/fields.txt."""
+    (glyph, brush), saved = model.cells[0][0], model.saved
+    found = {"width": model.width, "cell.glyph": ord(glyph), "margins.top": model.top, "margins.bottom": model.bottom, "saved.origin": saved.origin}
+    found |= {f"modes.{name.lower()}": name in model.modes for name in MODES}
+    found |= {"modes.keypad_application": model.keypad, "modes.reports_8bit": model.eight_bit, "sets.single_shift": model.single_shift or 0}
+    found |= {f"stop.{column}": column in model.stops for column in range(1, 133)}
+    found["held"] = ["none", "escape", "control", "string"].index(model.held())
+    for of, place in (("cursor", model), ("saved", saved)):
+        found |= {f"{of}.row": place.row, f"{of}.col": place.column, f"{of}.wrap": place.wrap}
+    for of, part in (("brush", model.brush), ("cell", brush), ("saved", saved.brush)):
+        found |= {f"{of}.{name}": getattr(part, name) for name in ATTRIBUTES.values()} | {f"{of}.is_protected": part.protected}
+    for of, sets in (("sets", model.sets), ("saved", saved.sets)):
+        found |= {f"{of}.g{slot}": ord(final) for slot, final in enumerate(sets.designated)} | {f"{of}.gl": sets.left, f"{of}.gr": sets.right}
+    return found
+
+
+MODES = ("KAM", "IRM", "SRM", "LNM", "DECCKM", "DECSCLM", "DECSCNM", "DECOM", "DECAWM", "DECARM", "DECTCEM")

@@ -16,6 +16,7 @@ use Rattle.vt_recording.specs.Moment.{micros_of, cut}
 use Rattle.vt_recording.specs.Characters.{AreWritten}
 use Rattle.vt_recording.specs.Script.{begins_with, first_line, EndsAt, IsOfScript}
 use Rattle.vt_recording.specs.Timing as timing
+use Rattle.vt_recording.specs.Timing.{Step, Spot}
 use Rattle.vt_recording.specs.Ttyrec.{Piece, IsWhole, EndsBefore, spelled, time_of}
 use Rattle.vt_recording.specs.Asciicast as cast
 use Rattle.vt_recording.specs.Asciicast.{in_time}
@@ -135,7 +136,7 @@ unheard_in line micros bytes =
     (noted (signal_in (codes "SIGWINCH ") line) (timing.value_in (codes "EXIT_CODE ") line) micros)
 
 -- the event of a line, whose bytes are the next ones of the session
-abbrev pub told_by : (empty : Bool) → Option timing.Step → (line session : List ℕ) → timing.Spot → List Event
+abbrev pub told_by : (empty : Bool) → Option Step → (line session : List ℕ) → Spot → List Event
 told_by true step line session spot = []
 told_by false None line session spot = []
 told_by false (Some s) line session spot =
@@ -147,7 +148,7 @@ abbrev pub unless : Option Break → List Event → Timeline → Timeline
 unless None events timeline = after events timeline
 unless (Some place) events timeline = ends_at (Some place)
 
-unfoldable pub timed_events : (apart : Bool) (session : List ℕ) (stop : ℕ) (spot : timing.Spot) (at : ℕ) → List (List ℕ) → Timeline
+unfoldable pub timed_events : (apart : Bool) (session : List ℕ) (stop : ℕ) (spot : Spot) (at : ℕ) → List (List ℕ) → Timeline
 timed_events apart session stop spot at [] = ends_at None
 timed_events apart session stop spot at (line ∷ lines) =
     unless (timing.break_in (timing.is_empty line) (timing.step_in apart line) session spot.place stop at)

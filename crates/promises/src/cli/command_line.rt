@@ -4,8 +4,7 @@ ghost use Rattle.std.specs.Prelude.{[], IfErr, IfOk, ◌≡◌};
 ghost use Rattle.vt_cli.specs.CommandLine.{AreSettings};
 
 use std::alloc::Global;
-use vt_cli::Refused;
-use vt_cli::Settings;
+use vt_cli::{Refused, Settings};
 
 /// Promises what `vt_cli::settings` promises.
 pub fn settings(alloc: Global, words: Vec<String>) -> Result<Settings, Refused>

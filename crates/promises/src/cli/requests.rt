@@ -4,8 +4,7 @@ ghost use Rattle.std.specs.Prelude.{IfErr, IfOk};
 ghost use Rattle.vt_cli.specs.Request.{IsRequest};
 
 use std::alloc::Global;
-use vt_cli::Refused;
-use vt_cli::Request;
+use vt_cli::{Refused, Request};
 
 /// Promises what `vt_cli::request` promises.
 pub fn request(alloc: Global, words: Vec<String>) -> Result<Request, Refused>

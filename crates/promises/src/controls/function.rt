@@ -9,9 +9,7 @@ ghost use Rattle.promises.specs.v0_3.controls.Spoken.{Speaks};
 ghost use Rattle.promises.specs.v0_3.syntax.Spelling.{spell_event};
 ghost use Rattle.std.specs.Prelude.{[], codes, length, take, vec_capacity, vec_len, ◌++◌, ◌+◌, ◌<◌, ◌≡◌, ◌≤◌};
 
-use vt_controls::ALL_MODES;
-use vt_controls::FUNCTION_LIMIT;
-use vt_controls::Function;
+use vt_controls::{ALL_MODES, FUNCTION_LIMIT, Function};
 use vt_glyph::Set;
 use vt_screen::Rendition;
 

@@ -4,9 +4,8 @@ ghost use Rattle.std.specs.Io.KnownBytes.{ReadConsumes, WriteAppends};
 ghost use Rattle.std.specs.Io.{ReadsAtMost, WritesAtMost};
 ghost use Rattle.std.specs.Prelude.{false, None, ◌||◌, ◌≡◌};
 
-use std::io::Read;
-use std::io::Write;
 use std::io;
+use std::io::{Read, Write};
 use vt_device::Watched;
 
 /// Promises what `Watched::new` promises.

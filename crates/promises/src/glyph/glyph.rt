@@ -4,8 +4,7 @@ ghost use Rattle.promises.specs.v0_3.glyph.Spell.{spelling_of};
 ghost use Rattle.promises.specs.v0_3.glyph.Tables.{IsGlyph, space, substitute_glyph};
 ghost use Rattle.std.specs.Prelude.{◌<◌, ◌≡◌, ◌≤◌};
 
-use vt_glyph::Glyph;
-use vt_glyph::Spelling;
+use vt_glyph::{Glyph, Spelling};
 
 /// Promises what `Glyph::blank` promises.
 pub fn glyph_blank() -> Glyph

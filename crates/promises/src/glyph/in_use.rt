@@ -3,8 +3,7 @@ ghost use Rattle.promises.specs.v0_3.glyph.Invocation.{glyph_in_use, HasGlyph};
 ghost use Rattle.promises.specs.v0_3.glyph.Tables.{IsGlyph};
 ghost use Rattle.std.specs.Prelude.{◌≡◌};
 
-use vt_glyph::Glyph;
-use vt_glyph::InUse;
+use vt_glyph::{Glyph, InUse};
 
 /// Promises what `in_use.glyph` promises.
 pub fn in_use_glyph(in_use: &InUse, b: u8) -> Glyph

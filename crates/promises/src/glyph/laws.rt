@@ -4,7 +4,6 @@ ghost use Rattle.std.specs.Prelude.{Some, ◌≡◌};
 ghost use Rattle.vt_glyph.specs.Laws.{GlyphLaws, InUseLaws, SetsLaws, SpellingLaws};
 ghost use Rattle.vt_glyph.specs.declared.set.Set.{Set};
 
-
 /// Promises what `vt_glyph::laws::spelling` promises.
 pub fn spelling()
     ensures { SpellingLaws }

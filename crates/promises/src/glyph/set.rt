@@ -3,8 +3,7 @@ ghost use Rattle.promises.specs.v0_3.glyph.Designation.{final_of, set_of_final};
 ghost use Rattle.promises.specs.v0_3.glyph.Tables.{glyph_of, IsGlyph};
 ghost use Rattle.std.specs.Prelude.{◌≡◌, ◌≤◌};
 
-use vt_glyph::Glyph;
-use vt_glyph::Set;
+use vt_glyph::{Glyph, Set};
 
 /// Promises what `Set::of_final` promises.
 pub fn set_of_final(last: u8) -> Option<Set>

@@ -7,10 +7,7 @@ ghost use Rattle.std.specs.Prelude.{IfSome, IsTrue, ℕ, ◌<◌, ◌↔◌, ◌
 ghost use Rattle.vt_glyph.specs.GraphicSets.{AreSoundSets};
 ghost use Rattle.vt_glyph.specs.declared.set.Set.TheVariants.{Ascii};
 
-use vt_glyph::Glyph;
-use vt_glyph::InUse;
-use vt_glyph::Set;
-use vt_glyph::Sets;
+use vt_glyph::{Glyph, InUse, Set, Sets};
 
 /// Promises what `Sets::power_up` promises.
 pub fn sets_power_up() -> Sets

@@ -20,7 +20,6 @@ ghost use Rattle.vt_term.specs.Sound.{IsSound};
 ghost use Rattle.vt_term.specs.State.{State};
 ghost use Rattle.vt_utf8.specs.Placing.{TakesText};
 
-
 /// Promises what `laws_utf8::decoding` promises.
 pub fn decoding()
     ensures characters { (cs : List ℕ) → All InScalarRange cs → characters [] (encode_utf8_all cs) ≡ cs }

@@ -23,7 +23,6 @@ ghost use Rattle.vt_term.specs.State.{Display};
 ghost use Rattle.vt_xterm.specs.Pages.{Screens};
 ghost use Rattle.vt_xterm.specs.Play.{IsSoundWhole, Whole};
 
-
 /// Promises what `laws_xterm::scrolls` promises.
 pub fn scrolls()
     ensures rows { (params : ArrayVec ℕ) (s : Screens) → s.display.margins.top ≡ 1

@@ -5,16 +5,20 @@ ghost use Rattle.std.specs.Prelude.{[], false, true, ◌≡◌, ◌≤◌};
 ghost use Rattle.vt_device.specs.Runs.{Moves};
 
 use std::alloc::Global;
-use std::io::Read;
-use std::io::Write;
-use vt_device::Source;
-use vt_device::Watched;
-use vt_output::Decoding;
-use vt_output::Output;
+use std::io::{Read, Write};
+use vt_device::{Source, Watched};
+use vt_output::{Decoding, Output};
 use vt_recording::Fault;
 
 /// Promises what `vt_output::write_output::<O, R, W>` promises.
-pub fn write_output<O: Output, R: Read, W: Write>(alloc: Global, output: &mut O, reader: &mut Watched<R>, writer: &mut Watched<W>, piece: usize, limit: u64) -> Result<(), Fault>
+pub fn write_output<O: Output, R: Read, W: Write>(
+    alloc: Global,
+    output: &mut O,
+    reader: &mut Watched<R>,
+    writer: &mut Watched<W>,
+    piece: usize,
+    limit: u64,
+) -> Result<(), Fault>
     requires takes { 1 ≤ O.most output.old }
     requires counts { O.counted output.old ≡ 0 }
     requires none { O.written output.old [] ≡ [] }
@@ -32,7 +36,14 @@ pub fn write_output<O: Output, R: Read, W: Write>(alloc: Global, output: &mut O,
 }
 
 /// Promises what `vt_output::write_by::<O, D, S, W>` promises.
-pub fn write_by<O: Output, D: Decoding, S: Source, W: Write>(alloc: Global, output: &mut O, reader: &mut S, writer: &mut Watched<W>, piece: usize, limit: u64) -> Result<(), Fault>
+pub fn write_by<O: Output, D: Decoding, S: Source, W: Write>(
+    alloc: Global,
+    output: &mut O,
+    reader: &mut S,
+    writer: &mut Watched<W>,
+    piece: usize,
+    limit: u64,
+) -> Result<(), Fault>
     requires takes { 1 ≤ O.most output.old }
     requires counts { O.counted output.old ≡ 0 }
     requires none { O.written output.old [] ≡ [] }

@@ -8,9 +8,7 @@ ghost use Rattle.vt_term.specs.Sound.{IsSound};
 ghost use Rattle.vt_term.specs.State.{State};
 
 use vt_paint::PAINT_LIMIT;
-use vt_term::ROWS;
-use vt_term::STOPS;
-use vt_term::Terminal;
+use vt_term::{ROWS, STOPS, Terminal};
 
 /// Promises what `vt_paint::repaint_changes_reserved` promises.
 pub fn repaint_changes_reserved(marks: &[[bool; STOPS]; ROWS], t: &Terminal, out: &mut Vec<u8>)

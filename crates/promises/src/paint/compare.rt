@@ -3,12 +3,15 @@ ghost use Rattle.promises.specs.v0_3.paint.Changes.{AreCounted, AreMarked, diffe
 ghost use Rattle.std.specs.Prelude.{◌*◌, ◌≡◌, ◌≤◌};
 
 use vt_screen::COLUMNS;
-use vt_term::ROWS;
-use vt_term::STOPS;
-use vt_term::Terminal;
+use vt_term::{ROWS, STOPS, Terminal};
 
 /// Promises what `vt_paint::changed_places` promises.
-pub fn changed_places(a: &Terminal, b: &Terminal, marks: &mut [[bool; STOPS]; ROWS], counts: &mut [usize; ROWS]) -> usize
+pub fn changed_places(
+    a: &Terminal,
+    b: &Terminal,
+    marks: &mut [[bool; STOPS]; ROWS],
+    counts: &mut [usize; ROWS],
+) -> usize
     requires { a.now.display.grid.width ≡ b.now.display.grid.width }
     ensures marked { AreMarked marks.new a.now.display.grid b.now.display.grid }
     ensures counted { AreCounted counts.new a.now.display.grid b.now.display.grid }

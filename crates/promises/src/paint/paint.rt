@@ -5,8 +5,7 @@ ghost use Rattle.std.specs.Prelude.{IsErrOf, OnErr, OnOk, vec_capacity, vec_len,
 ghost use Rattle.std.specs.Prelude.{◌≤◌};
 ghost use Rattle.vt_syntax.specs.declared.held.Held.TheVariants.{Nothing};
 
-use vt_paint::PAINT_LIMIT;
-use vt_paint::PaintError;
+use vt_paint::{PAINT_LIMIT, PaintError};
 use vt_term::Terminal;
 
 /// Promises what `vt_paint::repaint` promises.

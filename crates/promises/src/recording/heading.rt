@@ -2,10 +2,8 @@
 ghost use Rattle.promises.specs.v0_3.recording.Heading.{heading_of};
 ghost use Rattle.std.specs.Prelude.{IfOk, ◌≡◌};
 
-use std::alloc::AllocError;
-use std::alloc::Global;
-use vt_recording::Format;
-use vt_recording::Heading;
+use std::alloc::{AllocError, Global};
+use vt_recording::{Format, Heading};
 
 /// Promises what `vt_recording::heading_of` promises.
 pub fn heading_of(alloc: Global, bytes: &[u8], format: Format) -> Result<Heading, AllocError>

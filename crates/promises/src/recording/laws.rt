@@ -7,7 +7,6 @@ ghost use Rattle.vt_recording.specs.declared.format.Encoding.{Encoding};
 ghost use Rattle.vt_recording.specs.declared.format.Format.{Format};
 ghost use Rattle.vt_recording.specs.declared.format.Moment.{Moment};
 
-
 /// Promises what `vt_recording::laws::content` promises.
 pub fn content()
     ensures { (format : Format) (encoding : Encoding) (until : Option Moment) (timing : Option (List ℕ)) (bytes content : List ℕ)

@@ -10,7 +10,11 @@ use vt_device::Watched;
 use vt_recording::Fault;
 
 /// Promises what `vt_recording::read_recording::<R>` promises.
-pub fn read_recording<R: Read>(alloc: Global, reader: &mut Watched<R>, limit: usize) -> Result<Vec<u8>, Fault>
+pub fn read_recording<R: Read>(
+    alloc: Global,
+    reader: &mut Watched<R>,
+    limit: usize,
+) -> Result<Vec<u8>, Fault>
     requires works { reader.old.failed ≡ false }
     requires goes_on { reader.old.ended ≡ false }
     requires limit_in_range { limit ≤ 1099511627776 }

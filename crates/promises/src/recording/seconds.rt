@@ -2,7 +2,6 @@
 ghost use Rattle.promises.specs.v0_3.recording.Seconds.{number, scale};
 ghost use Rattle.std.specs.Prelude.{IfSome, ◌<◌, ◌^◌, ◌≡◌, ◌≤◌};
 
-
 /// Promises what `vt_recording::number` promises.
 pub fn number(most: usize, digits: &[u8]) -> Option<u64>
     requires { most ≤ 15 }

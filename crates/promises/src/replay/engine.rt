@@ -8,17 +8,21 @@ ghost use Rattle.std.specs.Prelude.{false, true, ◌≡◌, ◌≤◌};
 ghost use Rattle.vt_device.specs.Runs.{Moves};
 
 use std::alloc::Global;
-use std::io::Read;
-use std::io::Write;
-use vt_cli::Settings;
-use vt_cli::What;
-use vt_device::Source;
-use vt_device::Watched;
+use std::io::{Read, Write};
+use vt_cli::{Settings, What};
+use vt_device::{Source, Watched};
 use vt_recording::Fault;
 use vt_replay::Language;
 
 /// Promises what `vt_replay::run::<R, W>` promises.
-pub fn run<R: Read, W: Write>(alloc: Global, reader: &mut Watched<R>, writer: &mut Watched<W>, what: What, piece: usize, limit: u64) -> Result<(), Fault>
+pub fn run<R: Read, W: Write>(
+    alloc: Global,
+    reader: &mut Watched<R>,
+    writer: &mut Watched<W>,
+    what: What,
+    piece: usize,
+    limit: u64,
+) -> Result<(), Fault>
     requires reader_works { reader.old.failed ≡ false }
     requires reader_goes_on { reader.old.ended ≡ false }
     requires writer_works { writer.old.failed ≡ false }
@@ -33,7 +37,15 @@ pub fn run<R: Read, W: Write>(alloc: Global, reader: &mut Watched<R>, writer: &m
 }
 
 /// Promises what `vt_replay::run_from::<S, W>` promises.
-pub fn run_from<S: Source, W: Write>(alloc: Global, reader: &mut S, writer: &mut Watched<W>, what: What, language: Language, piece: usize, limit: u64) -> Result<(), Fault>
+pub fn run_from<S: Source, W: Write>(
+    alloc: Global,
+    reader: &mut S,
+    writer: &mut Watched<W>,
+    what: What,
+    language: Language,
+    piece: usize,
+    limit: u64,
+) -> Result<(), Fault>
     requires reader_works { S.failed reader.old ≡ false }
     requires reader_goes_on { S.ended reader.old ≡ false }
     requires writer_works { writer.old.failed ≡ false }
@@ -48,7 +60,12 @@ pub fn run_from<S: Source, W: Write>(alloc: Global, reader: &mut S, writer: &mut
 }
 
 /// Promises what `vt_replay::replay::<R, W>` promises.
-pub fn replay<R: Read, W: Write>(alloc: Global, reader: &mut Watched<R>, writer: &mut Watched<W>, settings: &Settings) -> Result<(), Fault>
+pub fn replay<R: Read, W: Write>(
+    alloc: Global,
+    reader: &mut Watched<R>,
+    writer: &mut Watched<W>,
+    settings: &Settings,
+) -> Result<(), Fault>
     requires reader_works { reader.old.failed ≡ false }
     requires reader_goes_on { reader.old.ended ≡ false }
     requires writer_works { writer.old.failed ≡ false }

@@ -2,8 +2,7 @@
 ghost use Rattle.promises.specs.v0_3.replay.Host.{host_for};
 ghost use Rattle.std.specs.Prelude.{◌≡◌};
 
-use vt_cli::Format;
-use vt_cli::Request;
+use vt_cli::{Format, Request};
 use vt_recording::Heading;
 use vt_replay::Host;
 

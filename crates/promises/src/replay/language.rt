@@ -2,8 +2,7 @@
 ghost use Rattle.promises.specs.v0_3.replay.Playing.{language_of};
 ghost use Rattle.std.specs.Prelude.{◌≡◌};
 
-use vt_cli::Encoding;
-use vt_cli::TerminalType;
+use vt_cli::{Encoding, TerminalType};
 use vt_replay::Language;
 
 /// Promises what `Language::of` promises.

@@ -12,7 +12,6 @@ ghost use Rattle.vt_syntax.specs.declared.event.Event.{Event};
 ghost use Rattle.vt_term.specs.Sound.{IsSound};
 ghost use Rattle.vt_term.specs.State.{Display, State};
 
-
 /// Promises what `vt_replay::laws::as_decoded` promises.
 pub fn as_decoded()
     ensures { (encoding : Encoding) (bytes : List ℕ)

@@ -6,15 +6,19 @@ ghost use Rattle.std.specs.Prelude.{false, true, ◌≡◌, ◌≤◌};
 ghost use Rattle.vt_device.specs.Runs.{Moves};
 
 use std::alloc::Global;
-use std::io::Read;
-use std::io::Write;
-use vt_device::Source;
-use vt_device::Watched;
+use std::io::{Read, Write};
+use vt_device::{Source, Watched};
 use vt_recording::Fault;
 use vt_replay::Language;
 
 /// Promises what `vt_replay::write_log::<R, W>` promises.
-pub fn write_log<R: Read, W: Write>(alloc: Global, reader: &mut Watched<R>, writer: &mut Watched<W>, piece: usize, limit: u64) -> Result<(), Fault>
+pub fn write_log<R: Read, W: Write>(
+    alloc: Global,
+    reader: &mut Watched<R>,
+    writer: &mut Watched<W>,
+    piece: usize,
+    limit: u64,
+) -> Result<(), Fault>
     requires reader_works { reader.old.failed ≡ false }
     requires reader_goes_on { reader.old.ended ≡ false }
     requires writer_works { writer.old.failed ≡ false }
@@ -29,7 +33,14 @@ pub fn write_log<R: Read, W: Write>(alloc: Global, reader: &mut Watched<R>, writ
 }
 
 /// Promises what `vt_replay::write_log_from::<S, W>` promises.
-pub fn write_log_from<S: Source, W: Write>(alloc: Global, reader: &mut S, writer: &mut Watched<W>, language: Language, piece: usize, limit: u64) -> Result<(), Fault>
+pub fn write_log_from<S: Source, W: Write>(
+    alloc: Global,
+    reader: &mut S,
+    writer: &mut Watched<W>,
+    language: Language,
+    piece: usize,
+    limit: u64,
+) -> Result<(), Fault>
     requires reader_works { S.failed reader.old ≡ false }
     requires reader_goes_on { S.ended reader.old ≡ false }
     requires writer_works { writer.old.failed ≡ false }

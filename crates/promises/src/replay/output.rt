@@ -7,8 +7,7 @@ ghost use Rattle.vt_device.specs.Runs.{Moves};
 use std::alloc::Global;
 use std::io::Write;
 use vt_cli::Encoding;
-use vt_device::Source;
-use vt_device::Watched;
+use vt_device::{Source, Watched};
 use vt_output::Output;
 use vt_recording::Fault;
 
@@ -22,7 +21,15 @@ pub fn front_for(chunk: &[u8], reports: &Vec<u8>) -> usize
 }
 
 /// Promises what `vt_replay::write_output_from::<O, S, W>` promises.
-pub fn write_output_from<O: Output, S: Source, W: Write>(alloc: Global, output: &mut O, encoding: Encoding, reader: &mut S, writer: &mut Watched<W>, piece: usize, limit: u64) -> Result<(), Fault>
+pub fn write_output_from<O: Output, S: Source, W: Write>(
+    alloc: Global,
+    output: &mut O,
+    encoding: Encoding,
+    reader: &mut S,
+    writer: &mut Watched<W>,
+    piece: usize,
+    limit: u64,
+) -> Result<(), Fault>
     requires takes { 1 ≤ O.most output.old }
     requires counts { O.counted output.old ≡ 0 }
     requires none { O.written output.old [] ≡ [] }

@@ -9,7 +9,12 @@ use vt_replay::PAGE_LIMIT;
 use vt_term::Terminal;
 
 /// Promises what `vt_replay::feed_pages` promises.
-pub fn feed_pages(terminal: &mut Terminal, piece: &[u8], reports: &mut Vec<u8>, lines: &mut Vec<u8>) -> Result<(), AllocError>
+pub fn feed_pages(
+    terminal: &mut Terminal,
+    piece: &[u8],
+    reports: &mut Vec<u8>,
+    lines: &mut Vec<u8>,
+) -> Result<(), AllocError>
     ensures state { OnOk result (terminal.new ≡ (play terminal.old piece.now).state) }
     ensures reports { OnOk result (reports.new.items ≡ reports.old.items ++ (play terminal.old piece.now).reports) }
     ensures lines { OnOk result (lines.new.items ≡ lines.old.items ++ pages terminal.old piece.now) }
@@ -27,7 +32,12 @@ pub fn feed_pages(terminal: &mut Terminal, piece: &[u8], reports: &mut Vec<u8>, 
 }
 
 /// Promises what `vt_replay::feed_pages_reserved` promises.
-pub fn feed_pages_reserved(terminal: &mut Terminal, piece: &[u8], reports: &mut Vec<u8>, lines: &mut Vec<u8>) -> usize
+pub fn feed_pages_reserved(
+    terminal: &mut Terminal,
+    piece: &[u8],
+    reports: &mut Vec<u8>,
+    lines: &mut Vec<u8>,
+) -> usize
     requires { vec_len reports.old + 10 * length piece.now ≤ vec_capacity reports.old }
     ensures within { result ≤ length piece.now }
     ensures all { result < length piece.now → vec_capacity lines.new < vec_len lines.new + PAGE_LIMIT }

@@ -5,11 +5,8 @@ ghost use Rattle.std.specs.Prelude.{false, option_map, true, ◌≡◌};
 ghost use Rattle.vt_device.specs.Runs.{Moves};
 
 use std::alloc::Global;
-use std::io::Read;
-use std::io::Write;
-use vt_cli::Format;
-use vt_cli::Moment;
-use vt_cli::Request;
+use std::io::{Read, Write};
+use vt_cli::{Format, Moment, Request};
 use vt_device::Watched;
 use vt_replay::Outcome;
 
@@ -28,7 +25,14 @@ pub fn lacks_times(format: Format, timed: bool, until: Option<Moment>) -> bool
 }
 
 /// Promises what `vt_replay::carry_out::<R, W>` promises.
-pub fn carry_out<R: Read, W: Write>(alloc: Global, reader: &mut Watched<R>, format: Format, timing: Option<&[u8]>, writer: &mut Watched<W>, request: &Request) -> Outcome
+pub fn carry_out<R: Read, W: Write>(
+    alloc: Global,
+    reader: &mut Watched<R>,
+    format: Format,
+    timing: Option<&[u8]>,
+    writer: &mut Watched<W>,
+    request: &Request,
+) -> Outcome
     requires reader_works { reader.old.failed ≡ false }
     requires reader_goes_on { reader.old.ended ≡ false }
     requires writer_works { writer.old.failed ≡ false }

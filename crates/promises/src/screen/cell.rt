@@ -5,9 +5,7 @@ ghost use Rattle.promises.specs.v0_3.screen.Words.{brush_number, cell_word};
 ghost use Rattle.std.specs.Prelude.{◌<◌, ◌≡◌};
 
 use vt_glyph::Glyph;
-use vt_screen::Brush;
-use vt_screen::Cell;
-use vt_screen::Rendition;
+use vt_screen::{Brush, Cell, Rendition};
 
 /// Promises what `Rendition::plain` promises.
 pub fn rendition_plain() -> Rendition

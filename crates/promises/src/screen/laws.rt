@@ -1,7 +1,6 @@
 //! The calls of vt_screen/src/laws.
 ghost use Rattle.vt_screen.specs.Laws.{AreaLaws, PlaceLaws, RowLaws, RunLaws, TestLaws};
 
-
 /// Promises what `vt_screen::laws::places` promises.
 pub fn places()
     ensures { PlaceLaws }

@@ -6,11 +6,9 @@ ghost use Rattle.promises.specs.v0_3.screen.Grid.{scroll_up};
 ghost use Rattle.std.specs.Prelude.{All, false, IfOk, IsTrue, length, map, ◌+◌, ◌↔◌, ◌≡◌, ◌≤◌};
 ghost use Rattle.vt_screen.specs.Grid.{IsGrid, IsSoundGrid};
 
-use std::alloc::AllocError;
-use std::alloc::Global;
+use std::alloc::{AllocError, Global};
 use vt_glyph::InUse;
-use vt_screen::Cell;
-use vt_screen::Screen;
+use vt_screen::{Cell, Screen};
 
 /// Promises what `Screen::new` promises.
 pub fn screen_new(alloc: Global) -> Result<Screen, AllocError>
@@ -95,7 +93,14 @@ pub fn screen_put_run(screen: &mut Screen, row: usize, column: usize, codes: &[u
 }
 
 /// Promises what `screen.put_graphics` promises.
-pub fn screen_put_graphics(screen: &mut Screen, row: usize, column: usize, bytes: &[u8], table: &InUse, like: Cell)
+pub fn screen_put_graphics(
+    screen: &mut Screen,
+    row: usize,
+    column: usize,
+    bytes: &[u8],
+    table: &InUse,
+    like: Cell,
+)
     requires row { (1 ≤ row) × (row ≤ last_row) }
     requires column { (1 ≤ column) × (column ≤ screen.old.width) }
     requires bytes { All HasGlyph bytes.now }

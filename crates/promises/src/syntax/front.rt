@@ -7,9 +7,7 @@ ghost use Rattle.vt_syntax.specs.Front.{IsFront};
 ghost use Rattle.vt_syntax.specs.declared.event.Event.TheVariants as event;
 ghost use Rattle.vt_syntax.specs.declared.event.Event.TheVariants.{Sequence};
 
-use vt_syntax::EventKind;
-use vt_syntax::Front;
-use vt_syntax::FrontValues;
+use vt_syntax::{EventKind, Front, FrontValues};
 
 /// Promises what `Front::of` promises.
 pub fn front_of(piece: &[u8]) -> Front

@@ -1,7 +1,6 @@
 //! The calls of vt_syntax/src/laws.
 ghost use Rattle.vt_syntax.specs.Laws.{ControlLaw, SpellingLaw, SplitLaw};
 
-
 /// Promises what `vt_syntax::laws::one_split` promises.
 pub fn one_split()
     ensures { SplitLaw }

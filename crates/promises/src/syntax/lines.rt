@@ -2,7 +2,6 @@
 ghost use Rattle.promises.specs.v0_3.syntax.Class.{IsOfLines};
 ghost use Rattle.std.specs.Prelude.{All, length, slice_index, take, ◌<◌, ◌≤◌};
 
-
 /// Promises what `vt_syntax::lines_run` promises.
 pub fn lines_run(piece: &[u8]) -> usize
     ensures within { result ≤ length piece.now }

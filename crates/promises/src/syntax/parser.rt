@@ -7,11 +7,7 @@ ghost use Rattle.std.specs.Prelude.{[], IfNone, IfSome, IsTrue, length, take, â—
 ghost use Rattle.vt_syntax.specs.Held.{IsHeldPart};
 ghost use Rattle.vt_syntax.specs.declared.held.Held.{Held};
 
-use vt_syntax::Event;
-use vt_syntax::Held;
-use vt_syntax::Parser;
-use vt_syntax::Taken;
-use vt_syntax::Values;
+use vt_syntax::{Event, Held, Parser, Taken, Values};
 
 /// Promises what `Parser::new` promises.
 pub fn parser_new() -> Parser

@@ -4,11 +4,14 @@ ghost use Rattle.std.specs.Prelude.{IsOk, length, OnErr, OnOk, take, vec_capacit
 ghost use Rattle.std.specs.Prelude.{◌≤◌};
 
 use std::alloc::AllocError;
-use vt_term::Observer;
-use vt_term::Terminal;
+use vt_term::{Observer, Terminal};
 
 /// Promises what `terminal.feed` promises.
-pub fn terminal_feed(terminal: &mut Terminal, piece: &[u8], out: &mut Vec<u8>) -> Result<(), AllocError>
+pub fn terminal_feed(
+    terminal: &mut Terminal,
+    piece: &[u8],
+    out: &mut Vec<u8>,
+) -> Result<(), AllocError>
     ensures state { OnOk result (terminal.new ≡ (play terminal.old piece.now).state) }
     ensures reports { OnOk result (out.new.items ≡ out.old.items ++ (play terminal.old piece.now).reports) }
     ensures bounded { vec_len out.new ≤ vec_len out.old + 10 * length piece.now }
@@ -32,7 +35,12 @@ pub fn terminal_feed_reserved(terminal: &mut Terminal, piece: &[u8], out: &mut V
 }
 
 /// Promises what `terminal.feed_observed` promises.
-pub fn terminal_feed_observed<O: Observer>(terminal: &mut Terminal, piece: &[u8], observer: &mut O, out: &mut Vec<u8>) -> usize
+pub fn terminal_feed_observed<O: Observer>(
+    terminal: &mut Terminal,
+    piece: &[u8],
+    observer: &mut O,
+    out: &mut Vec<u8>,
+) -> usize
     requires room { vec_len out.old + 10 * length piece.now ≤ vec_capacity out.old }
     requires takes { O.Takes observer.old (length piece.now) }
     ensures within { result ≤ length piece.now }

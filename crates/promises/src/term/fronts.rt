@@ -16,9 +16,7 @@ ghost use Rattle.std.specs.Prelude.{false, IfNone, IfSome, length, take, true, v
 ghost use Rattle.std.specs.Prelude.{◌≤◌};
 
 use vt_glyph::Glyph;
-use vt_syntax::EventKind;
-use vt_syntax::Taken;
-use vt_syntax::Values;
+use vt_syntax::{EventKind, Taken, Values};
 use vt_term::Terminal;
 
 /// Promises what `terminal.next_event` promises.
@@ -34,7 +32,12 @@ pub fn terminal_next_event(terminal: &mut Terminal, piece: &[u8], values: &mut V
 }
 
 /// Promises what `terminal.carry_out` promises.
-pub fn terminal_carry_out(terminal: &mut Terminal, kind: EventKind, values: &[u16], out: &mut Vec<u8>)
+pub fn terminal_carry_out(
+    terminal: &mut Terminal,
+    kind: EventKind,
+    values: &[u16],
+    out: &mut Vec<u8>,
+)
     requires event { IsEvent (event_of kind values.now) }
     requires room { vec_len out.old + 10 ≤ vec_capacity out.old }
     ensures state { terminal.new ≡ record terminal.old { display = effect (event_of kind values.now) terminal.old.display } }
@@ -50,7 +53,7 @@ pub fn terminal_move_to(terminal: &mut Terminal, row: usize, col: usize)
     requires row { (1 ≤ row) × (row ≤ last_row) }
     requires column { (1 ≤ col) × (col ≤ terminal.old.display.grid.width) }
     requires origin { terminal.old.display.modes.decom ≡ true
-            → (terminal.old.display.margins.top ≤ row) × (row ≤ terminal.old.display.margins.bottom) }
+        → (terminal.old.display.margins.top ≤ row) × (row ≤ terminal.old.display.margins.bottom) }
     ensures { terminal.new ≡ record terminal.old { display = record terminal.old.display { cursor = at_place row col } } }
 {
     terminal.move_to(row, col)
@@ -59,10 +62,10 @@ pub fn terminal_move_to(terminal: &mut Terminal, row: usize, col: usize)
 /// Promises what `terminal.scroll_up` promises.
 pub fn terminal_scroll_up(terminal: &mut Terminal, n: u16)
     ensures { terminal.new ≡ record terminal.old {
-          display = record terminal.old.display {
-            grid = scroll_up terminal.old.display.grid terminal.old.display.margins.top terminal.old.display.margins.bottom n;
-          };
-        } }
+      display = record terminal.old.display {
+        grid = scroll_up terminal.old.display.grid terminal.old.display.margins.top terminal.old.display.margins.bottom n;
+      };
+    } }
 {
     terminal.scroll_up(n)
 }
@@ -70,10 +73,10 @@ pub fn terminal_scroll_up(terminal: &mut Terminal, n: u16)
 /// Promises what `terminal.scroll_down` promises.
 pub fn terminal_scroll_down(terminal: &mut Terminal, n: u16)
     ensures { terminal.new ≡ record terminal.old {
-          display = record terminal.old.display {
-            grid = scroll_down terminal.old.display.grid terminal.old.display.margins.top terminal.old.display.margins.bottom n;
-          };
-        } }
+      display = record terminal.old.display {
+        grid = scroll_down terminal.old.display.grid terminal.old.display.margins.top terminal.old.display.margins.bottom n;
+      };
+    } }
 {
     terminal.scroll_down(n)
 }

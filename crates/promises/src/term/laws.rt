@@ -12,7 +12,6 @@ ghost use Rattle.vt_syntax.specs.declared.event.Event.TheVariants.{Control, Prin
 ghost use Rattle.vt_term.specs.Sound.{IsSound};
 ghost use Rattle.vt_term.specs.State.{Display, State};
 
-
 /// Promises what `vt_term::laws::soundness` promises.
 pub fn soundness()
     ensures power_up { IsSound power_up }

@@ -3,10 +3,8 @@ ghost use Rattle.promises.specs.v0_3.term.Pages.{blanked, fitted, page_at_power_
 ghost use Rattle.promises.specs.v0_3.term.State.{display_at_power_up, power_up};
 ghost use Rattle.std.specs.Prelude.{IfOk, ◌≡◌};
 
-use std::alloc::AllocError;
-use std::alloc::Global;
-use vt_term::Page;
-use vt_term::Terminal;
+use std::alloc::{AllocError, Global};
+use vt_term::{Page, Terminal};
 
 /// Promises what `Page::new` promises.
 pub fn page_new(alloc: Global) -> Result<Page, AllocError>
@@ -39,8 +37,8 @@ pub fn page_copy_from(page: &mut Page, other: &Page)
 /// Promises what `terminal.exchange_page` promises.
 pub fn terminal_exchange_page(terminal: &mut Terminal, page: &mut Page)
     ensures shown { terminal.new ≡ record terminal.old {
-          display = with_page (fitted terminal.old.display.grid.width page.old) terminal.old.display;
-        } }
+      display = with_page (fitted terminal.old.display.grid.width page.old) terminal.old.display;
+    } }
     ensures page { page.new ≡ page_of terminal.old.display }
 {
     terminal.exchange_page(page)

@@ -6,16 +6,9 @@ ghost use Rattle.vt_syntax.specs.declared.held.Held.TheVariants.{Nothing};
 ghost use Rattle.vt_term.specs.Sound.{IsSound};
 
 use vt_glyph::Sets;
-use vt_screen::Brush;
-use vt_screen::Cell;
-use vt_syntax::Held;
-use vt_syntax::Parser;
-use vt_term::Cursor;
-use vt_term::Margins;
-use vt_term::Modes;
-use vt_term::STOPS;
-use vt_term::Saved;
-use vt_term::Terminal;
+use vt_screen::{Brush, Cell};
+use vt_syntax::{Held, Parser};
+use vt_term::{Cursor, Margins, Modes, STOPS, Saved, Terminal};
 
 /// Promises what `terminal.row` promises.
 pub fn terminal_row(terminal: &Terminal, row: usize) -> &[Cell]

@@ -7,7 +7,12 @@ use vt_syntax::EventKind;
 use vt_term::Terminal;
 
 /// Promises what `terminal.report_reserved` promises.
-pub fn terminal_report_reserved(terminal: &Terminal, kind: EventKind, values: &[u16], out: &mut Vec<u8>)
+pub fn terminal_report_reserved(
+    terminal: &Terminal,
+    kind: EventKind,
+    values: &[u16],
+    out: &mut Vec<u8>,
+)
     requires { vec_len out.old + 10 ≤ vec_capacity out.old }
     ensures items { out.new.items ≡ out.old.items ++ report (event_of kind values.now) terminal.now.display }
     ensures bounded { vec_len out.new ≤ vec_len out.old + 10 }

@@ -9,11 +9,15 @@ ghost use Rattle.std.specs.Prelude.{vec_len, ℕ, ◌&&◌, ◌*◌, ◌++◌, �
 
 use std::alloc::AllocError;
 use vt_syntax::EventKind;
-use vt_term::ROW_TEXT_LIMIT;
-use vt_term::Terminal;
+use vt_term::{ROW_TEXT_LIMIT, Terminal};
 
 /// Promises what `terminal.feed_log` promises.
-pub fn terminal_feed_log(terminal: &mut Terminal, piece: &[u8], reports: &mut Vec<u8>, lines: &mut Vec<u8>) -> Result<(), AllocError>
+pub fn terminal_feed_log(
+    terminal: &mut Terminal,
+    piece: &[u8],
+    reports: &mut Vec<u8>,
+    lines: &mut Vec<u8>,
+) -> Result<(), AllocError>
     ensures state { OnOk result (terminal.new ≡ (play terminal.old piece.now).state) }
     ensures reports { OnOk result (reports.new.items ≡ reports.old.items ++ (play terminal.old piece.now).reports) }
     ensures lines { OnOk result (lines.new.items ≡ lines.old.items ++ log terminal.old piece.now) }
@@ -25,13 +29,18 @@ pub fn terminal_feed_log(terminal: &mut Terminal, piece: &[u8], reports: &mut Ve
     ensures reports_capacity { vec_capacity reports.old ≤ vec_capacity reports.new }
     ensures lines_capacity { vec_capacity lines.old ≤ vec_capacity lines.new }
     ensures has_room { (vec_len reports.old + 10 * length piece.now ≤ vec_capacity reports.old)
-            × (vec_len lines.old + ROW_TEXT_LIMIT * length piece.now ≤ vec_capacity lines.old) → IsOk result }
+        × (vec_len lines.old + ROW_TEXT_LIMIT * length piece.now ≤ vec_capacity lines.old) → IsOk result }
 {
     terminal.feed_log(piece, reports, lines)
 }
 
 /// Promises what `terminal.feed_log_reserved` promises.
-pub fn terminal_feed_log_reserved(terminal: &mut Terminal, piece: &[u8], reports: &mut Vec<u8>, lines: &mut Vec<u8>) -> usize
+pub fn terminal_feed_log_reserved(
+    terminal: &mut Terminal,
+    piece: &[u8],
+    reports: &mut Vec<u8>,
+    lines: &mut Vec<u8>,
+) -> usize
     requires { vec_len reports.old + 10 * length piece.now ≤ vec_capacity reports.old }
     ensures within { result ≤ length piece.now }
     ensures all { result < length piece.now → vec_capacity lines.new < vec_len lines.new + ROW_TEXT_LIMIT }
@@ -49,11 +58,11 @@ pub fn terminal_feed_log_reserved(terminal: &mut Terminal, piece: &[u8], reports
 /// Promises what `terminal.line_off_reserved` promises.
 pub fn terminal_line_off_reserved(terminal: &Terminal, kind: EventKind, lines: &mut Vec<u8>)
     requires { (values : List ℕ) → scrolls_off (event_of kind values) terminal.now.display ≡ true
-            → vec_len lines.old + ROW_TEXT_LIMIT ≤ vec_capacity lines.old }
+        → vec_len lines.old + ROW_TEXT_LIMIT ≤ vec_capacity lines.old }
     ensures lines { (values : List ℕ) → lines.new.items ≡ lines.old.items
-            ++ flat_map line_text (line_off (event_of kind values) terminal.now.display) }
+        ++ flat_map line_text (line_off (event_of kind values) terminal.now.display) }
     ensures none { (values : List ℕ) → scrolls_off (event_of kind values) terminal.now.display ≡ false
-            → vec_len lines.new ≡ vec_len lines.old }
+        → vec_len lines.new ≡ vec_len lines.old }
     ensures bounded { vec_len lines.new ≤ vec_len lines.old + ROW_TEXT_LIMIT }
     ensures capacity { vec_capacity lines.old ≤ vec_capacity lines.new }
 {

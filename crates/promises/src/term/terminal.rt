@@ -2,8 +2,7 @@
 ghost use Rattle.promises.specs.v0_3.term.State.{power_up};
 ghost use Rattle.std.specs.Prelude.{IfOk, ◌≡◌};
 
-use std::alloc::AllocError;
-use std::alloc::Global;
+use std::alloc::{AllocError, Global};
 use vt_term::Terminal;
 
 /// Promises what `Terminal::new` promises.

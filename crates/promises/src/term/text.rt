@@ -4,9 +4,7 @@ ghost use Rattle.promises.specs.v0_3.term.Text.{line_text, text};
 ghost use Rattle.std.specs.Prelude.{IsOk, OnErr, OnOk, vec_capacity, vec_len, ◌++◌, ◌+◌, ◌≡◌, ◌≤◌};
 
 use std::alloc::AllocError;
-use vt_term::ROW_TEXT_LIMIT;
-use vt_term::TEXT_LIMIT;
-use vt_term::Terminal;
+use vt_term::{ROW_TEXT_LIMIT, TEXT_LIMIT, Terminal};
 
 /// Promises what `terminal.text` promises.
 pub fn terminal_text(terminal: &Terminal, out: &mut Vec<u8>) -> Result<(), AllocError>

@@ -2,7 +2,6 @@
 ghost use Rattle.promises.specs.v0_3.trace.Lines.{shown_byte};
 ghost use Rattle.std.specs.Prelude.{vec_capacity, vec_len, ◌++◌, ◌+◌, ◌≡◌, ◌≤◌};
 
-
 /// Promises what `vt_trace::push_shown` promises.
 pub fn push_shown(b: u8, out: &mut Vec<u8>)
     requires { vec_len out.old + 4 ≤ vec_capacity out.old }

@@ -3,10 +3,8 @@ ghost use Rattle.promises.specs.v0_3.trace.Summary.{summary};
 ghost use Rattle.std.specs.Prelude.{[], IfOk, List, vec_capacity, vec_len, ℕ, ◌++◌, ◌+◌, ◌≡◌, ◌≤◌};
 ghost use Rattle.vt_trace.specs.Counted.{HasCounted};
 
-use std::alloc::AllocError;
-use std::alloc::Global;
-use vt_trace::SUMMARY_LIMIT;
-use vt_trace::Summary;
+use std::alloc::{AllocError, Global};
+use vt_trace::{SUMMARY_LIMIT, Summary};
 
 /// Promises what `Summary::new` promises.
 pub fn summary_new(alloc: Global) -> Result<Summary, AllocError>

@@ -4,9 +4,7 @@ ghost use Rattle.promises.specs.v0_3.trace.Trace.{end_lines, trace, tracer_all, 
 ghost use Rattle.std.specs.Prelude.{length, take, vec_capacity, vec_len, ◌*◌, ◌++◌, ◌+◌, ◌<◌, ◌^◌, ◌≡◌, ◌≤◌};
 
 use vt_term::Terminal;
-use vt_trace::SKIPPED_LIMIT;
-use vt_trace::TRACE_LIMIT;
-use vt_trace::Tracer;
+use vt_trace::{SKIPPED_LIMIT, TRACE_LIMIT, Tracer};
 
 /// Promises what `Tracer::new` promises.
 pub fn tracer_new() -> Tracer
@@ -16,7 +14,13 @@ pub fn tracer_new() -> Tracer
 }
 
 /// Promises what `vt_trace::trace_reserved` promises.
-pub fn trace_reserved(terminal: &mut Terminal, tracer: &mut Tracer, chunk: &[u8], reports: &mut Vec<u8>, out: &mut Vec<u8>) -> usize
+pub fn trace_reserved(
+    terminal: &mut Terminal,
+    tracer: &mut Tracer,
+    chunk: &[u8],
+    reports: &mut Vec<u8>,
+    out: &mut Vec<u8>,
+) -> usize
     requires place { tracer.old.place + length chunk.now < 2 ^ 64 }
     requires reports_room { vec_len reports.old + 10 * length chunk.now ≤ vec_capacity reports.old }
     ensures within { result ≤ length chunk.now }

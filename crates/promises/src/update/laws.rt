@@ -8,7 +8,6 @@ ghost use Rattle.vt_term.specs.Sound.{IsSound};
 ghost use Rattle.vt_term.specs.State.{State};
 ghost use Rattle.vt_update.specs.Leads.{Leads};
 
-
 /// Promises what `vt_update::laws::leading` promises.
 pub fn leading()
     ensures played { (s t : State) (bytes : List ℕ) → IsSound s → play s bytes ≡ silently t → Leads s bytes t }

@@ -10,8 +10,7 @@ ghost use Rattle.vt_syntax.specs.declared.held.Held.TheVariants.{Nothing};
 ghost use Rattle.vt_update.specs.Leads.{Updates};
 
 use vt_term::Terminal;
-use vt_update::UPDATE_LIMIT;
-use vt_update::UpdateError;
+use vt_update::{UPDATE_LIMIT, UpdateError};
 
 /// Promises what `vt_update::update` promises.
 pub fn update(shown: &mut Terminal, to: &Terminal, out: &mut Vec<u8>) -> Result<(), UpdateError>

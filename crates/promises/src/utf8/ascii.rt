@@ -1,7 +1,6 @@
 //! The calls of vt_utf8/src/ascii.
 ghost use Rattle.std.specs.Prelude.{All, length, take, ◌<◌, ◌≤◌};
 
-
 /// Promises what `vt_utf8::ascii_run` promises.
 pub fn ascii_run(piece: &[u8]) -> usize
     ensures within { result ≤ length piece.now }

@@ -9,12 +9,15 @@ ghost use Rattle.std.specs.Prelude.{◌≡◌, ◌≤◌, ◌⊎◌};
 
 use std::alloc::AllocError;
 use vt_term::Terminal;
-use vt_utf8::Decoder;
-use vt_utf8::LINES_LIMIT;
-use vt_utf8::UTF8_LINES_LIMIT;
+use vt_utf8::{Decoder, LINES_LIMIT, UTF8_LINES_LIMIT};
 
 /// Promises what `vt_utf8::feed_utf8` promises.
-pub fn feed_utf8(terminal: &mut Terminal, decoder: &mut Decoder, piece: &[u8], out: &mut Vec<u8>) -> Result<(), AllocError>
+pub fn feed_utf8(
+    terminal: &mut Terminal,
+    decoder: &mut Decoder,
+    piece: &[u8],
+    out: &mut Vec<u8>,
+) -> Result<(), AllocError>
     ensures state { OnOk result (terminal.new ≡ (play_utf8 terminal.old decoder.old piece.now).state) }
     ensures pending { OnOk result (decoder.new ≡ pending_after decoder.old piece.now) }
     ensures reports { OnOk result (out.new.items
@@ -30,7 +33,12 @@ pub fn feed_utf8(terminal: &mut Terminal, decoder: &mut Decoder, piece: &[u8], o
 }
 
 /// Promises what `vt_utf8::feed_utf8_reserved` promises.
-pub fn feed_utf8_reserved(terminal: &mut Terminal, decoder: &mut Decoder, piece: &[u8], out: &mut Vec<u8>)
+pub fn feed_utf8_reserved(
+    terminal: &mut Terminal,
+    decoder: &mut Decoder,
+    piece: &[u8],
+    out: &mut Vec<u8>,
+)
     requires { vec_len out.old + 10 * length piece.now ≤ vec_capacity out.old }
     ensures state { terminal.new ≡ (play_utf8 terminal.old decoder.old piece.now).state }
     ensures pending { decoder.new ≡ pending_after decoder.old piece.now }
@@ -42,7 +50,14 @@ pub fn feed_utf8_reserved(terminal: &mut Terminal, decoder: &mut Decoder, piece:
 }
 
 /// Promises what `vt_utf8::feed_utf8_log_reserved` promises.
-pub fn feed_utf8_log_reserved(terminal: &mut Terminal, decoder: &mut Decoder, piece: &[u8], reports: &mut Vec<u8>, lines: &mut Vec<u8>, most: usize) -> usize
+pub fn feed_utf8_log_reserved(
+    terminal: &mut Terminal,
+    decoder: &mut Decoder,
+    piece: &[u8],
+    reports: &mut Vec<u8>,
+    lines: &mut Vec<u8>,
+    most: usize,
+) -> usize
     requires { vec_len reports.old + 10 * length piece.now ≤ vec_capacity reports.old }
     ensures within { result ≤ length piece.now }
     ensures all { result < length piece.now → (vec_capacity lines.new < vec_len lines.new + UTF8_LINES_LIMIT)
@@ -74,7 +89,12 @@ pub fn feed_beyond_ascii(terminal: &mut Terminal, c: char, out: &mut Vec<u8>)
 }
 
 /// Promises what `vt_utf8::feed_beyond_ascii_log` promises.
-pub fn feed_beyond_ascii_log(terminal: &mut Terminal, c: char, out: &mut Vec<u8>, lines: &mut Vec<u8>)
+pub fn feed_beyond_ascii_log(
+    terminal: &mut Terminal,
+    c: char,
+    out: &mut Vec<u8>,
+    lines: &mut Vec<u8>,
+)
     requires beyond { 0x80 ≤ c }
     requires room { vec_len out.old + 10 ≤ vec_capacity out.old }
     requires lines_room { vec_len lines.old + LINES_LIMIT ≤ vec_capacity lines.old }

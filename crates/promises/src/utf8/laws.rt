@@ -14,7 +14,6 @@ ghost use Rattle.vt_syntax.specs.declared.held.Held.TheVariants.{Nothing};
 ghost use Rattle.vt_term.specs.Sound.{IsSound};
 ghost use Rattle.vt_term.specs.State.{State};
 
-
 /// Promises what `vt_utf8::laws::soundness` promises.
 pub fn soundness()
     ensures { (s : State) (pending bytes : List ℕ) → IsSound s → IsSound (play_utf8 s pending bytes).state }

@@ -3,8 +3,7 @@ ghost use Rattle.promises.specs.v0_3.vectors.Comparison.{Compares, expected_of};
 ghost use Rattle.promises.specs.v0_3.vectors.Outcome.{outcome_of};
 
 use std::alloc::Global;
-use vt_vectors::Mismatch;
-use vt_vectors::Vector;
+use vt_vectors::{Mismatch, Vector};
 
 /// Promises what `vt_vectors::check` promises.
 pub fn check(alloc: Global, v: &Vector<'_>) -> Result<(), Mismatch>

@@ -2,7 +2,6 @@
 ghost use Rattle.promises.specs.v0_3.vectors.HeldSamples.{held_samples};
 ghost use Rattle.std.specs.Prelude.{length, slice_get, Some, ◌<◌, ◌≡◌};
 
-
 /// Promises what `vt_vectors::held_sample_count` promises.
 pub fn held_sample_count() -> usize
     ensures count { result ≡ 14 }

@@ -1,8 +1,7 @@
 //! The calls of vt_vectors/src/vectors.
 ghost use Rattle.std.specs.Prelude.{count_by, length, ◌<◌, ◌==◌, ◌≡◌, ◌≤◌};
 
-use vt_vectors::VECTOR_COUNT;
-use vt_vectors::Vector;
+use vt_vectors::{VECTOR_COUNT, Vector};
 
 /// Promises what `vt_vectors::vector_count` promises.
 pub fn vector_count() -> usize

@@ -6,11 +6,15 @@ ghost use Rattle.std.specs.Prelude.{◌≤◌, ◌⊎◌};
 
 use std::alloc::AllocError;
 use vt_term::Terminal;
-use vt_xterm::Front;
-use vt_xterm::LINES_LIMIT;
+use vt_xterm::{Front, LINES_LIMIT};
 
 /// Promises what `vt_xterm::feed_xterm` promises.
-pub fn feed_xterm(terminal: &mut Terminal, front: &mut Front, piece: &[u8], out: &mut Vec<u8>) -> Result<(), AllocError>
+pub fn feed_xterm(
+    terminal: &mut Terminal,
+    front: &mut Front,
+    piece: &[u8],
+    out: &mut Vec<u8>,
+) -> Result<(), AllocError>
     ensures state { OnOk result (terminal.new
         ≡ (play_xterm (behind terminal.old front.old) front.old.pending piece.now).whole.state) }
     ensures pages { OnOk result (front.new.pages
@@ -29,7 +33,12 @@ pub fn feed_xterm(terminal: &mut Terminal, front: &mut Front, piece: &[u8], out:
 }
 
 /// Promises what `vt_xterm::feed_xterm_reserved` promises.
-pub fn feed_xterm_reserved(terminal: &mut Terminal, front: &mut Front, piece: &[u8], out: &mut Vec<u8>)
+pub fn feed_xterm_reserved(
+    terminal: &mut Terminal,
+    front: &mut Front,
+    piece: &[u8],
+    out: &mut Vec<u8>,
+)
     requires { vec_len out.old + 10 * length piece.now ≤ vec_capacity out.old }
     ensures state { terminal.new
         ≡ (play_xterm (behind terminal.old front.old) front.old.pending piece.now).whole.state }
@@ -45,7 +54,14 @@ pub fn feed_xterm_reserved(terminal: &mut Terminal, front: &mut Front, piece: &[
 }
 
 /// Promises what `vt_xterm::feed_xterm_log_reserved` promises.
-pub fn feed_xterm_log_reserved(terminal: &mut Terminal, front: &mut Front, piece: &[u8], reports: &mut Vec<u8>, lines: &mut Vec<u8>, most: usize) -> usize
+pub fn feed_xterm_log_reserved(
+    terminal: &mut Terminal,
+    front: &mut Front,
+    piece: &[u8],
+    reports: &mut Vec<u8>,
+    lines: &mut Vec<u8>,
+    most: usize,
+) -> usize
     requires { vec_len reports.old + 10 * length piece.now ≤ vec_capacity reports.old }
     ensures within { result ≤ length piece.now }
     ensures all { result < length piece.now → (vec_capacity lines.new < vec_len lines.new + LINES_LIMIT)

@@ -4,8 +4,7 @@ ghost use Rattle.promises.specs.v0_3.term.State.{display_at_power_up, power_up};
 ghost use Rattle.promises.specs.v0_3.xterm.Play.{front_at_power_up};
 ghost use Rattle.std.specs.Prelude.{IfOk, length, ◌≡◌, ◌≤◌};
 
-use std::alloc::AllocError;
-use std::alloc::Global;
+use std::alloc::{AllocError, Global};
 use vt_term::Terminal;
 use vt_xterm::Front;
 

@@ -21,7 +21,6 @@ ghost use Rattle.vt_term.specs.State.{Display};
 ghost use Rattle.vt_xterm.specs.Pages.{Screens};
 ghost use Rattle.vt_xterm.specs.Play.{IsSoundWhole, Whole};
 
-
 /// Promises what `vt_xterm::laws::soundness` promises.
 pub fn soundness()
     ensures power_up { IsSoundWhole (behind power_up front_at_power_up) }

@@ -11,7 +11,12 @@ use vt_xterm::Front;
 use vt_xterm_paint::XTERM_PAINT_LIMIT;
 
 /// Promises what `vt_xterm_paint::repaint_xterm` promises.
-pub fn repaint_xterm(t: &Terminal, front: &Front, scratch: &mut Terminal, out: &mut Vec<u8>) -> Result<(), PaintError>
+pub fn repaint_xterm(
+    t: &Terminal,
+    front: &Front,
+    scratch: &mut Terminal,
+    out: &mut Vec<u8>,
+) -> Result<(), PaintError>
     ensures items { OnOk result (out.new.items ≡ out.old.items ++ xterm_repaint (behind t.now front.now)) }
     ensures rebuilds { OnOk result (IsRebuilt (behind t.now front.now)) }
     ensures partial { IsErrOf result PaintError.Partial ↔ ((t.now.held ≢ Nothing) ⊎ (front.now.pending ≢ [])) }
@@ -26,7 +31,12 @@ pub fn repaint_xterm(t: &Terminal, front: &Front, scratch: &mut Terminal, out: &
 }
 
 /// Promises what `vt_xterm_paint::repaint_xterm_reserved` promises.
-pub fn repaint_xterm_reserved(t: &Terminal, front: &Front, scratch: &mut Terminal, out: &mut Vec<u8>)
+pub fn repaint_xterm_reserved(
+    t: &Terminal,
+    front: &Front,
+    scratch: &mut Terminal,
+    out: &mut Vec<u8>,
+)
     requires between { t.now.held ≡ Nothing }
     requires room { vec_len out.old + XTERM_PAINT_LIMIT ≤ vec_capacity out.old }
     ensures items { out.new.items ≡ out.old.items ++ xterm_repaint (behind t.now front.now) }

@@ -1,11 +1,8 @@
 -- 0.3: vt_cli/specs/CommandLine is today's.
-use Rattle.clap.specs.Words.{first_of, IsAmong, Kinds, Row, Text}
-use Rattle.clap.specs.declared.error.kind.ErrorKind.{ErrorKind}
+use Rattle.clap.specs.Words.{Kinds, Row, Text}
 use Rattle.promises.specs.v0_3.cli.CommandLine as frozen
 use Rattle.std.proofs.Common.{refl, ◌≡◌}
-use Rattle.std.specs.Option.{option_map}
-use Rattle.std.specs.Prelude.{[], codes, List, Ok, Option, Some, string_bytes, true, ℕ, ◌++◌, ◌∷◌, ◌≡◌, ◌≤◌}
-use Rattle.std.specs.Str.Parse.{ParsesUnsigned}
+use Rattle.std.specs.Prelude.{List, Option, ℕ, ◌≡◌}
 use Rattle.vt_cli.specs.CommandLine as today
 use Rattle.vt_cli.specs.CommandLine.{HasNoSettings, is_plain, IsNumberOf, name_of, status_for}
 use Rattle.vt_cli.specs.declared.asked.Refused.{Refused}

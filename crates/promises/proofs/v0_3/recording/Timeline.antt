@@ -4,20 +4,16 @@ use Rattle.promises.proofs.v0_3.recording.Lines.{lines_of-same}
 use Rattle.promises.proofs.v0_3.recording.Timing.{is_apart-same}
 use Rattle.promises.specs.v0_3.recording.Timeline as frozen
 use Rattle.std.proofs.Common.{refl, ◌≡◌}
-use Rattle.std.specs.List.{All, flat_map}
-use Rattle.std.specs.Prelude.{[], Bool, length, List, map, None, Option, Some, take, ℕ, ◌++◌, ◌+◌, ◌∷◌, ◌≡◌}
+use Rattle.std.specs.Prelude.{[], Bool, length, List, None, Option, Some, take, ℕ, ◌+◌, ◌∷◌, ◌≡◌}
 use Rattle.vt_recording.specs.Asciicast as cast
-use Rattle.vt_recording.specs.Script.{EndsAt}
 use Rattle.vt_recording.specs.Taken.{in_recording}
 use Rattle.vt_recording.specs.Timeline as today
 use Rattle.vt_recording.specs.Timeline.{and_then, AreFrames, at_once, ends_at, Event, frame, IsOfScriptBy, Timeline}
 use Rattle.vt_recording.specs.Timeline.{told_by, told_in, unless}
 use Rattle.vt_recording.specs.Timing as timing
-use Rattle.vt_recording.specs.Ttyrec.{EndsBefore, IsWhole, Piece, spelled, time_of}
-use Rattle.vt_recording.specs.declared.format.Break.{Break}
+use Rattle.vt_recording.specs.Timing.{Spot}
 use Rattle.vt_recording.specs.declared.format.Format.TheVariants as format
 use Rattle.vt_recording.specs.declared.format.Format.{Format}
-use Rattle.vt_recording.specs.declared.timeline.EventKind.{EventKind}
 
 pub Event-made : frozen.Event' → today.Event
 Event-made ρ = record {
@@ -124,7 +120,7 @@ told_by-same = refl
 pub unless-same : frozen.unless ≡ today.unless
 unless-same = refl
 
-pub timed_events-at : (apart : Bool) (session : List ℕ) (stop : ℕ) (spot : timing.Spot) (at : ℕ) (x5 : List (List ℕ)) → frozen.timed_events apart session stop spot at x5 ≡ today.timed_events apart session stop spot at x5
+pub timed_events-at : (apart : Bool) (session : List ℕ) (stop : ℕ) (spot : Spot) (at : ℕ) (x5 : List (List ℕ)) → frozen.timed_events apart session stop spot at x5 ≡ today.timed_events apart session stop spot at x5
 unfolding frozen.timed_events today.timed_events
 timed_events-at apart session stop spot at [] = λ ι. ends_at None
 timed_events-at apart session stop spot at (line ∷ lines) = λ ι.

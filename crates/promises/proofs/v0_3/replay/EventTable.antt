@@ -3,8 +3,8 @@ use Rattle.promises.proofs.v0_3.recording.Timeline.{IsTimelineOf-same}
 use Rattle.promises.proofs.v0_3.trace.Lines.{shown-same}
 use Rattle.promises.specs.v0_3.replay.EventTable as frozen
 use Rattle.std.proofs.Common.{refl, ◌≡◌}
-use Rattle.std.specs.Prelude.{[], Bool, cond, decimal, length, List, Option, ℕ, ◌++◌, ◌+◌, ◌∷◌, ◌≡◌}
-use Rattle.vt_recording.specs.Timeline.{Event, is_output, Timeline}
+use Rattle.std.specs.Prelude.{[], Bool, cond, decimal, length, List, Option, ℕ, ◌++◌, ◌∷◌, ◌≡◌}
+use Rattle.vt_recording.specs.Timeline.{Event, is_output}
 use Rattle.vt_recording.specs.declared.format.Break.{Break}
 use Rattle.vt_recording.specs.declared.format.Format.{Format}
 use Rattle.vt_recording.specs.declared.format.Moment.{Moment}

@@ -5,18 +5,15 @@ use Rattle.promises.proofs.v0_3.replay.Host.{host_of-same}
 use Rattle.promises.proofs.v0_3.replay.Words.{WordTable-same}
 use Rattle.promises.specs.v0_3.replay.Request as frozen
 use Rattle.std.proofs.Common.{refl, ◌≡◌}
-use Rattle.std.specs.Prelude.{[], Bool, Err, false, length, List, None, Option, Result, Some, true, ℕ, ◌++◌, ◌≡◌, ◌≤◌}
+use Rattle.std.specs.Prelude.{Bool, false, List, None, Option, Some, true, ℕ, ◌≡◌}
 use Rattle.vt_cli.specs.declared.asked.Request.{Request}
 use Rattle.vt_device.specs.Runs.{Flags}
-use Rattle.vt_recording.specs.Reading.{ReadTable}
-use Rattle.vt_recording.specs.declared.fault.Fault.{Fault}
 use Rattle.vt_recording.specs.declared.format.Break.{Break}
 use Rattle.vt_recording.specs.declared.format.Encoding.{Encoding}
-use Rattle.vt_recording.specs.declared.format.Format.TheVariants as format
 use Rattle.vt_recording.specs.declared.format.Format.{Format}
 use Rattle.vt_recording.specs.declared.format.Moment.{Moment}
 use Rattle.vt_replay.specs.EventTable.{IsTableTaken}
-use Rattle.vt_replay.specs.Host.{opening, plain_host}
+use Rattle.vt_replay.specs.Host.{plain_host}
 use Rattle.vt_replay.specs.Request as today
 use Rattle.vt_replay.specs.Request.{ended_of, IsPlayed, IsPrepared, lists_events, shown_format}
 use Rattle.vt_replay.specs.declared.host.Host.{Host}

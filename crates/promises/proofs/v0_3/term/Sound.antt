@@ -1,13 +1,9 @@
 -- 0.3: vt_term/specs/Sound is today's.
 use Rattle.promises.specs.v0_3.term.Sound as frozen
-use Rattle.std.proofs.Common.{◌≡◌}
-use Rattle.std.specs.Prelude.{Bool, length, true, ℕ, ◌<◌, ◌≡◌, ◌≤◌}
-use Rattle.vt_glyph.specs.GraphicSets.{AreSoundSets}
-use Rattle.vt_screen.specs.Grid.{columns, IsSoundGrid, last_row}
-use Rattle.vt_syntax.specs.Held.{IsHeldPart}
+use Rattle.std.specs.Prelude.{Bool, ℕ}
 use Rattle.vt_term.specs.Sound as today
 use Rattle.vt_term.specs.Sound.{AreSoundMargins, IsPlace, IsSoundDisplay}
-use Rattle.vt_term.specs.State.{Display, last_column, saved_sets, State}
+use Rattle.vt_term.specs.State.{Display, State}
 use Rattle.vt_term.specs.declared.state.Margins.{Margins}
 
 pub AreSoundMargins-made : (m : Margins) → frozen.AreSoundMargins' m → today.AreSoundMargins m

@@ -6,7 +6,6 @@ use Rattle.promises.specs.v0_3.trace.Ignored as frozen
 use Rattle.std.proofs.Common.{refl, ◌≡◌}
 use Rattle.std.specs.Prelude.{[], false, None, Some, true, ◌≡◌, ◌≢◌, ◌⊎◌}
 use Rattle.vt_syntax.specs.declared.event.Event.{Event}
-use Rattle.vt_term.specs.Sound.{IsSoundDisplay}
 use Rattle.vt_term.specs.State.{Display}
 use Rattle.vt_trace.specs.Ignored as today
 

@@ -6,10 +6,9 @@ use Rattle.promises.proofs.v0_3.term.Pages.{blanked-same, fitted-same, page_at_p
 use Rattle.promises.proofs.v0_3.term.State.{display_at_power_up-same}
 use Rattle.promises.specs.v0_3.xterm.Pages as frozen
 use Rattle.std.proofs.Common.{refl, ◌≡◌}
-use Rattle.std.specs.Prelude.{[], Bool, false, fold, if◌then◌else◌, true, unwrap_or, ◌∷◌}
-use Rattle.vt_term.specs.Pages.{page_of, PageState, with_page}
+use Rattle.std.specs.Prelude.{[], false, fold, if◌then◌else◌, true, unwrap_or, ◌∷◌}
+use Rattle.vt_term.specs.Pages.{page_of, with_page}
 use Rattle.vt_term.specs.Saving.{restore_cursor, save_cursor}
-use Rattle.vt_term.specs.State.{Display}
 use Rattle.vt_xterm.specs.Pages as today
 use Rattle.vt_xterm.specs.Pages.{allow_column_mode, bracket_pastes, is_window_wide, on_display, PagesState}
 use Rattle.vt_xterm.specs.Pages.{save_or_restore}

@@ -12,12 +12,8 @@ use Rattle.promises.proofs.v0_3.xterm.Pages.{pages_at_power_up-same}
 use Rattle.promises.specs.v0_3.xterm.Play as frozen
 use Rattle.std.proofs.Common.{refl, ◌≡◌}
 use Rattle.std.specs.Prelude.{[], flat_map, fold, if◌then◌else◌, List, nat_lt, ℕ, ◌++◌, ◌∷◌}
-use Rattle.vt_screen.specs.declared.cell.Cell.{Cell}
 use Rattle.vt_syntax.specs.declared.event.Event.{Event}
-use Rattle.vt_term.specs.Pages.{IsSoundPage}
-use Rattle.vt_term.specs.Sound.{IsSound}
-use Rattle.vt_term.specs.State.{State}
-use Rattle.vt_xterm.specs.Pages.{PagesState, Screens, shown_by}
+use Rattle.vt_xterm.specs.Pages.{Screens, shown_by}
 use Rattle.vt_xterm.specs.Play as today
 use Rattle.vt_xterm.specs.Play.{both, nothing_played, screens_of, Whole}
 

@@ -7,13 +7,14 @@ use Rattle.promises.specs.v0_3.recording.Moment.{cut, micros_of}
 use Rattle.promises.specs.v0_3.recording.Script.{begins_with, first_line, IsOfScript}
 use Rattle.promises.specs.v0_3.recording.Taken.{in_recording}
 use Rattle.promises.specs.v0_3.recording.Timing as timing
+use Rattle.promises.specs.v0_3.recording.Timing.{Step}
 use Rattle.promises.specs.v0_3.recording.Ttyrec.{EndsBefore, spelled, time_of}
 use Rattle.std.specs.List.{All, filter, flat_map}
 use Rattle.std.specs.Prelude.{Some, take, true, ℕ, ◌&&◌, ◌++◌, ◌+◌, ◌-◌, ◌∷◌, ◌≡◌}
 use Rattle.std.specs.Prelude.{[], Bool, bytes_eq, chars, codes, cond, drop, false, length, List, map, None, Option}
 use Rattle.vt_recording.specs.Script.{EndsAt}
 use Rattle.vt_recording.specs.Timeline.{AreFrames, Event, IsTimed, Timeline}
-use Rattle.vt_recording.specs.Timing as timing
+use Rattle.vt_recording.specs.Timing.{Spot}
 use Rattle.vt_recording.specs.Ttyrec.{IsWhole, Piece}
 use Rattle.vt_recording.specs.declared.format.Break.{Break}
 use Rattle.vt_recording.specs.declared.format.Encoding.{Encoding}
@@ -129,7 +130,7 @@ unheard_in line micros bytes =
     (noted (signal_in (codes "SIGWINCH ") line) (timing.value_in (codes "EXIT_CODE ") line) micros)
 
 -- the event of a line, whose bytes are the next ones of the session
-abbrev pub told_by : (empty : Bool) → Option timing.Step → (line session : List ℕ) → timing.Spot → List Event
+abbrev pub told_by : (empty : Bool) → Option Step → (line session : List ℕ) → Spot → List Event
 told_by true step line session spot = []
 told_by false None line session spot = []
 told_by false (Some s) line session spot =
@@ -141,7 +142,7 @@ abbrev pub unless : Option Break → List Event → Timeline → Timeline
 unless None events timeline = after events timeline
 unless (Some place) events timeline = ends_at (Some place)
 
-unfoldable pub timed_events : (apart : Bool) (session : List ℕ) (stop : ℕ) (spot : timing.Spot) (at : ℕ) → List (List ℕ) → Timeline
+unfoldable pub timed_events : (apart : Bool) (session : List ℕ) (stop : ℕ) (spot : Spot) (at : ℕ) → List (List ℕ) → Timeline
 timed_events apart session stop spot at [] = ends_at None
 timed_events apart session stop spot at (line ∷ lines) =
     unless (timing.break_in (timing.is_empty line) (timing.step_in apart line) session spot.place stop at)

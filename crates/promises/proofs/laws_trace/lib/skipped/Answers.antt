@@ -5,7 +5,7 @@ use Rattle.promises.proofs.v0_3.term.State.{power_up-same}
 use Rattle.promises.proofs.v0_3.trace.Skipped.{kinds_of-same}
 use Rattle.promises.proofs.v0_3.trace.Trace.{end_lines-same, trace-same, tracer_all-same}
 use Rattle.std.specs.List.{flat_map}
-use Rattle.std.specs.Prelude.{List, ℕ, ◌++◌, ◌+◌, ◌≡◌}
+use Rattle.std.specs.Prelude.{List, ℕ, ◌++◌, ◌≡◌}
 use Rattle.vt_term.specs.State.{State}
 use Rattle.vt_trace.specs.Trace.{tracer_at_start}
 use Rattle.vt_trace.specs.declared.tracing.Tracer.{Tracer}

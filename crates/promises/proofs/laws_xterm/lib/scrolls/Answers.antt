@@ -25,7 +25,7 @@ pub returns-clause-repeats : goal.returns-clause-repeats
 returns-clause-repeats c = coe 1 0 (ι. (params : ArrayVec ℕ) (s : Display) → IsSoundDisplay s → (page_line_off-same ι) (repeat_event params) s ≡ (repeat_off-same ι) (count params.items) s) c.scrolls.ensures.repeats
 
 pub returns-clause-glyph : goal.returns-clause-glyph
-returns-clause-glyph c = coe 1 0 (ι. (glyph : ℕ) (s : Display) → (s.cursor.wrap && is_at_end s) ≡ true → (write_glyph-same ι) glyph s ≡ (put_glyph-same ι) glyph (record s { grid = (scroll_up-same ι) s.grid 1 s.margins.bottom 1; cursor = at_place s.cursor.row 1; })) c.scrolls.ensures.glyph
+returns-clause-glyph c = coe 1 0 (ι. (glyph : ℕ) (s : Display) → (s.cursor.wrap && is_at_end s) ≡ true → (write_glyph-same ι) glyph s ≡ (put_glyph-same ι) glyph (record s { grid = (scroll_up-same ι) s.grid 1 s.margins.bottom 1; cursor = at_place s.cursor.row 1 })) c.scrolls.ensures.glyph
 
 pub returns-clause-glyph_stays : goal.returns-clause-glyph_stays
 returns-clause-glyph_stays c = coe 1 0 (ι. (s : Display) → IsSoundDisplay s → (s.cursor.wrap && is_at_end s) ≡ false → (row_of-same ι) ((after_wrap-same ι) s).grid 1 ≡ (row_of-same ι) s.grid 1) c.scrolls.ensures.glyph_stays

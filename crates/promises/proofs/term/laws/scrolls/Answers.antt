@@ -16,7 +16,7 @@ pub returns-clause-stays : goal.returns-clause-stays
 returns-clause-stays c = coe 1 0 (ι. (b : ℕ) (s : Display) → is_line_feed b ≡ true → (s.cursor.row == s.margins.bottom) ≡ false → ((effect-same ι) (Control b) s).grid ≡ s.grid) c.scrolls.ensures.stays
 
 pub returns-clause-print : goal.returns-clause-print
-returns-clause-print c = coe 1 0 (ι. (b : ℕ) (s : Display) → scrolls_off (Print b) s ≡ true → (effect-same ι) (Print b) s ≡ (write_if_read-same ι) ((glyph_read-same ι) s.sets b) (record s { grid = (scroll_up-same ι) s.grid 1 s.margins.bottom 1; cursor = at_place s.cursor.row 1; sets = (after_read-same ι) s.sets b; })) c.scrolls.ensures.print
+returns-clause-print c = coe 1 0 (ι. (b : ℕ) (s : Display) → scrolls_off (Print b) s ≡ true → (effect-same ι) (Print b) s ≡ (write_if_read-same ι) ((glyph_read-same ι) s.sets b) (record s { grid = (scroll_up-same ι) s.grid 1 s.margins.bottom 1; cursor = at_place s.cursor.row 1; sets = (after_read-same ι) s.sets b })) c.scrolls.ensures.print
 
 pub returns-clause-substitute : goal.returns-clause-substitute
-returns-clause-substitute c = coe 1 0 (ι. (s : Display) → scrolls_off (Control 0x1A) s ≡ true → (effect-same ι) (Control 0x1A) s ≡ (put_glyph-same ι) substitute_glyph (record s { grid = (scroll_up-same ι) s.grid 1 s.margins.bottom 1; cursor = at_place s.cursor.row 1; })) c.scrolls.ensures.substitute
+returns-clause-substitute c = coe 1 0 (ι. (s : Display) → scrolls_off (Control 0x1A) s ≡ true → (effect-same ι) (Control 0x1A) s ≡ (put_glyph-same ι) substitute_glyph (record s { grid = (scroll_up-same ι) s.grid 1 s.margins.bottom 1; cursor = at_place s.cursor.row 1 })) c.scrolls.ensures.substitute

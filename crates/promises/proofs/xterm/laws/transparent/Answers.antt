@@ -11,4 +11,4 @@ pub returns-clause-ascii : goal.returns-clause-ascii
 returns-clause-ascii c = coe 1 0 (ι. (w : Whole) (bytes : List ℕ) → IsSound w.state → All (λ b. b < 0x80) bytes → (play_xterm-same ι) w [] bytes ≡ (play_bytes-same ι) w bytes) c.transparent.ensures.ascii
 
 pub returns-clause-terminals : goal.returns-clause-terminals
-returns-clause-terminals c = coe 1 0 (ι. (w : Whole) (bytes : List ℕ) → (PlaysTerminals-same ι) w.state bytes → (play_bytes-same ι) w bytes ≡ record { whole = record w { state = ((play-same ι) w.state bytes).state }; reports = ((play-same ι) w.state bytes).reports; lines = if w.pages.alternate then [] else (scrolled_off-same ι) w.state bytes; }) c.transparent.ensures.terminals
+returns-clause-terminals c = coe 1 0 (ι. (w : Whole) (bytes : List ℕ) → (PlaysTerminals-same ι) w.state bytes → (play_bytes-same ι) w bytes ≡ record { whole = record w { state = ((play-same ι) w.state bytes).state }; reports = ((play-same ι) w.state bytes).reports; lines = if w.pages.alternate then [] else (scrolled_off-same ι) w.state bytes }) c.transparent.ensures.terminals

@@ -385,13 +385,14 @@ def check_asciicast(name, text, sent):
 def check_page(name, url, sent):
     """The parts of a page, by a template that has nothing else."""
     with tempfile.NamedTemporaryFile("w") as template:
-        template.write("@TITLE@ @BYTES@ @CHUNKS@")
+        template.write("@TITLE@|@PLAYERS@")
         template.flush()
         environment = os.environ | {"FLEET_REDIS": url, "VT220_PAGE": template.name}
         made = subprocess.run([local.COMMAND, "export", "--page", name], env=environment, stdout=subprocess.PIPE, text=True).stdout
         none = subprocess.run([local.COMMAND, "export", "--page", name], env=environment | {"VT220_PAGE": ""}, capture_output=True, text=True)
-    title, *parts = made.split()
-    data, chunks = (gzip.decompress(base64.b64decode(part)) for part in parts)
+    title, players = made.split("|", 1)
+    recording = json.loads(re.search(r'<script type="application/json">(.*?)</script>', players, re.S)[1])
+    data, chunks = (gzip.decompress(base64.b64decode(recording[part])) for part in ("bytes", "chunks"))
     lines = [tuple(map(int, line.split())) for line in chunks.splitlines()]
     check(title == name and data == sent and sum(size for _, size in lines) == len(sent), name, "a page has the title and all bytes")
     check({micros for micros, _ in lines} == {0, 150000, 300000}, name, "and its pace")

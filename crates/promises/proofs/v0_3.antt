@@ -10,9 +10,9 @@ pub mod trace
 pub mod utf8
 pub mod xterm
 pub mod xterm_paint
-pub mod laws_trace
-pub mod laws_utf8
-pub mod laws_xterm
+pub mod trace_laws
+pub mod utf8_laws
+pub mod xterm_laws
 pub mod device
 pub mod recording
 pub mod output

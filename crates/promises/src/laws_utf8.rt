@@ -1,2 +1,0 @@
-//! The calls of vt_laws_utf8.
-pub mod lib;

@@ -1,0 +1,2 @@
+//! The calls of laws_trace.
+pub mod lib;

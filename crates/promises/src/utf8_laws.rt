@@ -1,0 +1,2 @@
+//! The calls of laws_utf8.
+pub mod lib;

@@ -1,0 +1,2 @@
+//! The calls of laws_xterm.
+pub mod lib;

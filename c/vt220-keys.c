@@ -138,7 +138,8 @@ enum { SHIFT = 1, ALT = 2, CTRL = 4 };
 /* Adds what a key of an xterm sends with modifiers: CSI, the number of its code or 1, the number of the modifiers, and its final byte. A
  * code can have modifiers of its own. Only Shift and Tab send another sequence. Adds nothing if the key has none with these modifiers. */
 static void add_with_modifiers(sent_bytes *sent, sequence is, unsigned held, const vt220_mode_set *modes) {
-    size_t digits = strspn(is.code, "0123456789");
+    size_t digits = 0;
+    while (is.code[digits] >= '0' && is.code[digits] <= '9') digits++;
     const char *rest = is.code + digits;
     if (is.form == PLAIN && *is.code == '\t' && held == SHIFT) add_sequence(sent, CSI, "Z", modes);
     if (is.form != FUNCTION && is.form != CURSOR && is.form != PF) return;

@@ -1,6 +1,8 @@
-/* The calls of vt220.h over the proved ones, core_*. This file checks the processor, allows null pointers of length 0 and the same
- * terminal twice, doesn't write `const` handles, drops replies that nobody wants, sets reserved bytes to zero, and counts the bells. */
+/* The calls of vt220.h over the proved ones, core_*. This file checks the processor, makes the call that a handle's language needs, allows
+ * null pointers of length 0 and the same terminal twice, doesn't write `const` handles, drops replies that nobody wants, sets reserved bytes
+ * to zero, and counts the bells. */
 #include "vt220.h"
+#include <stdlib.h>
 #include <string.h>
 #if defined __x86_64__
 #include <cpuid.h>
@@ -13,6 +15,11 @@ typedef struct handle {
     bool is_open;
 } handle;
 
+/* What is pending of UTF-8: the bytes of a character that isn't complete, and how many there are. */
+typedef struct utf8 {
+    uint8_t bytes[3], len;
+} utf8;
+
 uint32_t core_version(void);
 uint32_t core_open(handle *t);
 void core_close(handle *t);
@@ -22,15 +29,15 @@ size_t core_feed(handle *t, const uint8_t *bytes, size_t len, bool counts, uint8
 size_t core_feed_byte(handle *t, uint8_t byte, uint8_t *reports, size_t size, size_t *written);
 size_t core_feed_log(handle *t, handle *s, const uint8_t *bytes, size_t len, bool counts, uint8_t *reports, size_t size, size_t *written,
                      uint8_t *lines, size_t lines_size, size_t *lines_written, size_t *bells);
-size_t core_feed_utf8(handle *t, vt220_utf8 *u, const uint8_t *bytes, size_t len, bool counts, uint8_t *reports, size_t size,
+size_t core_feed_utf8(handle *t, utf8 *u, const uint8_t *bytes, size_t len, bool counts, uint8_t *reports, size_t size,
                       size_t *written, size_t *bells);
-size_t core_feed_log_utf8(handle *t, handle *s, vt220_utf8 *u, const uint8_t *bytes, size_t len, bool counts, uint8_t *reports, size_t size,
+size_t core_feed_log_utf8(handle *t, handle *s, utf8 *u, const uint8_t *bytes, size_t len, bool counts, uint8_t *reports, size_t size,
                           size_t *written, uint8_t *lines, size_t lines_size, size_t *lines_written, size_t *bells);
 uint32_t core_xterm_open(handle *x);
 void core_xterm_close(handle *x);
 bool core_xterm_alternate(handle *x);
 bool core_xterm_bracketed_paste(handle *x);
-bool core_xterm_pending(handle *x, vt220_utf8 *u);
+bool core_xterm_pending(handle *x, utf8 *u);
 uint32_t core_xterm_copy(handle *to, handle *from);
 uint32_t core_xterm_repaint(handle *t, handle *x, handle *s, uint8_t *out, size_t size, size_t *written);
 size_t core_feed_log_xterm(handle *t, handle *s, handle *x, const uint8_t *bytes, size_t len, bool counts, uint8_t *reports, size_t size,
@@ -60,6 +67,16 @@ bool core_is_between(handle *t);
 uint32_t core_held_kind(handle *t);
 bool core_same_state(handle *a, handle *b);
 
+/* A handle for another language than a VT220's bytes points to this block, and its `bells` are IS_SESSION. No count comes that far. */
+typedef struct session {
+    void *terminal, *pages; /* `pages` is what a terminal needs under TERM=xterm, otherwise null */
+    uint64_t bells;
+    uint32_t language; /* VT220_UTF8 or VT220_XTERM */
+    utf8 pending;      /* under TERM=xterm it is with the pages */
+} session;
+
+#define IS_SESSION (~(uint64_t)0)
+
 /* A terminal of the caller begins with its handle. So vt220_feed makes no copy. */
 _Static_assert(offsetof(vt220, terminal) == offsetof(handle, at) && offsetof(vt220, is_open) == offsetof(handle, is_open), "one form");
 _Static_assert(sizeof(handle) <= offsetof(vt220, bells), "a handle ends before the bells");
@@ -79,18 +96,28 @@ enum { REPLIES = 2560, BEL = 0x07, FIRST = 8 };
 /* Each call that feeds has a copy of such a function, without what this call doesn't need. So an input of one byte costs less. */
 #define INLINED __attribute__((always_inline)) static inline
 
-static handle own(const vt220 *t) { return (handle){t->terminal, t->is_open}; }
+/* Returns the block of an open handle for another language, or null. */
+static session *session_of(const vt220 *t) { return t->is_open && t->bells == IS_SESSION ? (session *)t->terminal : NULL; }
+
+static bool is_xterm(const session *by) { return by != NULL && by->pages != NULL; }
+
+static handle own(const vt220 *t) {
+    const session *by = session_of(t);
+    return (handle){by != NULL ? by->terminal : t->terminal, t->is_open};
+}
 
 static handle own_scratch(const vt220_scratch *s) { return (handle){s->room, s->is_open}; }
 
-static handle own_xterm(const vt220_xterm *x) { return (handle){x->pages, x->is_open}; }
+static handle own_pages(const session *by) { return (handle){by->pages, true}; }
 
-/* Stores what a call left in the copy of a handle. */
-static void keep(vt220 *t, handle h) { t->terminal = h.at, t->is_open = h.is_open; }
+/* Stores what a call left in the copy of a handle. No call opens or closes one. */
+static void keep(vt220 *t, handle h) {
+    session *by = session_of(t);
+    if (by != NULL) by->terminal = h.at;
+    else t->terminal = h.at;
+}
 
 static void keep_scratch(vt220_scratch *s, handle h) { s->room = h.at, s->is_open = h.is_open; }
-
-static void keep_xterm(vt220_xterm *x, handle h) { x->pages = h.at, x->is_open = h.is_open; }
 
 static bool is_same(const vt220 *a, const vt220 *b) { return a->is_open && b->is_open && a->terminal == b->terminal; }
 
@@ -120,6 +147,7 @@ const char *vt220_status_text(uint32_t status) {
         "there is no such row",
         "there is no such key",
         "no key sends this character",
+        "the terminal has another language",
     };
     return status < sizeof texts / sizeof texts[0] ? texts[status] : "unknown status";
 }
@@ -133,13 +161,44 @@ uint32_t vt220_open(vt220 *t) {
     return status;
 }
 
+/* Gives an open terminal a language other than a VT220's bytes. Closes it if the allocation fails. */
+static uint32_t speak(vt220 *t, uint32_t language) {
+    handle pages = {NULL, false};
+    session *by = malloc(sizeof *by);
+    if (by == NULL || (language == VT220_XTERM && core_xterm_open(&pages) != VT220_OK)) {
+        free(by);
+        vt220_close(t);
+        return VT220_MEMORY;
+    }
+    *by = (session){t->terminal, pages.at, 0, language, {{0}, 0}};
+    *t = (vt220){by, true, IS_SESSION};
+    return VT220_OK;
+}
+
+uint32_t vt220_open_as(vt220 *t, uint32_t language) {
+    if (t->is_open) return VT220_IN_USE;
+    if (language > (VT220_UTF8 | VT220_XTERM)) return VT220_LANGUAGE;
+    uint32_t status = vt220_open(t);
+    if (status != VT220_OK || language == VT220_BYTES) return status;
+    return speak(t, language & VT220_XTERM ? VT220_XTERM : VT220_UTF8);
+}
+
 void vt220_close(vt220 *t) {
-    handle h = own(t);
+    session *by = session_of(t);
+    handle h = own(t), pages = {NULL, false};
+    if (is_xterm(by)) pages = own_pages(by);
+    if (pages.is_open) core_xterm_close(&pages);
     if (h.is_open) core_close(&h);
+    free(by);
     *t = (vt220){NULL, false, 0};
 }
 
 bool vt220_is_open(const vt220 *t) { return t->is_open; }
+
+static uint32_t language_of(const vt220 *t) {
+    const session *by = session_of(t);
+    return by != NULL ? by->language : VT220_BYTES;
+}
 
 uint32_t vt220_scratch_open(vt220_scratch *s) {
     if (s->is_open) return VT220_IN_USE;
@@ -158,45 +217,30 @@ void vt220_scratch_close(vt220_scratch *s) {
 
 bool vt220_scratch_is_open(const vt220_scratch *s) { return s->is_open; }
 
-uint32_t vt220_xterm_open(vt220_xterm *x) {
-    if (x->is_open) return VT220_IN_USE;
-    if (!is_supported()) return VT220_UNSUPPORTED;
-    handle h = {NULL, false};
-    uint32_t status = core_xterm_open(&h);
-    if (status == VT220_OK) *x = (vt220_xterm){h.at, h.is_open};
-    return status;
+/* Returns what is pending of the input of a terminal. */
+static utf8 pending_of(const vt220 *t) {
+    const session *by = session_of(t);
+    utf8 pending = {{0}, 0};
+    if (by != NULL) pending = by->pending;
+    if (is_xterm(by)) {
+        handle pages = own_pages(by);
+        core_xterm_pending(&pages, &pending);
+    }
+    return pending;
 }
 
-void vt220_xterm_close(vt220_xterm *x) {
-    handle h = own_xterm(x);
-    if (h.is_open) core_xterm_close(&h);
-    *x = (vt220_xterm){NULL, false};
-}
-
-bool vt220_xterm_is_open(const vt220_xterm *x) { return x->is_open; }
-
-bool vt220_xterm_alternate(const vt220_xterm *x) {
-    handle h = own_xterm(x);
-    return h.is_open && core_xterm_alternate(&h);
-}
-
-bool vt220_xterm_bracketed_paste(const vt220_xterm *x) {
-    handle h = own_xterm(x);
-    return h.is_open && core_xterm_bracketed_paste(&h);
-}
-
-bool vt220_xterm_pending(const vt220_xterm *x, vt220_utf8 *u) {
-    handle h = own_xterm(x);
-    return h.is_open && core_xterm_pending(&h, u);
-}
-
-uint32_t vt220_xterm_copy(vt220_xterm *to, const vt220_xterm *from) {
-    if (!to->is_open || !from->is_open) return VT220_CLOSED;
-    if (to->pages == from->pages) return VT220_OK;
-    handle target = own_xterm(to), source = own_xterm(from);
-    uint32_t status = core_xterm_copy(&target, &source);
-    keep_xterm(to, target);
-    return status;
+bool vt220_language(const vt220 *t, vt220_language_state *language) {
+    if (!t->is_open) return false;
+    utf8 pending = pending_of(t);
+    vt220_language_state now = {.language = language_of(t), .pending_len = pending.len};
+    memcpy(now.pending, pending.bytes, sizeof now.pending);
+    if (is_xterm(session_of(t))) {
+        handle pages = own_pages(session_of(t));
+        now.alternate = core_xterm_alternate(&pages);
+        now.bracketed_paste = core_xterm_bracketed_paste(&pages);
+    }
+    *language = now;
+    return true;
 }
 
 /* A buffer of the caller, and how many of its bytes are filled. */
@@ -224,48 +268,60 @@ INLINED part next_part(const uint8_t *bytes, size_t len) {
     return (part){bell != NULL ? (size_t)(bell - bytes) : most, false};
 }
 
-/* What an input is played on: a terminal, a scratch buffer for a log or null, what is pending if the input is UTF-8, otherwise null, and
- * what TERM=xterm needs if the input is of such a program, otherwise null. */
+/* What an input is played on: a terminal, its block if it has one, and a scratch buffer for a log or null. */
 typedef struct player {
     vt220 *t;
+    session *by;
     vt220_scratch *s;
-    vt220_utf8 *u;
-    vt220_xterm *x;
 } player;
 
-/* Plays a part of an input by the call for it. Adds to what the buffers have. */
-INLINED size_t process_part(player by, const uint8_t *bytes, part next, buffer *replies, buffer *lines) {
+/* Plays a part of an input by the call for the language. Returns how many bytes it has played. */
+INLINED size_t feed_part(session *by, handle *h, const uint8_t *bytes, part next, uint8_t *out, size_t size, size_t *sent, size_t *rung) {
+    if (by == NULL) return core_feed(h, bytes, next.len, next.rings, out, size, sent, rung);
+    if (!is_xterm(by)) return core_feed_utf8(h, &by->pending, bytes, next.len, next.rings, out, size, sent, rung);
+    handle pages = own_pages(by);
+    size_t now = core_feed_xterm(h, &pages, bytes, next.len, next.rings, out, size, sent, rung);
+    by->pages = pages.at;
+    return now;
+}
+
+/* Does the same with a log. */
+INLINED size_t log_part(session *by, handle *h, handle *room, const uint8_t *bytes, part next, uint8_t *out, size_t size, size_t *sent, uint8_t *to,
+                        size_t free, size_t *off, size_t *rung) {
+    if (by == NULL) return core_feed_log(h, room, bytes, next.len, next.rings, out, size, sent, to, free, off, rung);
+    if (!is_xterm(by)) return core_feed_log_utf8(h, room, &by->pending, bytes, next.len, next.rings, out, size, sent, to, free, off, rung);
+    handle pages = own_pages(by);
+    size_t now = core_feed_log_xterm(h, room, &pages, bytes, next.len, next.rings, out, size, sent, to, free, off, rung);
+    by->pages = pages.at;
+    return now;
+}
+
+/* Plays a part of an input. Adds to what the buffers have. */
+INLINED size_t process_part(player on, const uint8_t *bytes, part next, buffer *replies, buffer *lines) {
     uint8_t *out = replies->at + replies->filled;
     size_t size = replies->size - replies->filled, sent = 0, off = 0, rung = 0, now;
-    handle h = own(by.t), pages = by.x != NULL ? own_xterm(by.x) : (handle){NULL, false};
-    if (by.s == NULL) {
-        now = by.x != NULL   ? core_feed_xterm(&h, &pages, bytes, next.len, next.rings, out, size, &sent, &rung)
-              : by.u != NULL ? core_feed_utf8(&h, by.u, bytes, next.len, next.rings, out, size, &sent, &rung)
-                             : core_feed(&h, bytes, next.len, next.rings, out, size, &sent, &rung);
+    handle h = own(on.t);
+    if (on.s == NULL) {
+        now = feed_part(on.by, &h, bytes, next, out, size, &sent, &rung);
     } else {
-        handle room = own_scratch(by.s);
-        uint8_t *to = lines->at + lines->filled;
-        size_t free = lines->size - lines->filled;
-        now = by.x != NULL   ? core_feed_log_xterm(&h, &room, &pages, bytes, next.len, next.rings, out, size, &sent, to, free, &off, &rung)
-              : by.u != NULL ? core_feed_log_utf8(&h, &room, by.u, bytes, next.len, next.rings, out, size, &sent, to, free, &off, &rung)
-                             : core_feed_log(&h, &room, bytes, next.len, next.rings, out, size, &sent, to, free, &off, &rung);
-        keep_scratch(by.s, room);
+        handle room = own_scratch(on.s);
+        now = log_part(on.by, &h, &room, bytes, next, out, size, &sent, lines->at + lines->filled, lines->size - lines->filled, &off, &rung);
+        keep_scratch(on.s, room);
         lines->filled += off;
     }
-    keep(by.t, h);
-    if (by.x != NULL) keep_xterm(by.x, pages);
-    replies->filled += sent, by.t->bells += rung;
+    keep(on.t, h);
+    replies->filled += sent;
+    *(on.by != NULL ? &on.by->bells : &on.t->bells) += rung;
     return now;
 }
 
 /* Processes input as far as the buffers have capacity. With a scratch buffer it writes the lines that scroll off to `lines`. The core
  * counts the bells of a VT220's bytes at no cost, so these aren't searched. */
-INLINED size_t process(player by, const uint8_t *bytes, size_t len, buffer *replies, buffer *lines) {
+INLINED size_t process(player on, const uint8_t *bytes, size_t len, buffer *replies, buffer *lines) {
     size_t taken = 0;
     while (taken < len) {
-        bool is_utf8 = by.u != NULL || by.x != NULL;
-        part next = is_utf8 ? next_part(bytes + taken, len - taken) : (part){len - taken, true};
-        size_t now = process_part(by, bytes + taken, next, replies, lines);
+        part next = on.by != NULL ? next_part(bytes + taken, len - taken) : (part){len - taken, true};
+        size_t now = process_part(on, bytes + taken, next, replies, lines);
         taken += now;
         if (now < next.len) break;
     }
@@ -273,30 +329,30 @@ INLINED size_t process(player by, const uint8_t *bytes, size_t len, buffer *repl
 }
 
 /* Does the same and drops the replies. It isn't inlined, so that no other call has this buffer on its stack. */
-__attribute__((noinline)) static size_t process_unanswered(player by, const uint8_t *bytes, size_t len, buffer *lines) {
+__attribute__((noinline)) static size_t process_unanswered(player on, const uint8_t *bytes, size_t len, buffer *lines) {
     uint8_t dropped[REPLIES];
     size_t taken = 0, now = 1;
     while (now > 0 && taken < len) {
         buffer replies = empty(dropped, sizeof dropped);
-        now = process(by, bytes + taken, len - taken, &replies, lines);
+        now = process(on, bytes + taken, len - taken, &replies, lines);
         taken += now;
     }
     return taken;
 }
 
 /* Processes input and writes the replies, or drops them if nobody wants them. */
-INLINED size_t feed(player by, const uint8_t *bytes, size_t len, uint8_t *reports, size_t size, size_t *written, buffer *lines) {
+INLINED size_t feed(player on, const uint8_t *bytes, size_t len, uint8_t *reports, size_t size, size_t *written, buffer *lines) {
     buffer replies = empty(reports, size);
     size_t taken = 0;
-    if (by.t->is_open && (by.s == NULL || by.s->is_open) && (by.x == NULL || by.x->is_open))
-        taken = written == NULL ? process_unanswered(by, bytes, len, lines) : process(by, bytes, len, &replies, lines);
+    if (on.t->is_open && (on.s == NULL || on.s->is_open))
+        taken = written == NULL ? process_unanswered(on, bytes, len, lines) : process(on, bytes, len, &replies, lines);
     if (written != NULL) *written = replies.filled;
     return taken;
 }
 
 /* Does what vt220_feed does, in any case. It isn't inlined, so that the frequent cases save no registers for it. */
 __attribute__((noinline)) static size_t feed_any(vt220 *t, const uint8_t *bytes, size_t len, uint8_t *reports, size_t size, size_t *written) {
-    return feed((player){t, NULL, NULL, NULL}, bytes, len, reports, size, written, NULL);
+    return feed((player){t, session_of(t), NULL}, bytes, len, reports, size, written, NULL);
 }
 
 /* Does it for an open terminal and input that isn't empty, if the replies are wanted. */
@@ -308,40 +364,16 @@ __attribute__((noinline)) static size_t feed_counting(vt220 *t, const uint8_t *b
 }
 
 size_t vt220_feed(vt220 *t, const uint8_t *bytes, size_t len, uint8_t *reports, size_t size, size_t *written) {
-    bool is_any = !t->is_open || reports == NULL || written == NULL;
+    bool is_any = !t->is_open || t->bells == IS_SESSION || reports == NULL || written == NULL;
     if (len == 1 && *bytes != BEL && !is_any) return core_feed_byte((handle *)t, *bytes, reports, size, written);
     if (len == 0 || is_any) return feed_any(t, bytes, len, reports, size, written);
     return feed_counting(t, bytes, len, reports, size, written);
 }
 
-size_t vt220_feed_utf8(vt220 *t, vt220_utf8 *u, const uint8_t *bytes, size_t len, uint8_t *reports, size_t size, size_t *written) {
-    return feed((player){t, NULL, u, NULL}, bytes, len, reports, size, written, NULL);
-}
-
-size_t vt220_feed_xterm(vt220 *t, vt220_xterm *x, const uint8_t *bytes, size_t len, uint8_t *reports, size_t size, size_t *written) {
-    return feed((player){t, NULL, NULL, x}, bytes, len, reports, size, written, NULL);
-}
-
 size_t vt220_feed_log(vt220 *t, vt220_scratch *s, const uint8_t *bytes, size_t len, uint8_t *reports, size_t size, size_t *written,
                       uint8_t *lines, size_t lines_size, size_t *lines_written) {
     buffer log = empty(lines, lines_size);
-    size_t taken = feed((player){t, s, NULL, NULL}, bytes, len, reports, size, written, &log);
-    *lines_written = log.filled;
-    return taken;
-}
-
-size_t vt220_feed_log_utf8(vt220 *t, vt220_scratch *s, vt220_utf8 *u, const uint8_t *bytes, size_t len, uint8_t *reports, size_t size,
-                           size_t *written, uint8_t *lines, size_t lines_size, size_t *lines_written) {
-    buffer log = empty(lines, lines_size);
-    size_t taken = feed((player){t, s, u, NULL}, bytes, len, reports, size, written, &log);
-    *lines_written = log.filled;
-    return taken;
-}
-
-size_t vt220_feed_log_xterm(vt220 *t, vt220_scratch *s, vt220_xterm *x, const uint8_t *bytes, size_t len, uint8_t *reports, size_t size,
-                            size_t *written, uint8_t *lines, size_t lines_size, size_t *lines_written) {
-    buffer log = empty(lines, lines_size);
-    size_t taken = feed((player){t, s, NULL, x}, bytes, len, reports, size, written, &log);
+    size_t taken = feed((player){t, session_of(t), s}, bytes, len, reports, size, written, &log);
     *lines_written = log.filled;
     return taken;
 }
@@ -353,22 +385,52 @@ uint32_t vt220_shown(uint32_t character, size_t *cells) {
     return glyph;
 }
 
-uint64_t vt220_bells(const vt220 *t) { return t->is_open ? t->bells : 0; }
+uint64_t vt220_bells(const vt220 *t) {
+    const session *by = session_of(t);
+    return by != NULL ? by->bells : t->is_open ? t->bells : 0;
+}
+
+/* Brings what a terminal needs under TERM=xterm into its state at power-up. Only bytes do that, and these end whatever is open. */
+static void reset_pages(session *by, handle *h) {
+    static const uint8_t bytes[] = "\030\033[?40h\033c\033[?40l";
+    uint8_t none[VT220_REPORT_LIMIT * sizeof bytes];
+    size_t written, rung;
+    handle pages = own_pages(by);
+    core_feed_xterm(h, &pages, bytes, sizeof bytes - 1, false, none, sizeof none, &written, &rung);
+    by->pages = pages.at;
+}
 
 uint32_t vt220_reset(vt220 *t) {
+    session *by = session_of(t);
     handle h = own(t);
     if (!h.is_open) return VT220_CLOSED;
+    if (is_xterm(by)) reset_pages(by, &h);
+    if (by != NULL) by->pending = (utf8){{0}, 0};
     uint32_t status = core_reset(&h);
     keep(t, h);
     return status;
 }
 
+/* Copies what the language of `to` keeps next to the terminal. */
+static void copy_language(session *to, const vt220 *from) {
+    if (is_xterm(to)) {
+        handle target = own_pages(to), source = own_pages(session_of(from));
+        core_xterm_copy(&target, &source);
+        to->pages = target.at;
+    } else {
+        to->pending = pending_of(from);
+    }
+}
+
 uint32_t vt220_copy(vt220 *to, const vt220 *from) {
+    session *by = session_of(to);
     handle h = own(to), other = own(from);
     if (!h.is_open || !other.is_open) return VT220_CLOSED;
+    if (is_xterm(by) && !is_xterm(session_of(from))) return VT220_LANGUAGE;
     if (is_same(to, from)) return VT220_OK;
     uint32_t status = core_copy(&h, &other);
     keep(to, h);
+    if (by != NULL) copy_language(by, from);
     return status;
 }
 
@@ -397,18 +459,25 @@ uint32_t vt220_picture(const vt220 *t, vt220_scratch *s, uint8_t *out, size_t si
     return write_by(core_picture, t, s, out, size, written);
 }
 
-uint32_t vt220_repaint(const vt220 *t, vt220_scratch *s, uint8_t *out, size_t size, size_t *written) {
-    return write_by(core_repaint, t, s, out, size, written);
-}
-
-uint32_t vt220_xterm_repaint(const vt220 *t, const vt220_xterm *x, vt220_scratch *s, uint8_t *out, size_t size, size_t *written) {
-    handle h = own(t), pages = own_xterm(x), room = own_scratch(s);
+static uint32_t repaint_pages(const vt220 *t, vt220_scratch *s, uint8_t *out, size_t size, size_t *written) {
+    handle h = own(t), pages = own_pages(session_of(t)), room = own_scratch(s);
     *written = 0;
-    if (!h.is_open || !pages.is_open || !room.is_open) return VT220_CLOSED;
+    if (!room.is_open) return VT220_CLOSED;
     if (out == NULL) out = &nothing, size = 0;
     uint32_t status = core_xterm_repaint(&h, &pages, &room, out, size, written);
     keep_scratch(s, room);
     return status;
+}
+
+uint32_t vt220_repaint_as(const vt220 *t, uint32_t language, vt220_scratch *s, uint8_t *out, size_t size, size_t *written) {
+    bool is_of_pages = language & VT220_XTERM;
+    *written = 0;
+    if (language > (VT220_UTF8 | VT220_XTERM) || (is_of_pages && t->is_open && !is_xterm(session_of(t)))) return VT220_LANGUAGE;
+    return is_of_pages && t->is_open ? repaint_pages(t, s, out, size, written) : write_by(core_repaint, t, s, out, size, written);
+}
+
+uint32_t vt220_repaint(const vt220 *t, vt220_scratch *s, uint8_t *out, size_t size, size_t *written) {
+    return vt220_repaint_as(t, language_of(t), s, out, size, written);
 }
 
 uint32_t vt220_row_text(const vt220 *t, vt220_scratch *s, size_t row, uint8_t *out, size_t size, size_t *written) {
@@ -425,6 +494,7 @@ uint32_t vt220_update(vt220 *shown, const vt220 *to, vt220_scratch *s, uint8_t *
     handle h = own(shown), other = own(to), room = own_scratch(s);
     *written = 0;
     if (!h.is_open || !other.is_open || !room.is_open) return VT220_CLOSED;
+    if (is_xterm(session_of(shown))) return VT220_LANGUAGE;
     if (is_same(shown, to)) return core_is_between(&h) ? VT220_OK : VT220_PARTIAL;
     if (out == NULL) out = &nothing, size = 0;
     uint32_t status = core_update(&h, &other, &room, out, size, written);

@@ -6,19 +6,16 @@
 int main(void) {
     static uint8_t bytes[4096], text[VT220_TEXT_LIMIT];
     vt220 terminal = VT220_INIT;
-    vt220_xterm xterm = VT220_INIT; /* keeps the page that isn't shown, next to the terminal */
     vt220_scratch scratch = VT220_INIT;
     size_t len;
-    uint32_t status = vt220_open(&terminal);
-    if (status == VT220_OK) status = vt220_xterm_open(&xterm);
+    uint32_t status = vt220_open_as(&terminal, VT220_XTERM);
     if (status == VT220_OK) status = vt220_scratch_open(&scratch);
     while (status == VT220_OK && (len = fread(bytes, 1, sizeof bytes, stdin)) > 0)
-        vt220_feed_xterm(&terminal, &xterm, bytes, len, NULL, 0, NULL); /* without replies all bytes are processed */
+        vt220_feed(&terminal, bytes, len, NULL, 0, NULL); /* without replies all bytes are processed */
     if (status == VT220_OK) status = vt220_text(&terminal, &scratch, text, sizeof text, &len);
     if (status == VT220_OK) fwrite(text, 1, len, stdout);
     else fprintf(stderr, "xterm: %s\n", vt220_status_text(status));
     vt220_scratch_close(&scratch);
-    vt220_xterm_close(&xterm);
     vt220_close(&terminal);
     return status != VT220_OK || ferror(stdin);
 }

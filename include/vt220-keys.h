@@ -87,13 +87,8 @@ extern "C" {
 #define VT220_KEY_LIMIT 7    /* the most bytes that a key sends */
 #define VT220_TYPED_LIMIT 16 /* the most bytes that vt220_key_length returns */
 
-/* What a host and its terminal speak. VT220_XTERM is in UTF-8, with or without VT220_UTF8. */
-#define VT220_BYTES 0 /* a VT220's bytes */
-#define VT220_UTF8 1  /* UTF-8 */
-#define VT220_XTERM 2 /* what programs send under TERM=xterm or xterm-256color */
-
 /* Writes what a key sends.
- *   language    VT220_BYTES, VT220_UTF8 or VT220_XTERM
+ *   language    what the host sends: VT220_BYTES, VT220_UTF8 or VT220_XTERM
  *   modes       the terminal's modes, by vt220_modes. The call reads lnm, decckm, keypad_application and reports_8bit. KAM, which
  *               locks a keyboard, is the caller's to look at.
  *   key, len    the key, in one of the three forms above

@@ -3,31 +3,37 @@
  * You feed it the bytes that a host sends, in chunks of any size. You get the replies for the host, the screen as text,
  * cells or a picture, and bytes that rebuild the whole state on another terminal of this library.
  *
- * Input. vt220_feed takes the bytes of a VT220: 00 to 7F are ASCII and the C0 controls, 80 to 9F are the C1 controls, and A0 to FF
- * are characters of the DEC supplemental set. vt220_feed_utf8 takes UTF-8 instead. BEL changes only the count of vt220_bells. LEDs,
- * printing, double-size lines and sequences of later terminals have no effect. vt220-keys.h has the keyboard, which takes what
- * vt220_modes writes.
+ * Languages. What a host sends is chosen when a terminal is opened, and all calls serve it:
  *
- * UTF-8. A VT220 has 204 characters. Any other character is shown as a similar one, or as U+2426 (vt220_shown). It takes as many cells
- * as on other terminals. A character beyond ASCII causes no reply. It ends an unfinished escape or control sequence, and is content
- * in a control string. So U+0080 to U+009F aren't controls. U+FFFD is in place of each ill-formed part (the Unicode Standard, 3.9).
+ *   VT220_BYTES   the bytes of a VT220: 00 to 7F are ASCII and the C0 controls, 80 to 9F are the C1 controls, and A0 to FF are
+ *                 characters of the DEC supplemental set. vt220_open opens such a terminal.
+ *   VT220_UTF8    UTF-8. A VT220 has 204 characters. Any other character is shown as a similar one, or as U+2426 (vt220_shown). It
+ *                 takes as many cells as on other terminals. A character beyond ASCII causes no reply. It ends an unfinished escape or
+ *                 control sequence, and is content in a control string. So U+0080 to U+009F aren't controls. U+FFFD is in place of each
+ *                 ill-formed part (the Unicode Standard, 3.9).
+ *   VT220_XTERM   what programs send if TERM is xterm or xterm-256color: UTF-8, and functions that a VT220 lacks. These are CHA, HPA,
+ *                 HPR, VPA, VPR, CNL, CPL, CHT, CBT, SU, SD, REP, SCP, RCP, and the alternate page (?47, ?1047, ?1048, ?1049). Colours
+ *                 have no effect. DECSTR and DECSCL leave DECAWM set. DECCOLM has an effect only if ?40 is set. Everything else is as on
+ *                 a VT220, and so are the replies.
  *
- * TERM=xterm. vt220_feed_xterm takes what programs send if TERM is xterm or xterm-256color: UTF-8, and functions that a VT220 lacks.
- * These are CHA, HPA, HPR, VPA, VPR, CNL, CPL, CHT, CBT, SU, SD, REP, SCP, RCP, and the alternate page (?47, ?1047, ?1048, ?1049).
- * Colours have no effect. DECSTR and DECSCL leave DECAWM set. DECCOLM has an effect only if ?40 is set. Everything else is as on a
- * VT220, and so are the replies.
+ * BEL changes only the count of vt220_bells. LEDs, printing, double-size lines and sequences of later terminals have no effect.
+ * vt220-keys.h has the keyboard, which takes what vt220_modes writes.
  *
- * Handles. You allocate a vt220, a vt220_scratch or a vt220_xterm as a struct. All zero means closed. An open handle owns memory until
- * you close it. Only vt220_open, vt220_scratch_open and vt220_xterm_open allocate. Any call on a closed handle is safe, and reports it.
- * A vt220 takes 30 KB, and a vt220_xterm takes 26 KB. A vt220_scratch is a work buffer of 690 KB of address space. Only the part
- * that is used becomes resident: 125 KB without pictures. One serves any number of terminals, one call at a time. It keeps nothing
- * between calls.
+ * The state. Each terminal has the state of a VT220, which the readers, vt220_text and vt220_update are about. A terminal in UTF-8 also
+ * keeps the bytes of a character that isn't complete. One under TERM=xterm also keeps the page that isn't shown, and whether DECCOLM has an
+ * effect, the alternate page is shown, and pasted text is wanted in brackets. All of it is copied and reset with the terminal, and
+ * vt220_language reads it.
+ *
+ * Handles. You allocate a vt220 or a vt220_scratch as a struct. All zero means closed. An open handle owns memory until you close it. Only
+ * vt220_open, vt220_open_as and vt220_scratch_open allocate. Any call on a closed handle is safe, and reports it. A vt220 takes 30 KB, and
+ * 56 KB under TERM=xterm. A vt220_scratch is a work buffer of 690 KB of address space. Only the part that is used becomes resident: 125 KB
+ * without pictures. One serves any number of terminals, one call at a time. It keeps nothing between calls.
  *
  * Output structs. The library writes each field of a struct that you pass, and needs nothing in it before. It sets `reserved` to
  * zero. A later version may give these bytes a meaning.
  *
- * Threads. A call that takes a `const vt220 *` or a `const vt220_xterm *` doesn't write to it, so several threads may make such calls
- * on one handle at once. Any other call needs the handle for itself. Each thread needs its own scratch buffer.
+ * Threads. A call that takes a `const vt220 *` doesn't write to it, so several threads may make such calls on one handle at once. Any other
+ * call needs the handle for itself. Each thread needs its own scratch buffer.
  *
  * Not checked. The caller must see to these:
  *  - A handle is all zero, or as the library left it. You may move it with memcpy if you don't use the original again.
@@ -39,7 +45,7 @@
  *
  * Stack. A call uses at most 8 KB of stack.
  *
- * Processor. On x86-64 the library needs x86-64-v2 (SSE4.2, of 2009). On an older processor the three open calls return
+ * Processor. On x86-64 the library needs x86-64-v2 (SSE4.2, of 2009). On an older processor the open calls return
  * VT220_UNSUPPORTED. On aarch64 it needs nothing beyond ARMv8-A.
  *
  * Versions. A program and a library go together if the major version is the same, which the SONAME has, and the library isn't older
@@ -74,6 +80,12 @@ extern "C" {
 #define VT220_ROOM 5        /* the output buffer is too small; *written is the size that is needed */
 #define VT220_UNSUPPORTED 6 /* the processor is older than x86-64-v2 */
 #define VT220_NO_ROW 7      /* there is no such row */
+#define VT220_LANGUAGE 10   /* there is no such language, or a terminal has another one; 8 and 9 are of vt220-keys.h */
+
+/* What a host sends. VT220_UTF8 | VT220_XTERM is VT220_XTERM. */
+#define VT220_BYTES 0 /* a VT220's bytes */
+#define VT220_UTF8 1  /* UTF-8 */
+#define VT220_XTERM 2 /* what programs send under TERM=xterm or xterm-256color */
 
 /* The kinds of an unfinished sequence. */
 #define VT220_HELD_NOTHING 0 /* none: the terminal is between sequences */
@@ -86,8 +98,8 @@ extern "C" {
 #define VT220_REPORT_LIMIT 10      /* the most bytes of replies for one byte of input */
 #define VT220_TEXT_LIMIT 9528      /* the most bytes of a text */
 #define VT220_ROW_TEXT_LIMIT 397   /* the most bytes of the text of a row */
-#define VT220_UTF8_LINES_LIMIT 17468 /* the most bytes of lines for one byte of UTF-8 */
-#define VT220_XTERM_LINES_LIMIT 19056 /* the capacity for lines with which vt220_feed_log_xterm goes on */
+#define VT220_UTF8_LINES_LIMIT 17468 /* the capacity for lines with which vt220_feed_log goes on in UTF-8 */
+#define VT220_XTERM_LINES_LIMIT 19056 /* and under TERM=xterm */
 #define VT220_SHOW_LIMIT 51000     /* the most bytes of a text with attributes */
 #define VT220_PICTURE_LIMIT 659968 /* the most bytes of a picture */
 #define VT220_PAINT_LIMIT 93512    /* the most bytes of a repaint */
@@ -106,15 +118,6 @@ typedef struct vt220_scratch {
     void *room;
     bool is_open;
 } vt220_scratch;
-
-/* What a terminal needs under TERM=xterm: the page that isn't shown, three modes, and what is pending of UTF-8. Each terminal needs a
- * separate one. It isn't part of the terminal's state: vt220_copy, vt220_reset and bytes of vt220_repaint don't change it, and
- * vt220_xterm_copy copies it. Bytes of vt220_xterm_repaint rebuild both. To reset both, feed "\033[?40h\033c\033[?40l" (?40h, RIS, ?40l)
- * by vt220_feed_xterm. The fields are private. */
-typedef struct vt220_xterm {
-    void *pages;
-    bool is_open;
-} vt220_xterm;
 
 /* A closed handle of any type: vt220 t = VT220_INIT; */
 #ifdef __cplusplus
@@ -197,12 +200,15 @@ typedef struct vt220_row_marks {
     uint8_t reserved[12];
 } vt220_row_marks;
 
-/* What is pending of UTF-8 input: the bytes of a character that isn't complete. All zero: nothing. Any content is safe: if the
- * bytes don't begin a character, nothing is pending. It isn't part of the terminal's state. */
-typedef struct vt220_utf8 {
-    uint8_t bytes[3]; /* the pending bytes, and zeros after them */
-    uint8_t len;      /* how many bytes are pending, 0 to 3 */
-} vt220_utf8;
+/* The language of a terminal, and what it keeps next to the state of a VT220. */
+typedef struct vt220_language_state {
+    uint32_t language;    /* VT220_BYTES, VT220_UTF8 or VT220_XTERM */
+    uint8_t pending[3];   /* the bytes of a character of UTF-8 that isn't complete */
+    uint8_t pending_len;  /* how many there are, 0 to 3 */
+    bool alternate;       /* the alternate page is shown */
+    bool bracketed_paste; /* the program wants pasted text between ESC [ 200 ~ and ESC [ 201 ~ (?2004) */
+    uint8_t reserved[22];
+} vt220_language_state;
 
 /* Returns the version of the library, in the form of VT220_VERSION. */
 uint32_t vt220_version(void);
@@ -210,9 +216,15 @@ uint32_t vt220_version(void);
 /* Returns a short English text for a status. It is never null. */
 const char *vt220_status_text(uint32_t status);
 
-/* Opens a terminal in its power-up state: 24 rows of 80 columns, all blank.
+/* Opens a terminal for a VT220's bytes in its power-up state: 24 rows of 80 columns, all blank.
  * Returns VT220_OK, VT220_IN_USE, VT220_MEMORY or VT220_UNSUPPORTED. */
 uint32_t vt220_open(vt220 *t);
+
+/* Opens a terminal for a language in the same state. Nothing is pending. Under TERM=xterm the main page is shown, and the alternate page is
+ * blank.
+ *   language    VT220_BYTES, VT220_UTF8 or VT220_XTERM
+ * Returns VT220_OK, VT220_IN_USE, VT220_MEMORY, VT220_UNSUPPORTED or VT220_LANGUAGE. */
+uint32_t vt220_open_as(vt220 *t, uint32_t language);
 
 /* Closes a terminal and frees its memory. Does nothing if it is closed. */
 void vt220_close(vt220 *t);
@@ -230,30 +242,6 @@ void vt220_scratch_close(vt220_scratch *s);
 /* Returns whether a scratch buffer is open. */
 bool vt220_scratch_is_open(const vt220_scratch *s);
 
-/* Opens what a terminal at power-up needs under TERM=xterm: the main page is shown, the alternate page is blank, nothing is pending.
- * Returns VT220_OK, VT220_IN_USE, VT220_MEMORY or VT220_UNSUPPORTED. */
-uint32_t vt220_xterm_open(vt220_xterm *x);
-
-/* Closes it and frees its memory. Does nothing if it is closed. */
-void vt220_xterm_close(vt220_xterm *x);
-
-/* Returns whether it is open. */
-bool vt220_xterm_is_open(const vt220_xterm *x);
-
-/* Returns whether the alternate page is shown; false if it is closed. */
-bool vt220_xterm_alternate(const vt220_xterm *x);
-
-/* Returns whether the program wants pasted text between ESC [ 200 ~ and ESC [ 201 ~ (?2004); false if it is closed. */
-bool vt220_xterm_bracketed_paste(const vt220_xterm *x);
-
-/* Writes what is pending of UTF-8 to *u.
- * Returns true, or false if it is closed, and then writes nothing. */
-bool vt220_xterm_pending(const vt220_xterm *x, vt220_utf8 *u);
-
-/* Makes what `to` keeps equal to what `from` keeps. With vt220_copy of the two terminals, both go on alike.
- * Returns VT220_OK or VT220_CLOSED. */
-uint32_t vt220_xterm_copy(vt220_xterm *to, const vt220_xterm *from);
-
 /* Processes input from the host. Writes the replies to the front of `reports`, and their length to *written. Doesn't modify the
  * bytes of `reports` after them.
  *   bytes, len      the input
@@ -263,55 +251,26 @@ uint32_t vt220_xterm_copy(vt220_xterm *to, const vt220_xterm *from);
  * aren't used then.
  * Returns how many bytes were processed. If these are fewer than len, fewer than VT220_REPORT_LIMIT bytes of `reports` are free:
  * send the replies and call again with the remainder. A buffer of VT220_REPORT_LIMIT bytes always takes at least one byte,
- * one of VT220_REPORT_LIMIT * len all of them, and one of 5 KB costs no speed.
+ * one of VT220_REPORT_LIMIT * len all of them, and one of 5 KB costs no speed. What is pending of UTF-8 at the end of the input isn't shown.
  * Returns 0 on a closed terminal: a loop that ends when all is processed must also end on 0. */
 size_t vt220_feed(vt220 *t, const uint8_t *bytes, size_t len, uint8_t *reports, size_t size, size_t *written);
 
 /* Processes input from the host, as vt220_feed does, and writes the lines that scroll off the top of the screen.
  * A line scrolls off if a line feed moves the rows between the margins up, and the top margin is row 1. A line feed is LF, VT, FF,
- * IND or NEL at the bottom margin, or a character that is written there when the wrap flag is set. Nothing else scrolls a line
- * off. A line is written as by vt220_row_text.
+ * IND or NEL at the bottom margin, or a character that is written there when the wrap flag is set. Under TERM=xterm SU scrolls off the
+ * rows that it moves past row 1, and on the alternate page nothing does. Nothing else scrolls a line off. A line is written as by
+ * vt220_row_text.
  *   s                   an open scratch buffer
  *   bytes, len          the input
  *   reports, size       the buffer for replies; *written receives their length. A null `written` drops them, as in vt220_feed
  *   lines, lines_size   the buffer for lines; *lines_written receives their length
- * Returns how many bytes were processed. If these are fewer than len, fewer than VT220_REPORT_LIMIT bytes of `reports` or fewer than
- * VT220_ROW_TEXT_LIMIT bytes of `lines` are free: empty both and call again with the remainder. Buffers of these sizes always take
- * at least one byte. Buffers of 5 KB and 200 KB cost no speed.
+ * Returns how many bytes were processed. If these are fewer than len, fewer than VT220_REPORT_LIMIT bytes of `reports` are free, or too
+ * few of `lines`: empty both and call again with the remainder. Too few are fewer than VT220_ROW_TEXT_LIMIT, in UTF-8 fewer than
+ * VT220_UTF8_LINES_LIMIT, and under TERM=xterm fewer than VT220_XTERM_LINES_LIMIT. Buffers of these sizes always take at least one byte.
+ * Buffers of 5 KB and 200 KB cost no speed.
  * Returns 0 if a handle is closed: a loop that ends when all is processed must also end on 0. */
 size_t vt220_feed_log(vt220 *t, vt220_scratch *s, const uint8_t *bytes, size_t len, uint8_t *reports, size_t size, size_t *written,
                       uint8_t *lines, size_t lines_size, size_t *lines_written);
-
-/* Processes input in UTF-8. Everything else is as in vt220_feed.
- *   u               what is pending between chunks; the call replaces it
- * Returns how many bytes were processed, as vt220_feed does. Returns 0 on a closed terminal, and doesn't modify *u then. What is
- * pending at the end of the input isn't shown. */
-size_t vt220_feed_utf8(vt220 *t, vt220_utf8 *u, const uint8_t *bytes, size_t len, uint8_t *reports, size_t size, size_t *written);
-
-/* Processes input in UTF-8, and writes the lines that scroll off the top of the screen. Everything else is as in vt220_feed_log.
- *   u               what is pending between chunks; the call replaces it
- * Returns how many bytes were processed. If these are fewer than len, fewer than VT220_REPORT_LIMIT bytes of `reports` or fewer than
- * VT220_UTF8_LINES_LIMIT bytes of `lines` are free. Buffers of these sizes always take at least one byte.
- * Returns 0 if a handle is closed, and doesn't modify *u then. */
-size_t vt220_feed_log_utf8(vt220 *t, vt220_scratch *s, vt220_utf8 *u, const uint8_t *bytes, size_t len, uint8_t *reports, size_t size,
-                           size_t *written, uint8_t *lines, size_t lines_size, size_t *lines_written);
-
-/* Processes input of a program whose TERM is xterm or xterm-256color: UTF-8, and functions that a VT220 lacks. Everything else is as
- * in vt220_feed.
- *   x               what the terminal needs next to its state; the call changes it
- * Returns how many bytes were processed, as vt220_feed does. Returns 0 if a handle is closed, and changes nothing then. What is
- * pending of UTF-8 at the end of the input isn't shown. */
-size_t vt220_feed_xterm(vt220 *t, vt220_xterm *x, const uint8_t *bytes, size_t len, uint8_t *reports, size_t size, size_t *written);
-
-/* Processes input of a program whose TERM is xterm or xterm-256color, as vt220_feed_xterm does, and writes the lines that scroll off the
- * top of the main page. What scrolls a line off is as in vt220_feed_log, and SU scrolls off the rows that it moves past row 1. On the
- * alternate page nothing does. Everything else is as in vt220_feed_log.
- *   x               what the terminal needs next to its state; the call changes it
- * Returns how many bytes were processed. If these are fewer than len, fewer than VT220_REPORT_LIMIT bytes of `reports` or fewer than
- * VT220_XTERM_LINES_LIMIT bytes of `lines` are free. Buffers of these sizes always take at least one byte.
- * Returns 0 if a handle is closed, and changes nothing then. */
-size_t vt220_feed_log_xterm(vt220 *t, vt220_scratch *s, vt220_xterm *x, const uint8_t *bytes, size_t len, uint8_t *reports, size_t size,
-                            size_t *written, uint8_t *lines, size_t lines_size, size_t *lines_written);
 
 /* Returns the Unicode number of the glyph with which UTF-8 input shows a character. It is the character itself if a VT220 has it.
  * Returns 0 if the character has no cell: a control, a combining mark.
@@ -323,12 +282,13 @@ uint32_t vt220_shown(uint32_t character, size_t *cells);
  * count. Returns 0 on a closed terminal. */
 uint64_t vt220_bells(const vt220 *t);
 
-/* Resets a terminal to its power-up state, as RIS does, also inside a sequence.
+/* Resets a terminal to its power-up state, also inside a sequence, with all that its language keeps.
  * Returns VT220_OK or VT220_CLOSED. */
 uint32_t vt220_reset(vt220 *t);
 
-/* Brings `to` into the state of `from`, also if `from` is inside a sequence. Both are open before.
- * Returns VT220_OK or VT220_CLOSED. */
+/* Brings `to` into the state of `from`, also if `from` is inside a sequence. Both are open before. `to` keeps its language. What that
+ * keeps is copied, too: in UTF-8 what is pending of `from`, and under TERM=xterm its pages, for which `from` has to have this language.
+ * Returns VT220_OK, VT220_CLOSED or VT220_LANGUAGE. */
 uint32_t vt220_copy(vt220 *to, const vt220 *from);
 
 /* Writes the screen as text: 24 lines of UTF-8, each without the spaces at its end, and LF.
@@ -355,32 +315,30 @@ uint32_t vt220_show(const vt220 *t, vt220_scratch *s, uint8_t *out, size_t size,
  * Returns VT220_OK, VT220_ROOM or VT220_CLOSED. */
 uint32_t vt220_picture(const vt220 *t, vt220_scratch *s, uint8_t *out, size_t size, size_t *written);
 
-/* Writes the repaint: bytes that, fed by vt220_feed or vt220_feed_utf8 to any terminal, whatever its state, leave it in exactly the state
- * of `t`. They cause no replies. vt220_feed_xterm may play them differently: vt220_xterm_repaint is for it. Terminals of others lack some
- * of these functions.
- *   out, size   the output buffer; VT220_PAINT_LIMIT bytes are always enough
+/* Writes the repaint: bytes that, fed to any terminal of the same language, whatever its state, leave it exactly as `t` is. They are ASCII
+ * and cause no replies. What is pending of UTF-8 is left out: feed its bytes (vt220_language) after them, and these are pending again. Two
+ * terminals of a language with nothing pending are equal if and only if their bytes are. Terminals of others lack some of these functions.
+ *   out, size   the output buffer; VT220_PAINT_LIMIT bytes are always enough, under TERM=xterm VT220_XTERM_PAINT_LIMIT
  *   written     receives the length; 0 if a handle is closed or the terminal is inside a sequence
  * Returns VT220_OK, VT220_ROOM, VT220_CLOSED or VT220_PARTIAL. */
 uint32_t vt220_repaint(const vt220 *t, vt220_scratch *s, uint8_t *out, size_t size, size_t *written);
 
-/* Writes the repaint of a session under TERM=xterm: bytes that, fed by vt220_feed_xterm to any open terminal and vt220_xterm, leave them
- * exactly as `t` and `x` are. What is pending of UTF-8 is left out. Feed the bytes of vt220_xterm_pending after them, and these are
- * pending again. The bytes are ASCII and cause no replies. Two sessions with nothing pending are equal if and only if their bytes are.
- *   x           what `t` needs next to its state
- *   out, size   the output buffer; VT220_XTERM_PAINT_LIMIT bytes are always enough
- *   written     receives the length; 0 if a handle is closed or the terminal is inside a sequence
- * Returns VT220_OK, VT220_ROOM, VT220_CLOSED or VT220_PARTIAL. */
-uint32_t vt220_xterm_repaint(const vt220 *t, const vt220_xterm *x, vt220_scratch *s, uint8_t *out, size_t size, size_t *written);
+/* Writes the repaint for a terminal of a language. For VT220_BYTES and VT220_UTF8 it is that of the state of a VT220, with the page that is
+ * shown, and rebuilds it on a terminal of either. So it shows a session under TERM=xterm on a VT220. For VT220_XTERM it is vt220_repaint.
+ *   language    VT220_BYTES or VT220_UTF8; VT220_XTERM if `t` has this language
+ * Returns what vt220_repaint does, or VT220_LANGUAGE. *written is 0 then. */
+uint32_t vt220_repaint_as(const vt220 *t, uint32_t language, vt220_scratch *s, uint8_t *out, size_t size, size_t *written);
 
 /* Writes an update: bytes that, fed to a terminal in the state of `shown`, leave it in exactly the state of `to`. They cause no
- * replies. Brings `shown` into the state of `to` as well, and doesn't modify `to`.
+ * replies. Brings `shown` into the state of `to` as well, and doesn't modify `to`. `shown` isn't one under TERM=xterm; `to` has any language,
+ * and of a session under TERM=xterm it is the page that is shown.
  *   out, size   the output buffer; VT220_UPDATE_LIMIT bytes are always enough
  *   written     receives the length, which is 0 if and only if the states are equal;
  *               0 also if a handle is closed or a terminal is inside a sequence
  * If width and tab stops are equal, an update has at most 28 * n + 230 bytes for n cells that differ. It is ASCII: graphic
  * characters, and CUP, CUF, CUB, BS, CR, LF, ED, EL, IL, DL, SGR, DECSCA, DECSTBM, HTS, TBC, SCS, locking and single shifts,
  * DECSC, SM, RM, DECKPAM, DECKPNM, S7C1T, S8C1T, DECSTR and RIS. Doesn't modify the bytes of `out` after it.
- * Returns VT220_OK, VT220_ROOM, VT220_CLOSED or VT220_PARTIAL. */
+ * Returns VT220_OK, VT220_ROOM, VT220_CLOSED, VT220_PARTIAL or VT220_LANGUAGE. */
 uint32_t vt220_update(vt220 *shown, const vt220 *to, vt220_scratch *s, uint8_t *out, size_t size, size_t *written);
 
 /* Finds the cells of a row of `to`, 1 to 24, for which `shown` has another cell or none. Call it before vt220_update, and redraw
@@ -426,13 +384,18 @@ bool vt220_stops(const vt220 *t, vt220_tab_stops *stops);
  * Returns true, or false on a closed terminal, and then writes nothing. */
 bool vt220_saved(const vt220 *t, vt220_saved_record *saved);
 
+/* Writes the language, and what the terminal keeps for it, to *language.
+ * Returns true, or false on a closed terminal, and then writes nothing. */
+bool vt220_language(const vt220 *t, vt220_language_state *language);
+
 /* Returns whether the terminal is between sequences; false on a closed terminal. */
 bool vt220_is_between(const vt220 *t);
 
 /* Returns the kind of the unfinished sequence: one of VT220_HELD_..; VT220_HELD_NOTHING on a closed terminal. */
 uint32_t vt220_held_kind(const vt220 *t);
 
-/* Returns whether two terminals are in the same state, hidden parts included; false if one is closed. */
+/* Returns whether two terminals are in the same state of a VT220, hidden parts included; false if one is closed. What their languages keep
+ * isn't compared: the repaints of two sessions under TERM=xterm are equal if and only if both pages are. */
 bool vt220_same_state(const vt220 *a, const vt220 *b);
 
 #ifdef __cplusplus

@@ -441,8 +441,7 @@ int attach(int socket, const char *name, bool is_read_only, bool removes) {
     if (vt220_open(&it.terminal) != VT220_OK) fail(1, "out of memory");
     struct hello hello = wire_greet(socket, name, ASK_ATTACH, (is_read_only ? FLAG_READ_ONLY : 0) | (removes ? FLAG_REMOVES : 0));
     it.version = hello.version;
-    it.keys.is_utf8 = hello.is_utf8;
-    it.keys.is_xterm = hello.is_xterm;
+    it.keys.language = hello.language;
     it.keys.can_scroll = true;
     int status = hello.is_over ? show_last(name, removes) : follow(name);
     scroll_leave();

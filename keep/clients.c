@@ -59,7 +59,7 @@ static void refuse(struct client *c, const char *why) {
 static void put_repaint(struct client *c) {
     uint8_t *room = frame_room(c), none[VT220_REPORT_LIMIT];
     size_t len = 0, reports;
-    vt220_repaint(&the.settled, &the.scratch, room, FRAME_LIMIT, &len);
+    vt220_repaint_as(&the.settled, VT220_BYTES, &the.scratch, room, FRAME_LIMIT, &len);
     for (size_t at = 0; at < len;) at += vt220_feed(&c->shown, room + at, len - at, none, sizeof none, &reports);
     put_frame(c, FRAME_PLAY, len);
     c->changes = the.changes;
@@ -74,14 +74,20 @@ static void put_update(struct client *c) {
     c->changes = the.changes;
 }
 
+/* Returns whether the program wants pasted text in brackets. */
+static bool wants_brackets(void) {
+    vt220_language_state kept;
+    return vt220_language(&the.settled, &kept) && kept.bracketed_paste;
+}
+
 /* Returns whether a client isn't told yet whether the program wants pasted text in brackets. */
 static bool needs_brackets(const struct client *c) {
-    return c->version >= PROTOCOL_PASTE && c->brackets != (the.is_xterm && vt220_xterm_bracketed_paste(&the.settled_front));
+    return c->version >= PROTOCOL_PASTE && c->brackets != wants_brackets();
 }
 
 static void put_brackets(struct client *c) {
     if (!needs_brackets(c)) return;
-    c->brackets = the.is_xterm && vt220_xterm_bracketed_paste(&the.settled_front) ? BRACKETS_ON : BRACKETS_OFF;
+    c->brackets = wants_brackets() ? BRACKETS_ON : BRACKETS_OFF;
     put(c, FRAME_PASTE, &(uint8_t){c->brackets == BRACKETS_ON}, 1);
 }
 
@@ -221,7 +227,7 @@ static size_t write_line(char *to) {
     if (the.is_over) snprintf(end, sizeof end, "%lld\t%d", (long long)the.ending.time, shell_status(the.ending.status));
     return (size_t)snprintf(to, SMALL_FRAMES, "%s\t%d\t%zu\t%zu\t%ld\t%lld\t%s\t%s\t%s\t%s", the.is_over ? "ended" : "running", VT220_ROWS,
                             vt220_width(&the.terminal), count_attached(), (long)the.command, (long long)the.began, end, the.title,
-                            encoding_name(the.is_utf8), terminal_name(the.is_xterm));
+                            encoding_name(the.language), terminal_name(the.language));
 }
 
 static void answer(struct client *c) {
@@ -234,7 +240,7 @@ static void answer(struct client *c) {
     } else if (c->ask == ASK_TEXT) {
         vt220_text(&the.terminal, &the.scratch, room, FRAME_LIMIT, &len);
     } else if (c->ask == ASK_REPAINT) {
-        vt220_repaint(&the.settled, &the.scratch, room, FRAME_LIMIT, &len);
+        vt220_repaint_as(&the.settled, VT220_BYTES, &the.scratch, room, FRAME_LIMIT, &len);
     } else {
         refuse(c, "this vt220-keep doesn't know what is asked");
         return;
@@ -252,8 +258,8 @@ static void begin(struct client *c) {
     put(c, FRAME_HELLO, told, 4 + (size_t)len);
     c->ask = (char)c->in[HELLO_ASK];
     c->version = told[0];
-    if (types_keys(c->ask) && told[0] >= PROTOCOL_ENCODING) put(c, FRAME_ENCODING, &(uint8_t){the.is_utf8}, 1);
-    if (types_keys(c->ask) && told[0] >= PROTOCOL_TERMINAL) put(c, FRAME_TERMINAL, &(uint8_t){the.is_xterm}, 1);
+    if (types_keys(c->ask) && told[0] >= PROTOCOL_ENCODING) put(c, FRAME_ENCODING, &(uint8_t){the.language != VT220_BYTES}, 1);
+    if (types_keys(c->ask) && told[0] >= PROTOCOL_TERMINAL) put(c, FRAME_TERMINAL, &(uint8_t){the.language == VT220_XTERM}, 1);
     uint8_t flags = c->in[HELLO_FLAGS];
     c->is_read_only = flags & FLAG_READ_ONLY;
     c->in_len -= HELLO_LENGTH;

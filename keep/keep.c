@@ -120,23 +120,18 @@ static bool is_second(const char *option, const char *given, const char *first, 
     return is_so;
 }
 
-/* Returns whether the command of a new session has TERM=xterm-256color. */
-static bool is_xterm_wanted(const struct options *options) {
-    return options->terminal != NULL && is_second("terminal", options->terminal, terminal_name(false), terminal_name(true));
-}
-
-/* Returns whether a new session is in UTF-8: as its option says, or its terminal, or its locale, or that of the environment. */
-static bool is_utf8_wanted(const struct options *options, bool is_xterm) {
-    bool is_named = options->encoding != NULL && is_second("encoding", options->encoding, encoding_name(false), encoding_name(true));
-    if (is_xterm && options->encoding != NULL && !is_named) fail(2, "new: --terminal=xterm is in UTF-8, and doesn't go with --encoding=dec");
-    if (is_xterm || options->encoding != NULL) return is_xterm || is_named;
-    return is_utf8_locale(options->locale != NULL ? options->locale : "");
+/* Returns the language of a new session. It is in UTF-8 as its option says, or its terminal, or its locale, or that of the environment. */
+static uint32_t language_wanted(const struct options *options) {
+    bool is_xterm = options->terminal != NULL && is_second("terminal", options->terminal, terminal_name(VT220_BYTES), terminal_name(VT220_XTERM));
+    bool is_utf8 = options->encoding != NULL ? is_second("encoding", options->encoding, encoding_name(VT220_BYTES), encoding_name(VT220_UTF8))
+                                             : is_utf8_locale(options->locale != NULL ? options->locale : "");
+    if (is_xterm && options->encoding != NULL && !is_utf8) fail(2, "new: --terminal=xterm is in UTF-8, and doesn't go with --encoding=dec");
+    return is_xterm ? VT220_XTERM : is_utf8 ? VT220_UTF8 : VT220_BYTES;
 }
 
 static int do_new(char **words, const struct options *options) {
     struct folder folder = open_folder();
-    bool is_xterm = is_xterm_wanted(options);
-    struct beginning beginning = {words[0], options->locale, words + 1, is_utf8_wanted(options, is_xterm), is_xterm};
+    struct beginning beginning = {words[0], options->locale, words + 1, language_wanted(options)};
     check_name(words[0]);
     if (strcmp(words[1], "--") == 0) beginning.command++;
     if (*beginning.command == NULL) fail(2, "new: an argument is missing; vt220-keep --help shows which");

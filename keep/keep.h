@@ -56,14 +56,13 @@ bool is_same_user(int socket);
 struct hello {
     uint8_t version, lowest, highest;
     bool is_over, is_shown; /* the command has ended, and a client that was attached has shown that */
-    bool is_utf8; /* its terminal reads UTF-8: known to a client that attaches or sends keys */
-    bool is_xterm; /* the program has TERM=xterm-256color: known to the same clients */
+    uint32_t language;      /* of the session, as vt220_open_as takes it: known to a client that attaches or sends keys */
 };
 
 enum { WIRE_OK, WIRE_SILENT, WIRE_FULL, WIRE_OTHER_VERSION };
 
-const char *encoding_name(bool is_utf8);
-const char *terminal_name(bool is_xterm);
+const char *encoding_name(uint32_t language);
+const char *terminal_name(uint32_t language);
 bool types_keys(char ask); /* whether a client that asks this is sent FRAME_ENCODING and FRAME_TERMINAL, if its version has them */
 int wire_begin(int socket, char ask, uint8_t flags, struct hello *hello, char *why);
 struct hello wire_greet(int socket, const char *name, char ask, uint8_t flags); /* ends the program unless the keeper will do what it is asked */
@@ -89,8 +88,7 @@ bool call_keepers(const struct folder *folder);
 struct beginning {
     const char *name, *locale;
     char **command;
-    bool is_utf8;  /* the program reads and writes UTF-8 */
-    bool is_xterm; /* it has TERM=xterm-256color, and then is in UTF-8 */
+    uint32_t language; /* of the program */
 };
 
 #define RESUME "resume" /* the command by which a keeper starts the program that replaces it; its arguments are numbers of files */
@@ -104,8 +102,7 @@ noreturn void resume_session(int state, int told);
 struct keys {
     uint8_t held[VT220_TYPED_LIMIT]; /* the beginning of a key whose end hasn't come */
     size_t held_len;
-    bool is_utf8;    /* characters beyond ASCII are sent as they are typed */
-    bool is_xterm;   /* keys are sent as xterm sends them */
+    uint32_t language; /* of the program that gets them */
     bool rings;      /* something was typed that a VT220 has no key for */
     bool can_scroll; /* PageUp with Shift, Alt or Ctrl isn't sent */
     bool scrolls;    /* it was typed */

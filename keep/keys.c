@@ -14,12 +14,10 @@ static vt220_mode_set modes_of(const vt220 *t) {
     return modes;
 }
 
-static uint32_t language_of(const struct keys *keys) { return keys->is_xterm ? VT220_XTERM : keys->is_utf8 ? VT220_UTF8 : VT220_BYTES; }
-
 /* Writes a key that was typed. One that the terminal doesn't have passes as it came. */
 static size_t put_key(struct keys *keys, const vt220_mode_set *modes, const uint8_t *typed, size_t len, uint8_t *to) {
     size_t put;
-    uint32_t status = vt220_key(language_of(keys), modes, (const char *)typed, len, to, KEYS_GROWTH * len, &put);
+    uint32_t status = vt220_key(keys->language, modes, (const char *)typed, len, to, KEYS_GROWTH * len, &put);
     if (status == VT220_NO_CHARACTER) keys->rings = true;
     if (status != VT220_NO_KEY) return put;
     memcpy(to, typed, len);
@@ -67,7 +65,7 @@ size_t keys_flush(struct keys *keys, uint8_t *to) {
 size_t keys_named(const struct keys *keys, const vt220 *t, const char *name, uint8_t *to) {
     vt220_mode_set modes = modes_of(t);
     size_t put;
-    vt220_key(language_of(keys), &modes, name, strlen(name), to, VT220_KEY_LIMIT, &put);
+    vt220_key(keys->language, &modes, name, strlen(name), to, VT220_KEY_LIMIT, &put);
     return put;
 }
 
@@ -89,7 +87,7 @@ static bool is_near(const struct keys *keys, const vt220 *t, const char *word, s
 /* Returns whether a word that is no key was hardly meant as text: ^ and a character, F and a number, a key of an xterm, or a word with a
  * capital that differs from a key's name by one character. `meant` then has that name, or nothing. */
 bool keys_meant(const struct keys *keys, const vt220 *t, const char *word, char *meant, size_t room) {
-    const struct keys xterm = {.is_xterm = true};
+    const struct keys xterm = {.language = VT220_XTERM};
     uint8_t key[VT220_KEY_LIMIT];
     size_t len = strlen(word);
     bool is_function = word[0] == 'F' && len > 1 && strspn(word + 1, "0123456789") == len - 1;

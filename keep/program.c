@@ -43,12 +43,12 @@ void write_program(void) {
 /* Copies the terminal to `settled` if it is between sequences, and sets the window of the pseudo-terminal to its width. Returns whether it
  * is between sequences. */
 bool settle(void) {
-    static uint8_t unused[FRAME_LIMIT];
-    size_t len = 0;
-    bool is_between = vt220_update(&the.settled, &the.terminal, &the.scratch, unused, sizeof unused, &len) == VT220_OK;
-    if (is_between) the.since_len = 0, the.settled_pending = the.pending;
-    if (is_between && the.is_xterm) vt220_xterm_copy(&the.settled_front, &the.front);
-    if (is_between && len > 0) the.changes++;
+    bool is_between = vt220_is_between(&the.terminal);
+    if (is_between) {
+        if (!vt220_same_state(&the.settled, &the.terminal)) the.changes++;
+        vt220_copy(&the.settled, &the.terminal);
+        the.since_len = 0;
+    }
     if (the.width != vt220_width(&the.terminal)) {
         the.width = vt220_width(&the.terminal);
         struct winsize size = {.ws_row = VT220_ROWS, .ws_col = (unsigned short)the.width};
@@ -76,26 +76,10 @@ void remember(const uint8_t *bytes, size_t len) {
 static void feed(const uint8_t *bytes, size_t len) {
     static uint8_t reports[PIECE * VT220_REPORT_LIMIT], lines[PIECE * VT220_ROW_TEXT_LIMIT];
     for (size_t n = 1, written, lines_written; len > 0 && n > 0; bytes += n, len -= n) {
-        if (the.is_xterm) {
-            n = vt220_feed_log_xterm(&the.terminal, &the.scratch, &the.front, bytes, len, reports, sizeof reports, &written, lines,
-                                     sizeof lines, &lines_written);
-        } else if (the.is_utf8) {
-            n = vt220_feed_log_utf8(&the.terminal, &the.scratch, &the.pending, bytes, len, reports, sizeof reports, &written, lines,
-                                    sizeof lines, &lines_written);
-        } else {
-            n = vt220_feed_log(&the.terminal, &the.scratch, bytes, len, reports, sizeof reports, &written, lines, sizeof lines,
-                               &lines_written);
-        }
+        n = vt220_feed_log(&the.terminal, &the.scratch, bytes, len, reports, sizeof reports, &written, lines, sizeof lines, &lines_written);
         add_input(reports, written, true);
         log_append(lines, lines_written);
     }
-}
-
-/* Plays bytes of the program again, on a terminal. */
-void replay(vt220 *t, vt220_utf8 *pending, vt220_xterm *front, const uint8_t *bytes, size_t len) {
-    if (the.is_xterm) vt220_feed_xterm(t, front, bytes, len, NULL, 0, NULL);
-    else if (the.is_utf8) vt220_feed_utf8(t, pending, bytes, len, NULL, 0, NULL);
-    else vt220_feed(t, bytes, len, NULL, 0, NULL);
 }
 
 /* Plays a chunk. A BEL rings if the terminal carries it out, which it does except inside a control string. One ring for a
@@ -118,7 +102,7 @@ static void play(const uint8_t *bytes, size_t len) {
 /* Returns whether a byte begins a sequence: ESC, DCS, SOS, CSI, OSC, PM, APC. In UTF-8 all but ESC have two bytes, the first of which
  * is C2. */
 static bool is_introducer(uint8_t byte) {
-    if (the.is_utf8) return byte == 0x1B || byte == 0xC2;
+    if (the.language != VT220_BYTES) return byte == 0x1B || byte == 0xC2;
     return byte == 0x1B || byte == 0x90 || byte == 0x98 || byte == 0x9B || (byte >= 0x9D && byte <= 0x9F);
 }
 
@@ -164,10 +148,10 @@ static void set_environment(const struct beginning *beginning) {
         "LINES", "STY", "TERMCAP", "TERMINFO", "TERM_PROGRAM", "TERM_PROGRAM_VERSION", "TERM_SESSION_ID", "TMUX", "TMUX_PANE",
         "VTE_VERSION", "WEZTERM_PANE", "WINDOW", "WINDOWID", "XTERM_LOCALE", "XTERM_SHELL", "XTERM_VERSION", "ZELLIJ"};
     for (size_t i = 0; i < sizeof others / sizeof *others; i++) unsetenv(others[i]);
-    setenv("TERM", beginning->is_xterm ? "xterm-256color" : "vt220", 1);
+    setenv("TERM", beginning->language == VT220_XTERM ? "xterm-256color" : "vt220", 1);
     setenv("KEEP_SESSION", the.name, 1);
-    setenv("KEEP_ENCODING", encoding_name(beginning->is_utf8), 1);
-    const char *locale = beginning->locale != NULL ? beginning->locale : beginning->is_utf8 ? "" : "C";
+    setenv("KEEP_ENCODING", encoding_name(beginning->language), 1);
+    const char *locale = beginning->locale != NULL ? beginning->locale : beginning->language != VT220_BYTES ? "" : "C";
     if (*locale != 0) setenv("LC_ALL", locale, 1);
 }
 
@@ -200,7 +184,7 @@ bool run_command(const struct beginning *beginning, char *why, int *status) {
         snprintf(why, WHY_LIMIT, "cannot open a pseudo-terminal: %s", strerror(errno));
         return false;
     }
-    set_line(beginning->is_utf8);
+    set_line(beginning->language != VT220_BYTES);
     fcntl(the.master, F_SETFD, FD_CLOEXEC);
     fcntl(the.slave, F_SETFD, FD_CLOEXEC);
     fcntl(the.master, F_SETFL, O_NONBLOCK);

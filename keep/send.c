@@ -53,7 +53,7 @@ static void play_repaint(const struct folder *folder) {
 }
 
 static const char *keyboard(void) {
-    return it.keys.is_xterm ? "an xterm" : "a VT220";
+    return it.keys.language == VT220_XTERM ? "an xterm" : "a VT220";
 }
 
 /* Ends the program if one of these words was hardly meant as text. Nothing is sent then. */
@@ -76,8 +76,7 @@ void send_keys_to(const struct folder *folder, const char *name, char **keys, bo
     play_repaint(folder);
     it.socket = existing(folder, name);
     struct hello hello = wire_greet(it.socket, name, ASK_SEND, 0);
-    it.keys.is_utf8 = hello.is_utf8;
-    it.keys.is_xterm = hello.is_xterm;
+    it.keys.language = hello.language;
     if (!is_text) look_at_names(keys);
     if (hello.is_over) fail(1, "the command of %s has ended", name);
     if (*keys == NULL) send_input();

@@ -225,14 +225,13 @@ struct report {
     char why[WHY_LIMIT];
 };
 
-/* Opens the terminals. Returns false if allocation fails. */
-bool open_terminals(void) {
-    return vt220_open(&the.terminal) == VT220_OK && vt220_open(&the.settled) == VT220_OK && vt220_scratch_open(&the.scratch) == VT220_OK;
-}
-
-/* Opens what TERM=xterm needs. Returns false if allocation fails. */
-bool open_fronts(void) {
-    return vt220_xterm_open(&the.front) == VT220_OK && vt220_xterm_open(&the.settled_front) == VT220_OK;
+/* Opens the terminals for a language. Closes those that are open. Returns false if allocation fails. */
+bool open_terminals(uint32_t language) {
+    the.language = language;
+    vt220_close(&the.terminal);
+    vt220_close(&the.settled);
+    bool has_room = vt220_scratch_is_open(&the.scratch) || vt220_scratch_open(&the.scratch) == VT220_OK;
+    return has_room && vt220_open_as(&the.terminal, language) == VT220_OK && vt220_open_as(&the.settled, language) == VT220_OK;
 }
 
 /* Opens everything that a keeper needs, and runs the command. Returns false if that fails. */
@@ -241,14 +240,12 @@ static bool begin(const struct beginning *beginning, struct report *report) {
     set_title(beginning->command);
     the.linger = linger();
     the.began = time(NULL);
-    the.is_utf8 = beginning->is_utf8;
-    the.is_xterm = beginning->is_xterm;
     report->status = the.linger < 0 ? 2 : 1;
     if (the.linger < 0) snprintf(report->why, WHY_LIMIT, "KEEP_LINGER='%.100s': give a number of seconds, at most a year", getenv("KEEP_LINGER"));
     if (the.linger < 0) return false;
     the.listener = open_listener(the.folder.file, the.name, &the.socket, report->why);
     if (the.listener < 0) return false;
-    bool is_open = open_terminals() && (!the.is_xterm || open_fronts());
+    bool is_open = open_terminals(beginning->language);
     if (!is_open) snprintf(report->why, WHY_LIMIT, "out of memory");
     if (is_open && run_command(beginning, report->why, &report->status)) return true;
     remove_own(the.folder.file, the.name, &the.socket);

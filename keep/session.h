@@ -55,11 +55,7 @@ struct session {
     char name[NAME_LIMIT + 1];
     struct identity socket;
     vt220 terminal, settled;
-    bool is_utf8;               /* what the program writes is UTF-8 */
-    bool is_xterm;              /* the program has TERM=xterm-256color, and then is in UTF-8 */
-    vt220_utf8 pending;         /* the beginning of a character that isn't complete; if `is_xterm`, it is in `front` */
-    vt220_utf8 settled_pending; /* and what it was when `settled` was made */
-    vt220_xterm front, settled_front; /* the same, and the page that isn't shown; open if `is_xterm` */
+    uint32_t language; /* of the program, and of both terminals */
     vt220_scratch scratch;
     unsigned long changes; /* of `settled`, so far */
     uint8_t since[SINCE_LIMIT]; /* what was played since `settled`: the beginning of a sequence */
@@ -105,7 +101,6 @@ void write_program(void);
 bool add_input(const uint8_t *bytes, size_t len, bool is_report);
 bool settle(void);
 void remember(const uint8_t *bytes, size_t len);
-void replay(vt220 *t, vt220_utf8 *pending, vt220_xterm *front, const uint8_t *bytes, size_t len);
 void drain_program(void);
 void hang_up(void);
 
@@ -117,16 +112,10 @@ uint64_t log_end(void);
 size_t log_read(uint64_t *place, uint64_t end, uint8_t *to, size_t size, uint64_t *lost);
 
 /* session.c */
-bool open_terminals(void);
-bool open_fronts(void);
+bool open_terminals(uint32_t language);
 void give_up(void);
 void end_was_shown(bool removes);
 bool rename_session(const char *name, char *why);
-
-/* front.c */
-enum { FRONT_LIMIT = VT220_XTERM_PAINT_LIMIT + sizeof(vt220_utf8) /* more than front_paint writes */ };
-bool front_paint(const vt220 *t, const vt220_xterm *x, vt220_scratch *s, uint8_t *out, size_t *len);
-bool front_is_same(const vt220_xterm *x, const vt220_xterm *y, const vt220 *t, vt220_scratch *s);
 
 /* upgrade.c */
 void upgrade(int program, char *why); /* becomes this program; returns only if it can't, and why */

@@ -38,9 +38,9 @@ enum {
     ITEM_NAME = 'N',
     ITEM_FOLDER = 'D', /* the path of its directory */
     ITEM_TITLE = 'T',
-    ITEM_ENCODING = 'E', /* `settled_pending`, if the session is in UTF-8 */
+    ITEM_ENCODING = 'E', /* a struct handed_pending of `settled`, if the session is in UTF-8 */
     ITEM_TERMINAL = 'X', /* instead of it, and empty, if the command has TERM=xterm-256color */
-    ITEM_SCREEN = 'P', /* the repaint of `settled`, or with ITEM_TERMINAL what rebuilds `settled` and `settled_front` */
+    ITEM_SCREEN = 'P', /* the repaint of `settled`, and with ITEM_TERMINAL then what is pending */
     ITEM_SINCE = 'H',  /* what was played since then, inside a sequence */
     ITEM_KEYS = 'K',   /* what waits for the program; several items, in their order */
     ITEM_REPORTS = 'R',
@@ -56,6 +56,11 @@ struct handed_session {
     uint64_t log_begin;
     int64_t began, linger, kill_at, leave_at;
     struct ending ending;
+};
+
+/* The bytes of a character that isn't complete, and how many there are. */
+struct handed_pending {
+    uint8_t bytes[3], len;
 };
 
 struct handed_client {
@@ -91,37 +96,59 @@ static void put_session(FILE *to) {
     put_item(to, ITEM_TITLE, the.title, strlen(the.title));
 }
 
-/* Plays what ITEM_SCREEN has. Returns how many bytes were played. */
-static size_t rebuild(vt220 *t, vt220_xterm *front, const uint8_t *bytes, size_t len) {
-    return the.is_xterm ? vt220_feed_xterm(t, front, bytes, len, NULL, 0, NULL) : vt220_feed(t, bytes, len, NULL, 0, NULL);
+enum { SCREEN_LIMIT = VT220_XTERM_PAINT_LIMIT + 3 }; /* a repaint, and then what is pending */
+
+static vt220_language_state kept_by(const vt220 *t) {
+    vt220_language_state kept = {0};
+    vt220_language(t, &kept);
+    return kept;
 }
 
-/* Returns whether these bytes, and then those that were played since `settled`, lead to the terminal's state. They don't if the middle of a
- * long sequence wasn't kept. */
-static bool leads_here(vt220 *other, vt220_xterm *front, const uint8_t *bytes, size_t len) {
-    vt220_utf8 pending = the.settled_pending;
-    rebuild(other, front, bytes, len);
-    replay(other, &pending, front, the.since, the.since_len);
-    if (!vt220_same_state(other, &the.terminal)) return false;
-    return the.is_xterm ? front_is_same(front, &the.front, &the.settled, &the.scratch) : memcmp(&pending, &the.pending, sizeof pending) == 0;
+/* Writes bytes that rebuild a terminal. `out` has SCREEN_LIMIT bytes. Returns false if the terminal is inside a sequence. */
+static bool paint(const vt220 *t, uint8_t *out, size_t *len) {
+    vt220_language_state kept = kept_by(t);
+    if (vt220_repaint(t, &the.scratch, out, SCREEN_LIMIT, len) != VT220_OK) return false;
+    memcpy(out + *len, kept.pending, kept.pending_len);
+    *len += kept.pending_len;
+    return true;
+}
+
+/* Returns whether two terminals have the same pages. CAN ends a sequence that they are inside of, which leaves nothing of it. */
+static bool has_same_pages(vt220 *t, vt220 *other) {
+    static uint8_t bytes[SCREEN_LIMIT], others[SCREEN_LIMIT];
+    size_t len = 0, others_len = 0;
+    vt220_feed(t, (const uint8_t *)"\030", 1, NULL, 0, NULL);
+    vt220_feed(other, (const uint8_t *)"\030", 1, NULL, 0, NULL);
+    return paint(t, bytes, &len) && paint(other, others, &others_len) && len == others_len && memcmp(bytes, others, len) == 0;
+}
+
+/* Returns whether bytes of ITEM_SCREEN, and then those that were played since `settled`, lead to the terminal's state. They don't if the middle
+ * of a long sequence wasn't kept. */
+static bool leads_here(vt220 *other, vt220 *copy, const uint8_t *bytes, size_t len) {
+    vt220_feed(other, bytes, len, NULL, 0, NULL);
+    vt220_feed(other, the.since, the.since_len, NULL, 0, NULL);
+    vt220_language_state kept = kept_by(&the.terminal), others = kept_by(other);
+    bool is_same = vt220_same_state(other, &the.terminal) && memcmp(&kept, &others, sizeof kept) == 0;
+    return is_same && vt220_copy(copy, &the.terminal) == VT220_OK && has_same_pages(copy, other);
 }
 
 /* Writes the terminal. Returns false if what is written doesn't lead to its state. */
 static bool put_terminal(FILE *to, char *why) {
-    static uint8_t bytes[FRONT_LIMIT];
-    vt220 other = VT220_INIT;
-    vt220_xterm front = VT220_INIT;
+    static uint8_t bytes[SCREEN_LIMIT];
+    vt220 other = VT220_INIT, copy = VT220_INIT;
+    vt220_language_state kept = kept_by(&the.settled);
     size_t len = 0;
-    if (the.is_xterm) put_item(to, ITEM_TERMINAL, "", 0);
-    else if (the.is_utf8) put_item(to, ITEM_ENCODING, &the.settled_pending, sizeof the.settled_pending);
-    bool is_written = the.is_xterm ? front_paint(&the.settled, &the.settled_front, &the.scratch, bytes, &len)
-                                   : vt220_repaint(&the.settled, &the.scratch, bytes, sizeof bytes, &len) == VT220_OK;
-    put_item(to, ITEM_SCREEN, bytes, len);
+    bool is_written = paint(&the.settled, bytes, &len);
+    struct handed_pending pending = {.len = kept.pending_len};
+    memcpy(pending.bytes, kept.pending, sizeof pending.bytes);
+    if (the.language == VT220_XTERM) put_item(to, ITEM_TERMINAL, "", 0);
+    else if (the.language == VT220_UTF8) put_item(to, ITEM_ENCODING, &pending, sizeof pending);
+    put_item(to, ITEM_SCREEN, bytes, is_written && the.language == VT220_UTF8 ? len - pending.len : len);
     put_item(to, ITEM_SINCE, the.since, the.since_len);
-    bool is_open = vt220_open(&other) == VT220_OK && (!the.is_xterm || vt220_xterm_open(&front) == VT220_OK);
-    bool is_same = is_open && is_written && leads_here(&other, &front, bytes, len);
+    bool is_open = vt220_open_as(&other, the.language) == VT220_OK && vt220_open_as(&copy, the.language) == VT220_OK;
+    bool is_same = is_open && is_written && leads_here(&other, &copy, bytes, len);
     vt220_close(&other);
-    vt220_xterm_close(&front);
+    vt220_close(&copy);
     if (!is_open) return refused(why, "out of memory");
     if (!is_written) return refused(why, "its terminal can't be written as bytes");
     return is_same || refused(why, "the command is inside a long control sequence; try again later");
@@ -153,7 +180,7 @@ static void put_client(FILE *to, const struct client *c) {
 }
 
 static bool put_state(FILE *to, char *why) {
-    struct heading heading = {.form = the.is_xterm ? FORM : FORM_ENCODING};
+    struct heading heading = {.form = the.language == VT220_XTERM ? FORM : FORM_ENCODING};
     memcpy(heading.magic, magic, sizeof magic);
     fwrite(&heading, sizeof heading, 1, to);
     put_session(to);
@@ -286,22 +313,19 @@ static bool take_session(const uint8_t *bytes, size_t len) {
     return has_line && take_file(the.folder.file) && take_file(the.listener);
 }
 
-static bool take_encoding(const uint8_t *bytes, size_t len) {
-    if (len != sizeof the.pending) return false;
-    the.is_utf8 = true;
-    memcpy(&the.pending, bytes, len);
-    the.settled_pending = the.pending;
-    return true;
-}
+/* What is pending once the screen is there. */
+static struct handed_pending taken;
 
-static bool take_terminal(void) {
-    the.is_utf8 = the.is_xterm = true;
-    return open_fronts();
+static bool take_encoding(const uint8_t *bytes, size_t len) {
+    if (len != sizeof taken) return false;
+    memcpy(&taken, bytes, len);
+    return taken.len <= sizeof taken.bytes && open_terminals(VT220_UTF8);
 }
 
 static bool take_screen(const uint8_t *bytes, size_t len) {
-    rebuild(&the.settled, &the.settled_front, bytes, len);
-    return rebuild(&the.terminal, &the.front, bytes, len) == len;
+    vt220_feed(&the.settled, bytes, len, NULL, 0, NULL);
+    vt220_feed(&the.settled, taken.bytes, taken.len, NULL, 0, NULL);
+    return vt220_copy(&the.terminal, &the.settled) == VT220_OK;
 }
 
 static bool take_text(char *to, size_t room, const uint8_t *bytes, size_t len) {
@@ -351,9 +375,9 @@ static bool take_item(char letter, const uint8_t *bytes, size_t len) {
     case ITEM_FOLDER: return take_text(the.folder.path, sizeof the.folder.path, bytes, len);
     case ITEM_TITLE: return take_text(the.title, sizeof the.title, bytes, len);
     case ITEM_ENCODING: return take_encoding(bytes, len);
-    case ITEM_TERMINAL: return take_terminal();
+    case ITEM_TERMINAL: return open_terminals(VT220_XTERM);
     case ITEM_SCREEN: return take_screen(bytes, len);
-    case ITEM_SINCE: remember(bytes, len); replay(&the.terminal, &the.pending, &the.front, bytes, len); return true;
+    case ITEM_SINCE: remember(bytes, len); vt220_feed(&the.terminal, bytes, len, NULL, 0, NULL); return true;
     case ITEM_KEYS: return add_input(bytes, len, false);
     case ITEM_REPORTS: return add_input(bytes, len, true);
     case ITEM_LINES: log_append(bytes, len); return true;
@@ -380,7 +404,7 @@ static bool take_items(const uint8_t *bytes, size_t len) {
 bool take_over(int state, char *why) {
     struct stat it;
     struct heading heading;
-    if (!open_terminals()) return refused(why, "out of memory");
+    if (!open_terminals(VT220_BYTES)) return refused(why, "out of memory");
     if (fstat(state, &it) != 0 || (size_t)it.st_size < sizeof heading) return refused(why, "there is no state");
     size_t len = (size_t)it.st_size;
     uint8_t *bytes = mmap(NULL, len, PROT_READ, MAP_PRIVATE, state, 0);

@@ -20,12 +20,12 @@ void wire_patience(int socket, int milliseconds) {
     setsockopt(socket, SOL_SOCKET, SO_SNDTIMEO, &limit, sizeof limit);
 }
 
-const char *encoding_name(bool is_utf8) {
-    return is_utf8 ? "utf-8" : "dec";
+const char *encoding_name(uint32_t language) {
+    return language != VT220_BYTES ? "utf-8" : "dec";
 }
 
-const char *terminal_name(bool is_xterm) {
-    return is_xterm ? "xterm" : "vt220";
+const char *terminal_name(uint32_t language) {
+    return language == VT220_XTERM ? "xterm" : "vt220";
 }
 
 bool types_keys(char ask) {
@@ -86,9 +86,11 @@ static bool receive_flag(int socket, char wanted, bool *flag) {
 /* Reads the frames that have the session's encoding and its terminal, if they are sent. An older keeper's session isn't in UTF-8, and its
  * program writes for a VT220. */
 static int receive_session(int socket, char ask, struct hello *hello) {
+    bool is_utf8 = false, is_xterm = false;
     if (!types_keys(ask)) return WIRE_OK;
-    if (hello->version >= PROTOCOL_ENCODING && !receive_flag(socket, FRAME_ENCODING, &hello->is_utf8)) return WIRE_SILENT;
-    if (hello->version >= PROTOCOL_TERMINAL && !receive_flag(socket, FRAME_TERMINAL, &hello->is_xterm)) return WIRE_SILENT;
+    if (hello->version >= PROTOCOL_ENCODING && !receive_flag(socket, FRAME_ENCODING, &is_utf8)) return WIRE_SILENT;
+    if (hello->version >= PROTOCOL_TERMINAL && !receive_flag(socket, FRAME_TERMINAL, &is_xterm)) return WIRE_SILENT;
+    hello->language = is_xterm ? VT220_XTERM : is_utf8 ? VT220_UTF8 : VT220_BYTES;
     return WIRE_OK;
 }
 

@@ -3,9 +3,8 @@
 
 enum { LEN = 40000, BLOCK = 16384 };
 
-static vt220 t = VT220_INIT;
+static vt220 t = VT220_INIT, u = VT220_INIT;
 static vt220_scratch s = VT220_INIT;
-static vt220_utf8 u;
 static uint8_t reports[VT220_REPORT_LIMIT];
 static size_t written, logged;
 
@@ -22,10 +21,10 @@ static void bells(uint8_t *input) {
     for (size_t i = 0; i < sizeof rows / sizeof rows[0]; i++) {
         memset(input, 'x', LEN);
         input[rows[i][0]] = input[rows[i][1]] = '\a';
-        uint64_t before = vt220_bells(&t);
+        uint64_t before = vt220_bells(&t), before_in_utf8 = vt220_bells(&u);
         CHECK(vt220_feed(&t, input, LEN, reports, sizeof reports, &written) == LEN && vt220_bells(&t) - before == 2);
         CHECK(vt220_feed_log(&t, &s, input, LEN, reports, sizeof reports, &written, lines, 2 * LEN, &logged) == LEN && vt220_bells(&t) - before == 4);
-        CHECK(vt220_feed_utf8(&t, &u, input, LEN, reports, sizeof reports, &written) == LEN && vt220_bells(&t) - before == 6);
+        CHECK(vt220_feed(&u, input, LEN, reports, sizeof reports, &written) == LEN && vt220_bells(&u) - before_in_utf8 == 2);
     }
     free(lines);
 }
@@ -59,11 +58,12 @@ static void lines(uint8_t *input) {
 
 int main(void) {
     uint8_t *input = allocate(LEN);
-    CHECK(vt220_open(&t) == VT220_OK && vt220_scratch_open(&s) == VT220_OK);
+    CHECK(vt220_open(&t) == VT220_OK && vt220_open_as(&u, VT220_UTF8) == VT220_OK && vt220_scratch_open(&s) == VT220_OK);
     bells(input);
     replies(input);
     lines(input);
     vt220_close(&t);
+    vt220_close(&u);
     vt220_scratch_close(&s);
     free(input);
     return finish("blocks");

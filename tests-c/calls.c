@@ -317,16 +317,16 @@ static void logs(void) {
 
 /* Feeds nothing by each call, from and to null pointers. The replies are wanted or dropped. */
 static void feed_nothing(vt220 *t, size_t *written) {
-    vt220_utf8 u = {{0}, 0};
-    vt220_xterm x = VT220_INIT;
+    static const uint32_t languages[] = {VT220_UTF8, VT220_XTERM};
     size_t logged = 9;
-    CHECK(vt220_xterm_open(&x) == VT220_OK);
-    CHECK(vt220_feed(t, NULL, 0, NULL, 0, written) == 0 && vt220_feed_utf8(t, &u, NULL, 0, NULL, 0, written) == 0);
-    CHECK(vt220_feed_xterm(t, &x, NULL, 0, NULL, 0, written) == 0);
+    CHECK(vt220_feed(t, NULL, 0, NULL, 0, written) == 0);
     CHECK(vt220_feed_log(t, &s, NULL, 0, NULL, 0, written, NULL, 0, &logged) == 0 && logged == 0);
-    CHECK(vt220_feed_log_utf8(t, &s, &u, NULL, 0, NULL, 0, written, NULL, 0, &logged) == 0 && logged == 0);
-    CHECK(vt220_feed_log_xterm(t, &s, &x, NULL, 0, NULL, 0, written, NULL, 0, &logged) == 0 && logged == 0);
-    vt220_xterm_close(&x);
+    for (size_t i = 0; i < 2; i++) {
+        vt220 other = VT220_INIT;
+        CHECK(vt220_open_as(&other, languages[i]) == VT220_OK && vt220_feed(&other, NULL, 0, NULL, 0, written) == 0);
+        CHECK(vt220_feed_log(&other, &s, NULL, 0, NULL, 0, written, NULL, 0, &logged) == 0 && logged == 0);
+        vt220_close(&other);
+    }
 }
 
 /* A null pointer of length 0 is allowed. */
@@ -374,7 +374,7 @@ static void statuses(void) {
         CHECK(vt220_status_text(status) != NULL && strcmp(vt220_status_text(status), "unknown status") != 0);
         for (uint32_t before = 0; before < status; before++) CHECK(strcmp(vt220_status_text(status), vt220_status_text(before)) != 0);
     }
-    CHECK(strcmp(vt220_status_text(10), "unknown status") == 0 && strcmp(vt220_status_text(UINT32_MAX), "unknown status") == 0);
+    CHECK(strcmp(vt220_status_text(11), "unknown status") == 0 && strcmp(vt220_status_text(UINT32_MAX), "unknown status") == 0);
 }
 
 int main(void) {

@@ -23,6 +23,21 @@ static inline void check(bool is, const char *what, const char *where) {
 /* The bytes of a string literal and their number, as two arguments. */
 #define BYTES(literal) (const uint8_t *)(literal), sizeof(literal) - 1
 
+/* Returns the language of a terminal and what it keeps for it; zeros on a closed one. */
+static inline vt220_language_state kept_by(const vt220 *t) {
+    vt220_language_state kept;
+    memset(&kept, 0, sizeof kept);
+    check(vt220_language(t, &kept) == vt220_is_open(t), "an open terminal has a language", "kept_by");
+    return kept;
+}
+
+/* Writes what is pending of UTF-8. Returns how many bytes that are. */
+static inline size_t put_pending(const vt220 *t, uint8_t *bytes) {
+    vt220_language_state kept = kept_by(t);
+    memcpy(bytes, kept.pending, kept.pending_len);
+    return kept.pending_len;
+}
+
 static inline int finish(const char *name) {
     printf("%s: %lu passed, %lu failed\n", name, passed, failed);
     return failed != 0;

@@ -20,16 +20,16 @@ enum { LONGEST = 4096 };
 
 static vt220 a = VT220_INIT, b = VT220_INIT, c = VT220_INIT, power_up = VT220_INIT;
 static vt220_scratch s = VT220_INIT, s2 = VT220_INIT;
-static vt220_xterm x = VT220_INIT, y = VT220_INIT;
+/* Two terminals in UTF-8, and two under TERM=xterm. */
+static vt220 u = VT220_INIT, v = VT220_INIT, x = VT220_INIT, y = VT220_INIT;
 static uint8_t reports_a[VT220_REPORT_LIMIT * LONGEST], reports_b[VT220_REPORT_LIMIT * LONGEST];
 
 int LLVMFuzzerTestOneInput(const uint8_t *data, size_t len);
 
 static void see(unsigned kind, unsigned value) { seen[(kind * 131 + value * 2654435761u % 127) % sizeof seen] = 1; }
 
-/* Feeds all bytes in chunks and with buffers of different sizes, under TERM=xterm if `pages` isn't null. Returns how many bytes of replies
- * came. */
-static size_t feed_by(vt220 *t, vt220_xterm *pages, const uint8_t *bytes, size_t len, unsigned cut, uint8_t *reports) {
+/* Feeds all bytes in chunks and with buffers of different sizes. Returns how many bytes of replies came. */
+static size_t feed(vt220 *t, const uint8_t *bytes, size_t len, unsigned cut, uint8_t *reports) {
     size_t at = 0, filled = 0, written;
     unsigned n = cut;
     while (at < len) {
@@ -40,8 +40,7 @@ static size_t feed_by(vt220 *t, vt220_xterm *pages, const uint8_t *bytes, size_t
         uint8_t *chunk = (uint8_t *)malloc(part), *room = (uint8_t *)malloc(size);
         if (chunk == NULL || room == NULL) abort();
         memcpy(chunk, bytes + at, part);
-        size_t taken = pages == NULL ? vt220_feed(t, chunk, part, room, size, &written)
-                                     : vt220_feed_xterm(t, pages, chunk, part, room, size, &written);
+        size_t taken = vt220_feed(t, chunk, part, room, size, &written);
         MUST(taken >= 1 && taken <= part && written <= VT220_REPORT_LIMIT * taken && written <= size);
         MUST(taken == part || size - written < VT220_REPORT_LIMIT);
         memcpy(reports + filled, room, written);
@@ -49,10 +48,6 @@ static size_t feed_by(vt220 *t, vt220_xterm *pages, const uint8_t *bytes, size_t
         free(chunk), free(room);
     }
     return filled;
-}
-
-static size_t feed(vt220 *t, const uint8_t *bytes, size_t len, unsigned cut, uint8_t *reports) {
-    return feed_by(t, NULL, bytes, len, cut, reports);
 }
 
 /* Feeds all bytes with their log, in chunks and with buffers of different sizes. Returns how many bytes of lines came. */
@@ -78,11 +73,18 @@ static size_t feed_log(vt220 *t, const uint8_t *bytes, size_t len, unsigned cut,
     return filled;
 }
 
-/* Feeds UTF-8 with its log, or without one if `lines` is null, in chunks and with buffers of different sizes, under TERM=xterm if `pages`
- * isn't null. Returns how many bytes of replies came; *logged receives how many of lines. */
-static size_t feed_characters(vt220 *t, vt220_utf8 *u, vt220_xterm *pages, const uint8_t *bytes, size_t len, unsigned cut, uint8_t *reports,
-                              uint8_t *lines, size_t *logged) {
-    const size_t limit = pages != NULL ? VT220_XTERM_LINES_LIMIT : VT220_UTF8_LINES_LIMIT;
+static vt220_language_state kept_by(const vt220 *t) {
+    vt220_language_state kept;
+    MUST(vt220_language(t, &kept) && kept.pending_len <= 3 && kept.reserved[21] == 0);
+    return kept;
+}
+
+static size_t lines_limit(const vt220 *t) { return kept_by(t).language == VT220_XTERM ? VT220_XTERM_LINES_LIMIT : VT220_UTF8_LINES_LIMIT; }
+
+/* Feeds UTF-8 with its log, in chunks and with buffers of different sizes. Returns how many bytes of replies came; *logged receives how many
+ * of lines. */
+static size_t feed_characters(vt220 *t, const uint8_t *bytes, size_t len, unsigned cut, uint8_t *reports, uint8_t *lines, size_t *logged) {
+    const size_t limit = lines_limit(t);
     size_t at = 0, filled = 0, written, off = 0;
     unsigned n = cut;
     *logged = 0;
@@ -94,52 +96,44 @@ static size_t feed_characters(vt220 *t, vt220_utf8 *u, vt220_xterm *pages, const
         uint8_t *chunk = (uint8_t *)malloc(part), *room = (uint8_t *)malloc(size), *lines_room = (uint8_t *)malloc(lines_size);
         if (chunk == NULL || room == NULL || lines_room == NULL) abort();
         memcpy(chunk, bytes + at, part);
-        size_t taken = pages != NULL   ? vt220_feed_log_xterm(t, &s, pages, chunk, part, room, size, &written, lines_room, lines_size, &off)
-                       : lines == NULL ? vt220_feed_utf8(t, u, chunk, part, room, size, &written)
-                                       : vt220_feed_log_utf8(t, &s, u, chunk, part, room, size, &written, lines_room, lines_size, &off);
+        size_t taken = vt220_feed_log(t, &s, chunk, part, room, size, &written, lines_room, lines_size, &off);
         MUST(taken >= 1 && taken <= part && written <= VT220_REPORT_LIMIT * taken && written <= size && off <= lines_size);
-        MUST(u == NULL || u->len <= 3);
-        MUST(taken == part || size - written < VT220_REPORT_LIMIT || (lines != NULL && lines_size - off < limit));
+        MUST(taken == part || size - written < VT220_REPORT_LIMIT || lines_size - off < limit);
         memcpy(reports + filled, room, written);
-        if (lines != NULL) memcpy(lines + *logged, lines_room, off);
+        memcpy(lines + *logged, lines_room, off);
         at += taken, filled += written, *logged += off;
         free(chunk), free(room), free(lines_room);
     }
     return filled;
 }
 
-static size_t feed_utf8(vt220 *t, vt220_utf8 *u, const uint8_t *bytes, size_t len, unsigned cut, uint8_t *reports, uint8_t *lines, size_t *logged) {
-    return feed_characters(t, u, NULL, bytes, len, cut, reports, lines, logged);
+static bool same_pending(const vt220 *t, const vt220 *other) {
+    vt220_language_state first = kept_by(t), second = kept_by(other);
+    return first.pending_len == second.pending_len && memcmp(first.pending, second.pending, sizeof first.pending) == 0;
 }
 
-static bool same_pending(const vt220_utf8 *u, const vt220_utf8 *v) { return u->len == v->len && memcmp(u->bytes, v->bytes, sizeof u->bytes) == 0; }
-
-/* However UTF-8 is cut, state, replies, lines, bells and what is pending are the same, and ASCII is as for vt220_feed. Any bytes may be
- * in the struct before. `b` and `c` are left in any state. */
+/* However UTF-8 is cut, state, replies, lines, bells and what is pending are the same, and ASCII is as for a VT220's bytes. `c` is left in
+ * any state. */
 static void look_at_utf8(const uint8_t *bytes, size_t len, unsigned cut) {
-    static uint8_t lines_b[2 * VT220_ROW_TEXT_LIMIT * LONGEST], lines_c[2 * VT220_ROW_TEXT_LIMIT * LONGEST];
-    vt220_utf8 before = {{0}, 0}, u, v;
-    size_t logged_b, logged_c, all;
+    static uint8_t lines_u[2 * VT220_ROW_TEXT_LIMIT * LONGEST], lines_v[2 * VT220_ROW_TEXT_LIMIT * LONGEST];
+    size_t logged_u, logged_v, all;
     bool is_ascii = true;
     for (size_t i = 0; i < len; i++) is_ascii = is_ascii && bytes[i] < 0x80;
-    memcpy(&before, bytes, len < sizeof before ? len : sizeof before);
-    u = before, v = before;
-    MUST(vt220_reset(&b) == VT220_OK && vt220_reset(&c) == VT220_OK);
-    uint64_t bells_b = vt220_bells(&b), bells_c = vt220_bells(&c);
-    all = feed_utf8(&b, &u, bytes, len, 0, reports_a, lines_b, &logged_b);
-    MUST(feed_utf8(&c, &v, bytes, len, cut, reports_b, lines_c, &logged_c) == all && memcmp(reports_a, reports_b, all) == 0);
-    MUST(logged_b == logged_c && memcmp(lines_b, lines_c, logged_b) == 0 && vt220_same_state(&b, &c) && same_pending(&u, &v));
-    MUST(vt220_bells(&b) - bells_b == vt220_bells(&c) - bells_c);
-    bells_b = vt220_bells(&b) - bells_b, bells_c = vt220_bells(&c);
-    v = before;
-    MUST(vt220_reset(&c) == VT220_OK);
-    MUST(feed_utf8(&c, &v, bytes, len, cut, reports_b, NULL, &logged_c) == all && memcmp(reports_a, reports_b, all) == 0);
-    MUST(vt220_same_state(&b, &c) && same_pending(&u, &v) && vt220_bells(&c) - bells_c == bells_b);
+    MUST(vt220_reset(&u) == VT220_OK && vt220_reset(&v) == VT220_OK && same_pending(&u, &power_up));
+    uint64_t bells_u = vt220_bells(&u), bells_v = vt220_bells(&v);
+    all = feed_characters(&u, bytes, len, 0, reports_a, lines_u, &logged_u);
+    MUST(feed_characters(&v, bytes, len, cut, reports_b, lines_v, &logged_v) == all && memcmp(reports_a, reports_b, all) == 0);
+    MUST(logged_u == logged_v && memcmp(lines_u, lines_v, logged_u) == 0 && vt220_same_state(&u, &v) && same_pending(&u, &v));
+    MUST(vt220_bells(&u) - bells_u == vt220_bells(&v) - bells_v);
+    bells_u = vt220_bells(&u) - bells_u, bells_v = vt220_bells(&v);
+    MUST(vt220_reset(&v) == VT220_OK);
+    MUST(feed(&v, bytes, len, cut, reports_b) == all && memcmp(reports_a, reports_b, all) == 0);
+    MUST(vt220_same_state(&u, &v) && same_pending(&u, &v) && vt220_bells(&v) - bells_v == bells_u);
+    MUST(vt220_reset(&v) == VT220_OK && vt220_copy(&v, &u) == VT220_OK && vt220_same_state(&u, &v) && same_pending(&u, &v));
     if (!is_ascii) return;
-    bells_c = vt220_bells(&c), v = (vt220_utf8){{0}, 0};
-    MUST(vt220_reset(&b) == VT220_OK && vt220_reset(&c) == VT220_OK);
-    MUST(vt220_feed_utf8(&b, &v, bytes, len, NULL, 0, NULL) == len && vt220_feed(&c, bytes, len, NULL, 0, NULL) == len);
-    MUST(vt220_same_state(&b, &c) && v.len == 0);
+    MUST(vt220_reset(&u) == VT220_OK && vt220_reset(&c) == VT220_OK);
+    MUST(vt220_feed(&u, bytes, len, NULL, 0, NULL) == len && vt220_feed(&c, bytes, len, NULL, 0, NULL) == len);
+    MUST(vt220_same_state(&u, &c) && same_pending(&u, &c));
 }
 
 /* Feeds byte by byte, and counts the bells by the rule of vt220_bells: a BEL rings if it isn't inside a control string. */
@@ -155,69 +149,67 @@ static uint64_t count_bells(vt220 *t, const uint8_t *bytes, size_t len) {
 /* Both terminals show the same under TERM=xterm, and so do their alternate and their main pages, of which the last one is left. */
 static void same_pages(void) {
     static const char *const switches[] = {"", "\030\033[?47h", "\033[?47l"};
-    vt220_utf8 u, v;
-    MUST(vt220_xterm_pending(&x, &u) && vt220_xterm_pending(&y, &v) && same_pending(&u, &v));
+    MUST(same_pending(&x, &y));
     for (size_t i = 0; i < sizeof switches / sizeof switches[0]; i++) {
         const uint8_t *change = (const uint8_t *)switches[i];
         size_t length = strlen(switches[i]);
-        MUST(vt220_feed_xterm(&b, &x, change, length, NULL, 0, NULL) == length && vt220_feed_xterm(&c, &y, change, length, NULL, 0, NULL) == length);
-        MUST(vt220_same_state(&b, &c) && vt220_xterm_alternate(&x) == vt220_xterm_alternate(&y));
+        MUST(vt220_feed(&x, change, length, NULL, 0, NULL) == length && vt220_feed(&y, change, length, NULL, 0, NULL) == length);
+        MUST(vt220_same_state(&x, &y) && kept_by(&x).alternate == kept_by(&y).alternate && kept_by(&x).bracketed_paste == kept_by(&y).bracketed_paste);
     }
 }
 
-/* Brings `b` and `c` under TERM=xterm into their state at power-up. */
+/* Brings both into their state at power-up. */
 static void reset_pages(void) {
-    static const char reset[] = "\033[?40h\033c\033[?40l";
-    const uint8_t *bytes = (const uint8_t *)reset;
-    size_t len = sizeof reset - 1;
-    MUST(vt220_feed_xterm(&b, &x, bytes, len, NULL, 0, NULL) == len && vt220_feed_xterm(&c, &y, bytes, len, NULL, 0, NULL) == len);
-    MUST(vt220_same_state(&b, &power_up) && vt220_same_state(&c, &power_up) && !vt220_xterm_alternate(&x) && !vt220_xterm_alternate(&y));
+    vt220 *const both[] = {&x, &y};
+    for (int i = 0; i < 2; i++) {
+        MUST(vt220_reset(both[i]) == VT220_OK && vt220_same_state(both[i], &power_up) && same_pending(both[i], &power_up));
+        MUST(!kept_by(both[i]).alternate && !kept_by(both[i]).bracketed_paste);
+    }
 }
 
-/* Brings `b` into the state of `c` under TERM=xterm: by a repaint if `cut` is odd and `c` is between sequences, otherwise by a copy. */
+/* Brings `x` into the state of `y`: by a repaint if `cut` is odd and `y` is between sequences, otherwise by a copy. */
 static void rebuild_pages(unsigned cut) {
     static uint8_t out[VT220_XTERM_PAINT_LIMIT];
+    vt220_language_state kept = kept_by(&y);
     size_t len;
-    vt220_utf8 u;
-    if (cut % 2 == 0 || !vt220_is_between(&c)) {
-        MUST(vt220_copy(&b, &c) == VT220_OK && vt220_xterm_copy(&x, &y) == VT220_OK);
+    if (cut % 2 == 0 || !vt220_is_between(&y)) {
+        MUST(vt220_copy(&x, &y) == VT220_OK);
         return;
     }
-    MUST(vt220_xterm_repaint(&c, &y, &s, out, sizeof out, &len) == VT220_OK && vt220_xterm_pending(&y, &u));
-    MUST(vt220_feed_xterm(&b, &x, out, len, NULL, 0, NULL) == len && vt220_feed_xterm(&b, &x, u.bytes, u.len, NULL, 0, NULL) == u.len);
+    MUST(vt220_repaint(&y, &s, out, sizeof out, &len) == VT220_OK);
+    MUST(vt220_feed(&x, out, len, NULL, 0, NULL) == len && vt220_feed(&x, kept.pending, kept.pending_len, NULL, 0, NULL) == kept.pending_len);
 }
 
 /* However input under TERM=xterm is cut, replies, bells, what is pending, both pages and the lines are the same, and a log changes none of
- * the others. `b` and `c` are left in any state. */
+ * the others. */
 static void look_at_xterm(const uint8_t *bytes, size_t len, unsigned cut) {
     /* no sequence scrolls off more lines than it has bytes, times the rows of the screen */
-    static uint8_t lines_b[VT220_ROWS * VT220_ROW_TEXT_LIMIT * LONGEST], lines_c[VT220_ROWS * VT220_ROW_TEXT_LIMIT * LONGEST];
-    size_t logged_b, logged_c, half = len / 2;
-    vt220_utf8 u;
+    static uint8_t lines_x[VT220_ROWS * VT220_ROW_TEXT_LIMIT * LONGEST], lines_y[VT220_ROWS * VT220_ROW_TEXT_LIMIT * LONGEST];
+    size_t logged_x, logged_y, half = len / 2;
     reset_pages();
-    uint64_t bells_b = vt220_bells(&b), bells_c = vt220_bells(&c);
-    size_t all = feed_by(&b, &x, bytes, len, 0, reports_a);
-    MUST(feed_by(&c, &y, bytes, len, cut, reports_b) == all && memcmp(reports_a, reports_b, all) == 0);
-    MUST(vt220_bells(&b) - bells_b == vt220_bells(&c) - bells_c && vt220_xterm_pending(&x, &u));
-    see(50, vt220_xterm_alternate(&x) + 2u * u.len);
-    bells_b = vt220_bells(&b) - bells_b;
+    uint64_t bells_x = vt220_bells(&x), bells_y = vt220_bells(&y);
+    size_t all = feed(&x, bytes, len, 0, reports_a);
+    MUST(feed(&y, bytes, len, cut, reports_b) == all && memcmp(reports_a, reports_b, all) == 0);
+    MUST(vt220_bells(&x) - bells_x == vt220_bells(&y) - bells_y);
+    see(50, kept_by(&x).alternate + 2u * kept_by(&x).pending_len);
+    bells_x = vt220_bells(&x) - bells_x;
     same_pages();
     reset_pages();
-    bells_c = vt220_bells(&c);
-    MUST(feed_by(&b, &x, bytes, len, 0, reports_a) == all);
-    MUST(feed_characters(&c, NULL, &y, bytes, len, 0, reports_b, lines_b, &logged_b) == all && memcmp(reports_a, reports_b, all) == 0);
-    MUST(vt220_bells(&c) - bells_c == bells_b);
-    see(51, logged_b > 0);
+    bells_y = vt220_bells(&y);
+    MUST(feed(&x, bytes, len, 0, reports_a) == all);
+    MUST(feed_characters(&y, bytes, len, 0, reports_b, lines_x, &logged_x) == all && memcmp(reports_a, reports_b, all) == 0);
+    MUST(vt220_bells(&y) - bells_y == bells_x);
+    see(51, logged_x > 0);
     same_pages();
     /* The second half also goes on from a copy or a repaint. */
     reset_pages();
-    bells_c = vt220_bells(&c);
-    size_t first = feed_characters(&c, NULL, &y, bytes, half, cut, reports_b, lines_c, &logged_c), more;
+    bells_y = vt220_bells(&y);
+    size_t first = feed_characters(&y, bytes, half, cut, reports_b, lines_y, &logged_y), more;
     rebuild_pages(cut);
-    MUST(first + feed_characters(&c, NULL, &y, bytes + half, len - half, cut, reports_b + first, lines_c + logged_c, &more) == all);
-    MUST(memcmp(reports_a, reports_b, all) == 0 && logged_c + more == logged_b && memcmp(lines_b, lines_c, logged_b) == 0);
-    MUST(vt220_bells(&c) - bells_c == bells_b);
-    MUST(feed_by(&b, &x, bytes + half, len - half, cut, reports_b) == all - first && memcmp(reports_a + first, reports_b, all - first) == 0);
+    MUST(first + feed_characters(&y, bytes + half, len - half, cut, reports_b + first, lines_y + logged_y, &more) == all);
+    MUST(memcmp(reports_a, reports_b, all) == 0 && logged_y + more == logged_x && memcmp(lines_x, lines_y, logged_x) == 0);
+    MUST(vt220_bells(&y) - bells_y == bells_x);
+    MUST(feed(&x, bytes + half, len - half, cut, reports_b) == all - first && memcmp(reports_a + first, reports_b, all - first) == 0);
     same_pages();
 }
 
@@ -261,15 +253,15 @@ static void look_at_text(const vt220 *t) {
 }
 
 /* Counts the cells that differ, by their marks, which are those of the cells. */
-static size_t count_marks(const vt220 *t, const vt220 *u) {
-    vt220_cell x[VT220_COLUMNS], y[VT220_COLUMNS];
+static size_t count_marks(const vt220 *t, const vt220 *to) {
+    vt220_cell first[VT220_COLUMNS], second[VT220_COLUMNS];
     vt220_row_marks marks;
     size_t count = 0;
     for (size_t row = 1; row <= VT220_ROWS; row++) {
-        size_t width = vt220_row(t, row, x, VT220_COLUMNS), to = vt220_row(u, row, y, VT220_COLUMNS);
-        MUST(vt220_row_changes(t, u, row, &marks) == VT220_OK && marks.width == to);
+        size_t width = vt220_row(t, row, first, VT220_COLUMNS), all = vt220_row(to, row, second, VT220_COLUMNS);
+        MUST(vt220_row_changes(t, to, row, &marks) == VT220_OK && marks.width == all);
         for (size_t i = 0; i < VT220_COLUMNS; i++) {
-            bool differs = i < to && (i >= width || memcmp(&x[i], &y[i], sizeof x[i]) != 0);
+            bool differs = i < all && (i >= width || memcmp(&first[i], &second[i], sizeof first[i]) != 0);
             MUST(marks.changed[i] == differs);
             count += differs;
         }
@@ -277,10 +269,10 @@ static size_t count_marks(const vt220 *t, const vt220 *u) {
     return count;
 }
 
-static bool has_same_columns(const vt220 *t, const vt220 *u) {
-    vt220_tab_stops x, y;
-    MUST(vt220_stops(t, &x) && vt220_stops(u, &y));
-    return vt220_width(t) == vt220_width(u) && memcmp(x.stop, y.stop, sizeof x.stop) == 0;
+static bool has_same_columns(const vt220 *t, const vt220 *to) {
+    vt220_tab_stops first, second;
+    MUST(vt220_stops(t, &first) && vt220_stops(to, &second));
+    return vt220_width(t) == vt220_width(to) && memcmp(first.stop, second.stop, sizeof first.stop) == 0;
 }
 
 /* Leads `shown` to `to` by an update in a buffer of exactly its size, and another terminal by its bytes. */
@@ -340,22 +332,22 @@ static void look(const vt220 *t) {
     see(38, (unsigned)saved.row), see(39, (unsigned)saved.col / 8), see(40, saved.wrap + 2u * saved.origin), see(41, (unsigned)vt220_width(t));
 }
 
-/* Feeds nothing to `c` by each call, from and to null pointers. The replies are wanted or dropped. */
+/* Feeds nothing to a terminal of each language by each call, from and to null pointers. The replies are wanted or dropped. */
 static void feed_nothing(size_t *written) {
-    vt220_utf8 u = {{0}, 0};
+    vt220 *const all[] = {&c, &u, &x};
     size_t logged;
-    MUST(vt220_feed(&c, NULL, 0, NULL, 0, written) == 0 && vt220_feed_utf8(&c, &u, NULL, 0, NULL, 0, written) == 0);
-    MUST(vt220_feed_xterm(&c, &x, NULL, 0, NULL, 0, written) == 0);
-    MUST(vt220_feed_log(&c, &s, NULL, 0, NULL, 0, written, NULL, 0, &logged) == 0 && logged == 0);
-    MUST(vt220_feed_log_utf8(&c, &s, &u, NULL, 0, NULL, 0, written, NULL, 0, &logged) == 0 && logged == 0);
-    MUST(vt220_feed_log_xterm(&c, &s, &x, NULL, 0, NULL, 0, written, NULL, 0, &logged) == 0 && logged == 0);
+    for (int i = 0; i < 3; i++) {
+        MUST(vt220_feed(all[i], NULL, 0, NULL, 0, written) == 0);
+        MUST(vt220_feed_log(all[i], &s, NULL, 0, NULL, 0, written, NULL, 0, &logged) == 0 && logged == 0);
+    }
 }
 
 static void open_all(void) {
     vt220 *all[] = {&a, &b, &c, &power_up};
     for (int i = 0; i < 4; i++) MUST(vt220_open(all[i]) == VT220_OK);
     MUST(vt220_scratch_open(&s) == VT220_OK && vt220_scratch_open(&s2) == VT220_OK);
-    MUST(vt220_xterm_open(&x) == VT220_OK && vt220_xterm_open(&y) == VT220_OK);
+    MUST(vt220_open_as(&u, VT220_UTF8) == VT220_OK && vt220_open_as(&v, VT220_UTF8) == VT220_OK);
+    MUST(vt220_open_as(&x, VT220_XTERM) == VT220_OK && vt220_open_as(&y, VT220_XTERM) == VT220_OK);
 }
 
 int LLVMFuzzerTestOneInput(const uint8_t *data, size_t len) {

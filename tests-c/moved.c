@@ -74,7 +74,7 @@ void core_scratch_close(handle *s) { closes(s); }
 void core_xterm_close(handle *x) { closes(x); }
 bool core_xterm_alternate(handle *x) { return stay(x), true; }
 bool core_xterm_bracketed_paste(handle *x) { return stay(x), true; }
-bool core_xterm_pending(handle *x, vt220_utf8 *u) { return stay(x), true; }
+bool core_xterm_pending(handle *x, utf8 *u) { return stay(x), true; }
 uint32_t core_xterm_copy(handle *to, handle *from) { return move(to), stay(from), VT220_OK; }
 
 size_t core_feed(handle *t, const uint8_t *bytes, size_t len, bool counts, uint8_t *reports, size_t size, size_t *written, size_t *rung) {
@@ -90,12 +90,12 @@ size_t core_feed_log(handle *t, handle *s, const uint8_t *bytes, size_t len, boo
     return feeds(bytes, len, counts, rung);
 }
 
-size_t core_feed_utf8(handle *t, vt220_utf8 *u, const uint8_t *bytes, size_t len, bool counts, uint8_t *reports, size_t size,
+size_t core_feed_utf8(handle *t, utf8 *u, const uint8_t *bytes, size_t len, bool counts, uint8_t *reports, size_t size,
                       size_t *written, size_t *rung) {
     return core_feed(t, bytes, len, counts, reports, size, written, rung);
 }
 
-size_t core_feed_log_utf8(handle *t, handle *s, vt220_utf8 *u, const uint8_t *bytes, size_t len, bool counts, uint8_t *reports, size_t size,
+size_t core_feed_log_utf8(handle *t, handle *s, utf8 *u, const uint8_t *bytes, size_t len, bool counts, uint8_t *reports, size_t size,
                           size_t *written, uint8_t *lines, size_t lines_size, size_t *lines_written, size_t *rung) {
     return core_feed_log(t, s, bytes, len, counts, reports, size, written, lines, lines_size, lines_written, rung);
 }
@@ -156,35 +156,34 @@ bool core_same_state(handle *a, handle *b) { return stay(a), stay(b), true; }
 
 static vt220 t = VT220_INIT, u = VT220_INIT;
 static vt220_scratch s = VT220_INIT;
-static vt220_xterm x = VT220_INIT, y = VT220_INIT;
-static vt220_utf8 pending;
-static uint8_t out[100], lines[1000];
+static vt220 in_utf8 = VT220_INIT, x = VT220_INIT, y = VT220_INIT;
+static uint8_t out[100], lines[1000], pending[3];
 static size_t written, logged;
 
 /* Each call that may move a block, twice: the second finds what the first left. */
 static void handles_have_the_new_blocks(void) {
     CHECK(vt220_open(&t) == VT220_OK && vt220_open(&u) == VT220_OK && vt220_scratch_open(&s) == VT220_OK);
-    CHECK(vt220_xterm_open(&x) == VT220_OK && vt220_xterm_open(&y) == VT220_OK);
+    CHECK(vt220_open_as(&in_utf8, VT220_UTF8) == VT220_OK && vt220_open_as(&x, VT220_XTERM) == VT220_OK && vt220_open_as(&y, VT220_XTERM) == VT220_OK);
     for (int turn = 0; turn < 2; turn++) {
         CHECK(vt220_feed(&t, BYTES("a\ab"), out, sizeof out, &written) == 3);
         CHECK(vt220_feed(&t, BYTES("a\ab"), NULL, 0, NULL) == 3);
         CHECK(vt220_feed(&t, BYTES("a"), out, sizeof out, &written) == 1);
         CHECK(vt220_feed_log(&t, &s, BYTES("a\ab"), out, sizeof out, &written, lines, sizeof lines, &logged) == 3);
         CHECK(vt220_feed_log(&t, &s, BYTES("a\ab"), NULL, 0, NULL, lines, sizeof lines, &logged) == 3);
-        CHECK(vt220_feed_utf8(&t, &pending, BYTES("a\ab"), out, sizeof out, &written) == 3);
-        CHECK(vt220_feed_log_utf8(&t, &s, &pending, BYTES("a\ab"), out, sizeof out, &written, lines, sizeof lines, &logged) == 3);
-        CHECK(vt220_feed_xterm(&t, &x, BYTES("a\ab"), out, sizeof out, &written) == 3 && vt220_xterm_alternate(&x) && vt220_xterm_pending(&x, &pending));
-        CHECK(vt220_feed_xterm(&t, &x, BYTES("a\ab"), NULL, 0, NULL) == 3 && vt220_xterm_bracketed_paste(&x));
-        CHECK(vt220_feed_log_xterm(&t, &s, &x, BYTES("a\ab"), out, sizeof out, &written, lines, sizeof lines, &logged) == 3);
-        CHECK(vt220_feed_log_xterm(&t, &s, &x, BYTES("a\ab"), NULL, 0, NULL, lines, sizeof lines, &logged) == 3);
-        CHECK(vt220_xterm_copy(&y, &x) == VT220_OK && vt220_xterm_copy(&x, &y) == VT220_OK && vt220_xterm_copy(&x, &x) == VT220_OK);
+        CHECK(vt220_feed(&in_utf8, BYTES("a\ab"), out, sizeof out, &written) == 3 && vt220_copy(&in_utf8, &x) == VT220_OK);
+        CHECK(vt220_feed_log(&in_utf8, &s, BYTES("a\ab"), out, sizeof out, &written, lines, sizeof lines, &logged) == 3);
+        CHECK(vt220_feed(&x, BYTES("a\ab"), out, sizeof out, &written) == 3 && kept_by(&x).alternate && put_pending(&x, pending) == 0);
+        CHECK(vt220_feed(&x, BYTES("a\ab"), NULL, 0, NULL) == 3 && kept_by(&x).bracketed_paste);
+        CHECK(vt220_feed_log(&x, &s, BYTES("a\ab"), out, sizeof out, &written, lines, sizeof lines, &logged) == 3);
+        CHECK(vt220_feed_log(&x, &s, BYTES("a\ab"), NULL, 0, NULL, lines, sizeof lines, &logged) == 3);
+        CHECK(vt220_copy(&y, &x) == VT220_OK && vt220_copy(&x, &y) == VT220_OK && vt220_copy(&x, &x) == VT220_OK && vt220_reset(&x) == VT220_OK);
+        CHECK(vt220_repaint(&x, &s, out, sizeof out, &written) == VT220_OK && vt220_repaint_as(&x, VT220_BYTES, &s, out, sizeof out, &written) == VT220_OK);
         CHECK(vt220_reset(&t) == VT220_OK && vt220_copy(&t, &u) == VT220_OK);
         CHECK(vt220_update(&t, &u, &s, out, sizeof out, &written) == VT220_OK);
         CHECK(vt220_text(&t, &s, out, sizeof out, &written) == VT220_OK && vt220_row_text(&t, &s, 1, out, sizeof out, &written) == VT220_OK);
         CHECK(vt220_show(&t, &s, out, sizeof out, &written) == VT220_OK && vt220_picture(&t, &s, out, sizeof out, &written) == VT220_OK);
         CHECK(vt220_repaint(&t, &s, out, sizeof out, &written) == VT220_OK && vt220_same_state(&t, &u));
-        CHECK(vt220_xterm_repaint(&t, &x, &s, out, sizeof out, &written) == VT220_OK);
-        CHECK(live_blocks() == 5);
+        CHECK(live_blocks() == 8);
     }
 }
 
@@ -203,11 +202,11 @@ static const uint8_t *with_bells(void) {
 static void no_byte_is_searched_again(void) {
     const uint8_t *input = with_bells();
     for (int with_log = 0; with_log < 2; with_log++) {
-        uint64_t before = vt220_bells(&t);
+        uint64_t before = vt220_bells(&in_utf8);
         asked = bells = searched = 0;
-        size_t taken = with_log ? vt220_feed_log_utf8(&t, &s, &pending, input, LEN, out, sizeof out, &written, lines, sizeof lines, &logged)
-                                : vt220_feed_utf8(&t, &pending, input, LEN, out, sizeof out, &written);
-        CHECK(taken == LEN && vt220_bells(&t) - before == COUNT);
+        size_t taken = with_log ? vt220_feed_log(&in_utf8, &s, input, LEN, out, sizeof out, &written, lines, sizeof lines, &logged)
+                                : vt220_feed(&in_utf8, input, LEN, out, sizeof out, &written);
+        CHECK(taken == LEN && vt220_bells(&in_utf8) - before == COUNT);
         CHECK(asked == bells && bells == COUNT);
         CHECK(searched <= 2 * LEN);
     }
@@ -233,8 +232,9 @@ int main(void) {
     vt220_close(&t);
     vt220_close(&u);
     vt220_scratch_close(&s);
-    vt220_xterm_close(&x);
-    vt220_xterm_close(&y);
+    vt220_close(&in_utf8);
+    vt220_close(&x);
+    vt220_close(&y);
     CHECK(live_blocks() == 0);
     return finish("moved");
 }

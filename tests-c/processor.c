@@ -33,12 +33,12 @@ static int processor(unsigned leaf, unsigned *a, unsigned *b, unsigned *c, unsig
 static void try_one(unsigned low, unsigned high, bool leaf, bool is_enough) {
     vt220 t = VT220_INIT;
     vt220_scratch s = VT220_INIT;
-    vt220_xterm x = VT220_INIT;
+    vt220 x = VT220_INIT;
     features = low, more_features = high, has_leaf = leaf, opened = 0;
     CHECK(vt220_open(&t) == (is_enough ? VT220_OK : VT220_UNSUPPORTED) && vt220_is_open(&t) == is_enough);
     CHECK(vt220_scratch_open(&s) == (is_enough ? VT220_OK : VT220_UNSUPPORTED) && vt220_scratch_is_open(&s) == is_enough);
-    CHECK(vt220_xterm_open(&x) == (is_enough ? VT220_OK : VT220_UNSUPPORTED) && vt220_xterm_is_open(&x) == is_enough);
-    CHECK(opened == (is_enough ? 3 : 0));
+    CHECK(vt220_open_as(&x, VT220_XTERM) == (is_enough ? VT220_OK : VT220_UNSUPPORTED) && vt220_is_open(&x) == is_enough);
+    CHECK(opened == (is_enough ? 4 : 0));
 }
 
 int main(void) {

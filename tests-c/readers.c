@@ -35,12 +35,10 @@ void __wrap_free(void *at) {
 }
 
 typedef struct shared {
-    vt220 t, same;
-    vt220_xterm x;
+    vt220 t, same, x;
 } shared;
 
-static const vt220 *one, *twin;
-static const vt220_xterm *other_page;
+static const vt220 *one, *twin, *with_pages;
 static size_t wrong;
 
 /* Makes each reading call on a terminal whose text begins with `Hello`. Returns whether all is as it should be. */
@@ -69,24 +67,24 @@ static bool reads_all(const vt220 *t, const vt220 *u, vt220_scratch *s, uint8_t 
 
 static void *reads(void *unused) {
     vt220_scratch s = VT220_INIT;
-    vt220 mine = VT220_INIT;
-    uint8_t *out = (uint8_t *)malloc(VT220_PICTURE_LIMIT);
-    vt220_xterm my_page = VT220_INIT;
-    vt220_utf8 u;
+    vt220 mine = VT220_INIT, my_pages = VT220_INIT;
+    uint8_t *out = (uint8_t *)malloc(VT220_PICTURE_LIMIT), pending[3];
     size_t written, bad = 0;
-    if (out == NULL || vt220_scratch_open(&s) != VT220_OK || vt220_open(&mine) != VT220_OK || vt220_xterm_open(&my_page) != VT220_OK) abort();
+    if (out == NULL || vt220_scratch_open(&s) != VT220_OK || vt220_open(&mine) != VT220_OK || vt220_open_as(&my_pages, VT220_XTERM) != VT220_OK) abort();
     for (int i = 0; i < ROUNDS; i++) {
         if (!reads_all(one, twin, &s, out)) bad++;
-        if (!vt220_xterm_is_open(other_page) || !vt220_xterm_alternate(other_page) || !vt220_xterm_pending(other_page, &u) || u.len != 2) bad++;
-        if (vt220_xterm_repaint(one, other_page, &s, out, VT220_XTERM_PAINT_LIMIT, &written) != VT220_OK || written == 0) bad++;
+        if (kept_by(with_pages).language != VT220_XTERM || !kept_by(with_pages).alternate || kept_by(with_pages).bracketed_paste) bad++;
+        if (put_pending(with_pages, pending) != 2 || vt220_bells(with_pages) != 1 || vt220_width(with_pages) != 80) bad++;
+        if (vt220_repaint(with_pages, &s, out, VT220_XTERM_PAINT_LIMIT, &written) != VT220_OK || written == 0) bad++;
+        if (vt220_repaint_as(with_pages, VT220_UTF8, &s, out, VT220_PAINT_LIMIT, &written) != VT220_OK || written == 0) bad++;
         /* It may also be what others are copied from and led to. */
-        if (vt220_xterm_copy(&my_page, other_page) != VT220_OK || !vt220_xterm_alternate(&my_page)) bad++;
+        if (vt220_copy(&my_pages, with_pages) != VT220_OK || !kept_by(&my_pages).alternate) bad++;
         if (vt220_copy(&mine, one) != VT220_OK || !vt220_same_state(&mine, one) || vt220_reset(&mine) != VT220_OK) bad++;
         if (vt220_update(&mine, one, &s, out, VT220_UPDATE_LIMIT, &written) != VT220_OK || !vt220_same_state(&mine, one)) bad++;
     }
     __atomic_fetch_add(&wrong, bad, __ATOMIC_SEQ_CST);
     vt220_close(&mine);
-    vt220_xterm_close(&my_page);
+    vt220_close(&my_pages);
     vt220_scratch_close(&s);
     free(out);
     return unused;
@@ -101,15 +99,13 @@ int main(void) {
     handles = (shared *)mmap(NULL, 4096, PROT_READ | PROT_WRITE, MAP_PRIVATE | MAP_ANONYMOUS, -1, 0);
     if (pages == MAP_FAILED || handles == MAP_FAILED) abort();
     is_paged = true;
-    CHECK(vt220_open(&handles->t) == VT220_OK && vt220_open(&handles->same) == VT220_OK && vt220_xterm_open(&handles->x) == VT220_OK);
+    CHECK(vt220_open(&handles->t) == VT220_OK && vt220_open(&handles->same) == VT220_OK && vt220_open_as(&handles->x, VT220_XTERM) == VT220_OK);
     is_paged = false;
     CHECK(used > 2 * VT220_ROWS * VT220_COLUMNS);
     vt220 *both[] = {&handles->t, &handles->same};
     for (int i = 0; i < 2; i++) CHECK(vt220_feed(both[i], BYTES("Hello\a\r\n\033[1myou"), reports, sizeof reports, &written) == 15);
-    vt220 mine = VT220_INIT;
-    CHECK(vt220_open(&mine) == VT220_OK && vt220_feed_xterm(&mine, &handles->x, BYTES("\033[?47h\xE2\x80"), NULL, 0, NULL) == 8);
-    vt220_close(&mine);
-    one = &handles->t, twin = &handles->same, other_page = &handles->x;
+    CHECK(vt220_feed(&handles->x, BYTES("\a\033[?47h\xE2\x80"), NULL, 0, NULL) == 9);
+    one = &handles->t, twin = &handles->same, with_pages = &handles->x;
     CHECK(mprotect(pages, PAGES, PROT_READ) == 0 && mprotect(handles, 4096, PROT_READ) == 0);
     for (int i = 0; i < THREADS; i++)
         if (pthread_create(&threads[i], NULL, reads, NULL) != 0) abort();
@@ -118,6 +114,6 @@ int main(void) {
     CHECK(mprotect(pages, PAGES, PROT_READ | PROT_WRITE) == 0 && mprotect(handles, 4096, PROT_READ | PROT_WRITE) == 0);
     vt220_close(&handles->t);
     vt220_close(&handles->same);
-    vt220_xterm_close(&handles->x);
+    vt220_close(&handles->x);
     return finish("readers");
 }

@@ -31,28 +31,26 @@ void __wrap_free(void *at) {
     __real_free(at);
 }
 
-enum kind { TERMINAL, SCRATCH, XTERM };
+/* A scratch buffer, or a terminal for one of the languages. */
+enum kind { BYTES_OF_A_VT220 = VT220_BYTES, UTF8 = VT220_UTF8, XTERM = VT220_XTERM, SCRATCH };
 
 typedef union handle {
     vt220 t;
     vt220_scratch s;
-    vt220_xterm x;
 } handle;
 
 static uint32_t open_one(handle *h, enum kind kind) {
-    return kind == TERMINAL ? vt220_open(&h->t) : kind == SCRATCH ? vt220_scratch_open(&h->s) : vt220_xterm_open(&h->x);
+    return kind == SCRATCH ? vt220_scratch_open(&h->s) : vt220_open_as(&h->t, (uint32_t)kind);
 }
 
 static void close_one(handle *h, enum kind kind) {
-    if (kind == TERMINAL) vt220_close(&h->t);
-    else if (kind == SCRATCH) vt220_scratch_close(&h->s);
-    else vt220_xterm_close(&h->x);
+    if (kind == SCRATCH) vt220_scratch_close(&h->s);
+    else vt220_close(&h->t);
 }
 
 static bool is_closed(const handle *h, enum kind kind) {
-    if (kind == TERMINAL) return !vt220_is_open(&h->t) && h->t.terminal == NULL;
     if (kind == SCRATCH) return !vt220_scratch_is_open(&h->s) && h->s.room == NULL;
-    return !vt220_xterm_is_open(&h->x) && h->x.pages == NULL;
+    return !vt220_is_open(&h->t) && h->t.terminal == NULL && h->t.bells == 0;
 }
 
 static void each_refused(enum kind kind) {
@@ -79,16 +77,15 @@ static void each_refused(enum kind kind) {
 static void none_taken(void) {
     static uint8_t out[VT220_PICTURE_LIMIT];
     static vt220_cell cells[VT220_COLUMNS];
-    vt220 t = VT220_INIT, to = VT220_INIT;
+    vt220 t = VT220_INIT, to = VT220_INIT, u = VT220_INIT, x = VT220_INIT, y = VT220_INIT;
     vt220_scratch s = VT220_INIT;
-    vt220_xterm x = VT220_INIT, y = VT220_INIT;
     vt220_cursor_place cursor;
     vt220_margin_rows margins;
     vt220_mode_set modes;
     memset(&modes, 0, sizeof modes);
     size_t written;
     CHECK(vt220_open(&t) == VT220_OK && vt220_open(&to) == VT220_OK && vt220_scratch_open(&s) == VT220_OK);
-    CHECK(vt220_xterm_open(&x) == VT220_OK && vt220_xterm_open(&y) == VT220_OK);
+    CHECK(vt220_open_as(&u, VT220_UTF8) == VT220_OK && vt220_open_as(&x, VT220_XTERM) == VT220_OK && vt220_open_as(&y, VT220_XTERM) == VT220_OK);
     calls = 0;
     CHECK(vt220_feed(&t, BYTES("\033[?3h\033[6nx\n"), out, 110, &written) == 11 && written == 6);
     CHECK(vt220_text(&t, &s, out, sizeof out, &written) == VT220_OK && vt220_repaint(&t, &s, out, sizeof out, &written) == VT220_OK);
@@ -109,25 +106,26 @@ static void none_taken(void) {
     CHECK(vt220_row_text(&t, &s, 1, out, sizeof out, &written) == VT220_OK && vt220_row_changes(&t, &to, 1, &marks) == VT220_OK);
     CHECK(vt220_feed(&t, BYTES("\033[1;2;3\a"), out, sizeof out, &written) == 8 && vt220_bells(&t) == 1);
     CHECK(vt220_copy(&to, &t) == VT220_OK && vt220_same_state(&to, &t) && vt220_reset(&t) == VT220_OK && vt220_status_text(0) != NULL);
-    CHECK(vt220_feed_xterm(&t, &x, BYTES("\033[?1049h\033[3G\xC3\xA9\a\033[6n"), out, 220, &written) == 19 && written == 6 && vt220_xterm_alternate(&x));
+    CHECK(vt220_feed(&x, BYTES("\033[?1049h\033[3G\xC3\xA9\a\033[6n"), out, 220, &written) == 19 && written == 6 && kept_by(&x).alternate);
     static uint8_t xterm_lines[VT220_XTERM_LINES_LIMIT];
-    CHECK(vt220_feed_log_xterm(&t, &s, &x, BYTES("\033[?1049l\xC3\xA9\033[99S"), out, 220, &written, xterm_lines, sizeof xterm_lines, &logged) == 15);
-    CHECK(logged > 0 && vt220_xterm_copy(&y, &x) == VT220_OK && !vt220_xterm_alternate(&y));
-    vt220_utf8 u = {{0}, 0};
-    CHECK(vt220_feed_utf8(&t, &u, BYTES("\xC3\xA9\a\033[5n"), out, 220, &written) == 7 && written == 4);
-    CHECK(vt220_feed_log_utf8(&t, &s, &u, BYTES("\xC3\xA9\a\033[24;1H\n"), out, 220, &written, xterm_lines, sizeof xterm_lines, &logged) == 11 && logged > 0);
-    CHECK(vt220_xterm_repaint(&t, &x, &s, out, sizeof out, &written) == VT220_OK && written > 0);
+    CHECK(vt220_feed_log(&x, &s, BYTES("\033[?1049l\xC3\xA9\033[99S"), out, 220, &written, xterm_lines, sizeof xterm_lines, &logged) == 15);
+    CHECK(logged > 0 && vt220_copy(&y, &x) == VT220_OK && !kept_by(&y).alternate);
+    CHECK(vt220_feed(&u, BYTES("\xC3\xA9\a\033[5n"), out, 220, &written) == 7 && written == 4);
+    CHECK(vt220_feed_log(&u, &s, BYTES("\xC3\xA9\a\033[24;1H\n"), out, 220, &written, xterm_lines, sizeof xterm_lines, &logged) == 11 && logged > 0);
+    CHECK(vt220_repaint(&x, &s, out, sizeof out, &written) == VT220_OK && written > 0 && vt220_reset(&x) == VT220_OK && put_pending(&x, out) == 0);
+    CHECK(vt220_repaint_as(&y, VT220_BYTES, &s, out, sizeof out, &written) == VT220_OK && kept_by(&y).language == VT220_XTERM && !kept_by(&y).bracketed_paste);
     CHECK(calls == 0);
     vt220_close(&t);
     vt220_close(&to);
     vt220_scratch_close(&s);
-    vt220_xterm_close(&x);
-    vt220_xterm_close(&y);
+    vt220_close(&u);
+    vt220_close(&x);
+    vt220_close(&y);
     CHECK(blocks == 0 && calls == 0);
 }
 
 int main(void) {
-    each_refused(TERMINAL), each_refused(SCRATCH), each_refused(XTERM);
+    each_refused(BYTES_OF_A_VT220), each_refused(UTF8), each_refused(XTERM), each_refused(SCRATCH);
     none_taken();
     return finish("refused");
 }

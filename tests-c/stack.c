@@ -5,9 +5,8 @@
 
 enum { STACK = 256 * 1024, PAINT = 0xA5, LIMIT = 8192 };
 
-static vt220 a = VT220_INIT, b = VT220_INIT;
+static vt220 a = VT220_INIT, b = VT220_INIT, u = VT220_INIT, x = VT220_INIT, y = VT220_INIT;
 static vt220_scratch s = VT220_INIT;
-static vt220_xterm x = VT220_INIT, y = VT220_INIT;
 static uint8_t out[VT220_PICTURE_LIMIT], input[60000];
 static size_t written;
 
@@ -16,10 +15,10 @@ static void *nothing(void *unused) { return unused; }
 static void *opens(void *unused) {
     vt220 t = VT220_INIT;
     vt220_scratch room = VT220_INIT;
-    vt220_xterm pages = VT220_INIT;
-    if (vt220_open(&t) != VT220_OK || vt220_scratch_open(&room) != VT220_OK || vt220_xterm_open(&pages) != VT220_OK) abort();
+    if (vt220_open(&t) != VT220_OK || vt220_scratch_open(&room) != VT220_OK) abort();
     vt220_close(&t);
-    vt220_xterm_close(&pages);
+    if (vt220_open_as(&t, VT220_XTERM) != VT220_OK) abort();
+    vt220_close(&t);
     vt220_scratch_close(&room);
     return unused;
 }
@@ -48,17 +47,16 @@ static void *logs(void *unused) {
 
 static void *feeds_utf8(void *unused) {
     static uint8_t lines[100000];
-    static vt220_utf8 u;
     size_t lines_written;
-    vt220_feed_utf8(&b, &u, input, sizeof input, NULL, 0, NULL);
+    vt220_feed(&u, input, sizeof input, NULL, 0, NULL);
     for (size_t at = 0; at < sizeof input;)
-        at += vt220_feed_log_utf8(&b, &s, &u, input + at, sizeof input - at, NULL, 0, NULL, lines, sizeof lines, &lines_written);
+        at += vt220_feed_log(&u, &s, input + at, sizeof input - at, NULL, 0, NULL, lines, sizeof lines, &lines_written);
     return unused;
 }
 
 static void *feeds_xterm(void *unused) {
-    vt220_feed_xterm(&b, &x, input, sizeof input, NULL, 0, NULL);
-    for (size_t at = 0; at < sizeof input;) at += vt220_feed_xterm(&b, &x, input + at, sizeof input - at, out, 5120, &written);
+    vt220_feed(&x, input, sizeof input, NULL, 0, NULL);
+    for (size_t at = 0; at < sizeof input;) at += vt220_feed(&x, input + at, sizeof input - at, out, 5120, &written);
     return unused;
 }
 
@@ -66,11 +64,12 @@ static void *logs_xterm(void *unused) {
     static uint8_t lines[100000];
     size_t lines_written;
     for (size_t at = 0; at < sizeof input;)
-        at += vt220_feed_log_xterm(&b, &s, &x, input + at, sizeof input - at, NULL, 0, NULL, lines, sizeof lines, &lines_written);
+        at += vt220_feed_log(&x, &s, input + at, sizeof input - at, NULL, 0, NULL, lines, sizeof lines, &lines_written);
     return unused;
 }
 
 static void *writes(void *unused) {
+    vt220_repaint(&x, &s, out, sizeof out, &written);
     vt220_text(&b, &s, out, sizeof out, &written);
     vt220_row_text(&b, &s, 1, out, sizeof out, &written);
     vt220_show(&b, &s, out, sizeof out, &written);
@@ -103,8 +102,9 @@ static void *reads(void *unused) {
 
 static void *copies(void *unused) {
     vt220_copy(&a, &b);
-    vt220_xterm_copy(&y, &x);
+    vt220_copy(&y, &x);
     vt220_reset(&a);
+    vt220_reset(&y);
     return unused;
 }
 
@@ -149,7 +149,7 @@ static void fill(void) {
 int main(void) {
     fill();
     CHECK(vt220_open(&a) == VT220_OK && vt220_open(&b) == VT220_OK && vt220_scratch_open(&s) == VT220_OK);
-    CHECK(vt220_xterm_open(&x) == VT220_OK && vt220_xterm_open(&y) == VT220_OK);
+    CHECK(vt220_open_as(&u, VT220_UTF8) == VT220_OK && vt220_open_as(&x, VT220_XTERM) == VT220_OK && vt220_open_as(&y, VT220_XTERM) == VT220_OK);
     depth(opens), depth(feeds);
     size_t empty = depth(nothing);
     CHECK(empty < STACK / 2);
@@ -176,6 +176,6 @@ int main(void) {
     measure("picture", draws, LIMIT, empty);
     measure("readers", reads, LIMIT, empty);
     measure("copy and reset", copies, LIMIT, empty);
-    vt220_close(&a), vt220_close(&b), vt220_scratch_close(&s), vt220_xterm_close(&x), vt220_xterm_close(&y);
+    vt220_close(&a), vt220_close(&b), vt220_close(&u), vt220_close(&x), vt220_close(&y), vt220_scratch_close(&s);
     return finish("stack");
 }

@@ -5,7 +5,7 @@
 
 static handle t, u, s, x, y;
 static uint8_t out[VT220_PICTURE_LIMIT], lines[VT220_XTERM_LINES_LIMIT];
-static vt220_utf8 pending;
+static utf8 pending;
 static size_t written, logged, rung;
 
 #define STAYS(call)                                                       \

@@ -7,16 +7,16 @@ static uint8_t text[VT220_TEXT_LIMIT];
 
 static vt220 opened(void) {
     vt220 t = VT220_INIT;
-    CHECK(vt220_open(&t) == VT220_OK);
+    CHECK(vt220_open_as(&t, VT220_UTF8) == VT220_OK && kept_by(&t).language == VT220_UTF8);
     return t;
 }
 
 /* Feeds bytes in chunks of so many. Returns how many bytes of replies came. */
-static size_t feed(vt220 *t, vt220_utf8 *u, const uint8_t *bytes, size_t len, size_t chunk, uint8_t *reports) {
+static size_t feed(vt220 *t, const uint8_t *bytes, size_t len, size_t chunk, uint8_t *reports) {
     size_t at = 0, filled = 0, written;
     while (at < len) {
         size_t part = len - at < chunk ? len - at : chunk;
-        size_t taken = vt220_feed_utf8(t, u, bytes + at, part, reports + filled, VT220_REPORT_LIMIT * part, &written);
+        size_t taken = vt220_feed(t, bytes + at, part, reports + filled, VT220_REPORT_LIMIT * part, &written);
         CHECK(taken == part);
         at += part, filled += written;
     }
@@ -29,18 +29,23 @@ static bool shows(const vt220 *t, const char *lines) {
     return len >= strlen(lines) && memcmp(text, lines, strlen(lines)) == 0;
 }
 
-static bool is_pending(const vt220_utf8 *u, const char *bytes) {
-    static const uint8_t none[3];
+static bool is_pending(const vt220 *t, const char *bytes) {
+    uint8_t pending[3];
     size_t len = strlen(bytes);
-    return u->len == len && memcmp(u->bytes, bytes, len) == 0 && memcmp(u->bytes + len, none, 3 - len) == 0;
+    return put_pending(t, pending) == len && memcmp(pending, bytes, len) == 0;
+}
+
+static void check_pending(const row *r, const vt220 *t) {
+    uint8_t pending[3];
+    check_same(&r->pending, pending, put_pending(t, pending), r->name, "what is pending");
 }
 
 /* Feeds bytes in chunks of so many, with their log. Appends the replies and the lines. */
-static void feed_log(vt220 *t, vt220_utf8 *u, const bytes *input, size_t chunk, bytes *replies, bytes *lines) {
+static void feed_log(vt220 *t, const bytes *input, size_t chunk, bytes *replies, bytes *lines) {
     static uint8_t room[VT220_REPORT_LIMIT], off[VT220_UTF8_LINES_LIMIT];
     for (size_t at = 0, written, filled; at < input->len;) {
         size_t part = input->len - at < chunk ? input->len - at : chunk;
-        size_t taken = vt220_feed_log_utf8(t, &s, u, input->at + at, part, room, sizeof room, &written, off, sizeof off, &filled);
+        size_t taken = vt220_feed_log(t, &s, input->at + at, part, room, sizeof room, &written, off, sizeof off, &filled);
         if (taken == 0 || taken > part || written > sizeof room || filled > sizeof off) abort();
         append(replies, room, written), append(lines, off, filled);
         at += taken;
@@ -52,13 +57,12 @@ static void each_way(const row *r) {
     for (size_t chunk = 1; chunk <= 8; chunk++) {
         size_t size = chunk == 8 ? r->input.len + 1 : chunk;
         vt220 t = opened(), v = opened();
-        vt220_utf8 u = {{0}, 0}, w = {{0}, 0};
         bytes replies = {NULL, 0, 0}, others = {NULL, 0, 0}, lines = {NULL, 0, 0};
-        append(&replies, room, feed(&t, &u, r->input.at, r->input.len, size, room));
-        feed_log(&v, &w, &r->input, size, &others, &lines);
+        append(&replies, room, feed(&t, r->input.at, r->input.len, size, room));
+        feed_log(&v, &r->input, size, &others, &lines);
         check_row(r, &t, &s, &replies), check_row(r, &v, &s, &others);
         check_same(&r->lines, lines.at, lines.len, r->name, "the lines");
-        check_same(&r->pending, u.bytes, u.len, r->name, "what is pending"), check_same(&r->pending, w.bytes, w.len, r->name, "what is pending");
+        check_pending(r, &t), check_pending(r, &v);
         free(replies.at), free(others.at), free(lines.at);
         vt220_close(&t), vt220_close(&v);
     }
@@ -68,37 +72,25 @@ static void each_way(const row *r) {
 static void ascii_and_replies(void) {
     static const char ascii[] = "a\r\n\033[2;3H\033[1m\033(0lqk\033[6n\033[c\033]0;x\a\033[5";
     uint8_t reports[VT220_REPORT_LIMIT * sizeof ascii], other[VT220_REPORT_LIMIT * sizeof ascii];
-    vt220 t = opened(), v = opened();
-    vt220_utf8 u = {{0}, 0};
+    vt220 t = opened(), v = VT220_INIT;
     size_t written;
-    CHECK(vt220_feed(&v, BYTES(ascii), other, sizeof other, &written) == sizeof ascii - 1 && written > 0);
-    CHECK(feed(&t, &u, BYTES(ascii), sizeof ascii, reports) == written && memcmp(reports, other, written) == 0);
-    CHECK(vt220_same_state(&t, &v) && is_pending(&u, ""));
+    CHECK(vt220_open(&v) == VT220_OK && vt220_feed(&v, BYTES(ascii), other, sizeof other, &written) == sizeof ascii - 1 && written > 0);
+    CHECK(feed(&t, BYTES(ascii), sizeof ascii, reports) == written && memcmp(reports, other, written) == 0);
+    CHECK(vt220_same_state(&t, &v) && is_pending(&t, ""));
     vt220_reset(&t);
-    CHECK(feed(&t, &u, BYTES("日\033[6n"), 64, reports) == 6 && memcmp(reports, "\033[1;3R", 6) == 0);
-    CHECK(feed(&t, &u, BYTES("\xE2\033[6n"), 64, reports) == 6 && memcmp(reports, "\033[1;4R", 6) == 0);
+    CHECK(feed(&t, BYTES("日\033[6n"), 64, reports) == 6 && memcmp(reports, "\033[1;3R", 6) == 0);
+    CHECK(feed(&t, BYTES("\xE2\033[6n"), 64, reports) == 6 && memcmp(reports, "\033[1;4R", 6) == 0);
     vt220_close(&t);
     vt220_close(&v);
 }
 
-/* Bytes that don't begin a character aren't pending, whatever the struct has. What is pending isn't part of the terminal. */
-static void any_content(void) {
-    static const vt220_utf8 nothing[] = {
-        {{0xFF, 0xFF, 0xFF}, 3}, {{0xE2, 0x96, 0x88}, 3}, {{0xE2, 0x28, 0xA1}, 2}, {{0x41, 0, 0}, 1}, {{0x80, 0x80, 0x80}, 1},
-        {{0xC3, 0xA9, 0}, 2}, {{0xED, 0xA0, 0}, 2}, {{0xF0, 0x9F, 0x98}, 4}, {{0xE2, 0x96, 0}, 255}, {{0xC3, 0xE2, 0x96}, 0},
-    };
+/* What is pending is copied to another terminal in UTF-8, and isn't there after a reset. */
+static void copied_and_reset(void) {
     uint8_t reports[64];
-    for (size_t i = 0; i < sizeof nothing / sizeof nothing[0]; i++) {
-        vt220 t = opened();
-        vt220_utf8 u = nothing[i];
-        CHECK(feed(&t, &u, BYTES("\xC3"), 1, reports) == 0 && shows(&t, "\n") && is_pending(&u, "\xC3"));
-        CHECK(feed(&t, &u, BYTES("\xA9"), 1, reports) == 0 && shows(&t, "é\n") && is_pending(&u, ""));
-        vt220_close(&t);
-    }
     vt220 t = opened(), v = opened();
-    vt220_utf8 u = {{0xE2, 0x96, 0xFF}, 2};
-    CHECK(vt220_reset(&t) == VT220_OK && vt220_copy(&v, &t) == VT220_OK && u.len == 2);
-    CHECK(feed(&t, &u, BYTES("\x88"), 1, reports) == 0 && shows(&t, "#\n") && is_pending(&u, ""));
+    CHECK(feed(&t, BYTES("a\xE2\x96"), 3, reports) == 0 && vt220_copy(&v, &t) == VT220_OK && is_pending(&v, "\xE2\x96"));
+    CHECK(feed(&v, BYTES("\x88"), 1, reports) == 0 && shows(&v, "a#\n") && is_pending(&v, "") && is_pending(&t, "\xE2\x96"));
+    CHECK(vt220_reset(&t) == VT220_OK && is_pending(&t, "") && shows(&t, "\n"));
     vt220_close(&t);
     vt220_close(&v);
 }
@@ -106,27 +98,27 @@ static void any_content(void) {
 static void refusals(void) {
     vt220 t = VT220_INIT;
     vt220_scratch closed = VT220_INIT;
-    vt220_utf8 u = {{0xE2, 0x96, 0}, 2};
     uint8_t reports[16], lines[VT220_UTF8_LINES_LIMIT];
     size_t written = 7, off = 7;
-    CHECK(vt220_feed_utf8(&t, &u, BYTES("a"), reports, sizeof reports, &written) == 0 && written == 0 && is_pending(&u, "\xE2\x96"));
-    CHECK(vt220_feed_log_utf8(&t, &s, &u, BYTES("a"), reports, sizeof reports, &written, lines, sizeof lines, &off) == 0);
-    CHECK(written == 0 && off == 0 && is_pending(&u, "\xE2\x96"));
+    CHECK(vt220_feed(&t, BYTES("a"), reports, sizeof reports, &written) == 0 && written == 0 && is_pending(&t, ""));
+    CHECK(vt220_feed_log(&t, &s, BYTES("a"), reports, sizeof reports, &written, lines, sizeof lines, &off) == 0);
+    CHECK(written == 0 && off == 0);
     t = opened();
-    CHECK(vt220_feed_log_utf8(&t, &closed, &u, BYTES("a"), reports, sizeof reports, &written, lines, sizeof lines, &off) == 0);
-    CHECK(written == 0 && off == 0 && is_pending(&u, "\xE2\x96") && shows(&t, "\n"));
+    CHECK(feed(&t, BYTES("\xE2\x96"), 2, reports) == 0);
+    CHECK(vt220_feed_log(&t, &closed, BYTES("a"), reports, sizeof reports, &written, lines, sizeof lines, &off) == 0);
+    CHECK(written == 0 && off == 0 && is_pending(&t, "\xE2\x96") && shows(&t, "\n"));
     /* no bytes, null pointers, and buffers without capacity */
-    CHECK(vt220_feed_utf8(&t, &u, NULL, 0, NULL, 0, &written) == 0 && written == 0 && is_pending(&u, "\xE2\x96"));
-    CHECK(vt220_feed_utf8(&t, &u, BYTES("\x88"), NULL, 0, &written) == 0 && is_pending(&u, "\xE2\x96"));
-    CHECK(vt220_feed_utf8(&t, &u, BYTES("\x88"), reports, VT220_REPORT_LIMIT - 1, &written) == 0 && written == 0);
-    CHECK(vt220_feed_log_utf8(&t, &s, &u, BYTES("\x88"), reports, 10, &written, lines, VT220_UTF8_LINES_LIMIT - 1, &off) == 0);
-    CHECK(is_pending(&u, "\xE2\x96") && shows(&t, "\n"));
-    CHECK(vt220_feed_log_utf8(&t, &s, &u, BYTES("\x88"), reports, 10, &written, lines, VT220_UTF8_LINES_LIMIT, &off) == 1);
-    CHECK(written == 0 && off == 0 && is_pending(&u, "") && shows(&t, "#\n"));
+    CHECK(vt220_feed(&t, NULL, 0, NULL, 0, &written) == 0 && written == 0 && is_pending(&t, "\xE2\x96"));
+    CHECK(vt220_feed(&t, BYTES("\x88"), NULL, 0, &written) == 0 && is_pending(&t, "\xE2\x96"));
+    CHECK(vt220_feed(&t, BYTES("\x88"), reports, VT220_REPORT_LIMIT - 1, &written) == 0 && written == 0);
+    CHECK(vt220_feed_log(&t, &s, BYTES("\x88"), reports, 10, &written, lines, VT220_UTF8_LINES_LIMIT - 1, &off) == 0);
+    CHECK(is_pending(&t, "\xE2\x96") && shows(&t, "\n"));
+    CHECK(vt220_feed_log(&t, &s, BYTES("\x88"), reports, 10, &written, lines, VT220_UTF8_LINES_LIMIT, &off) == 1);
+    CHECK(written == 0 && off == 0 && is_pending(&t, "") && shows(&t, "#\n"));
     /* a null `written` drops the replies */
-    CHECK(vt220_feed_utf8(&t, &u, BYTES("é\033[6n\033[cü\xC3"), NULL, 0, NULL) == 12 && shows(&t, "#éü\n") && is_pending(&u, "\xC3"));
-    CHECK(vt220_feed_log_utf8(&t, &s, &u, BYTES("\xA9\033[6n"), NULL, 0, NULL, lines, sizeof lines, &off) == 5 && off == 0);
-    CHECK(shows(&t, "#éüé\n") && is_pending(&u, ""));
+    CHECK(vt220_feed(&t, BYTES("é\033[6n\033[cü\xC3"), NULL, 0, NULL) == 12 && shows(&t, "#éü\n") && is_pending(&t, "\xC3"));
+    CHECK(vt220_feed_log(&t, &s, BYTES("\xA9\033[6n"), NULL, 0, NULL, lines, sizeof lines, &off) == 5 && off == 0);
+    CHECK(shows(&t, "#éüé\n") && is_pending(&t, ""));
     vt220_close(&t);
 }
 
@@ -135,10 +127,9 @@ static void small_buffers(void) {
     static const uint8_t bytes[] = "é\033[6nü\033[6n日\033[6n";
     uint8_t reports[VT220_REPORT_LIMIT], all[64];
     vt220 t = opened();
-    vt220_utf8 u = {{0}, 0};
     size_t at = 0, filled = 0, written;
     while (at < sizeof bytes - 1) {
-        size_t taken = vt220_feed_utf8(&t, &u, bytes + at, sizeof bytes - 1 - at, reports, sizeof reports, &written);
+        size_t taken = vt220_feed(&t, bytes + at, sizeof bytes - 1 - at, reports, sizeof reports, &written);
         CHECK(taken >= 1 && written <= sizeof reports);
         if (taken == 0) break;
         memcpy(all + filled, reports, written);
@@ -161,12 +152,11 @@ static void log_of_lines(void) {
     for (size_t size = 1; size <= 8; size++) {
         size_t chunk = size == 8 ? len : size;
         vt220 t = opened();
-        vt220_utf8 u = {{0}, 0};
         size_t at = 0, filled = 0, off, written;
         uint8_t reports[VT220_REPORT_LIMIT];
         while (at < len) {
             size_t part = len - at < chunk ? len - at : chunk;
-            size_t taken = vt220_feed_log_utf8(&t, &s, &u, (const uint8_t *)input + at, part, reports, sizeof reports, &written, lines, sizeof lines, &off);
+            size_t taken = vt220_feed_log(&t, &s, (const uint8_t *)input + at, part, reports, sizeof reports, &written, lines, sizeof lines, &off);
             CHECK(taken >= 1 && written == 0 && filled + off <= sizeof all);
             if (taken == 0 || filled + off > sizeof all) break;
             memcpy(all + filled, lines, off);
@@ -202,7 +192,6 @@ static void shown_as_fed(void) {
     vt220 t = opened();
     for (uint32_t c = 0x20; c < 0x11000; c++) {
         uint8_t bytes[8] = "\r\033[J";
-        vt220_utf8 u = {{0}, 0};
         vt220_cell row[VT220_COLUMNS];
         vt220_cursor_place cursor;
         size_t cells, len = 4;
@@ -212,7 +201,7 @@ static void shown_as_fed(void) {
         else if (c < 0x10000) bytes[len++] = (uint8_t)(0xE0 | c >> 12), bytes[len++] = (uint8_t)(0x80 | (c >> 6 & 0x3F)), bytes[len++] = (uint8_t)(0x80 | (c & 0x3F));
         else bytes[len++] = (uint8_t)(0xF0 | c >> 18), bytes[len++] = (uint8_t)(0x80 | (c >> 12 & 0x3F)), bytes[len++] = (uint8_t)(0x80 | (c >> 6 & 0x3F)), bytes[len++] = (uint8_t)(0x80 | (c & 0x3F));
         uint32_t glyph = vt220_shown(c, &cells);
-        bool is = vt220_feed_utf8(&t, &u, bytes, len, NULL, 0, NULL) == len && vt220_row(&t, 1, row, VT220_COLUMNS) == 80 && vt220_cursor(&t, &cursor);
+        bool is = vt220_feed(&t, bytes, len, NULL, 0, NULL) == len && vt220_row(&t, 1, row, VT220_COLUMNS) == 80 && vt220_cursor(&t, &cursor);
         if (!is || cursor.col != 1 + cells || row[0].glyph != (cells == 0 ? ' ' : glyph) || (cells == 2 && row[1].glyph != ' ')) {
             char name[32];
             snprintf(name, sizeof name, "U+%04X", (unsigned)c);
@@ -228,7 +217,7 @@ int main(int argc, char **argv) {
     CHECK(vt220_scratch_open(&s) == VT220_OK);
     CHECK(each_row(argv[1], "utf-8", "vt220", each_way) > 50);
     ascii_and_replies();
-    any_content();
+    copied_and_reset();
     refusals();
     small_buffers();
     log_of_lines();

@@ -64,7 +64,7 @@ func TestKeysOfAnXterm(t *testing.T) {
 	modifiers, count := [][]string{}, 0
 	sends := func(name string, modes Modes, wanted []byte) {
 		count++
-		if sent, err := Key(name, modes, XTerm); err != nil || !bytes.Equal(sent, wanted) {
+		if sent, err := Key(name, modes, Xterm); err != nil || !bytes.Equal(sent, wanted) {
 			t.Errorf("%q under %v: %x, %v", name, modes, sent, err)
 		}
 	}

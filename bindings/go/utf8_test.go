@@ -4,15 +4,14 @@ import "testing"
 
 // fed returns what chunks of a size lead to, with the log and without one.
 func fed(t *testing.T, s *Scratch, input []byte, size int) (found row) {
-	var d, again Decoder
-	terminal, other := open(t, ""), open(t, "")
+	terminal, other := openAs(t, UTF8), openAs(t, UTF8)
 	for len(input) > 0 {
 		piece := input
 		if len(piece) > size {
 			piece = piece[:size]
 		}
-		reports, lines, err := terminal.FeedLogUTF8(&d, piece, s)
-		if err != nil || string(other.FeedUTF8(&again, piece)) != string(reports) || !other.SameState(terminal) || string(again.Pending()) != string(d.Pending()) {
+		reports, lines, err := terminal.FeedLog(piece, s)
+		if err != nil || string(other.Feed(piece)) != string(reports) || !other.SameState(terminal) || string(other.Pending()) != string(terminal.Pending()) {
 			t.Errorf("% X: the log differs: %v", piece, err)
 		}
 		found.reports += string(reports)
@@ -20,7 +19,7 @@ func fed(t *testing.T, s *Scratch, input []byte, size int) (found row) {
 		input = input[len(piece):]
 	}
 	shown := shownBy(t, terminal, s)
-	shown.pending, shown.reports, shown.lines = string(d.Pending()), found.reports, found.lines
+	shown.pending, shown.reports, shown.lines = string(terminal.Pending()), found.reports, found.lines
 	return shown
 }
 
@@ -41,25 +40,19 @@ func TestShown(t *testing.T) {
 	}
 }
 
-func TestDecoders(t *testing.T) {
-	var d, again Decoder
-	terminal, other, s := open(t, ""), open(t, ""), scratch(t)
-	terminal.FeedUTF8(&d, []byte("caf\xc3"))
+func TestPending(t *testing.T) {
+	terminal, other, s := openAs(t, UTF8), openAs(t, UTF8), scratch(t)
+	terminal.Feed([]byte("caf\xc3"))
 	repaint, err := terminal.Repaint(s)
-	other.FeedUTF8(&again, append(repaint, d.Pending()...))
-	if err != nil || !other.SameState(terminal) || string(again.Pending()) != "\xc3" {
+	other.Feed(append(repaint, terminal.Pending()...))
+	if err != nil || !other.SameState(terminal) || string(other.Pending()) != "\xc3" {
 		t.Error("checkpoint", err)
 	}
-	if string(other.FeedUTF8(&again, []byte("\xa9\x1b[6n"))) != "\x1b[1;5R" || len(again.Pending()) != 0 {
+	if string(other.Feed([]byte("\xa9\x1b[6n"))) != "\x1b[1;5R" || len(other.Pending()) != 0 {
 		t.Error("resumed")
 	}
-	terminal.FeedUTF8(nil, []byte("\xc3\xa9\xc3"))
-	terminal.FeedUTF8(nil, []byte("!"))
-	if text, err := terminal.RowText(1, s); err != nil || text != "caf\u00e9!\n" {
-		t.Errorf("without a decoder: %q %v", text, err)
-	}
 	terminal.Close()
-	if _, _, err := terminal.FeedLogUTF8(&d, []byte("x"), s); err != ErrClosed || terminal.FeedUTF8(&d, []byte("x")) != nil || string(d.Pending()) != "\xc3" {
+	if _, _, err := terminal.FeedLog([]byte("x"), s); err != ErrClosed || terminal.Feed([]byte("x")) != nil || len(terminal.Pending()) != 0 {
 		t.Error("closed", err)
 	}
 }

@@ -46,6 +46,7 @@ var (
 	ErrNoRow       = errors.New("vt220: there is no such row")
 	ErrNoKey       = errors.New("vt220: there is no such key")
 	ErrNoCharacter = errors.New("vt220: no key sends this character")
+	ErrLanguage    = errors.New("vt220: the terminal has another language")
 )
 
 // noCopy lets go vet find copies of a struct that owns a handle.
@@ -121,6 +122,8 @@ func result(status C.uint32_t) error {
 		return ErrNoKey
 	case C.VT220_NO_CHARACTER:
 		return ErrNoCharacter
+	case C.VT220_LANGUAGE:
+		return ErrLanguage
 	default:
 		return ErrClosed // the other two are impossible: New opens once, and the buffer always has the limit
 	}
@@ -144,7 +147,7 @@ type Language uint32
 const (
 	Bytes Language = C.VT220_BYTES
 	UTF8  Language = C.VT220_UTF8
-	XTerm Language = C.VT220_XTERM
+	Xterm Language = C.VT220_XTERM
 )
 
 // Key returns what a key sends to the host under these modes, which the method Modes returns. The key is one character, a name such as
@@ -215,98 +218,57 @@ func (s *Scratch) written(call func(length *C.size_t) C.uint32_t) ([]byte, error
 	return C.GoBytes(unsafe.Pointer(&s.out[0]), C.int(length)), nil
 }
 
-// Decoder holds what is pending of UTF-8 input: the bytes of a character that isn't complete yet. Its zero value has nothing pending. It
-// belongs to the input of one terminal. A nil Decoder forgets what is pending after each call.
-type Decoder struct{ pending C.vt220_utf8 }
-
-// Pending returns the pending bytes, at most three. After a repaint they complete a checkpoint: feed both to a new terminal and decoder.
-func (d *Decoder) Pending() []byte {
-	pending := d.handle()
-	return C.GoBytes(unsafe.Pointer(&pending.bytes[0]), C.int(pending.len))
-}
-
-// handle returns what is pending as the library takes it.
-func (d *Decoder) handle() *C.vt220_utf8 {
-	if d == nil {
-		return new(C.vt220_utf8)
-	}
-	return &d.pending
-}
-
-// Xterm is what a terminal needs under TERM=xterm: the page that isn't shown, and what is pending of UTF-8. It belongs to one terminal. It
-// is closed by Close, or when nothing refers to it any more.
-type Xterm struct {
-	_      noCopy
-	handle C.vt220_xterm
-}
-
-// NewXterm opens what a terminal in its power-up state needs. It returns ErrMemory if the allocation fails, and ErrUnsupported on an old
-// processor.
-func NewXterm() (*Xterm, error) {
-	x := new(Xterm)
-	if err := result(C.vt220_xterm_open(&x.handle)); err != nil {
-		return nil, err
-	}
-	runtime.SetFinalizer(x, (*Xterm).Close)
-	return x, nil
-}
-
-// Close frees the memory. What is closed stays closed.
-func (x *Xterm) Close() { C.vt220_xterm_close(&x.handle) }
-
-// Alternate returns whether the alternate page is shown, and false if it is closed.
-func (x *Xterm) Alternate() bool { return bool(C.vt220_xterm_alternate(&x.handle)) }
-
-// BracketedPaste returns whether the program wants pasted text between ESC [200~ and ESC [201~ (?2004), and false if it is closed.
-func (x *Xterm) BracketedPaste() bool { return bool(C.vt220_xterm_bracketed_paste(&x.handle)) }
-
-// Pending returns the bytes at the end of the input that begin a character of UTF-8, at most three.
-func (x *Xterm) Pending() []byte {
-	var d Decoder
-	C.vt220_xterm_pending(&x.handle, &d.pending)
-	return d.Pending()
-}
-
-// CopyFrom makes what x keeps equal to what another one keeps. If the terminals are copied too, by Terminal.CopyFrom, both go on alike. It
-// returns ErrClosed if one of the two is closed.
-func (x *Xterm) CopyFrom(other *Xterm) error {
-	return result(C.vt220_xterm_copy(&x.handle, &other.handle))
-}
-
-// Repaint returns bytes that leave any terminal, and what it needs, as t and x are. FeedXterm takes them. What is pending of UTF-8 is left
-// out: these bytes are fed after them. It returns ErrPartial inside a sequence.
-func (x *Xterm) Repaint(t *Terminal, s *Scratch) ([]byte, error) {
-	return s.written(func(length *C.size_t) C.uint32_t {
-		if len(s.out) < XtermPaintLimit {
-			s.out = make([]C.uint8_t, XtermPaintLimit)
-		}
-		return C.vt220_xterm_repaint(&t.handle, &x.handle, &s.handle, &s.out[0], XtermPaintLimit, length)
-	})
-}
-
-// isOpen returns whether x is there and open.
-func (x *Xterm) isOpen() bool { return x != nil && bool(C.vt220_xterm_is_open(&x.handle)) }
-
-// Terminal is a VT220. It is closed by Close, or when nothing refers to it any more.
+// Terminal is a terminal for the bytes of one language. It is closed by Close, or when nothing refers to it any more.
 type Terminal struct {
 	_       noCopy
 	handle  C.vt220
 	reports [5120]C.uint8_t
 }
 
-// New opens a terminal in its power-up state. It returns ErrMemory if the allocation fails, and ErrUnsupported on an old processor.
-func New() (*Terminal, error) {
+// New opens a terminal for a VT220's bytes in its power-up state. It returns ErrMemory if the allocation fails, and ErrUnsupported on an old
+// processor.
+func New() (*Terminal, error) { return OpenAs(Bytes) }
+
+// OpenAs opens a terminal for a language in its power-up state. It returns the errors of New, and ErrLanguage if there is no such language.
+func OpenAs(language Language) (*Terminal, error) {
 	t := new(Terminal)
-	if err := result(C.vt220_open(&t.handle)); err != nil {
+	if err := result(C.vt220_open_as(&t.handle, C.uint32_t(language))); err != nil {
 		return nil, err
 	}
 	runtime.SetFinalizer(t, (*Terminal).Close)
 	return t, nil
 }
 
-// Clone opens another terminal in the same state. It returns ErrClosed if this one is closed, and otherwise the errors of New.
+// kept returns what the terminal keeps for its language. It is zero if the terminal is closed.
+func (t *Terminal) kept() (kept C.vt220_language_state) {
+	C.vt220_language(&t.handle, &kept)
+	return kept
+}
+
+// Language returns the language of the host. It is Bytes if the terminal is closed.
+func (t *Terminal) Language() Language { return Language(t.kept().language) }
+
+// Pending returns the bytes at the end of the input that begin a character of UTF-8, at most three. After a repaint they complete a
+// checkpoint: feed both to a new terminal of the language.
+func (t *Terminal) Pending() []byte {
+	kept := t.kept()
+	return C.GoBytes(unsafe.Pointer(&kept.pending[0]), C.int(kept.pending_len))
+}
+
+// Alternate returns whether the alternate page is shown, which only TERM=xterm has. It is false if the terminal is closed.
+func (t *Terminal) Alternate() bool { return bool(t.kept().alternate) }
+
+// BracketedPaste returns whether the program wants pasted text between ESC [200~ and ESC [201~ (?2004), which only TERM=xterm has. It is
+// false if the terminal is closed.
+func (t *Terminal) BracketedPaste() bool { return bool(t.kept().bracketed_paste) }
+
+// Clone opens another terminal of the same language in the same state. It returns ErrClosed if this one is closed, and otherwise the errors
+// of New.
 func (t *Terminal) Clone() (*Terminal, error) {
-	clone, err := New()
+	if !t.IsOpen() {
+		return nil, ErrClosed
+	}
+	clone, err := OpenAs(t.Language())
 	if err != nil {
 		return nil, err
 	}
@@ -323,87 +285,33 @@ func (t *Terminal) Close() { C.vt220_close(&t.handle) }
 // IsOpen returns whether the terminal is open.
 func (t *Terminal) IsOpen() bool { return bool(C.vt220_is_open(&t.handle)) }
 
-// feed plays all bytes by a call of the library. The call is given what is left, and where it writes the length of the reports.
-func (t *Terminal) feed(bytes []byte, call func(at *C.uint8_t, length C.size_t, written *C.size_t) C.size_t) (reports []byte) {
+// Feed plays all bytes of the host, and returns the reports to it.
+func (t *Terminal) Feed(bytes []byte) (reports []byte) {
 	var written C.size_t
 	for len(bytes) > 0 && t.IsOpen() {
-		played := call((*C.uint8_t)(&bytes[0]), C.size_t(len(bytes)), &written)
+		played := C.vt220_feed(&t.handle, (*C.uint8_t)(&bytes[0]), C.size_t(len(bytes)), &t.reports[0], C.size_t(len(t.reports)), &written)
 		reports = append(reports, C.GoBytes(unsafe.Pointer(&t.reports[0]), C.int(written))...)
 		bytes = bytes[played:]
 	}
 	return reports
 }
 
-// Feed plays all bytes of the host, and returns the reports to it.
-func (t *Terminal) Feed(bytes []byte) (reports []byte) {
-	return t.feed(bytes, func(at *C.uint8_t, length C.size_t, written *C.size_t) C.size_t {
-		return C.vt220_feed(&t.handle, at, length, &t.reports[0], C.size_t(len(t.reports)), written)
-	})
-}
-
-// FeedUTF8 plays all bytes of a host that sends UTF-8, and returns the reports to it. A character that a VT220 lacks is shown as Shown
-// returns it. What is pending before and after the bytes is in the decoder.
-func (t *Terminal) FeedUTF8(d *Decoder, bytes []byte) (reports []byte) {
-	pending := d.handle()
-	return t.feed(bytes, func(at *C.uint8_t, length C.size_t, written *C.size_t) C.size_t {
-		return C.vt220_feed_utf8(&t.handle, pending, at, length, &t.reports[0], C.size_t(len(t.reports)), written)
-	})
-}
-
-// FeedXterm plays all bytes of a program that has TERM=xterm or xterm-256color, and returns the reports to it. It plays nothing if x is nil
-// or closed.
-func (t *Terminal) FeedXterm(x *Xterm, bytes []byte) (reports []byte) {
-	if !x.isOpen() {
-		return nil
-	}
-	return t.feed(bytes, func(at *C.uint8_t, length C.size_t, written *C.size_t) C.size_t {
-		return C.vt220_feed_xterm(&t.handle, &x.handle, at, length, &t.reports[0], C.size_t(len(t.reports)), written)
-	})
-}
-
-// feedLog does as feed. The call also writes lines into the scratch buffer, and is given where it writes their length.
-func (t *Terminal) feedLog(bytes []byte, s *Scratch, call func(at *C.uint8_t, length C.size_t, written, logged *C.size_t) C.size_t) (reports, lines []byte, err error) {
-	var logged C.size_t
+// FeedLog plays all bytes of the host as Feed does. It returns the reports, and the lines that scroll off the top of the screen, each
+// as RowText returns it. The alternate page has no such lines. It returns ErrClosed if the terminal or the scratch buffer is closed, and has
+// then played nothing.
+func (t *Terminal) FeedLog(bytes []byte, s *Scratch) (reports, lines []byte, err error) {
+	var written, logged C.size_t
 	if !t.IsOpen() || s == nil || !bool(C.vt220_scratch_is_open(&s.handle)) {
 		return nil, nil, ErrClosed
 	}
-	reports = t.feed(bytes, func(at *C.uint8_t, length C.size_t, written *C.size_t) C.size_t {
-		played := call(at, length, written, &logged)
+	for len(bytes) > 0 && t.IsOpen() {
+		played := C.vt220_feed_log(&t.handle, &s.handle, (*C.uint8_t)(&bytes[0]), C.size_t(len(bytes)), &t.reports[0], C.size_t(len(t.reports)), &written,
+			&s.out[0], C.size_t(len(s.out)), &logged)
+		reports = append(reports, C.GoBytes(unsafe.Pointer(&t.reports[0]), C.int(written))...)
 		lines = append(lines, C.GoBytes(unsafe.Pointer(&s.out[0]), C.int(logged))...)
-		return played
-	})
-	return reports, lines, nil
-}
-
-// FeedLog plays all bytes of the host as Feed does. It returns the reports, and the lines that scroll off the top of the screen, each
-// as RowText returns it. It returns ErrClosed if the terminal or the scratch buffer is closed, and has then played nothing.
-func (t *Terminal) FeedLog(bytes []byte, s *Scratch) (reports, lines []byte, err error) {
-	return t.feedLog(bytes, s, func(at *C.uint8_t, length C.size_t, written, logged *C.size_t) C.size_t {
-		return C.vt220_feed_log(&t.handle, &s.handle, at, length, &t.reports[0], C.size_t(len(t.reports)), written,
-			&s.out[0], C.size_t(len(s.out)), logged)
-	})
-}
-
-// FeedLogUTF8 plays all bytes of a host that sends UTF-8, and otherwise does as FeedLog.
-func (t *Terminal) FeedLogUTF8(d *Decoder, bytes []byte, s *Scratch) (reports, lines []byte, err error) {
-	pending := d.handle()
-	return t.feedLog(bytes, s, func(at *C.uint8_t, length C.size_t, written, logged *C.size_t) C.size_t {
-		return C.vt220_feed_log_utf8(&t.handle, &s.handle, pending, at, length, &t.reports[0], C.size_t(len(t.reports)), written,
-			&s.out[0], C.size_t(len(s.out)), logged)
-	})
-}
-
-// FeedLogXterm plays all bytes of a program that has TERM=xterm or xterm-256color. It returns the reports, and the lines that scroll off
-// the top of the main page. The alternate page has no such lines. It returns ErrClosed if one of the three is nil or closed, and has then
-// played nothing.
-func (t *Terminal) FeedLogXterm(x *Xterm, bytes []byte, s *Scratch) (reports, lines []byte, err error) {
-	if !x.isOpen() {
-		return nil, nil, ErrClosed
+		bytes = bytes[played:]
 	}
-	return t.feedLog(bytes, s, func(at *C.uint8_t, length C.size_t, written, logged *C.size_t) C.size_t {
-		return C.vt220_feed_log_xterm(&t.handle, &s.handle, &x.handle, at, length, &t.reports[0], C.size_t(len(t.reports)), written,
-			&s.out[0], C.size_t(len(s.out)), logged)
-	})
+	return reports, lines, nil
 }
 
 // Text returns the screen as text: 24 lines, each without the spaces at its end, and with a line feed.
@@ -441,7 +349,8 @@ func (t *Terminal) Picture(s *Scratch) (string, error) {
 	return string(text), err
 }
 
-// CopyFrom brings this terminal into the state of another one, also if the other is inside a sequence.
+// CopyFrom brings this terminal into the state of another one, also if the other is inside a sequence. In UTF-8 what is pending is copied, too,
+// and under TERM=xterm both pages are. It returns ErrLanguage if this terminal is under TERM=xterm and the other one isn't.
 func (t *Terminal) CopyFrom(other *Terminal) error {
 	return result(C.vt220_copy(&t.handle, &other.handle))
 }
@@ -502,16 +411,24 @@ func (t *Terminal) Saved() Saved {
 	}
 }
 
-// Repaint returns bytes that, fed by Feed or FeedUTF8 to any terminal, whatever its state, leave it in this one's state. For a session under
-// TERM=xterm there is Xterm.Repaint. It returns ErrPartial inside a sequence.
-func (t *Terminal) Repaint(s *Scratch) ([]byte, error) {
+// Repaint returns bytes that, fed to any terminal of the same language, whatever its state, leave it exactly as this one is. What is pending of
+// UTF-8 is left out: these bytes are fed after them. It returns ErrPartial inside a sequence.
+func (t *Terminal) Repaint(s *Scratch) ([]byte, error) { return t.RepaintAs(t.Language(), s) }
+
+// RepaintAs returns the repaint for a terminal of a language. For a VT220, whose input is Bytes or UTF8, it is the state with the page that is
+// shown. It returns ErrPartial inside a sequence, and ErrLanguage if it is for TERM=xterm and this terminal isn't.
+func (t *Terminal) RepaintAs(language Language, s *Scratch) ([]byte, error) {
 	return s.written(func(length *C.size_t) C.uint32_t {
-		return C.vt220_repaint(&t.handle, &s.handle, &s.out[0], UpdateLimit, length)
+		if len(s.out) < XtermPaintLimit {
+			s.out = make([]C.uint8_t, XtermPaintLimit)
+		}
+		return C.vt220_repaint_as(&t.handle, C.uint32_t(language), &s.handle, &s.out[0], XtermPaintLimit, length)
 	})
 }
 
 // Update returns bytes that lead from this terminal's state to that of another, and brings this one there. It returns no bytes if the
-// states are equal, and ErrPartial if one of the two is inside a sequence.
+// states are equal, and ErrPartial if one of the two is inside a sequence. This terminal is a VT220, otherwise it returns ErrLanguage. The
+// other one has any language: its page that is shown counts.
 func (t *Terminal) Update(to *Terminal, s *Scratch) ([]byte, error) {
 	return s.written(func(length *C.size_t) C.uint32_t {
 		return C.vt220_update(&t.handle, &to.handle, &s.handle, &s.out[0], UpdateLimit, length)

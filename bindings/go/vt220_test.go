@@ -17,6 +17,14 @@ func open(t *testing.T, start string) *Terminal {
 	return terminal
 }
 
+func openAs(t *testing.T, language Language) *Terminal {
+	terminal, err := OpenAs(language)
+	if err != nil {
+		t.Fatal(err)
+	}
+	return terminal
+}
+
 func scratch(t *testing.T) *Scratch {
 	s, err := NewScratch()
 	if err != nil {

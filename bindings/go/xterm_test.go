@@ -5,51 +5,44 @@ import (
 	"testing"
 )
 
-func xterm(t *testing.T) *Xterm {
-	x, err := NewXterm()
-	if err != nil {
-		t.Fatal(err)
-	}
-	return x
+// isSame returns whether two terminals show the same, and keep the same for their language but for the page that isn't shown.
+func isSame(one, other *Terminal) bool {
+	return one.SameState(other) && one.Alternate() == other.Alternate() && string(one.Pending()) == string(other.Pending())
 }
 
-// rebuilds returns whether the repaint of a terminal and what it needs rebuilds both on others.
-func rebuilds(t *testing.T, terminal *Terminal, x *Xterm, s *Scratch) bool {
-	bytes, err := x.Repaint(terminal, s)
+// rebuilds returns whether the repaint of a terminal rebuilds it on another one.
+func rebuilds(t *testing.T, terminal *Terminal, s *Scratch) bool {
+	bytes, err := terminal.Repaint(s)
 	if err != nil {
 		return err == ErrPartial && !terminal.IsBetween()
 	}
-	other, rebuilt := open(t, ""), xterm(t)
-	defer rebuilt.Close()
-	other.FeedXterm(rebuilt, []byte("other\x1b[?47hpage\xe2"))
-	if len(other.FeedXterm(rebuilt, bytes)) > 0 || len(rebuilt.Pending()) > 0 {
+	other := openAs(t, Xterm)
+	other.Feed([]byte("other\x1b[?47hpage\xe2"))
+	if len(other.Feed(bytes)) > 0 || len(other.Pending()) > 0 {
 		return false
 	}
-	other.FeedXterm(rebuilt, x.Pending())
-	again, err := rebuilt.Repaint(other, s)
-	same := err == nil && string(again) == string(bytes) && string(rebuilt.Pending()) == string(x.Pending())
-	return same && other.SameState(terminal) && rebuilt.Alternate() == x.Alternate()
+	other.Feed(terminal.Pending())
+	again, err := other.Repaint(s)
+	return err == nil && string(again) == string(bytes) && isSame(other, terminal)
 }
 
 // fedXterm returns what chunks of a size lead to, with the log and without one. Another terminal is copied from it after each chunk.
 func fedXterm(t *testing.T, s *Scratch, input []byte, size int) (found row) {
-	terminal, x, other, copied := open(t, ""), xterm(t), open(t, ""), xterm(t)
-	defer x.Close()
-	defer copied.Close()
+	terminal, other := openAs(t, Xterm), openAs(t, Xterm)
 	for len(input) > 0 {
 		piece := input
 		if len(piece) > size {
 			piece = piece[:size]
 		}
-		reports, lines, err := terminal.FeedLogXterm(x, piece, s)
-		if err != nil || string(other.FeedXterm(copied, piece)) != string(reports) || !other.SameState(terminal) || copied.Alternate() != x.Alternate() {
+		reports, lines, err := terminal.FeedLog(piece, s)
+		if err != nil || string(other.Feed(piece)) != string(reports) || !isSame(other, terminal) {
 			t.Errorf("% X: the log differs: %v", piece, err)
 		}
 		other.Reset()
-		if other.CopyFrom(terminal) != nil || copied.CopyFrom(x) != nil {
+		if other.CopyFrom(terminal) != nil || !isSame(other, terminal) {
 			t.Error("a copy")
 		}
-		if !rebuilds(t, terminal, x, s) {
+		if !rebuilds(t, terminal, s) {
 			t.Errorf("% X: the repaint", piece)
 		}
 		found.reports += string(reports)
@@ -57,7 +50,7 @@ func fedXterm(t *testing.T, s *Scratch, input []byte, size int) (found row) {
 		input = input[len(piece):]
 	}
 	shown := shownBy(t, terminal, s)
-	shown.alternate, shown.paste, shown.pending = flag(x.Alternate()), flag(x.BracketedPaste()), string(x.Pending())
+	shown.alternate, shown.paste, shown.pending = flag(terminal.Alternate()), flag(terminal.BracketedPaste()), string(terminal.Pending())
 	shown.reports, shown.lines = found.reports, found.lines
 	return shown
 }
@@ -67,35 +60,39 @@ func TestXterm(t *testing.T) {
 	eachWay(t, "xterm", func(input []byte, size int) row { return fedXterm(t, s, input, size) })
 }
 
-func TestXtermClosed(t *testing.T) {
-	terminal, x, s := open(t, ""), xterm(t), scratch(t)
-	if terminal.FeedXterm(nil, []byte("a\x1b[6n")) != nil || len(terminal.FeedXterm(x, []byte("b\x1b[?47h\x1b[6n"))) != 6 || !x.Alternate() {
-		t.Error("open")
+func TestLanguages(t *testing.T) {
+	terminal, other, s := openAs(t, Xterm), open(t, ""), scratch(t)
+	if _, err := OpenAs(4); err != ErrLanguage {
+		t.Error("a language that isn't there", err)
 	}
-	x.Close()
-	if terminal.FeedXterm(x, []byte("c\x1b[6n")) != nil || x.Alternate() || len(x.Pending()) != 0 {
-		t.Error("closed")
+	terminal.Feed([]byte("main\x1b[?1049halt"))
+	if terminal.Language() != Xterm || other.Language() != Bytes || openAs(t, UTF8).Language() != UTF8 || !terminal.Alternate() {
+		t.Error("languages")
 	}
-	for _, none := range []*Xterm{nil, x} {
-		if _, _, err := terminal.FeedLogXterm(none, []byte("x"), s); err != ErrClosed {
-			t.Error("a closed one has a log", err)
-		}
+	if err := terminal.CopyFrom(other); err != ErrLanguage {
+		t.Error("a copy of a VT220", err)
 	}
-	if other := xterm(t); x.CopyFrom(other) != ErrClosed || other.CopyFrom(x) != ErrClosed {
-		t.Error("copies of a closed one")
+	if _, err := terminal.Update(other, s); err != ErrLanguage {
+		t.Error("an update of an xterm", err)
 	}
-	if _, err := x.Repaint(terminal, s); err != ErrClosed {
-		t.Error("a repaint of a closed one", err)
+	if _, err := other.RepaintAs(Xterm, s); err != ErrLanguage {
+		t.Error("pages of a VT220", err)
 	}
-	if _, _, err := terminal.FeedLogXterm(xterm(t), []byte("x"), nil); err != ErrClosed {
-		t.Error("a log without a scratch buffer", err)
+	bytes, err := terminal.RepaintAs(Bytes, s)
+	if other.Feed(bytes); err != nil || !other.SameState(terminal) || other.Alternate() {
+		t.Error("a repaint for a VT220", err)
+	}
+	if terminal.Reset(); terminal.Alternate() {
+		t.Error("a reset")
 	}
 	if text, err := terminal.Text(s); err != nil || strings.TrimRight(text, "\n") != "" {
 		t.Errorf("%q %v", text, err)
 	}
 	terminal.Close()
-	open := xterm(t)
-	if _, _, err := terminal.FeedLogXterm(open, []byte("x"), s); err != ErrClosed || terminal.FeedXterm(open, []byte("x")) != nil {
-		t.Error("a closed terminal", err)
+	if _, _, err := terminal.FeedLog([]byte("x"), s); err != ErrClosed || terminal.Alternate() || terminal.Feed([]byte("x")) != nil || terminal.Language() != Bytes {
+		t.Error("closed", err)
+	}
+	if _, err := terminal.Repaint(s); err != ErrClosed {
+		t.Error("a repaint of a closed one", err)
 	}
 }

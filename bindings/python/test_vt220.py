@@ -180,11 +180,11 @@ def rebuilt_xterm(data, at):
     with vt220.Terminal(terminal="xterm") as first, vt220.Terminal(terminal="xterm") as second:
         first.feed(data[:at])
         if not first.is_between():
-            return raises(vt220.Partial, first.xterm_repaint)
-        made = first.xterm_repaint()
+            return raises(vt220.Partial, first.repaint)
+        made = first.repaint()
         second.feed(b"other\033[?47hpage\xe2")
         silent = second.feed(made) == b"" and second.pending() == b"" and second.feed(first.pending()) == b""
-        same = second.xterm_repaint() == made and second.same_state(first) and second.alternate() == first.alternate()
+        same = second.repaint() == made and second.same_state(first) and second.alternate() == first.alternate()
         return silent and same and second.pending() == first.pending() and first.feed_log(data[at:]) == second.feed_log(data[at:]) and both_pages(first) == both_pages(second)
 
 
@@ -193,7 +193,7 @@ def repaints_of_sessions():
     for name, data, wanted in session_repaints():
         with vt220.Terminal(terminal="xterm") as terminal:
             terminal.feed(data)
-            check(terminal.xterm_repaint() == wanted, "repaints of sessions", name)
+            check(terminal.repaint() == wanted, "repaints of sessions", name)
 
 
 def differences(found, wanted):
@@ -221,8 +221,8 @@ def terminals():
         check((terminal.terminal, terminal.encoding, other.terminal) == ("xterm", "utf-8", "vt220"), "terminals", "names")
         check(terminal.feed_until_report(b"main\033[?1049h\033[6n\xe2") == (16, b"\033[1;5R") and terminal.alternate(), "terminals", "a report")
         check(not other.alternate() and other.feed(b"\033[?1049h") == b"" and not other.alternate(), "terminals", "a VT220 has one page")
-        check(raises(ValueError, terminal.copy_from, other) and terminal.alternate(), "terminals", "no copy of a VT220")
-        check(raises(ValueError, other.xterm_repaint), "terminals", "a VT220 has no repaint of two pages")
+        check(raises(vt220.OtherLanguage, terminal.copy_from, other) and terminal.alternate(), "terminals", "no copy of a VT220")
+        check(raises(vt220.OtherLanguage, lambda: other.repaint("xterm")), "terminals", "a VT220 has no repaint of two pages")
         terminal.feed(b"\xe2\x80")
         copied = terminal.copy()
         check((copied.terminal, copied.alternate(), copied.pending()) == ("xterm", True, b"\xe2\x80"), "terminals", "a copy")

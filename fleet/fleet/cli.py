@@ -198,7 +198,7 @@ def do_text(store, incarnation, words):
 def do_repaint(store, incarnation, words):
     from .session import as_it_is
 
-    sys.stdout.buffer.write(as_it_is(store, incarnation).terminal.repaint())
+    sys.stdout.buffer.write(as_it_is(store, incarnation).terminal.repaint("vt220"))
 
 
 @of_session
@@ -206,7 +206,7 @@ def do_picture(store, incarnation, words):
     from .export import picture
     from .session import as_it_is
 
-    sys.stdout.buffer.write(picture(as_it_is(store, incarnation).terminal.repaint()))
+    sys.stdout.buffer.write(picture(as_it_is(store, incarnation).terminal.repaint("vt220")))
 
 
 @of_session

@@ -50,7 +50,7 @@ class Frames:
                 # Not deleted: ids only grow in a stream that stays, whatever the clock does.
                 together.execute_command("XTRIM", stream, "MAXLEN", 0)
             session.shown, session.step = vt220.Terminal(), 0
-            frame = {"repaint": session.terminal.repaint()}
+            frame = {"repaint": session.terminal.repaint("vt220")}
             session.shown.feed(frame["repaint"])
         else:
             frame = {"update": session.shown.update(session.terminal)}

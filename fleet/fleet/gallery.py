@@ -76,7 +76,7 @@ class Picture:
     def way_from(self, number):
         """Returns bytes that lead here: from the screen of a number if updates did, or else from any screen."""
         if number < self.begin:
-            return whole(self.terminal).repaint()
+            return whole(self.terminal).repaint("vt220")
         return b"".join(update for made, update in self.updates if made > number)
 
 

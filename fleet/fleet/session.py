@@ -1,6 +1,6 @@
 """A session's terminal, and how it is rebuilt from what the store has.
 
-A terminal's state is a function of the bytes. The bytes that rebuild a state (rebuild.py), played on any terminal, leave exactly that
+A terminal's state is a function of the bytes. Its repaint, played on any terminal, leave exactly that
 state. Bytes may be cut anywhere. So a checkpoint and the bytes after its position are the session, for any process that has both. In UTF-8
 a checkpoint's position is before the bytes that begin a character and wait for its other bytes.
 """
@@ -8,7 +8,6 @@ import vt220
 
 from .keys import DEC, FORMATS, PIECE, Damaged, Language, Long, Lost, Trimmed, Version, Wrong
 from .keys import format_of, key, language_of, number as number_of, position, read_checkpoint, text
-from .rebuild import rebuilt
 
 
 class Session:
@@ -27,7 +26,7 @@ class Session:
 
     def rebuilt(self):
         """Returns bytes that rebuild the terminal, as it is at the position that settled() returns."""
-        return rebuilt(self.terminal)
+        return self.terminal.repaint()
 
     def data_of(self, entry_id, fields):
         """Returns what of an entry wasn't played yet. Raises a fault if it isn't a host's, or if bytes before it are missing."""

@@ -8,7 +8,6 @@ from characters import cut_anywhere, played, taken_by_newer_workers
 from operators import OnTerminal, written
 from safety import fleet
 from stores_faults import program
-from fleet import rebuild
 from fleet.worker import Worker
 import vt220
 
@@ -34,7 +33,7 @@ def terminal(data=b""):
 
 def is_same(one, two):
     """Returns whether two terminals go on alike, whatever is pending."""
-    return one.xterm_repaint() == two.xterm_repaint() and one.same_state(two) and one.alternate() == two.alternate()
+    return one.repaint() == two.repaint() and one.same_state(two) and one.alternate() == two.alternate()
 
 
 def some(chance, most=60):
@@ -47,17 +46,16 @@ def bytes_rebuild_a_terminal(url, _):
     for number in range(400):
         one = terminal(some(chance) + b"\030" * chance.randint(0, 1))
         if not one.is_between():
-            check(raises(vt220.Partial, rebuild.rebuilt, one), name, f"{number}: none inside a sequence")
+            check(raises(vt220.Partial, one.repaint), name, f"{number}: none inside a sequence")
             continue
         before, two = (one.repaint(), one.alternate(), one.pending()), terminal(some(chance))
-        two.feed(rebuild.rebuilt(one))
+        two.feed(one.repaint())
         two.feed(one.pending())
         check((one.repaint(), one.alternate(), one.pending()) == before, name, f"{number}: the terminal stays")
         check(two.pending() == one.pending() and is_same(one, two), name, f"{number}: it is rebuilt")
         more = some(chance) + b"\030"
         for way in (more, MAIN, ALTERNATE, b"\033[?40h\033[?3h" + MAIN, ALTERNATE, b"\033[?3l" + MAIN, ALTERNATE):
             check(one.feed(way) == two.feed(way) and one.same_state(two) and one.alternate() == two.alternate(), name, f"{number}: and goes on alike: {way[:20]}")
-    check(rebuild.rebuilt(vt220.Terminal("utf-8")) == vt220.Terminal().repaint(), name, "that of a VT220 is its repaint")
 
 
 def a_terminal_that_is_rebuilt_wrongly_is_found(url, _):

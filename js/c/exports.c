@@ -20,7 +20,7 @@ static size_t written, lines_written;
 static uint32_t reports_size = REPORTS, lines_size = LINES, out_size = VT220_PICTURE_LIMIT;
 
 _Static_assert(sizeof(vt220_cell) == 12, "JavaScript reads three words a cell");
-_Static_assert(LINES >= VT220_ROW_TEXT_LIMIT && REPORTS >= VT220_REPORT_LIMIT, "a call takes at least one byte");
+_Static_assert(LINES >= VT220_XTERM_LINES_LIMIT && REPORTS >= VT220_REPORT_LIMIT, "a call takes at least one byte");
 
 static uint32_t address(const void *p) { return (uint32_t)(uintptr_t)p; }
 
@@ -45,13 +45,13 @@ EXPORT(status_text) uint32_t js_status_text(uint32_t status) { return address(vt
 /* Opens the scratch buffer, before any other call. Returns a status. */
 EXPORT(start) uint32_t js_start(void) { return vt220_scratch_open(&scratch); }
 
-/* Opens a terminal. Returns its address, or 0 if the allocation failed. */
-EXPORT(open) uint32_t js_open(void) {
+/* Opens a terminal for a language. Returns its address, or 0 if the allocation failed. */
+EXPORT(open) uint32_t js_open(uint32_t language) {
     tried got = rattle_alloc(sizeof(vt220), _Alignof(vt220));
     if (!got.ok) return 0;
     vt220 *t = got.p;
     *t = (vt220)VT220_INIT;
-    if (vt220_open(t) == VT220_OK) return address(t);
+    if (vt220_open_as(t, language) == VT220_OK) return address(t);
     rattle_dealloc(t);
     return 0;
 }
@@ -84,7 +84,10 @@ EXPORT(copy) uint32_t js_copy(uint32_t to, uint32_t from) { return vt220_copy(AT
 WRITES(text)
 WRITES(show)
 WRITES(picture)
-WRITES(repaint)
+
+EXPORT(repaint) uint32_t js_repaint(uint32_t t, uint32_t language) {
+    return vt220_repaint_as(AT(vt220, t), language, &scratch, out, out_size, &written);
+}
 
 EXPORT(row_text) uint32_t js_row_text(uint32_t t, uint32_t row) {
     return vt220_row_text(AT(vt220, t), &scratch, row, out, out_size, &written);
@@ -147,6 +150,8 @@ EXPORT(stops) void js_stops(uint32_t t) {
     for (size_t i = 0; i < VT220_COLUMNS; i++) part[i] = it.stop[i];
 }
 
+PART(language, vt220_language_state, it.alternate, it.bracketed_paste, it.pending_len, it.pending[0], it.pending[1], it.pending[2])
+
 EXPORT(is_between) uint32_t js_is_between(uint32_t t) { return vt220_is_between(AT(vt220, t)); }
 EXPORT(held_kind) uint32_t js_held_kind(uint32_t t) { return vt220_held_kind(AT(vt220, t)); }
 EXPORT(same_state) uint32_t js_same_state(uint32_t a, uint32_t b) { return vt220_same_state(AT(vt220, a), AT(vt220, b)); }
@@ -165,68 +170,12 @@ EXPORT(key_length) uint32_t js_key_length(uint32_t len) { return (uint32_t)vt220
 
 /* --- UTF-8 --- */
 
-/* The pending part. JavaScript writes it before a feed of UTF-8, and reads it afterwards. */
-static vt220_utf8 utf8;
-
-_Static_assert(sizeof utf8 == 4 && LINES >= VT220_UTF8_LINES_LIMIT, "JavaScript copies four bytes; a call takes at least one byte");
-
-EXPORT(utf8) uint32_t js_utf8(void) { return address(&utf8); }
-
-EXPORT(feed_utf8) uint32_t js_feed_utf8(uint32_t t, uint32_t from, uint32_t to) {
-    return (uint32_t)vt220_feed_utf8(AT(vt220, t), &utf8, input + from, to - from, reports, reports_size, &written);
-}
-
-EXPORT(feed_log_utf8) uint32_t js_feed_log_utf8(uint32_t t, uint32_t from, uint32_t to) {
-    return (uint32_t)vt220_feed_log_utf8(AT(vt220, t), &scratch, &utf8, input + from, to - from, reports, reports_size, &written, lines, lines_size,
-                                         &lines_written);
-}
-
 /* Returns the glyph with which UTF-8 shows a character, and writes to `part` how many cells it has. */
 EXPORT(shown) uint32_t js_shown(uint32_t character) {
     size_t count;
     uint32_t glyph = vt220_shown(character, &count);
     part[0] = (uint32_t)count;
     return glyph;
-}
-
-/* --- TERM=xterm --- */
-
-_Static_assert(LINES >= VT220_XTERM_LINES_LIMIT, "a call takes at least one byte");
-
-/* Opens what a terminal needs under TERM=xterm. Returns its address, or 0 if the allocation failed. */
-EXPORT(xterm_open) uint32_t js_xterm_open(void) {
-    tried got = rattle_alloc(sizeof(vt220_xterm), _Alignof(vt220_xterm));
-    if (!got.ok) return 0;
-    vt220_xterm *x = got.p;
-    *x = (vt220_xterm)VT220_INIT;
-    if (vt220_xterm_open(x) == VT220_OK) return address(x);
-    rattle_dealloc(x);
-    return 0;
-}
-
-EXPORT(xterm_close) void js_xterm_close(uint32_t x) {
-    vt220_xterm_close(AT(vt220_xterm, x));
-    rattle_dealloc(AT(vt220_xterm, x));
-}
-
-EXPORT(xterm_copy) uint32_t js_xterm_copy(uint32_t to, uint32_t from) { return vt220_xterm_copy(AT(vt220_xterm, to), AT(vt220_xterm, from)); }
-EXPORT(xterm_alternate) uint32_t js_xterm_alternate(uint32_t x) { return vt220_xterm_alternate(AT(vt220_xterm, x)); }
-EXPORT(xterm_bracketed_paste) uint32_t js_xterm_bracketed_paste(uint32_t x) { return vt220_xterm_bracketed_paste(AT(vt220_xterm, x)); }
-
-/* Writes the pending part to what `utf8` returns. */
-EXPORT(xterm_pending) void js_xterm_pending(uint32_t x) { vt220_xterm_pending(AT(vt220_xterm, x), &utf8); }
-
-EXPORT(xterm_repaint) uint32_t js_xterm_repaint(uint32_t t, uint32_t x) {
-    return vt220_xterm_repaint(AT(vt220, t), AT(vt220_xterm, x), &scratch, out, sizeof out, &written);
-}
-
-EXPORT(feed_xterm) uint32_t js_feed_xterm(uint32_t t, uint32_t x, uint32_t from, uint32_t to) {
-    return (uint32_t)vt220_feed_xterm(AT(vt220, t), AT(vt220_xterm, x), input + from, to - from, reports, reports_size, &written);
-}
-
-EXPORT(feed_log_xterm) uint32_t js_feed_log_xterm(uint32_t t, uint32_t x, uint32_t from, uint32_t to) {
-    return (uint32_t)vt220_feed_log_xterm(AT(vt220, t), &scratch, AT(vt220_xterm, x), input + from, to - from, reports, reports_size, &written,
-                                          lines, lines_size, &lines_written);
 }
 
 /* --- for tests --- */

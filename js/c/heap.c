@@ -1,7 +1,9 @@
-/* The heap of the module: rattle_alloc, rattle_realloc and rattle_dealloc, which the proved code calls, and what c/ needs of string.h.
+/* The heap of the module: rattle_alloc, rattle_realloc and rattle_dealloc, which the proved code calls, and what c/ needs of stdlib.h and
+ * string.h.
  * A block has a head of 16 bytes. A freed block is taken again by a request for the same size: a terminal, a scratch buffer and the
  * buffers of src/vt220.js have few sizes, and nothing else allocates. */
 #include "heap.h"
+#include <stdlib.h>
 #include <string.h>
 
 typedef struct block {
@@ -73,6 +75,12 @@ tried rattle_realloc(void *p, size_t kept, size_t n, size_t align) {
     memcpy(made.p, p, kept < n ? kept : n);
     rattle_dealloc(p);
     return made;
+}
+
+void *malloc(size_t n) { return take(n); }
+
+void free(void *p) {
+    if (p != NULL) rattle_dealloc(p);
 }
 
 /* The processor has instructions for these two (bulk memory). */

@@ -95,7 +95,7 @@ export class Timeline {
   /** Returns a checkpoint of this position, which is between sequences. */
   #checkpoint() {
     const { position, terminal } = this;
-    const repaint = terminal.terminal === "xterm" ? terminal.xtermRepaint() : terminal.repaint();
+    const repaint = terminal.repaint();
     return { position, repaint, pending: terminal.pending };
   }
 

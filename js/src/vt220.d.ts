@@ -4,7 +4,7 @@ export declare const ROWS: 24;
 export declare const COLUMNS: 132;
 
 /** What a call could not do. `BROKEN`: an earlier call ended in a fault of WebAssembly, and the core can't be used any more. */
-export type Code = "MEMORY" | "CLOSED" | "PARTIAL" | "NO_ROW" | "NO_KEY" | "NO_CHARACTER" | "BROKEN";
+export type Code = "MEMORY" | "CLOSED" | "PARTIAL" | "NO_ROW" | "NO_KEY" | "NO_CHARACTER" | "LANGUAGE" | "BROKEN";
 
 /** Reports a call that changed nothing. */
 export declare class Vt220Error extends Error {
@@ -133,7 +133,7 @@ export declare class Terminal {
   constructor(core: Core, options?: { encoding?: Encoding; terminal?: TerminalName });
   readonly encoding: Encoding;
   readonly terminal: TerminalName;
-  /** Whether the alternate page is shown. A VT220 has none. The page that isn't shown is no part of sameState, repaint and update. */
+  /** Whether the alternate page is shown. A VT220 has none. The page that isn't shown is no part of sameState and update. */
   readonly alternate: boolean;
 
   /** Whether the program wants pasted text between ESC [200~ and ESC [201~ (?2004). A VT220 has no such mode. */
@@ -151,15 +151,14 @@ export declare class Terminal {
   feedLog(bytes: Uint8Array): { replies: Uint8Array; lines: string[] };
   /**
    * The bytes at the end of the input that begin a character of UTF-8, at most three. Nothing shows them yet. They aren't part of the
-   * state: a checkpoint is repaint(), or xtermRepaint() under TERM=xterm, and, after it, pending. Fed to a new terminal of the same encoding,
-   * the two lead on as here.
+   * state: a checkpoint is repaint() and, after it, pending. Fed to a new terminal of the same encoding and terminal, the two lead on as here.
    */
   readonly pending: Uint8Array;
   /** Resets the terminal to its power-up state, as RIS does, also inside a sequence. Nothing is pending then. */
   reset(): void;
   /**
    * Brings this terminal into the state of `from`, also inside a sequence. If its encoding is UTF-8, `pending` is copied, too. A terminal of
-   * TERM=xterm also gets both pages. Throws TypeError if it is one and `from` isn't.
+   * TERM=xterm also gets both pages. Throws LANGUAGE if it is one and `from` isn't.
    */
   copyFrom(from: Terminal): void;
 
@@ -171,16 +170,15 @@ export declare class Terminal {
   show(): string;
   /** Returns the screen as an SVG document. */
   picture(): string;
-  /** Returns bytes that leave any terminal but one of TERM=xterm in exactly this state. Throws PARTIAL inside a sequence. */
-  repaint(): Uint8Array;
   /**
-   * Returns bytes that leave any terminal of TERM=xterm in exactly this state, with both pages. What is pending of UTF-8 is left out. Throws
-   * PARTIAL inside a sequence, and TypeError if this terminal is a VT220, which has one page.
+   * Returns bytes that leave any terminal of the same encoding and terminal exactly as this one is. What is pending of UTF-8 is left out. With
+   * the terminal "vt220" they leave a VT220 in this state, with the page that is shown. Throws PARTIAL inside a sequence, and LANGUAGE if
+   * they are for an xterm and this terminal is a VT220.
    */
-  xtermRepaint(): Uint8Array;
+  repaint(terminal?: TerminalName): Uint8Array;
   /**
    * Returns bytes that lead from this state to that of `to`, and brings this terminal there. They are empty exactly if the two are
-   * equal. Throws PARTIAL if one of the two is inside a sequence.
+   * equal. Throws PARTIAL if one of the two is inside a sequence, and LANGUAGE if this terminal is of TERM=xterm.
    */
   update(to: Terminal): Uint8Array;
   /** Returns whether two terminals are in the same state, hidden parts included. */

@@ -4,8 +4,8 @@
 export const ROWS = 24;
 export const COLUMNS = 132;
 
-const CODES = ["OK", "MEMORY", "IN_USE", "CLOSED", "PARTIAL", "ROOM", "UNSUPPORTED", "NO_ROW", "NO_KEY", "NO_CHARACTER"];
-const MEMORY = 1, CLOSED = 3, NO_ROW = 7;
+const CODES = ["OK", "MEMORY", "IN_USE", "CLOSED", "PARTIAL", "ROOM", "UNSUPPORTED", "NO_ROW", "NO_KEY", "NO_CHARACTER", "LANGUAGE"];
+const MEMORY = 1, CLOSED = 3, NO_ROW = 7, XTERM = 2;
 const HELD = ["nothing", "escape", "control", "string"];
 const CURSOR = ["row", "column", "wrap"];
 const MARGINS = ["top", "bottom"];
@@ -13,11 +13,11 @@ const MODES = ["kam", "irm", "srm", "lnm", "decckm", "decsclm", "decscnm", "deco
 const BRUSH = ["bold", "underline", "blink", "reverse", "isProtected"];
 const SETS = ["g0", "g1", "g2", "g3", "gl", "gr", "singleShift"];
 const SAVED = ["row", "column", "wrap", "origin", ...BRUSH, "g0", "g1", "g2", "g3", "gl", "gr"];
-const FLAGS = new Set(["wrap", "origin", ...BRUSH, ...MODES]);
+const FLAGS = new Set(["wrap", "origin", "alternate", "bracketedPaste", ...BRUSH, ...MODES]);
 const SET_NAMES = new Set(["g0", "g1", "g2", "g3"]);
 const ENCODINGS = ["dec", "utf-8"];
 const TERMINALS = ["vt220", "xterm"];
-const PENDING = 4; // bytes: three of a character of UTF-8, and how many of them are pending
+const LANGUAGE = ["alternate", "bracketedPaste", "length", "first", "second", "third"]; // the length and the bytes of what is pending
 const CELL = 12; // bytes: the number of the glyph, five attributes and three reserved bytes
 
 export class Vt220Error extends Error {
@@ -28,11 +28,11 @@ export class Vt220Error extends Error {
   }
 }
 
-/** Returns the encoding and the terminal of options. With the terminal "xterm" the encoding is always UTF-8. */
+/** Returns the number of the language that options name. With the terminal "xterm" the encoding is always UTF-8. */
 function languageOf({ encoding = "dec", terminal = "vt220" } = {}) {
   if (!ENCODINGS.includes(encoding)) throw new TypeError(`an encoding is one of ${ENCODINGS.join(", ")}`);
   if (!TERMINALS.includes(terminal)) throw new TypeError(`a terminal is one of ${TERMINALS.join(", ")}`);
-  return { encoding: terminal === "xterm" ? "utf-8" : encoding, terminal };
+  return 2 * TERMINALS.indexOf(terminal) || ENCODINGS.indexOf(encoding);
 }
 
 /** Compiles the module: bytes, a module, or a response. */
@@ -90,7 +90,6 @@ function field(name, value) {
 }
 
 const encoder = new TextEncoder();
-const RESET = encoder.encode("\x1b[?40h\x1bc\x1b[?40l"); // resets both pages, and their width
 const decoder = new TextDecoder();
 
 class Core {
@@ -108,12 +107,12 @@ class Core {
     this.expect(this.calls.start());
     this.version = this.calls.version();
     this.inputSize = this.calls.input_size();
-    this.#left = new FinalizationRegistry(([close, at]) => this.#free(close, at));
+    this.#left = new FinalizationRegistry((at) => this.#free(at));
   }
 
-  /** Frees what a call of the module frees. Nothing of a broken core is freed. */
-  #free(close, at) {
-    if (!this.#isBroken()) this.calls[close](at);
+  /** Closes a terminal. Nothing of a broken core is freed. */
+  #free(at) {
+    if (!this.#isBroken()) this.calls.close(at);
   }
 
   /** The memory, which has a new buffer after it has grown. */
@@ -153,24 +152,23 @@ class Core {
     return new Uint32Array(this.#memory.buffer, this.calls[buffer](), count);
   }
 
-  /** Opens a handle of a terminal by a call of the module, and returns its address. A terminal that is left is closed by the other call. */
-  open(terminal, open, close) {
-    const at = this.calls[open]();
+  /** Opens the handle of a terminal, and returns its address. A terminal that is left is closed. */
+  open(terminal, language) {
+    const at = this.calls.open(language);
     if (at === 0) this.expect(MEMORY);
-    this.#left.register(terminal, [close, at], terminal);
+    this.#left.register(terminal, at, terminal);
     return at;
   }
 
-  close(terminal, at, xterm) {
+  close(terminal, at) {
     this.#left.unregister(terminal);
-    this.#free("close", at);
-    if (xterm !== 0) this.#free("xterm_close", xterm);
+    this.#free(at);
   }
 
   key(key, modes = {}, options) {
-    const { encoding, terminal } = languageOf(options), len = this.input(encoder.encode(key));
+    const language = languageOf(options), len = this.input(encoder.encode(key));
     const set = MODES.reduce((bits, name, i) => (modes[name] ? bits | (1 << i) : bits), 0);
-    this.expect(this.calls.key(2 * TERMINALS.indexOf(terminal) || ENCODINGS.indexOf(encoding), set, len));
+    this.expect(this.calls.key(language, set, len));
     return this.out();
   }
 
@@ -191,34 +189,25 @@ class Core {
 export class Terminal {
   #core;
   #at;
-  #xterm = 0; // the address of what TERM=xterm needs, or 0
-  #isUtf8;
-  #pending = new Uint8Array(PENDING);
+  #language; // its number
 
   constructor(core, options) {
     if (!(core instanceof Core)) throw new TypeError("a terminal needs the core that load() returns");
-    const { encoding, terminal } = languageOf(options);
+    this.#language = languageOf(options);
     this.#core = core;
-    this.#isUtf8 = encoding === "utf-8";
-    this.#at = core.open(this, "open", "close");
-    try {
-      if (terminal === "xterm") this.#xterm = core.open(this, "xterm_open", "xterm_close");
-    } catch (error) {
-      this.close();
-      throw error;
-    }
+    this.#at = core.open(this, this.#language);
   }
 
   get encoding() {
-    return ENCODINGS[Number(this.#isUtf8)];
+    return ENCODINGS[Number(this.#language > 0)];
   }
 
   get terminal() {
-    return TERMINALS[Number(this.#xterm !== 0)];
+    return TERMINALS[Number(this.#language === XTERM)];
   }
 
   close() {
-    if (this.#at !== 0) this.#core.close(this, this.#at, this.#xterm);
+    if (this.#at !== 0) this.#core.close(this, this.#at);
     this.#at = 0;
   }
 
@@ -238,29 +227,18 @@ export class Terminal {
     return terminal.#handle;
   }
 
-  /** Returns the call of the module that plays bytes of its input for this terminal, from one place to another. */
-  #playing(name) {
-    const { calls } = this.#core, handle = this.#handle, xterm = this.#xterm;
-    if (xterm !== 0) return (from, to) => calls[`${name}_xterm`](handle, xterm, from, to);
-    const call = calls[this.#isUtf8 ? `${name}_utf8` : name];
-    return (from, to) => call(handle, from, to);
-  }
-
   /** Feeds bytes by a call of the module, and passes the replies and the lines of each to `take`. */
   #feed(name, bytes, take) {
     if (!(bytes instanceof Uint8Array)) throw new TypeError("a terminal is fed a Uint8Array");
-    const core = this.#core, play = this.#playing(name);
-    if (this.#isUtf8) core.bytes.set(this.#pending, core.calls.utf8());
+    const core = this.#core, play = core.calls[name], handle = this.#handle;
     for (let at = 0; at < bytes.length; ) {
       const size = core.input(bytes.subarray(at));
       for (let fed = 0; fed < size; ) {
-        fed += play(fed, size);
+        fed += play(handle, fed, size);
         take(core.calls.written());
       }
       at += size;
     }
-    if (this.#xterm !== 0) core.calls.xterm_pending(this.#xterm);
-    if (this.#isUtf8) this.#pending = core.copied("utf8", PENDING);
   }
 
   feed(bytes) {
@@ -307,13 +285,8 @@ export class Terminal {
     return decoder.decode(this.#written("picture"));
   }
 
-  repaint() {
-    return this.#written("repaint");
-  }
-
-  xtermRepaint() {
-    if (this.#handle && this.#xterm === 0) throw new TypeError("a VT220 has one page: its bytes are those of repaint()");
-    return this.#written("xterm_repaint", this.#xterm);
+  repaint(terminal = this.terminal) {
+    return this.#written("repaint", languageOf({ encoding: this.encoding, terminal }));
   }
 
   update(to) {
@@ -321,29 +294,25 @@ export class Terminal {
   }
 
   copyFrom(from) {
-    const { calls } = this.#core, other = this.#other(from);
-    if (this.#xterm !== 0 && from.#xterm === 0) throw new TypeError("a terminal of TERM=xterm is copied from another one of these");
-    this.#core.expect(calls.copy(this.#handle, other));
-    if (this.#xterm !== 0) this.#core.expect(calls.xterm_copy(this.#xterm, from.#xterm));
-    if (this.#isUtf8) this.#pending = from.#pending.slice();
+    const other = this.#other(from);
+    this.#core.expect(this.#core.calls.copy(this.#handle, other));
   }
 
   reset() {
-    if (this.#xterm !== 0) this.feed(RESET);
     this.#core.expect(this.#core.calls.reset(this.#handle));
-    this.#pending.fill(0);
   }
 
   get alternate() {
-    return this.#handle && this.#xterm !== 0 && this.#core.calls.xterm_alternate(this.#xterm) !== 0;
+    return this.#part("language", LANGUAGE).alternate;
   }
 
   get bracketedPaste() {
-    return this.#handle && this.#xterm !== 0 && this.#core.calls.xterm_bracketed_paste(this.#xterm) !== 0;
+    return this.#part("language", LANGUAGE).bracketedPaste;
   }
 
   get pending() {
-    return this.#handle && this.#pending.slice(0, this.#pending[PENDING - 1]);
+    const { length, first, second, third } = this.#part("language", LANGUAGE);
+    return Uint8Array.of(first, second, third).subarray(0, length);
   }
 
   sameState(other) {

@@ -118,29 +118,30 @@ async function modules({ load, Terminal }, wasm, check) {
   for (const source of ["vt220.wasm", 5, null]) check(`a load of ${source}`, (await refused(source)).startsWith("TypeError: load() takes the bytes of vt220.wasm"));
 }
 
-/** The exports that take closed handles, which the package never passes: their arguments, and what they return. t and x are closed. */
+/** The exports that take closed handles, which the package never passes: their arguments, and what they return. t and x are closed, and pages is under TERM=xterm. */
 const CLOSED = [
-  ["text", ["t"], 3], ["show", ["t"], 3], ["picture", ["t"], 3], ["repaint", ["t"], 3], ["row_text", ["t", 1], 3], ["reset", ["t"], 3], ["update", ["t", "open"], 3],
+  ["text", ["t"], 3], ["show", ["t"], 3], ["picture", ["t"], 3], ["repaint", ["t", 0], 3], ["repaint", ["x", 2], 3], ["repaint", ["open", 2], 10], ["repaint", ["open", 4], 10], ["row_text", ["t", 1], 3], ["reset", ["t"], 3], ["update", ["t", "open"], 3],
   ["update", ["open", "t"], 3], ["copy", ["t", "open"], 3], ["copy", ["open", "t"], 3], ["row_changes", ["t", "open", 1], 3], ["row_changes", ["open", "t", 1], 3],
   ["changed_rows", ["t", "open"], 2 ** 24 - 1], ["changed_rows", ["t", "t"], 0], ["width", ["t"], 0], ["row", ["t", 1], 0], ["bells", ["t"], 0], ["is_between", ["t"], 0],
   ["held_kind", ["t"], 0], ["same_state", ["t", "open"], 0], ["same_state", ["open", "t"], 0], ["same_state", ["t", "t"], 0], ["feed", ["t", 0, 1], 0], ["feed_log", ["t", 0, 1], 0],
-  ["feed_utf8", ["t", 0, 1], 0], ["feed_log_utf8", ["t", 0, 1], 0], ["feed_xterm", ["t", "pages", 0, 1], 0], ["feed_xterm", ["open", "x", 0, 1], 0],
-  ["feed_log_xterm", ["t", "pages", 0, 1], 0], ["feed_log_xterm", ["open", "x", 0, 1], 0], ["xterm_copy", ["x", "pages"], 3], ["xterm_copy", ["pages", "x"], 3],
-  ["xterm_copy", ["pages", "pages"], 0], ["copy", ["open", "open"], 0], ["xterm_alternate", ["x"], 0], ["xterm_bracketed_paste", ["x"], 0], ["row_text", ["open", 0], 7], ["row_text", ["open", 25], 7], ["row", ["open", 0], 0],
+  ["feed", ["x", 0, 1], 0], ["feed_log", ["x", 0, 1], 0], ["copy", ["x", "pages"], 3], ["copy", ["pages", "x"], 3], ["copy", ["pages", "open"], 10],
+  ["copy", ["pages", "pages"], 0], ["copy", ["open", "open"], 0], ["update", ["pages", "open"], 10], ["row_text", ["open", 0], 7], ["row_text", ["open", 25], 7], ["row", ["open", 0], 0],
   ["row", ["open", 25], 0], ["row", ["open", 24], 80], ["row_changes", ["open", "open", 0], 7], ["row_changes", ["open", "open", 25], 7], ["changed_rows", ["open", "open"], 0], ["start", [], 2],
 ];
-const PARTS = ["cursor", "margins", "modes", "brush", "sets", "saved", "stops"];
+const PARTS = ["cursor", "margins", "modes", "brush", "sets", "saved", "stops", "language"];
 
 /** Tests the exports with closed handles, and before the scratch buffer is opened. */
 async function handles(wasm, check) {
   const { exports } = await WebAssembly.instantiate(await WebAssembly.compile(wasm));
-  const [t, x, open, pages] = ["open", "xterm_open", "open", "xterm_open"].map((name) => exports[name]()), at = { t, x, open, pages };
-  for (const name of ["text", "show", "picture", "repaint", "row_text", "update", "feed_log", "feed_log_utf8", "feed_log_xterm"])
-    check(`before the start: ${name}`, exports[name](open, name === "update" ? t : name.endsWith("xterm") ? pages : 1, 1, 2) === (name.startsWith("feed") ? 0 : 3) && exports.written() === 0);
+  const [t, x, open, pages] = [0, 2, 0, 2].map((language) => exports.open(language)), at = { t, x, open, pages };
+  check("no such language", exports.open(4) === 0);
+  for (const name of ["text", "show", "picture", "repaint", "row_text", "update", "feed_log"])
+    for (const one of name === "update" ? [open] : [open, pages])
+      check(`before the start: ${name}`, exports[name](one, name === "update" ? t : 1, 1, 2) === (name.startsWith("feed") ? 0 : 3) && exports.written() === 0);
   check("the start", exports.start() === 0);
   for (const name of PARTS) exports[name](open);
   exports.close(t);
-  exports.xterm_close(x);
+  exports.close(x);
   for (const [name, words, wanted] of CLOSED) check(`the export ${name} of ${words}`, exports[name](...words.map((word) => at[word] ?? word)) === wanted);
   const part = () => json(Array.from(new Uint32Array(exports.memory.buffer, exports.part(), 132)));
   exports.stops(open);

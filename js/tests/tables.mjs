@@ -58,7 +58,7 @@ function resumes(core, Terminal, options, input, at) {
   first.feed(input.subarray(0, at));
   copied.copyFrom(first);
   second.feed(ascii(second.terminal === "xterm" ? "other\x1b[?47hpage" : ""));
-  if (first.isBetween) second.feed(first.terminal === "xterm" ? first.xtermRepaint() : first.repaint()), second.feed(first.pending);
+  if (first.isBetween) second.feed(first.repaint()), second.feed(first.pending);
   else second.copyFrom(first);
   for (const each of [copied, second]) each.feed(input.subarray(at));
   const isSame = same(whole, copied, second);
@@ -118,13 +118,17 @@ function terminals({ Terminal }, core, check) {
   const terminal = new Terminal(core, { terminal: "xterm" }), other = new Terminal(core, { encoding: "utf-8", terminal: "vt220" });
   check("the terminals", terminal.terminal === "xterm" && terminal.encoding === "utf-8" && other.terminal === "vt220" && new Terminal(core).terminal === "vt220");
   check("another terminal", ["xterm-256color", "", null, 8].every((name) => thrown(() => new Terminal(core, { terminal: name })) === "TypeError"));
-  check("a VT220 has no repaint of two pages", thrown(() => other.xtermRepaint()) === "TypeError");
+  check("a VT220 has no repaint of two pages", thrown(() => other.repaint("xterm")) === "LANGUAGE");
   terminal.feed(ascii("main\x1b[?1049h\xe2"));
   other.feed(ascii("\x1b[?1049h"));
   check("the pages", terminal.alternate && !other.alternate && equal(terminal.pending, [0xe2]));
-  check("no copy of a VT220", thrown(() => terminal.copyFrom(other)) === "TypeError" && terminal.alternate);
+  check("no copy of a VT220", thrown(() => terminal.copyFrom(other)) === "LANGUAGE" && thrown(() => terminal.update(other)) === "LANGUAGE" && terminal.alternate);
   other.copyFrom(terminal);
   check("a VT220 copies the page that is shown", other.sameState(terminal) && equal(other.pending, [0xe2]));
+  const viewer = new Terminal(core);
+  viewer.feed(ascii("old\x1b[3"));
+  viewer.feed(terminal.repaint("vt220"));
+  check("a VT220 shows the page", viewer.sameState(terminal) && viewer.close() === undefined);
   const copied = new Terminal(core, { terminal: "xterm" });
   copied.copyFrom(terminal);
   terminal.copyFrom(terminal);

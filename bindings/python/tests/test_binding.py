@@ -143,20 +143,20 @@ BEFORE = [b"", b"x" * 2000, b"\033[?6h\033[4h\033[3;9r", b"\033(0\016\033[?3h", 
 
 @pytest.mark.parametrize("data", [b"", b"\033[?3h\033[3;130Hwide", b"\033[7mtext\033[5;9r\033[?6h\0337\033[3g", b"\033[4h\033)0\016q"])
 def test_a_repaint_is_for_terminals_that_read_a_vt220s_bytes_or_utf_8(data):
-    """include/vt220.h has it: the bytes of vt220_repaint are fed to a terminal, and those of vt220_xterm_repaint by vt220_feed_xterm."""
+    """include/vt220.h has it: the bytes of vt220_repaint_as are fed to a VT220, and those of vt220_repaint to a terminal of the language."""
     source, xterm = vt220.Terminal(), vt220.Terminal(terminal="xterm")
     source.feed(data)
     xterm.feed(b"\033[?40h" + data + b"\033[?47hother page")
     for before in BEFORE:
         for encoding in vt220.ENCODINGS:
-            for made, wanted in ((source.repaint(), source), (xterm.repaint(), xterm)):
+            for made, wanted in ((source.repaint(), source), (xterm.repaint("vt220"), xterm)):
                 with vt220.Terminal(encoding) as other:
                     other.feed(before)
                     assert other.feed(made) == b"" and other.same_state(wanted) and other.pending() == b""
         with vt220.Terminal(terminal="xterm") as other:
             other.feed(before)
-            other.feed(xterm.xterm_repaint())
-            assert other.same_state(xterm) and other.alternate() and other.xterm_repaint() == xterm.xterm_repaint()
+            other.feed(xterm.repaint())
+            assert other.same_state(xterm) and other.alternate() and other.repaint() == xterm.repaint()
 
 
 def test_a_repaint_is_not_for_terminals_of_term_xterm():
@@ -186,7 +186,7 @@ def test_a_number_is_a_row_from_1_to_24(call):
 
 def test_the_text_of_a_status_is_that_of_its_number():
     assert vt220.status_text(7) == "there is no such row"
-    for other in (10, 99, 2**32 - 1, 2**32 + 7, 2**64 + 7, -1):
+    for other in (11, 99, 2**32 - 1, 2**32 + 7, 2**64 + 7, -1):
         assert vt220.status_text(other) == "unknown status"
     for wrong in (7.0, "7", None):
         with pytest.raises(TypeError):

@@ -27,7 +27,7 @@ from typing import Any, Callable, Dict, List, NamedTuple, Tuple, Type, Union
 
 __all__ = [
     "ROWS", "COLUMNS", "REPORT_LIMIT", "TEXT_LIMIT", "ROW_TEXT_LIMIT", "SHOW_LIMIT", "PICTURE_LIMIT", "PAINT_LIMIT", "XTERM_PAINT_LIMIT", "UPDATE_LIMIT",
-    "KEY_LIMIT", "TYPED_LIMIT", "VERSION", "HELD", "ENCODINGS", "TERMINALS", "Error", "Memory", "InUse", "Closed", "Partial", "Room", "Unsupported", "NoRow", "NoKey", "NoCharacter",
+    "KEY_LIMIT", "TYPED_LIMIT", "VERSION", "HELD", "ENCODINGS", "TERMINALS", "Error", "Memory", "InUse", "Closed", "Partial", "Room", "Unsupported", "NoRow", "NoKey", "NoCharacter", "OtherLanguage",
     "NoLibrary", "Brush", "Cell", "Cursor", "Margins", "Modes", "Saved", "Sets", "Terminal", "key", "key_length", "shown", "status_text",
     "version",
 ]
@@ -121,6 +121,12 @@ class NoCharacter(Error, ValueError):
     words = "no key sends this character"
 
 
+class OtherLanguage(Error, ValueError):
+    """Reports that a terminal isn't of TERM=xterm, or is one, where the call needs the other."""
+
+    words = "the terminal has another language"
+
+
 class NoLibrary(Error, ImportError):
     """Reports that libvt220.so isn't found, can't be loaded, or is of another version."""
 
@@ -128,7 +134,7 @@ class NoLibrary(Error, ImportError):
 
 
 _STATUSES: Dict[int, Type[Error]] = {
-    1: Memory, 2: InUse, 3: Closed, 4: Partial, 5: Room, 6: Unsupported, 7: NoRow, 8: NoKey, 9: NoCharacter,
+    1: Memory, 2: InUse, 3: Closed, 4: Partial, 5: Room, 6: Unsupported, 7: NoRow, 8: NoKey, 9: NoCharacter, 10: OtherLanguage,
 }
 
 
@@ -219,15 +225,18 @@ class Saved(NamedTuple):
 
 
 class _Handle(ctypes.Structure):
-    """Holds a terminal, or a handle that is shorter: a scratch buffer, or what TERM=xterm needs."""
+    """Holds a terminal, or a scratch buffer, whose handle is shorter."""
 
     _fields_ = [("inside", ctypes.c_void_p), ("is_open", ctypes.c_bool), ("bells", ctypes.c_uint64)]
 
 
-class _Utf8(ctypes.Structure):
-    """Holds the pending bytes of UTF-8 input."""
+class _Language(ctypes.Structure):
+    """Holds the language, and what a terminal keeps for it."""
 
-    _fields_ = [("bytes", ctypes.c_uint8 * 3), ("len", ctypes.c_uint8)]
+    _fields_ = [
+        ("language", ctypes.c_uint32), ("pending", ctypes.c_uint8 * 3), ("pending_len", ctypes.c_uint8), ("alternate", ctypes.c_bool),
+        ("bracketed_paste", ctypes.c_bool), ("reserved", ctypes.c_uint8 * 22),
+    ]
 
 
 def _struct(names: Tuple[str, ...], kinds: Dict[str, Any], other: Any, reserved: int) -> Any:
@@ -273,9 +282,9 @@ def _declare(library: ctypes.PyDLL) -> None:
     """Sets the result and the arguments of each call."""
     handle, size, status = ctypes.POINTER(_Handle), ctypes.c_size_t, ctypes.c_uint32
     buffer, told, boolean = ctypes.c_void_p, ctypes.POINTER(ctypes.c_size_t), ctypes.c_bool
-    pending = ctypes.POINTER(_Utf8)
     calls: List[Tuple[str, Any, List[Any]]] = [
-        ("open", status, [handle]),
+        ("open_as", status, [handle, status]),
+        ("language", boolean, [handle, ctypes.POINTER(_Language)]),
         ("close", None, [handle]),
         ("is_open", boolean, [handle]),
         ("scratch_open", status, [handle]),
@@ -283,23 +292,13 @@ def _declare(library: ctypes.PyDLL) -> None:
         ("scratch_is_open", boolean, [handle]),
         ("feed", size, [handle, buffer, size, buffer, size, told]),
         ("feed_log", size, [handle, handle, buffer, size, buffer, size, told, buffer, size, told]),
-        ("feed_utf8", size, [handle, pending, buffer, size, buffer, size, told]),
-        ("feed_log_utf8", size, [handle, handle, pending, buffer, size, buffer, size, told, buffer, size, told]),
-        ("xterm_open", status, [handle]),
-        ("xterm_close", None, [handle]),
-        ("xterm_alternate", boolean, [handle]),
-        ("xterm_bracketed_paste", boolean, [handle]),
-        ("xterm_pending", boolean, [handle, pending]),
-        ("xterm_copy", status, [handle, handle]),
-        ("feed_xterm", size, [handle, handle, buffer, size, buffer, size, told]),
-        ("feed_log_xterm", size, [handle, handle, handle, buffer, size, buffer, size, told, buffer, size, told]),
         ("shown", ctypes.c_uint32, [ctypes.c_uint32, told]),
         ("text", status, [handle, handle, buffer, size, told]),
         ("row_text", status, [handle, handle, size, buffer, size, told]),
         ("show", status, [handle, handle, buffer, size, told]),
         ("picture", status, [handle, handle, buffer, size, told]),
         ("repaint", status, [handle, handle, buffer, size, told]),
-        ("xterm_repaint", status, [handle, handle, handle, buffer, size, told]),
+        ("repaint_as", status, [handle, status, handle, buffer, size, told]),
         ("update", status, [handle, handle, handle, buffer, size, told]),
         ("row_changes", status, [handle, handle, size, ctypes.POINTER(_Marks)]),
         ("copy", status, [handle, handle]),
@@ -392,6 +391,15 @@ def _check_row(row: int) -> int:
     return number
 
 
+def _language(encoding: str, terminal: str) -> int:
+    """Returns the number of a language. Raises ValueError if there is no such encoding or terminal."""
+    if encoding not in ENCODINGS:
+        raise ValueError(f"an encoding is one of {', '.join(ENCODINGS)}, not {encoding!r}")
+    if terminal not in TERMINALS:
+        raise ValueError(f"a terminal is one of {', '.join(TERMINALS)}, not {terminal!r}")
+    return 2 * TERMINALS.index(terminal) or ENCODINGS.index(encoding)
+
+
 def key(key: Union[str, Bytes], modes: Modes, encoding: str = "dec", terminal: str = "vt220") -> bytes:
     """Returns what a key sends under these modes, which modes() of a Terminal returns.
 
@@ -400,9 +408,7 @@ def key(key: Union[str, Bytes], modes: Modes, encoding: str = "dec", terminal: s
     a C1 control sends itself. With terminal="xterm" a key sends what it does on an xterm, and names may have modifiers, as "C-Left".
     Raises NoKey or NoCharacter, which are ValueErrors.
     """
-    if encoding not in ENCODINGS or terminal not in TERMINALS:
-        raise ValueError(f"no terminal has the encoding {encoding!r} and the terminal {terminal!r}")
-    language = 2 * TERMINALS.index(terminal) or ENCODINGS.index(encoding)
+    language = _language(encoding, terminal)
     text = key.encode("utf-8", "surrogateescape") if isinstance(key, str) else bytes(memoryview(key))
     sent, written = ctypes.create_string_buffer(KEY_LIMIT), ctypes.c_size_t()
     _expect(_library.vt220_key(language, _Modes(*modes), text, len(text), sent, KEY_LIMIT, written))
@@ -496,56 +502,58 @@ _CUTS = {12 * width: struct.Struct("12s" * width).unpack for width in (80, 132)}
 _cells, _rows = _Cells(), _Rows()
 
 
+def _open(language: int, handle: _Handle) -> int:
+    return int(_library.vt220_open_as(handle, language))
+
+
 class Terminal:
     """Opens a terminal in its power-up state. Its host sends the VT220's own bytes ("dec"), or UTF-8 ("utf-8").
 
     With terminal="xterm" its host sends what programs send under TERM=xterm-256color. This is always UTF-8. alternate() returns whether
-    the alternate page is shown. A copy and xterm_repaint() have both pages. The page that isn't shown is no part of repaint() or update().
+    the alternate page is shown. A copy and repaint() have both pages. All other calls are about the page that is shown.
 
     It is closed by close(), by the end of a with statement, or when nothing refers to it any more. Raises Memory if an allocation
     fails. Each call of a closed terminal except close() raises Closed.
 
     In UTF-8 the last bytes of a chunk may begin a character. They are kept next to the terminal until its other bytes come: pending()
-    returns them. A checkpoint is repaint() and, after it, pending(): fed to a new Terminal of the same encoding, the two lead on as here.
-    With terminal="xterm" it is xterm_repaint() and, after it, pending().
+    returns them. A checkpoint is repaint() and, after it, pending(): fed to a new Terminal of the same encoding and terminal, the two lead on
+    as here.
     """
 
     def __init__(self, encoding: str = "dec", terminal: str = "vt220") -> None:
-        if encoding not in ENCODINGS:
-            raise ValueError(f"an encoding is one of {', '.join(ENCODINGS)}, not {encoding!r}")
-        if terminal not in TERMINALS:
-            raise ValueError(f"a terminal is one of {', '.join(TERMINALS)}, not {terminal!r}")
-        self._owned = _Owned(_library.vt220_open, _library.vt220_close)
+        self._language = _language(encoding, terminal)
+        self._owned = _Owned(functools.partial(_open, self._language), _library.vt220_close)
         self._handle = self._owned.handle
-        self._xterm = None if terminal == "vt220" else _Owned(_library.vt220_xterm_open, _library.vt220_xterm_close)
-        self._utf8 = None if encoding == "dec" and self._xterm is None else _Utf8()
 
     @property
     def encoding(self) -> str:
         """The encoding of what the host sends, one of ENCODINGS."""
-        return ENCODINGS[self._utf8 is not None]
+        return ENCODINGS[self._language > 0]
 
     @property
     def terminal(self) -> str:
         """The terminal that the host writes for, one of TERMINALS."""
-        return TERMINALS[self._xterm is not None]
+        return TERMINALS[self._language == 2]
+
+    def _kept(self) -> _Language:
+        """Returns what this terminal keeps for its language."""
+        kept = _Language()
+        if not _library.vt220_language(self._handle, kept):
+            raise Closed()
+        return kept
 
     def alternate(self) -> bool:
         """Returns whether the alternate page is shown. A VT220 has none."""
-        self._opened()
-        return self._xterm is not None and bool(_library.vt220_xterm_alternate(self._xterm.handle))
+        return bool(self._kept().alternate)
 
     def bracketed_paste(self) -> bool:
         """Returns whether the program wants pasted text between ESC [200~ and ESC [201~ (?2004). A VT220 has no such mode."""
-        self._opened()
-        return self._xterm is not None and bool(_library.vt220_xterm_bracketed_paste(self._xterm.handle))
+        return bool(self._kept().bracketed_paste)
 
     def pending(self) -> bytes:
         """Returns the bytes at the end of the input that begin a character of UTF-8, at most three. Nothing shows them yet."""
-        self._opened()
-        if self._xterm is not None:
-            _library.vt220_xterm_pending(self._xterm.handle, self._utf8)
-        return b"" if self._utf8 is None else bytes(self._utf8.bytes[: self._utf8.len])
+        kept = self._kept()
+        return bytes(kept.pending[: kept.pending_len])
 
     def close(self) -> None:
         """Frees the terminal's memory. A closed terminal stays closed."""
@@ -562,21 +570,13 @@ class Terminal:
             raise Closed()
         return self._handle
 
-    def _playing(self, name: str, *handles: _Handle) -> Callable[..., int]:
-        """Returns the library's call that plays bytes in this encoding, with the handles and the pending part that it takes."""
-        if self._xterm is not None:
-            return functools.partial(getattr(_library, f"{name}_xterm"), *handles, self._xterm.handle)
-        if self._utf8 is None:
-            return functools.partial(getattr(_library, name), *handles)
-        return functools.partial(getattr(_library, f"{name}_utf8"), *handles, self._utf8)
-
     def feed(self, data: Bytes) -> bytes:
         """Plays all bytes of the host, and returns the reports to it. Raises TypeError if `data` isn't bytes-like."""
-        play, data, room = self._playing("vt220_feed", self._opened()), _whole(data), _work.reports
+        handle, data, room = self._opened(), _whole(data), _work.reports
         start = ctypes.cast(ctypes.c_char_p(data), ctypes.c_void_p).value or 0
         reports, written, at = [], ctypes.c_size_t(), 0
         while at < len(data):
-            played = play(start + at, min(len(data) - at, _PIECE), room, len(room), written)
+            played = _library.vt220_feed(handle, start + at, min(len(data) - at, _PIECE), room, len(room), written)
             if not played:  # another thread has closed the terminal
                 raise Closed()
             at += played
@@ -590,7 +590,7 @@ class Terminal:
         Each line is as row_text() returns it. The alternate page has no such lines. Raises TypeError if `data` isn't bytes-like.
         """
         work = _work
-        play, data = self._playing("vt220_feed_log", self._opened(), work.scratch.handle), _whole(data)
+        play, data = functools.partial(_library.vt220_feed_log, self._opened(), work.scratch.handle), _whole(data)
         start = ctypes.cast(ctypes.c_char_p(data), ctypes.c_void_p).value or 0
         reports, lines, written, logged, at = [], [], ctypes.c_size_t(), ctypes.c_size_t(), 0
         while at < len(data):
@@ -607,12 +607,12 @@ class Terminal:
 
         Returns the number of bytes played, and the report. Without a report all bytes are played, and the report is empty.
         """
-        play, data = self._playing("vt220_feed", self._handle if data else self._opened()), _whole(data)
+        handle, data = self._handle if data else self._opened(), _whole(data)
         room, written, length, at = _work.reports, ctypes.c_size_t(), len(data), 0
         while at < length and not written.value:
             # With capacity for one report alone the call ends after the byte that asked for it.
             piece = data[at : at + _PIECE]
-            played = play(piece, len(piece), room, REPORT_LIMIT, written)
+            played = _library.vt220_feed(handle, piece, len(piece), room, REPORT_LIMIT, written)
             if not played:  # the terminal is closed
                 raise Closed()
             at += played
@@ -642,26 +642,22 @@ class Terminal:
         """Returns the screen as a picture: an SVG document."""
         return self._written(_library.vt220_picture, self._opened()).decode()
 
-    def repaint(self) -> bytes:
-        """Returns bytes that leave any terminal which reads a VT220's bytes or UTF-8 in this one's state. Raises Partial inside a sequence.
+    def repaint(self, terminal: str = "") -> bytes:
+        """Returns bytes that leave any terminal of this one's encoding and terminal exactly as this one is. What is pending of UTF-8 is left out.
 
-        Of a terminal of TERM=xterm it is the state with the page that is shown. xterm_repaint() is for terminals of TERM=xterm.
+        With terminal="vt220" they are for a VT220, which they leave in this one's state, with the page that is shown. Raises Partial inside a
+        sequence, and OtherLanguage if they are for an xterm and this terminal is a VT220.
         """
-        return self._written(_library.vt220_repaint, self._opened())
-
-    def xterm_repaint(self) -> bytes:
-        """Returns bytes that leave any terminal of TERM=xterm in this one's state, with both pages. What is pending of UTF-8 is left out.
-
-        Raises Partial inside a sequence, and ValueError if this terminal is a VT220, which has one page.
-        """
-        if self._xterm is None:
-            raise ValueError("a VT220 has one page: its bytes are those of repaint()")
-        return self._written(_library.vt220_xterm_repaint, self._opened(), self._xterm.handle)
+        language = _language(self.encoding, terminal or self.terminal)
+        written, work = ctypes.c_size_t(), _work
+        _expect(_library.vt220_repaint_as(self._opened(), language, work.scratch.handle, work.out, PICTURE_LIMIT, written))
+        return ctypes.string_at(work.out, written.value)
 
     def update(self, to: "Terminal") -> bytes:
         """Brings this terminal to the state of `to`, and returns bytes that do the same to any terminal in this one's old state.
 
-        They are for terminals that read a VT220's bytes or UTF-8. Raises Partial if one of the two is inside a sequence. The update to itself is empty.
+        This terminal is a VT220, and `to` may be any. Raises Partial if one of the two is inside a sequence, and OtherLanguage if this one is an
+        xterm. The update to itself is empty.
         """
         return self._written(_library.vt220_update, self._opened(), to._opened())
 
@@ -677,16 +673,9 @@ class Terminal:
     def copy_from(self, other: "Terminal") -> None:
         """Brings this terminal into the state of another one, also if the other is inside a sequence. In UTF-8 pending() is copied, too.
 
-        A terminal of TERM=xterm also gets both pages. Raises ValueError if it is one and the other isn't.
+        A terminal of TERM=xterm also gets both pages. Raises OtherLanguage if it is one and the other isn't.
         """
-        if self._xterm is not None and other._xterm is None:
-            raise ValueError("a terminal of TERM=xterm isn't copied from a VT220, which has one page")
         _expect(_library.vt220_copy(self._opened(), other._opened()))
-        if self._xterm is not None and other._xterm is not None:
-            _expect(_library.vt220_xterm_copy(self._xterm.handle, other._xterm.handle))
-        elif self._utf8 is not None:
-            other.pending()
-            self._utf8 = _Utf8.from_buffer_copy(other._utf8 or _Utf8())
 
     def copy(self) -> "Terminal":
         """Returns a new terminal of this encoding in the state of this one, also inside a sequence. Its bells() counts from 0."""
@@ -701,11 +690,7 @@ class Terminal:
 
     def reset(self) -> None:
         """Brings this terminal into its power-up state, also inside a sequence. Nothing is pending then."""
-        if self._xterm is not None:
-            self.feed(b"\033[?40h\033c\033[?40l")
         _expect(_library.vt220_reset(self._opened()))
-        if self._utf8 is not None:
-            self._utf8 = _Utf8()
 
     def bells(self) -> int:
         """Returns how often BEL was carried out since the terminal was opened."""

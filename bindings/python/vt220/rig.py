@@ -207,7 +207,7 @@ class Rig:
 
     def _look(self) -> Screen:
         """Returns the screen as it is now. A character whose bytes aren't complete isn't on it."""
-        return Screen(self.terminal.repaint(), self.encoding)
+        return Screen(self.terminal.repaint("vt220"), self.encoding)
 
     def _flush(self) -> None:
         """Writes as much of what waits for the program as the line takes now."""

@@ -15,6 +15,7 @@ pub const VT220_UNSUPPORTED: u32 = 6;
 pub const VT220_NO_ROW: u32 = 7;
 pub const VT220_NO_KEY: u32 = 8;
 pub const VT220_NO_CHARACTER: u32 = 9;
+pub const VT220_LANGUAGE: u32 = 10;
 
 pub const VT220_HELD_NOTHING: u32 = 0;
 pub const VT220_HELD_ESCAPE: u32 = 1;
@@ -55,13 +56,6 @@ pub struct vt220_scratch {
     pub is_open: bool,
 }
 
-#[repr(C)]
-#[derive(Debug)]
-pub struct vt220_xterm {
-    pub pages: *mut c_void,
-    pub is_open: bool,
-}
-
 impl vt220 {
     /// A closed terminal, as VT220_INIT.
     pub const INIT: vt220 = vt220 { terminal: ptr::null_mut(), is_open: false, bells: 0 };
@@ -72,16 +66,15 @@ impl vt220_scratch {
     pub const INIT: vt220_scratch = vt220_scratch { room: ptr::null_mut(), is_open: false };
 }
 
-impl vt220_xterm {
-    /// What TERM=xterm needs, closed, as VT220_INIT.
-    pub const INIT: vt220_xterm = vt220_xterm { pages: ptr::null_mut(), is_open: false };
-}
-
 #[repr(C)]
-#[derive(Clone, Copy, Debug, Default, PartialEq, Eq)]
-pub struct vt220_utf8 {
-    pub bytes: [u8; 3],
-    pub len: u8,
+#[derive(Clone, Copy, Debug, Default)]
+pub struct vt220_language_state {
+    pub language: u32,
+    pub pending: [u8; 3],
+    pub pending_len: u8,
+    pub alternate: bool,
+    pub bracketed_paste: bool,
+    pub reserved: [u8; 22],
 }
 
 #[repr(C)]
@@ -196,6 +189,7 @@ extern "C" {
     pub fn vt220_version() -> u32;
     pub fn vt220_status_text(status: u32) -> *const c_char;
     pub fn vt220_open(t: *mut vt220) -> u32;
+    pub fn vt220_open_as(t: *mut vt220, language: u32) -> u32;
     pub fn vt220_close(t: *mut vt220);
     pub fn vt220_is_open(t: *const vt220) -> bool;
     pub fn vt220_scratch_open(s: *mut vt220_scratch) -> u32;
@@ -214,57 +208,6 @@ extern "C" {
         lines_size: usize,
         lines_written: *mut usize,
     ) -> usize;
-    pub fn vt220_feed_utf8(
-        t: *mut vt220,
-        u: *mut vt220_utf8,
-        bytes: *const u8,
-        len: usize,
-        reports: *mut u8,
-        size: usize,
-        written: *mut usize,
-    ) -> usize;
-    pub fn vt220_feed_log_utf8(
-        t: *mut vt220,
-        s: *mut vt220_scratch,
-        u: *mut vt220_utf8,
-        bytes: *const u8,
-        len: usize,
-        reports: *mut u8,
-        size: usize,
-        written: *mut usize,
-        lines: *mut u8,
-        lines_size: usize,
-        lines_written: *mut usize,
-    ) -> usize;
-    pub fn vt220_xterm_open(x: *mut vt220_xterm) -> u32;
-    pub fn vt220_xterm_close(x: *mut vt220_xterm);
-    pub fn vt220_xterm_is_open(x: *const vt220_xterm) -> bool;
-    pub fn vt220_xterm_alternate(x: *const vt220_xterm) -> bool;
-    pub fn vt220_xterm_bracketed_paste(x: *const vt220_xterm) -> bool;
-    pub fn vt220_xterm_pending(x: *const vt220_xterm, u: *mut vt220_utf8) -> bool;
-    pub fn vt220_xterm_copy(to: *mut vt220_xterm, from: *const vt220_xterm) -> u32;
-    pub fn vt220_feed_xterm(
-        t: *mut vt220,
-        x: *mut vt220_xterm,
-        bytes: *const u8,
-        len: usize,
-        reports: *mut u8,
-        size: usize,
-        written: *mut usize,
-    ) -> usize;
-    pub fn vt220_feed_log_xterm(
-        t: *mut vt220,
-        s: *mut vt220_scratch,
-        x: *mut vt220_xterm,
-        bytes: *const u8,
-        len: usize,
-        reports: *mut u8,
-        size: usize,
-        written: *mut usize,
-        lines: *mut u8,
-        lines_size: usize,
-        lines_written: *mut usize,
-    ) -> usize;
     pub fn vt220_shown(character: u32, cells: *mut usize) -> u32;
     pub fn vt220_bells(t: *const vt220) -> u64;
     pub fn vt220_reset(t: *mut vt220) -> u32;
@@ -274,9 +217,9 @@ extern "C" {
     pub fn vt220_show(t: *const vt220, s: *mut vt220_scratch, out: *mut u8, size: usize, written: *mut usize) -> u32;
     pub fn vt220_picture(t: *const vt220, s: *mut vt220_scratch, out: *mut u8, size: usize, written: *mut usize) -> u32;
     pub fn vt220_repaint(t: *const vt220, s: *mut vt220_scratch, out: *mut u8, size: usize, written: *mut usize) -> u32;
-    pub fn vt220_xterm_repaint(
+    pub fn vt220_repaint_as(
         t: *const vt220,
-        x: *const vt220_xterm,
+        language: u32,
         s: *mut vt220_scratch,
         out: *mut u8,
         size: usize,
@@ -293,6 +236,7 @@ extern "C" {
     pub fn vt220_sets(t: *const vt220, sets: *mut vt220_graphic_sets) -> bool;
     pub fn vt220_stops(t: *const vt220, stops: *mut vt220_tab_stops) -> bool;
     pub fn vt220_saved(t: *const vt220, saved: *mut vt220_saved_record) -> bool;
+    pub fn vt220_language(t: *const vt220, language: *mut vt220_language_state) -> bool;
     pub fn vt220_is_between(t: *const vt220) -> bool;
     pub fn vt220_held_kind(t: *const vt220) -> u32;
     pub fn vt220_same_state(a: *const vt220, b: *const vt220) -> bool;
@@ -318,8 +262,7 @@ mod tests {
         assert_eq!((size_of::<vt220>(), size_of::<vt220_scratch>(), size_of::<vt220_cell>()), (24, 16, 12));
         assert_eq!((size_of::<vt220_cursor_place>(), size_of::<vt220_margin_rows>(), size_of::<vt220_mode_set>()), (32, 32, 32));
         assert_eq!((size_of::<vt220_brush_look>(), size_of::<vt220_graphic_sets>(), size_of::<vt220_saved_record>()), (16, 16, 48));
-        assert_eq!((size_of::<vt220_tab_stops>(), size_of::<vt220_row_marks>(), size_of::<vt220_utf8>()), (144, 152, 4));
-        assert_eq!(size_of::<vt220_xterm>(), 16);
+        assert_eq!((size_of::<vt220_tab_stops>(), size_of::<vt220_row_marks>(), size_of::<vt220_language_state>()), (144, 152, 32));
     }
 
     #[test]

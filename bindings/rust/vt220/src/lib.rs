@@ -122,6 +122,8 @@ pub enum Error {
     NoKey,
     /// No key sends this character.
     NoCharacter,
+    /// A terminal has another language than the call needs.
+    OtherLanguage,
 }
 
 impl Error {
@@ -133,6 +135,7 @@ impl Error {
             Error::NoRow => sys::VT220_NO_ROW,
             Error::NoKey => sys::VT220_NO_KEY,
             Error::NoCharacter => sys::VT220_NO_CHARACTER,
+            Error::OtherLanguage => sys::VT220_LANGUAGE,
         }
     }
 }
@@ -156,6 +159,7 @@ fn result(status: u32) -> Result<(), Error> {
         sys::VT220_NO_ROW => Err(Error::NoRow),
         sys::VT220_NO_KEY => Err(Error::NoKey),
         sys::VT220_NO_CHARACTER => Err(Error::NoCharacter),
+        sys::VT220_LANGUAGE => Err(Error::OtherLanguage),
         other => unreachable!("status {other} of an open terminal with enough capacity"),
     }
 }
@@ -178,6 +182,16 @@ pub enum Language {
     Xterm,
 }
 
+impl Language {
+    fn number(self) -> u32 {
+        match self {
+            Language::Bytes => sys::VT220_BYTES,
+            Language::Utf8 => sys::VT220_UTF8,
+            Language::Xterm => sys::VT220_XTERM,
+        }
+    }
+}
+
 /// Returns what a key sends to the host under these modes, which `Terminal::modes` returns. The key is one character, a name such as
 /// `Up`, `Return` or `C-c`, or the sequence that a terminal sends for it, in UTF-8. vt220-keys.h lists the names. To a host in UTF-8 each
 /// character beyond ASCII but a C1 control sends itself. Under TERM=xterm a name may have modifiers.
@@ -194,15 +208,10 @@ pub enum Language {
 ///
 /// `NoKey` if there is no such key; `NoCharacter` if it is a character that no key sends.
 pub fn key(key: impl AsRef<[u8]>, modes: &Modes, language: Language) -> Result<Vec<u8>, Error> {
-    let language = match language {
-        Language::Bytes => sys::VT220_BYTES,
-        Language::Utf8 => sys::VT220_UTF8,
-        Language::Xterm => sys::VT220_XTERM,
-    };
     let (key, modes, mut out, mut written) = (key.as_ref(), modes.handed_over(), vec![0; KEY_LIMIT], 0);
     let (at, size) = (out.as_mut_ptr(), out.len());
     // SAFETY: each length is that of its slice.
-    result(unsafe { sys::vt220_key(language, &modes, key.as_ptr().cast(), key.len(), at, size, &mut written) })?;
+    result(unsafe { sys::vt220_key(language.number(), &modes, key.as_ptr().cast(), key.len(), at, size, &mut written) })?;
     out.truncate(written);
     Ok(out)
 }
@@ -211,106 +220,6 @@ pub fn key(key: impl AsRef<[u8]>, modes: &Modes, language: Language) -> Result<V
 pub fn key_length(typed: &[u8]) -> usize {
     // SAFETY: the length is that of the slice.
     unsafe { sys::vt220_key_length(typed.as_ptr().cast(), typed.len()) }
-}
-
-/// Holds what is pending of UTF-8 input: the bytes of a character that isn't complete yet. It belongs to the input of one terminal.
-///
-/// ```
-/// let (mut terminal, mut decoder) = (vt220::Terminal::new().unwrap(), vt220::Decoder::new());
-/// terminal.feed_utf8(&mut decoder, b"caf\xc3");
-/// assert_eq!(decoder.pending(), b"\xc3");
-/// terminal.feed_utf8(&mut decoder, b"\xa9");
-/// assert_eq!(terminal.row_text(1, &mut vt220::Scratch::new().unwrap()).unwrap(), "caf\u{e9}\n");
-/// ```
-#[derive(Clone, Copy, Debug, Default, PartialEq, Eq)]
-pub struct Decoder(sys::vt220_utf8);
-
-impl Decoder {
-    /// Returns a decoder with nothing pending.
-    pub fn new() -> Decoder {
-        Decoder::default()
-    }
-
-    /// Returns the pending bytes, at most three. After a repaint they complete a checkpoint: feed both to a new terminal and decoder.
-    pub fn pending(&self) -> &[u8] {
-        &self.0.bytes[..usize::from(self.0.len)]
-    }
-}
-
-/// Owns what a terminal needs under TERM=xterm: the page that isn't shown, and what is pending of UTF-8. It belongs to one terminal.
-///
-/// ```
-/// let (mut terminal, mut xterm) = (vt220::Terminal::new().unwrap(), vt220::Xterm::new().unwrap());
-/// terminal.feed_xterm(&mut xterm, b"main\x1b[?1049h\x1b[2;1Hother");
-/// assert!(xterm.alternate());
-/// terminal.feed_xterm(&mut xterm, b"\x1b[?1049l page");
-/// assert_eq!(terminal.row_text(1, &mut vt220::Scratch::new().unwrap()).unwrap(), "main page\n");
-/// ```
-pub struct Xterm(sys::vt220_xterm);
-
-// SAFETY: a handle owns its memory alone.
-unsafe impl Send for Xterm {}
-
-// SAFETY: the calls that take a `const vt220_xterm *` don't write to it.
-unsafe impl Sync for Xterm {}
-
-impl Xterm {
-    /// Opens what a terminal in its power-up state needs.
-    ///
-    /// # Errors
-    ///
-    /// `Memory` if the allocation fails; `Unsupported` on an old processor.
-    pub fn new() -> Result<Xterm, Error> {
-        let mut handle = sys::vt220_xterm::INIT;
-        // SAFETY: the handle is closed.
-        result(unsafe { sys::vt220_xterm_open(&mut handle) })?;
-        Ok(Xterm(handle))
-    }
-
-    /// Returns whether the alternate page is shown.
-    pub fn alternate(&self) -> bool {
-        // SAFETY: the handle is open.
-        unsafe { sys::vt220_xterm_alternate(&self.0) }
-    }
-
-    /// Returns whether the program wants pasted text between `ESC [ 200 ~` and `ESC [ 201 ~` (?2004).
-    pub fn bracketed_paste(&self) -> bool {
-        // SAFETY: the handle is open.
-        unsafe { sys::vt220_xterm_bracketed_paste(&self.0) }
-    }
-
-    /// Returns what is pending of UTF-8.
-    pub fn pending(&self) -> Decoder {
-        let mut decoder = Decoder::new();
-        // SAFETY: the handle is open.
-        unsafe { sys::vt220_xterm_pending(&self.0, &mut decoder.0) };
-        decoder
-    }
-
-    /// Makes what this one keeps equal to what another one keeps. If the terminals are copied too, by `Terminal::copy_from`, both go on
-    /// alike.
-    pub fn copy_from(&mut self, other: &Xterm) {
-        // SAFETY: both handles are open.
-        unsafe { sys::vt220_xterm_copy(&mut self.0, &other.0) };
-    }
-
-    /// Returns bytes that leave any terminal, and what it needs, as `terminal` and this are. `Terminal::feed_xterm` takes them. What is
-    /// pending of UTF-8 is left out: these bytes are fed after them.
-    ///
-    /// # Errors
-    ///
-    /// `Partial` inside a sequence.
-    pub fn repaint(&self, terminal: &Terminal, scratch: &mut Scratch) -> Result<Vec<u8>, Error> {
-        // SAFETY: the handles are open, and the scratch buffer has capacity for any repaint.
-        scratch.written(|s, out, written| unsafe { sys::vt220_xterm_repaint(&terminal.0, &self.0, s, out, XTERM_PAINT_LIMIT, written) })
-    }
-}
-
-impl Drop for Xterm {
-    fn drop(&mut self) {
-        // SAFETY: the handle is as the calls left it.
-        unsafe { sys::vt220_xterm_close(&mut self.0) }
-    }
 }
 
 /// Returns the glyph with which UTF-8 input shows a character, and how many cells it has: 1 or 2. The second cell is a space. Returns
@@ -382,34 +291,90 @@ unsafe impl Sync for Terminal {}
 
 // SAFETY of all calls below: the handle is open from `new` on, and each length is that of its slice.
 impl Terminal {
-    /// Opens a terminal in its power-up state.
+    /// Opens a terminal for a VT220's bytes in its power-up state.
     ///
     /// # Errors
     ///
     /// `Memory` if the allocation fails; `Unsupported` on an old processor.
     pub fn new() -> Result<Terminal, Error> {
+        Terminal::open_as(Language::Bytes)
+    }
+
+    /// Opens a terminal for a language in its power-up state.
+    ///
+    /// ```
+    /// use vt220::{Language, Scratch, Terminal};
+    /// let mut terminal = Terminal::open_as(Language::Xterm).unwrap();
+    /// terminal.feed("main\x1b[?1049h\x1b[2;1Hother".as_bytes());
+    /// assert!(terminal.alternate());
+    /// terminal.feed(b"\x1b[?1049l caf\xc3");
+    /// assert_eq!(terminal.pending(), b"\xc3");
+    /// terminal.feed(b"\xa9");
+    /// assert_eq!(terminal.row_text(1, &mut Scratch::new().unwrap()).unwrap(), "main caf\u{e9}\n");
+    /// ```
+    ///
+    /// # Errors
+    ///
+    /// `Memory` if the allocation fails; `Unsupported` on an old processor.
+    pub fn open_as(language: Language) -> Result<Terminal, Error> {
         let mut handle = sys::vt220::INIT;
-        result(unsafe { sys::vt220_open(&mut handle) })?;
+        result(unsafe { sys::vt220_open_as(&mut handle, language.number()) })?;
         Ok(Terminal(handle))
     }
 
-    /// Opens another terminal in the same state.
+    fn kept(&self) -> sys::vt220_language_state {
+        let mut kept = sys::vt220_language_state::default();
+        unsafe { sys::vt220_language(&self.0, &mut kept) };
+        kept
+    }
+
+    /// Returns the language of the host.
+    pub fn language(&self) -> Language {
+        match self.kept().language {
+            sys::VT220_BYTES => Language::Bytes,
+            sys::VT220_UTF8 => Language::Utf8,
+            _ => Language::Xterm,
+        }
+    }
+
+    /// Returns what is pending of UTF-8 input: the bytes of a character that isn't complete yet, at most three.
+    pub fn pending(&self) -> Vec<u8> {
+        let kept = self.kept();
+        kept.pending[..usize::from(kept.pending_len)].to_vec()
+    }
+
+    /// Returns whether the alternate page is shown. Only TERM=xterm has one.
+    pub fn alternate(&self) -> bool {
+        self.kept().alternate
+    }
+
+    /// Returns whether the program wants pasted text between `ESC [ 200 ~` and `ESC [ 201 ~` (?2004). Only TERM=xterm has this mode.
+    pub fn bracketed_paste(&self) -> bool {
+        self.kept().bracketed_paste
+    }
+
+    /// Opens another terminal of the same language in the same state.
     ///
     /// # Errors
     ///
     /// `Memory` if the allocation fails.
     pub fn try_clone(&self) -> Result<Terminal, Error> {
-        let mut copy = Terminal::new()?;
-        copy.copy_from(self);
+        let mut copy = Terminal::open_as(self.language())?;
+        copy.copy_from(self)?;
         Ok(copy)
     }
 
-    /// Brings this terminal into the state of another one, also if the other is inside a sequence.
-    pub fn copy_from(&mut self, other: &Terminal) {
-        unsafe { sys::vt220_copy(&mut self.0, &other.0) };
+    /// Brings this terminal into the state of another one, also if the other is inside a sequence. In UTF-8 what is pending is copied, too,
+    /// and under TERM=xterm both pages are.
+    ///
+    /// # Errors
+    ///
+    /// `OtherLanguage` if this terminal is under TERM=xterm and the other one isn't.
+    pub fn copy_from(&mut self, other: &Terminal) -> Result<(), Error> {
+        result(unsafe { sys::vt220_copy(&mut self.0, &other.0) })
     }
 
-    /// Resets the terminal to its power-up state, also inside a sequence.
+    /// Resets the terminal to its power-up state, also inside a sequence. Nothing is pending then, and the main page is shown.
     pub fn reset(&mut self) {
         unsafe { sys::vt220_reset(&mut self.0) };
     }
@@ -423,61 +388,17 @@ impl Terminal {
         (taken, written)
     }
 
-    /// Processes bytes of UTF-8, and otherwise does as `feed_into`. What is pending before and after them is in `decoder`.
-    pub fn feed_utf8_into(&mut self, decoder: &mut Decoder, bytes: &[u8], reports: &mut [u8]) -> (usize, usize) {
-        let mut written = 0;
-        let (len, size, out) = (bytes.len(), reports.len(), reports.as_mut_ptr());
-        let taken = unsafe { sys::vt220_feed_utf8(&mut self.0, &mut decoder.0, bytes.as_ptr(), len, out, size, &mut written) };
-        (taken, written)
-    }
-
-    /// Processes bytes of a program that has TERM=xterm, and otherwise does as `feed_into`.
-    pub fn feed_xterm_into(&mut self, xterm: &mut Xterm, bytes: &[u8], reports: &mut [u8]) -> (usize, usize) {
-        let mut written = 0;
-        let (len, size, out) = (bytes.len(), reports.len(), reports.as_mut_ptr());
-        let taken = unsafe { sys::vt220_feed_xterm(&mut self.0, &mut xterm.0, bytes.as_ptr(), len, out, size, &mut written) };
-        (taken, written)
-    }
-
     /// Processes all bytes of the host, and returns the replies to it.
     pub fn feed(&mut self, bytes: &[u8]) -> Vec<u8> {
         replies(bytes, |rest, buffer| self.feed_into(rest, buffer))
     }
 
-    /// Processes all bytes of a host that sends UTF-8, and returns the replies to it. A character that a VT220 lacks is shown as `shown`
-    /// returns it.
-    pub fn feed_utf8(&mut self, decoder: &mut Decoder, bytes: &[u8]) -> Vec<u8> {
-        replies(bytes, |rest, buffer| self.feed_utf8_into(decoder, rest, buffer))
-    }
-
-    /// Processes all bytes of a program that has TERM=xterm or xterm-256color, and returns the replies to it.
-    pub fn feed_xterm(&mut self, xterm: &mut Xterm, bytes: &[u8]) -> Vec<u8> {
-        replies(bytes, |rest, buffer| self.feed_xterm_into(xterm, rest, buffer))
-    }
-
     /// Processes all bytes of the host. Returns the replies to it, and the lines that scroll off the top of the screen, each as
-    /// `row_text` returns it.
+    /// `row_text` returns it. The alternate page has no such lines.
     pub fn feed_log(&mut self, bytes: &[u8], scratch: &mut Scratch) -> (Vec<u8>, String) {
         let t = &mut self.0;
         replies_and_lines(bytes, scratch, |s, rest, (out, size, written), (log, logged)| unsafe {
             sys::vt220_feed_log(t, s, rest.as_ptr(), rest.len(), out, size, written, log, PICTURE_LIMIT, logged)
-        })
-    }
-
-    /// Processes all bytes of a host that sends UTF-8, and otherwise does as `feed_log`.
-    pub fn feed_log_utf8(&mut self, decoder: &mut Decoder, bytes: &[u8], scratch: &mut Scratch) -> (Vec<u8>, String) {
-        let (t, u) = (&mut self.0, &mut decoder.0);
-        replies_and_lines(bytes, scratch, |s, rest, (out, size, written), (log, logged)| unsafe {
-            sys::vt220_feed_log_utf8(t, s, u, rest.as_ptr(), rest.len(), out, size, written, log, PICTURE_LIMIT, logged)
-        })
-    }
-
-    /// Processes all bytes of a program that has TERM=xterm or xterm-256color. Returns the replies to it, and the lines that scroll off
-    /// the top of the main page. The alternate page has no such lines.
-    pub fn feed_log_xterm(&mut self, xterm: &mut Xterm, bytes: &[u8], scratch: &mut Scratch) -> (Vec<u8>, String) {
-        let (t, x) = (&mut self.0, &mut xterm.0);
-        replies_and_lines(bytes, scratch, |s, rest, (out, size, written), (log, logged)| unsafe {
-            sys::vt220_feed_log_xterm(t, s, x, rest.as_ptr(), rest.len(), out, size, written, log, PICTURE_LIMIT, logged)
         })
     }
 
@@ -510,21 +431,33 @@ impl Terminal {
         scratch.text(|s, out, written| unsafe { sys::vt220_picture(&self.0, s, out, PICTURE_LIMIT, written) }).expect("a picture has no error")
     }
 
-    /// Returns bytes that, fed by `feed` or `feed_utf8` to any terminal, whatever its state, leave it in the state of this one. For a session
-    /// under TERM=xterm there is `Xterm::repaint`.
+    /// Returns bytes that, fed to any terminal of the same language, whatever its state, leave it exactly as this one is. What is pending of
+    /// UTF-8 is left out: these bytes are fed after them.
     ///
     /// # Errors
     ///
     /// `Partial` inside a sequence.
     pub fn repaint(&self, scratch: &mut Scratch) -> Result<Vec<u8>, Error> {
-        scratch.written(|s, out, written| unsafe { sys::vt220_repaint(&self.0, s, out, PAINT_LIMIT, written) })
+        self.repaint_as(self.language(), scratch)
     }
 
-    /// Returns bytes that lead from the state of this terminal to that of another, and brings this one there.
+    /// Returns the repaint for a terminal of a language. For a VT220, whose input is bytes or UTF-8, it is the state with the page that is
+    /// shown.
     ///
     /// # Errors
     ///
-    /// `Partial` if one of the two is inside a sequence.
+    /// `Partial` inside a sequence; `OtherLanguage` if it is for TERM=xterm and this terminal isn't.
+    pub fn repaint_as(&self, language: Language, scratch: &mut Scratch) -> Result<Vec<u8>, Error> {
+        let number = language.number();
+        scratch.written(|s, out, written| unsafe { sys::vt220_repaint_as(&self.0, number, s, out, XTERM_PAINT_LIMIT, written) })
+    }
+
+    /// Returns bytes that lead from the state of this terminal to that of another, and brings this one there. This one is a VT220, and `to`
+    /// has any language: its page that is shown counts.
+    ///
+    /// # Errors
+    ///
+    /// `Partial` if one of the two is inside a sequence; `OtherLanguage` if this one is under TERM=xterm.
     pub fn update(&mut self, to: &Terminal, scratch: &mut Scratch) -> Result<Vec<u8>, Error> {
         scratch.written(|s, out, written| unsafe { sys::vt220_update(&mut self.0, &to.0, s, out, UPDATE_LIMIT, written) })
     }
@@ -623,7 +556,7 @@ impl Terminal {
         }
     }
 
-    /// Returns whether two terminals are in the same state, hidden parts included.
+    /// Returns whether two terminals are in the same state of a VT220, hidden parts included. What their languages keep isn't compared.
     pub fn same_state(&self, other: &Terminal) -> bool {
         unsafe { sys::vt220_same_state(&self.0, &other.0) }
     }

@@ -2,19 +2,23 @@
 mod rows;
 
 use rows::{each_way, Row};
-use vt220::{shown, Decoder, Scratch, Terminal};
+use vt220::{shown, Language, Scratch, Terminal};
+
+fn opened() -> Terminal {
+    Terminal::open_as(Language::Utf8).unwrap()
+}
 
 fn fed(input: &[u8], size: usize, scratch: &mut Scratch) -> Row {
-    let (mut terminal, mut other, mut decoder, mut again) = (Terminal::new().unwrap(), Terminal::new().unwrap(), Decoder::new(), Decoder::new());
+    let (mut terminal, mut other) = (opened(), opened());
     let (mut reports, mut lines) = (Vec::new(), String::new());
     for piece in input.chunks(size) {
-        let (now, off) = terminal.feed_log_utf8(&mut decoder, piece, scratch);
-        assert_eq!(other.feed_utf8(&mut again, piece), now);
-        assert!(other.same_state(&terminal) && again == decoder);
+        let (now, off) = terminal.feed_log(piece, scratch);
+        assert_eq!(other.feed(piece), now);
+        assert!(other.same_state(&terminal) && other.pending() == terminal.pending());
         reports.extend(now);
         lines += &off;
     }
-    Row { pending: decoder.pending().to_vec(), reports, lines, ..Row::of(&terminal, scratch) }
+    Row { pending: terminal.pending(), reports, lines, ..Row::of(&terminal, scratch) }
 }
 
 #[test]
@@ -32,13 +36,11 @@ fn glyphs() {
 
 #[test]
 fn a_checkpoint_is_a_repaint_and_what_is_pending() {
-    let (mut terminal, mut decoder, mut scratch) = (Terminal::new().unwrap(), Decoder::new(), Scratch::new().unwrap());
-    terminal.feed_utf8(&mut decoder, b"caf\xc3");
-    let checkpoint = [terminal.repaint(&mut scratch).unwrap(), decoder.pending().to_vec()].concat();
-    let (mut other, mut again) = (Terminal::new().unwrap(), Decoder::new());
-    other.feed_utf8(&mut again, &checkpoint);
-    assert!(other.same_state(&terminal) && again == decoder);
-    assert_eq!(other.feed_utf8_into(&mut again, b"\xa9\x1b[6n", &mut [0; 9]), (0, 0));
-    assert_eq!(other.feed_utf8_into(&mut again, b"\xa9\x1b[6n\xc3", &mut [0; 10]), (5, 6));
-    assert_eq!((other.feed_utf8(&mut again, b"\xa9\x1b[6n"), again.pending()), (b"\x1b[1;6R".to_vec(), &b""[..]));
+    let (mut terminal, mut other, mut scratch) = (opened(), opened(), Scratch::new().unwrap());
+    terminal.feed(b"caf\xc3");
+    other.feed(&[terminal.repaint(&mut scratch).unwrap(), terminal.pending()].concat());
+    assert!(other.same_state(&terminal) && other.pending() == b"\xc3");
+    assert_eq!(other.feed_into(b"\xa9\x1b[6n", &mut [0; 9]), (0, 0));
+    assert_eq!(other.feed_into(b"\xa9\x1b[6n\xc3", &mut [0; 10]), (5, 6));
+    assert_eq!((other.feed(b"\xa9\x1b[6n"), other.pending()), (b"\x1b[1;6R".to_vec(), vec![]));
 }

@@ -1,0 +1,4 @@
+/* What c/ needs of stdlib.h; c/heap.c has it. */
+#include <stddef.h>
+void *malloc(size_t n);
+void free(void *p);

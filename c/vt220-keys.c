@@ -1,11 +1,12 @@
-/* The calls of vt220-keys.h. The table has the keys of EK-VT220-RM, chapter 3. */
+/* The calls of vt220-keys.h. The table has the keys of EK-VT220-RM, chapter 3, and those of xterm (ctlseqs, 'PC-Style Function Keys'). */
 #include "vt220-keys.h"
 #include <string.h>
 
-enum { ESC = 0x1B, SS3 = 0x8F, CSI = 0x9B, LAST_ASCII = 0x7F };
+enum { ESC = 0x1B, SS3 = 0x8F, CSI = 0x9B, LAST_ASCII = 0x7F, LAST_C1 = 0x9F };
 
 /* What a key sends. */
 enum form {
+    NOTHING,  /* nothing: the key is local */
     PLAIN,    /* its code */
     RETURN,   /* CR, or CR LF if LNM is set */
     FUNCTION, /* CSI and its code */
@@ -14,67 +15,76 @@ enum form {
     KEYPAD,   /* its character, or SS3 and its code if DECKPAM is set */
 };
 
-typedef struct key_row {
-    const char *name, *other; /* `other` is null if the key has one name */
+typedef struct sequence {
     enum form form;
     const char *code;
-    char character; /* what a key of the keypad sends in numeric mode: CR is sent as Return sends it; otherwise 0 */
+} sequence;
+
+typedef struct key_row {
+    const char *name, *other; /* `other` is null if the key has one name */
+    char character;           /* what a key of the keypad sends in numeric mode: CR is sent as Return sends it; otherwise 0 */
+    sequence vt220, xterm;    /* what it sends on either */
 } key_row;
+
+/* A key that sends the same on both. */
+#define SAME(name, other, form, code) {name, other, 0, {form, code}, {form, code}}
+#define ON_KEYPAD(name, code, character) {name, NULL, character, {KEYPAD, code}, {KEYPAD, code}}
 
 static const key_row keys[] = {
     /* The main keypad. */
-    {"Return", "Enter", RETURN, "", 0},
-    {"Delete", "Backspace", PLAIN, "\x7F", 0},
-    {"Tab", NULL, PLAIN, "\t", 0},
-    {"Space", NULL, PLAIN, " ", 0},
-    {"Escape", NULL, PLAIN, "\x1B", 0},
+    SAME("Return", "Enter", RETURN, ""),
+    SAME("Delete", "Backspace", PLAIN, "\x7F"),
+    SAME("Tab", NULL, PLAIN, "\t"),
+    SAME("Space", NULL, PLAIN, " "),
+    SAME("Escape", NULL, PLAIN, "\x1B"),
     /* The editing keypad. */
-    {"Find", "Home", FUNCTION, "1~", 0},
-    {"InsertHere", "Insert", FUNCTION, "2~", 0},
-    {"Remove", NULL, FUNCTION, "3~", 0},
-    {"Select", "End", FUNCTION, "4~", 0},
-    {"PrevScreen", "PageUp", FUNCTION, "5~", 0},
-    {"NextScreen", "PageDown", FUNCTION, "6~", 0},
+    {"Find", "Home", 0, {FUNCTION, "1~"}, {CURSOR, "H"}},
+    SAME("InsertHere", "Insert", FUNCTION, "2~"),
+    SAME("Remove", NULL, FUNCTION, "3~"),
+    {"Select", "End", 0, {FUNCTION, "4~"}, {CURSOR, "F"}},
+    SAME("PrevScreen", "PageUp", FUNCTION, "5~"),
+    SAME("NextScreen", "PageDown", FUNCTION, "6~"),
     /* The cursor keys. */
-    {"Up", NULL, CURSOR, "A", 0},
-    {"Down", NULL, CURSOR, "B", 0},
-    {"Right", NULL, CURSOR, "C", 0},
-    {"Left", NULL, CURSOR, "D", 0},
+    SAME("Up", NULL, CURSOR, "A"),
+    SAME("Down", NULL, CURSOR, "B"),
+    SAME("Right", NULL, CURSOR, "C"),
+    SAME("Left", NULL, CURSOR, "D"),
     /* The numeric keypad. */
-    {"PF1", "F1", PF, "P", 0},
-    {"PF2", "F2", PF, "Q", 0},
-    {"PF3", "F3", PF, "R", 0},
-    {"PF4", "F4", PF, "S", 0},
-    {"KP0", NULL, KEYPAD, "p", '0'},
-    {"KP1", NULL, KEYPAD, "q", '1'},
-    {"KP2", NULL, KEYPAD, "r", '2'},
-    {"KP3", NULL, KEYPAD, "s", '3'},
-    {"KP4", NULL, KEYPAD, "t", '4'},
-    {"KP5", NULL, KEYPAD, "u", '5'},
-    {"KP6", NULL, KEYPAD, "v", '6'},
-    {"KP7", NULL, KEYPAD, "w", '7'},
-    {"KP8", NULL, KEYPAD, "x", '8'},
-    {"KP9", NULL, KEYPAD, "y", '9'},
-    {"KPMinus", NULL, KEYPAD, "m", '-'},
-    {"KPComma", NULL, KEYPAD, "l", ','},
-    {"KPPeriod", NULL, KEYPAD, "n", '.'},
-    {"KPEnter", NULL, KEYPAD, "M", '\r'},
-    /* The function keys of the top row. */
-    {"F6", NULL, FUNCTION, "17~", 0},
-    {"F7", NULL, FUNCTION, "18~", 0},
-    {"F8", NULL, FUNCTION, "19~", 0},
-    {"F9", NULL, FUNCTION, "20~", 0},
-    {"F10", NULL, FUNCTION, "21~", 0},
-    {"F11", NULL, FUNCTION, "23~", 0},
-    {"F12", NULL, FUNCTION, "24~", 0},
-    {"F13", NULL, FUNCTION, "25~", 0},
-    {"F14", NULL, FUNCTION, "26~", 0},
-    {"Help", "F15", FUNCTION, "28~", 0},
-    {"Do", "F16", FUNCTION, "29~", 0},
-    {"F17", NULL, FUNCTION, "31~", 0},
-    {"F18", NULL, FUNCTION, "32~", 0},
-    {"F19", NULL, FUNCTION, "33~", 0},
-    {"F20", NULL, FUNCTION, "34~", 0},
+    SAME("PF1", "F1", PF, "P"),
+    SAME("PF2", "F2", PF, "Q"),
+    SAME("PF3", "F3", PF, "R"),
+    SAME("PF4", "F4", PF, "S"),
+    ON_KEYPAD("KP0", "p", '0'),
+    ON_KEYPAD("KP1", "q", '1'),
+    ON_KEYPAD("KP2", "r", '2'),
+    ON_KEYPAD("KP3", "s", '3'),
+    ON_KEYPAD("KP4", "t", '4'),
+    ON_KEYPAD("KP5", "u", '5'),
+    ON_KEYPAD("KP6", "v", '6'),
+    ON_KEYPAD("KP7", "w", '7'),
+    ON_KEYPAD("KP8", "x", '8'),
+    ON_KEYPAD("KP9", "y", '9'),
+    ON_KEYPAD("KPMinus", "m", '-'),
+    ON_KEYPAD("KPComma", "l", ','),
+    ON_KEYPAD("KPPeriod", "n", '.'),
+    ON_KEYPAD("KPEnter", "M", '\r'),
+    /* The function keys of the top row. Those from F13 are Shift with F1 to F8 on an xterm, as terminfo has them for xterm-256color. */
+    {"F5", NULL, 0, {NOTHING, ""}, {FUNCTION, "15~"}},
+    SAME("F6", NULL, FUNCTION, "17~"),
+    SAME("F7", NULL, FUNCTION, "18~"),
+    SAME("F8", NULL, FUNCTION, "19~"),
+    SAME("F9", NULL, FUNCTION, "20~"),
+    SAME("F10", NULL, FUNCTION, "21~"),
+    SAME("F11", NULL, FUNCTION, "23~"),
+    SAME("F12", NULL, FUNCTION, "24~"),
+    {"F13", NULL, 0, {FUNCTION, "25~"}, {FUNCTION, "1;2P"}},
+    {"F14", NULL, 0, {FUNCTION, "26~"}, {FUNCTION, "1;2Q"}},
+    {"Help", "F15", 0, {FUNCTION, "28~"}, {FUNCTION, "1;2R"}},
+    {"Do", "F16", 0, {FUNCTION, "29~"}, {FUNCTION, "1;2S"}},
+    {"F17", NULL, 0, {FUNCTION, "31~"}, {FUNCTION, "15;2~"}},
+    {"F18", NULL, 0, {FUNCTION, "32~"}, {FUNCTION, "17;2~"}},
+    {"F19", NULL, 0, {FUNCTION, "33~"}, {FUNCTION, "18;2~"}},
+    {"F20", NULL, 0, {FUNCTION, "34~"}, {FUNCTION, "19;2~"}},
 };
 
 enum { KEYS = sizeof keys / sizeof keys[0] };
@@ -104,21 +114,41 @@ static void add_return(sent_bytes *sent, const vt220_mode_set *modes) {
     if (modes->lnm) add_byte(sent, '\n');
 }
 
-static void add_keypad_key(sent_bytes *sent, const key_row *key, const vt220_mode_set *modes) {
-    if (modes->keypad_application) add_sequence(sent, SS3, key->code, modes);
+static void add_keypad_key(sent_bytes *sent, const key_row *key, const char *code, const vt220_mode_set *modes) {
+    if (modes->keypad_application) add_sequence(sent, SS3, code, modes);
     else if (key->character == '\r') add_return(sent, modes);
     else add_byte(sent, (uint8_t)key->character);
 }
 
-static void add_key(sent_bytes *sent, const key_row *key, const vt220_mode_set *modes) {
-    switch (key->form) {
-    case PLAIN: add_byte(sent, (uint8_t)*key->code); break;
+static void add_key(sent_bytes *sent, const key_row *key, sequence is, const vt220_mode_set *modes) {
+    switch (is.form) {
+    case NOTHING: break;
+    case PLAIN: add_byte(sent, (uint8_t)*is.code); break;
     case RETURN: add_return(sent, modes); break;
-    case FUNCTION: add_sequence(sent, CSI, key->code, modes); break;
-    case CURSOR: add_sequence(sent, modes->decckm ? SS3 : CSI, key->code, modes); break;
-    case PF: add_sequence(sent, SS3, key->code, modes); break;
-    case KEYPAD: add_keypad_key(sent, key, modes); break;
+    case FUNCTION: add_sequence(sent, CSI, is.code, modes); break;
+    case CURSOR: add_sequence(sent, modes->decckm ? SS3 : CSI, is.code, modes); break;
+    case PF: add_sequence(sent, SS3, is.code, modes); break;
+    case KEYPAD: add_keypad_key(sent, key, is.code, modes); break;
     }
+}
+
+/* What the modifiers add to the number that xterm puts before the final byte. Without any it is 1. */
+enum { SHIFT = 1, ALT = 2, CTRL = 4 };
+
+/* Adds what a key of an xterm sends with modifiers: CSI, the number of its code or 1, the number of the modifiers, and its final byte. A
+ * code can have modifiers of its own. Only Shift and Tab send another sequence. Adds nothing if the key has none with these modifiers. */
+static void add_with_modifiers(sent_bytes *sent, sequence is, unsigned held, const vt220_mode_set *modes) {
+    size_t digits = strspn(is.code, "0123456789");
+    const char *rest = is.code + digits;
+    if (is.form == PLAIN && *is.code == '\t' && held == SHIFT) add_sequence(sent, CSI, "Z", modes);
+    if (is.form != FUNCTION && is.form != CURSOR && is.form != PF) return;
+    add_sequence(sent, CSI, "", modes);
+    for (size_t at = 0; at < digits; at++) add_byte(sent, (uint8_t)is.code[at]);
+    if (digits == 0) add_byte(sent, '1');
+    if (*rest == ';') held |= (unsigned)(rest[1] - '1'), rest += 2;
+    add_byte(sent, ';');
+    add_byte(sent, (uint8_t)('1' + held));
+    add_byte(sent, (uint8_t)*rest);
 }
 
 /* --- names and sequences --- */
@@ -134,6 +164,9 @@ static bool is_name(const char *name, const char *text, size_t len) {
     }
     return *name == 0;
 }
+
+/* Returns what a key sends in a language. */
+static sequence sequence_in(uint32_t language, const key_row *key) { return language & VT220_XTERM ? key->xterm : key->vt220; }
 
 static const key_row *key_named(const char *text, size_t len) {
     for (size_t i = 0; i < KEYS; i++) {
@@ -153,16 +186,30 @@ static bool has_introducer(enum form form, char introducer) {
     }
 }
 
+static bool is_sequence(sequence is, const char *text, size_t len) {
+    return strlen(is.code) == len - 2 && memcmp(is.code, text + 2, len - 2) == 0 && has_introducer(is.form, text[1]);
+}
+
 /* Returns the key that sends a sequence, or null. */
-static const key_row *key_sending(const char *text, size_t len) {
+static const key_row *key_sending(uint32_t language, const char *text, size_t len) {
     if (len < 3 || text[0] != ESC || (text[1] != '[' && text[1] != 'O')) return NULL;
     if (len == 3 && text[2] == 'H') return key_named("Home", 4);
     if (len == 3 && text[2] == 'F') return key_named("End", 3);
     for (size_t i = 0; i < KEYS; i++) {
-        bool is_code = strlen(keys[i].code) == len - 2 && memcmp(keys[i].code, text + 2, len - 2) == 0;
-        if (is_code && has_introducer(keys[i].form, text[1])) return &keys[i];
+        if (is_sequence(keys[i].vt220, text, len) || is_sequence(sequence_in(language, &keys[i]), text, len)) return &keys[i];
     }
     return NULL;
+}
+
+/* Returns the modifier with which a name begins, as `S-`, and 0 if it has none. C-X is a key by itself. */
+static unsigned modifier_of(const char *text, size_t len) {
+    if (len < 4 || text[1] != '-') return 0;
+    switch (upper(*text)) {
+    case 'S': return SHIFT;
+    case 'A': return ALT;
+    case 'C': return CTRL;
+    default: return 0;
+    }
 }
 
 /* Returns what Ctrl and a key send, or -1 if that is nothing. */
@@ -238,7 +285,12 @@ static uint8_t supplemental_byte(uint32_t character) {
 
 /* --- the calls --- */
 
-static uint32_t add_character(sent_bytes *sent, const vt220_mode_set *modes, uint32_t character) {
+/* Adds what a character sends. In UTF-8 one beyond ASCII sends itself, but a C1 control doesn't. */
+static uint32_t add_character(sent_bytes *sent, uint32_t language, const vt220_mode_set *modes, uint32_t character, const char *text, size_t len) {
+    if (language != VT220_BYTES && character > LAST_C1) {
+        for (size_t at = 0; at < len; at++) add_byte(sent, (uint8_t)text[at]);
+        return VT220_OK;
+    }
     uint8_t byte = character <= LAST_ASCII ? (uint8_t)character : supplemental_byte(character);
     if (character > LAST_ASCII && byte == 0) return VT220_NO_CHARACTER;
     if (character == '\r') add_return(sent, modes);
@@ -246,25 +298,31 @@ static uint32_t add_character(sent_bytes *sent, const vt220_mode_set *modes, uin
     return VT220_OK;
 }
 
-/* Adds what a key sends. Returns VT220_OK, VT220_NO_KEY or VT220_NO_CHARACTER. */
-static uint32_t add_sent(sent_bytes *sent, const vt220_mode_set *modes, const char *text, size_t len) {
-    uint32_t character;
-    if (is_character(text, len, &character)) return add_character(sent, modes, character);
-    int control = control_named(text, len);
-    if (control >= 0) {
-        add_byte(sent, (uint8_t)control);
-        return VT220_OK;
-    }
+/* Adds what a key with a name or a sequence sends. Returns VT220_OK or VT220_NO_KEY. */
+static uint32_t add_named(sent_bytes *sent, uint32_t language, const vt220_mode_set *modes, const char *text, size_t len) {
+    unsigned held = 0;
+    for (unsigned one; (language & VT220_XTERM) && (one = modifier_of(text, len)) != 0; text += 2, len -= 2) held |= one;
     const key_row *key = key_named(text, len);
-    if (key == NULL) key = key_sending(text, len);
+    if (key == NULL && held == 0) key = key_sending(language, text, len);
     if (key == NULL) return VT220_NO_KEY;
-    add_key(sent, key, modes);
+    if (held == 0) add_key(sent, key, sequence_in(language, key), modes);
+    else add_with_modifiers(sent, sequence_in(language, key), held, modes);
+    return sent->len > 0 ? VT220_OK : VT220_NO_KEY;
+}
+
+/* Adds what a key sends. Returns VT220_OK, VT220_NO_KEY or VT220_NO_CHARACTER. */
+static uint32_t add_sent(sent_bytes *sent, uint32_t language, const vt220_mode_set *modes, const char *text, size_t len) {
+    uint32_t character;
+    if (is_character(text, len, &character)) return add_character(sent, language, modes, character, text, len);
+    int control = control_named(text, len);
+    if (control < 0) return add_named(sent, language, modes, text, len);
+    add_byte(sent, (uint8_t)control);
     return VT220_OK;
 }
 
-uint32_t vt220_key(const vt220_mode_set *modes, const char *key, size_t len, uint8_t *out, size_t size, size_t *written) {
+uint32_t vt220_key(uint32_t language, const vt220_mode_set *modes, const char *key, size_t len, uint8_t *out, size_t size, size_t *written) {
     sent_bytes sent = {{0}, 0};
-    uint32_t status = add_sent(&sent, modes, key, len);
+    uint32_t status = add_sent(&sent, language, modes, key, len);
     *written = sent.len;
     if (status != VT220_OK) return status;
     if (size < sent.len) return VT220_ROOM;

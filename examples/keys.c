@@ -9,7 +9,7 @@ int main(int argc, char **argv) {
     uint8_t sent[VT220_KEY_LIMIT];
     for (int i = 1; i < argc; i++) {
         size_t len;
-        uint32_t status = vt220_key(&modes, argv[i], strlen(argv[i]), sent, sizeof sent, &len);
+        uint32_t status = vt220_key(VT220_BYTES, &modes, argv[i], strlen(argv[i]), sent, sizeof sent, &len);
         printf("%s:", argv[i]);
         for (size_t at = 0; at < len; at++) printf(" %02X", sent[at]);
         if (status != VT220_OK) printf(" %s", vt220_status_text(status));

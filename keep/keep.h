@@ -111,17 +111,14 @@ struct keys {
     bool scrolls;    /* it was typed */
 };
 
-enum {
-    KEYS_GROWTH = 2, /* a key has at most this many times the bytes that were typed */
-    KEY_LIMIT = 8    /* the most bytes of a key that has a name, and a byte */
-};
+enum { KEYS_GROWTH = 2 }; /* a key has at most this many times the bytes that were typed */
 
 size_t keys_translate(struct keys *keys, const vt220 *t, const uint8_t *typed, size_t len, uint8_t *to);
 size_t keys_length(const uint8_t *typed, size_t len);
 size_t keys_flush(struct keys *keys, uint8_t *to); /* what is held isn't the beginning of a key */
 /* Returns whether a word is a key's name but for one character. */
 bool keys_meant(const struct keys *keys, const vt220 *t, const char *word, char *meant, size_t room);
-size_t keys_named(const struct keys *keys, const vt220 *t, const char *name, uint8_t *to); /* 0 if there is no such key; at most KEY_LIMIT bytes */
+size_t keys_named(const struct keys *keys, const vt220 *t, const char *name, uint8_t *to); /* 0 if there is no such key; at most VT220_KEY_LIMIT bytes */
 int keys_detach(void); /* the key that detaches, as KEEP_KEY says */
 
 /* --- scroll.c: the log, shown in place of the screen --- */

@@ -58,7 +58,7 @@ static const char *keyboard(void) {
 
 /* Ends the program if one of these words was hardly meant as text. Nothing is sent then. */
 static void look_at_names(char **keys) {
-    uint8_t key[KEY_LIMIT];
+    uint8_t key[VT220_KEY_LIMIT];
     char meant[NAME_LIMIT];
     for (; *keys != NULL; keys++) {
         if (keys_named(&it.keys, &it.terminal, *keys, key) > 0 || !keys_meant(&it.keys, &it.terminal, *keys, meant, sizeof meant)) continue;
@@ -82,8 +82,7 @@ void send_keys_to(const struct folder *folder, const char *name, char **keys, bo
     if (hello.is_over) fail(1, "the command of %s has ended", name);
     if (*keys == NULL) send_input();
     for (; *keys != NULL; keys++) {
-        bool is_itself = it.keys.is_utf8 && (uint8_t)**keys >= 0x80; /* a character, which is a key's name only on a VT220 */
-        len = is_text || is_itself ? 0 : keys_named(&it.keys, &it.terminal, *keys, key);
+        len = is_text ? 0 : keys_named(&it.keys, &it.terminal, *keys, key);
         if (len > 0) send_bytes(key, len);
         else send_text(*keys, strlen(*keys));
     }

@@ -9,7 +9,7 @@ sys.path.append(str(TOP / "tests"))
 
 from terminal import ATTRIBUTES
 from utf8 import has_known_width
-from vectors import vectors
+from vectors import session_repaints, vectors
 
 VT220, UTF8, XTERM = ("dec", "vt220"), ("utf-8", "vt220"), ("utf-8", "xterm")
 
@@ -25,7 +25,7 @@ class Row:
 
 
 def all_rows():
-    return [*vectors_of_a_vt220(), *rows_of_fields(), *vectors_of_today()]
+    return [*vectors_of_a_vt220(), *rows_of_fields(), *vectors_of_today(), *repaints_of_sessions()]
 
 
 def vectors_of_a_vt220():
@@ -57,11 +57,17 @@ def vectors_of_today():
             yield Row(vector.name, (vector.encoding, vector.terminal), vector.input, wanted)
 
 
+def repaints_of_sessions():
+    return (Row(name, XTERM, data, {"session": wanted}) for name, data, wanted in session_repaints())
+
+
 def shown(wanted, model, reports, repaint):
-    """Returns what a model shows of the fields that a row wants."""
+    """Returns what a model shows of the fields that a row wants. The repaints are those of a module."""
     found = {"reports": reports}
     if "repaint" in wanted:
-        found |= {"text": model.text().rstrip("\n"), "repaint": None if model.sequence else repaint(model)}
+        found |= {"text": model.text().rstrip("\n"), "repaint": None if model.sequence else repaint.repaint(model)}
+    if "session" in wanted:
+        found["session"] = repaint.session_repaint(model)
     if "pending" in wanted:
         found |= screen(model)
     if "width" in wanted:

@@ -14,7 +14,7 @@ int main() {
     CHECK(vt220_feed(&t, BYTES("C++"), out, sizeof out, &written) == 3);
     CHECK(vt220_text(&t, &s, out, sizeof out, &written) == VT220_OK && memcmp(out, "C++\n", 4) == 0);
     vt220_mode_set modes;
-    CHECK(vt220_modes(&t, &modes) && vt220_key(&modes, "Up", 2, out, sizeof out, &written) == VT220_OK && memcmp(out, "\033[A", written) == 0);
+    CHECK(vt220_modes(&t, &modes) && vt220_key(VT220_BYTES, &modes, "Up", 2, out, sizeof out, &written) == VT220_OK && memcmp(out, "\033[A", written) == 0);
     CHECK(vt220_xterm_open(&x) == VT220_OK && vt220_feed_xterm(&t, &x, BYTES("\033[?47h"), out, sizeof out, &written) == 6 && vt220_xterm_alternate(&x));
     vt220_xterm_close(&x);
     vt220_close(&t);

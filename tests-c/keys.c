@@ -1,4 +1,5 @@
-/* The keyboard. Each row of keys.txt holds under the modes that it names: keys FILE. Characters are those that a terminal shows. */
+/* The keyboard. Each row of keys.txt holds under the modes that it names, and each row of xterm-keys.txt under TERM=xterm:
+ * keys FILE XTERM-FILE. Characters are those that a terminal shows. */
 #include "check.h"
 #include "vt220-keys.h"
 
@@ -30,13 +31,15 @@ typedef struct outcome {
     uint8_t out[VT220_KEY_LIMIT];
 } outcome;
 
-static outcome sent_by(const char *key, size_t len, unsigned setting, bool others) {
+static outcome sent_in(uint32_t language, const char *key, size_t len, unsigned setting, bool others) {
     vt220_mode_set modes = modes_of(setting, others);
     outcome is;
     memset(&is, 0xA5, sizeof is);
-    is.status = vt220_key(&modes, key, len, is.out, sizeof is.out, &is.written);
+    is.status = vt220_key(language, &modes, key, len, is.out, sizeof is.out, &is.written);
     return is;
 }
+
+static outcome sent_by(const char *key, size_t len, unsigned setting, bool others) { return sent_in(VT220_BYTES, key, len, setting, others); }
 
 static bool has_sent(const outcome *is, const uint8_t *bytes, size_t len) {
     return is->status == VT220_OK && is->written == len && memcmp(is->out, bytes, len) == 0;
@@ -123,6 +126,102 @@ static void rows(const char *path) {
         for (unsigned setting = 0; setting < SETTINGS; setting++) check(tallies[i].held[setting] == 1, "one row holds", tallies[i].key);
 }
 
+/* --- the rows of xterm-keys.txt --- */
+
+enum { DECCKM = 4, IS_8BIT = 1, MODIFIERS = 7 };
+
+/* Writes the bytes of a sequence that is written with CSI or SS3. The number of the modifiers stands for an m. */
+static size_t put_sequence(const char *text, const char *number, bool is_8bit, uint8_t *to) {
+    size_t len = 0;
+    uint8_t control = strncmp(text, "CSI", 3) == 0 ? 0x9B : 0x8F;
+    if (is_8bit) to[len++] = control;
+    else to[len++] = 0x1B, to[len++] = (uint8_t)(control - 0x40);
+    for (text += 3; *text != 0; text++)
+        if (*text != ' ') to[len++] = (uint8_t)(*text == 'm' ? *number : *text);
+    return len;
+}
+
+/* The key sends a sequence in upper and in lower case, and by its name the bytes that are typed for it. */
+static void check_xterm_key(const char *key, unsigned setting, const char *text, const char *number) {
+    uint8_t bytes[VT220_KEY_LIMIT + 1];
+    char small[24];
+    size_t len = put_sequence(text, number, setting & IS_8BIT, bytes), at = 0;
+    for (; key[at] != 0; at++) small[at] = (char)(key[at] >= 'A' && key[at] <= 'Z' ? key[at] + 0x20 : key[at]);
+    for (int others = 0; others < 2; others++) {
+        outcome now = sent_in(VT220_XTERM, key, at, setting, others), also = sent_in(VT220_XTERM | VT220_UTF8, small, at, setting, others);
+        bool holds = has_sent(&now, bytes, len) && has_sent(&also, bytes, len);
+        check(holds, key, text);
+        if (!holds) print_bytes("expected", bytes, len), print_bytes("got", now.out, now.written);
+    }
+}
+
+static char on_xterm[100][24];
+static size_t xterm_keys_seen;
+
+static unsigned xterm_rows(const char *path) {
+    char line[512], numbers[MODIFIERS][4], names[MODIFIERS][16], key[24];
+    unsigned seen = 0, modifiers = 0;
+    FILE *file = fopen(path, "r");
+    while (file != NULL && fgets(line, sizeof line, file) != NULL) {
+        line[strcspn(line, "\n")] = 0;
+        if (line[0] == 0 || line[0] == '#') continue;
+        char *name = strtok(line, "\t"), *field = strtok(NULL, "\t"), *set = strtok(NULL, "\t"), *held = strtok(NULL, "\t");
+        if (held == NULL) {
+            strcpy(numbers[modifiers], field), strcpy(names[modifiers++], set);
+            continue;
+        }
+        strcpy(on_xterm[xterm_keys_seen++], name);
+        for (unsigned is_8bit = 0; is_8bit < 2; is_8bit++, seen++) {
+            check_xterm_key(name, is_8bit, field, "");
+            check_xterm_key(name, is_8bit | DECCKM, set, "");
+            for (unsigned i = 0; i < modifiers && *held != '-'; i++, seen++) {
+                strcat(strcpy(key, names[i]), name);
+                check_xterm_key(key, is_8bit, held, numbers[i]);
+                check_xterm_key(key, is_8bit | DECCKM, held, numbers[i]);
+            }
+        }
+    }
+    if (file != NULL) fclose(file);
+    return seen;
+}
+
+static bool is_on_xterm(const char *key) {
+    for (size_t i = 0; i < xterm_keys_seen; i++)
+        if (strcmp(on_xterm[i], key) == 0) return true;
+    return false;
+}
+
+/* Each other key of keys.txt, if it isn't a character beyond ASCII, sends on an xterm what it sends on a VT220. */
+static void other_keys(void) {
+    for (size_t i = 0; i < keys_seen; i++) {
+        const char *key = tallies[i].key;
+        if (is_on_xterm(key) || (uint8_t)*key > 0x7F) continue;
+        for (unsigned setting = 0; setting < SETTINGS; setting++) {
+            outcome is = sent_by(key, strlen(key), setting, false), also = sent_in(VT220_XTERM, key, strlen(key), setting, false);
+            check(is.status == also.status && is.written == also.written && memcmp(is.out, also.out, is.written) == 0, key, "the same key of an xterm");
+        }
+    }
+}
+
+static bool is_no_key_of_an_xterm(const char *key) {
+    outcome is = sent_in(VT220_XTERM, key, strlen(key), 0, false);
+    return is_error(&is, VT220_NO_KEY);
+}
+
+/* What is typed on a modern terminal for a host under TERM=xterm, and keys without a sequence with modifiers. */
+static void xterm_keys(void) {
+    static const char *const typed[] = {"\033[H", "\033OF", "\033[1~", "\033[15~", "\033[25~", "\033[1;2P"};
+    static const char *const sent[] = {"\033OH", "\033OF", "\033OH", "\033[15~", "\033[1;2P", "\033[1;2P"};
+    for (size_t i = 0; i < sizeof typed / sizeof typed[0]; i++) {
+        outcome is = sent_in(VT220_XTERM, typed[i], strlen(typed[i]), DECCKM, false);
+        check(has_sent(&is, (const uint8_t *)sent[i], strlen(sent[i])), typed[i] + 1, "a sequence of an xterm");
+    }
+    CHECK(is_no_key_of_an_xterm("S-KP5") && is_no_key_of_an_xterm("C-Return") && is_no_key_of_an_xterm("A-Tab") && is_no_key_of_an_xterm("S-Delete"));
+    CHECK(is_no_key_of_an_xterm("\033[1;5A") && is_no_key_of_an_xterm("C-S-\033[A") && is_no_key_of_an_xterm("X-Up") && is_no_key_of_an_xterm("S-"));
+    outcome by_control = sent_in(VT220_XTERM, "C-c", 3, 0, false), by_return = sent_in(VT220_XTERM, "Return", 6, 8, false);
+    CHECK(has_sent(&by_control, BYTES("\003")) && has_sent(&by_return, BYTES("\r\n")));
+}
+
 /* --- characters --- */
 
 static size_t put_utf8(uint32_t code, char *to) {
@@ -162,6 +261,21 @@ static void right_half(void) {
     CHECK(wrong == 0);
 }
 
+/* In UTF-8 each character beyond ASCII sends itself, and a C1 control has no key. */
+static void in_utf8(void) {
+    unsigned long wrong = 0;
+    for (uint32_t code = 0x80; code <= LAST_CHARACTER; code++) {
+        char text[4];
+        if (code >= 0xD800 && code <= 0xDFFF) continue;
+        size_t len = put_utf8(code, text);
+        outcome is = sent_in(code % 2 == 0 ? VT220_UTF8 : VT220_XTERM, text, len, 0, false);
+        wrong += code < 0xA0 ? !is_error(&is, VT220_NO_CHARACTER) : !has_sent(&is, (const uint8_t *)text, len);
+    }
+    CHECK(wrong == 0);
+    outcome up = sent_in(VT220_UTF8, "Home", 4, 4, false);
+    CHECK(has_sent(&up, BYTES("\033[1~")));
+}
+
 static void ascii(void) {
     for (unsigned code = 0; code < 0x80; code++) {
         char text = (char)code;
@@ -184,9 +298,9 @@ static void errors(void) {
     vt220_mode_set modes = modes_of(0, false);
     uint8_t out[VT220_KEY_LIMIT] = {0xA5};
     size_t written;
-    CHECK(vt220_key(&modes, "F20", 3, out, 4, &written) == VT220_ROOM && written == 5 && out[0] == 0xA5);
-    CHECK(vt220_key(&modes, "a", 1, NULL, 0, &written) == VT220_ROOM && written == 1);
-    CHECK(vt220_key(&modes, NULL, 0, out, sizeof out, &written) == VT220_NO_KEY && written == 0);
+    CHECK(vt220_key(VT220_BYTES, &modes, "F20", 3, out, 4, &written) == VT220_ROOM && written == 5 && out[0] == 0xA5);
+    CHECK(vt220_key(VT220_BYTES, &modes, "a", 1, NULL, 0, &written) == VT220_ROOM && written == 1);
+    CHECK(vt220_key(VT220_BYTES, &modes, NULL, 0, out, sizeof out, &written) == VT220_NO_KEY && written == 0);
     is_no_key("Up", 1 + 2); /* with its null byte */
     is_no_key("Upside", 3);
     is_no_key("\x80", 1);
@@ -204,7 +318,7 @@ static void errors(void) {
     is_no_key("\033OH~", 4);
     CHECK(strcmp(vt220_status_text(VT220_NO_KEY), "there is no such key") == 0);
     CHECK(strcmp(vt220_status_text(VT220_NO_CHARACTER), "no key sends this character") == 0);
-    CHECK(vt220_key(&modes, "Upside", 2, out, sizeof out, &written) == VT220_OK && written == 3);
+    CHECK(vt220_key(VT220_BYTES, &modes, "Upside", 2, out, sizeof out, &written) == VT220_OK && written == 3);
 }
 
 /* Home and End as modern terminals send them. */
@@ -230,7 +344,11 @@ static void lengths(void) {
 
 int main(int argc, char **argv) {
     rows(argc > 1 ? argv[1] : "tests-c/keys.txt");
+    CHECK(xterm_rows(argc > 2 ? argv[2] : "tests-c/xterm-keys.txt") > 400);
+    other_keys();
+    xterm_keys();
     right_half();
+    in_utf8();
     ascii();
     errors();
     home_and_end();

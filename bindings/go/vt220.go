@@ -32,7 +32,7 @@ const (
 	PaintLimit      = 93512
 	UpdateLimit     = 94152
 	XtermPaintLimit = 187060
-	KeyLimit        = 5
+	KeyLimit        = 7
 	TypedLimit      = 16
 	Version         = 400 // 10000 * major + 100 * minor + patch
 )
@@ -137,14 +137,25 @@ func chars(bytes []byte) *C.char {
 	return (*C.char)(unsafe.Pointer(&bytes[0]))
 }
 
+// Language is what a host and its terminal speak.
+type Language uint32
+
+// The languages: a VT220's bytes, UTF-8, and what programs send under TERM=xterm, which is in UTF-8.
+const (
+	Bytes Language = C.VT220_BYTES
+	UTF8  Language = C.VT220_UTF8
+	XTerm Language = C.VT220_XTERM
+)
+
 // Key returns what a key sends to the host under these modes, which the method Modes returns. The key is one character, a name such as
-// Up, Return or C-c, or the sequence that a terminal sends for it, in UTF-8. vt220-keys.h lists the names. It returns ErrNoKey if there
-// is no such key, and ErrNoCharacter if it is a character that no key sends.
-func Key(key string, modes Modes) ([]byte, error) {
+// Up, Return or C-c, or the sequence that a terminal sends for it, in UTF-8. vt220-keys.h lists the names. To a host in UTF-8 each
+// character beyond ASCII but a C1 control sends itself. Under TERM=xterm a name may have modifiers, as C-Left. It returns ErrNoKey if
+// there is no such key, and ErrNoCharacter if it is a character that no key sends.
+func Key(key string, modes Modes, language Language) ([]byte, error) {
 	var out [KeyLimit]C.uint8_t
 	var written C.size_t
 	text, m := []byte(key), modes.handedOver()
-	status := C.vt220_key(&m, chars(text), C.size_t(len(text)), &out[0], KeyLimit, &written)
+	status := C.vt220_key(C.uint32_t(language), &m, chars(text), C.size_t(len(text)), &out[0], KeyLimit, &written)
 	if err := result(status); err != nil {
 		return nil, err
 	}

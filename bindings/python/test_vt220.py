@@ -5,7 +5,7 @@ import vt220
 
 TOP = pathlib.Path(__file__).resolve().parents[2]
 sys.path.insert(0, str(TOP / "tests"))
-from vectors import vectors
+from vectors import session_repaints, vectors
 
 # What each reader returns, as all bindings are tested with.
 FIELDS = TOP / "tests-c/fields.txt"
@@ -188,6 +188,14 @@ def rebuilt_xterm(data, at):
         return silent and same and second.pending() == first.pending() and first.feed_log(data[at:]) == second.feed_log(data[at:]) and both_pages(first) == both_pages(second)
 
 
+def repaints_of_sessions():
+    """Each row of tests-c/session-repaints.txt."""
+    for name, data, wanted in session_repaints():
+        with vt220.Terminal(terminal="xterm") as terminal:
+            terminal.feed(data)
+            check(terminal.xterm_repaint() == wanted, "repaints of sessions", name)
+
+
 def differences(found, wanted):
     return ", ".join(f"{of} {found[of]!r}, and not {wanted[of]!r}" for of in wanted if found[of] != wanted[of])
 
@@ -260,6 +268,7 @@ readers()
 parts()
 one_field_at_a_time()
 rows()
+repaints_of_sessions()
 encodings()
 terminals()
 print(f"python: {passed} passed, {failed} failed")

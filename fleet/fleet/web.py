@@ -18,8 +18,9 @@ import threading
 from concurrent.futures import ThreadPoolExecutor
 from urllib.parse import urlsplit
 
+import vt220
 from aiohttp import WSMsgType, web
-from vt220.keyboard import pressed, spelled
+from vt220.keyboard import spelled
 from vt220.page import hashed
 
 from .gallery import Gallery
@@ -213,7 +214,7 @@ class Page:
             raise PermissionError("this page doesn't type: fleet web --typing")
         modes = followed.picture.modes
         encoding, terminal = followed.language
-        data = pressed(str(said["key"]), modes, terminal) if "key" in said else spelled(str(said["text"])[:4096], modes, encoding)
+        data = vt220.key(str(said["key"]), modes, terminal=terminal) if "key" in said else spelled(str(said["text"])[:4096], modes, encoding)
         if followed.incarnation not in typed:
             typed[followed.incarnation] = Typing(self, socket, followed.incarnation)
         typed[followed.incarnation].add(data)

@@ -154,11 +154,11 @@ EXPORT(same_state) uint32_t js_same_state(uint32_t a, uint32_t b) { return vt220
 /* --- the keyboard --- */
 
 /* Writes what a key sends to `out`. The key is in `input`; bit i of `modes` is the field i of vt220_mode_set. */
-EXPORT(key) uint32_t js_key(uint32_t modes, uint32_t len) {
+EXPORT(key) uint32_t js_key(uint32_t language, uint32_t modes, uint32_t len) {
     const vt220_mode_set set = {
         .lnm = modes >> 3 & 1, .decckm = modes >> 4 & 1, .keypad_application = modes >> 11 & 1, .reports_8bit = modes >> 12 & 1,
     };
-    return vt220_key(&set, (const char *)input, len, out, out_size, &written);
+    return vt220_key(language, &set, (const char *)input, len, out, out_size, &written);
 }
 
 EXPORT(key_length) uint32_t js_key_length(uint32_t len) { return (uint32_t)vt220_key_length((const char *)input, len); }

@@ -17,9 +17,11 @@ export interface Core {
   readonly version: number;
   /**
    * Returns what a key sends under these modes, of which those that are left out aren't set. The key is one character, a name such as "Up" or
-   * "C-c", or the sequence that a modern terminal sends for it. Throws NO_KEY or NO_CHARACTER.
+   * "C-c", or the sequence that a modern terminal sends for it. The options are those of the terminal: in UTF-8 each character beyond ASCII
+   * but a C1 control sends itself, and with the terminal "xterm" a key sends what it does on an xterm, where a name may have modifiers, as
+   * "C-Left". Throws NO_KEY or NO_CHARACTER.
    */
-  key(key: string, modes?: Partial<Modes>): Uint8Array;
+  key(key: string, modes?: Partial<Modes>, options?: { encoding?: Encoding; terminal?: TerminalName }): Uint8Array;
   /** Returns how many bytes the first key has of what was typed on a modern terminal, and 0 if its end is missing. */
   keyLength(typed: Uint8Array): number;
   /**

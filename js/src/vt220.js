@@ -28,6 +28,13 @@ export class Vt220Error extends Error {
   }
 }
 
+/** Returns the encoding and the terminal of options. With the terminal "xterm" the encoding is always UTF-8. */
+function languageOf({ encoding = "dec", terminal = "vt220" } = {}) {
+  if (!ENCODINGS.includes(encoding)) throw new TypeError(`an encoding is one of ${ENCODINGS.join(", ")}`);
+  if (!TERMINALS.includes(terminal)) throw new TypeError(`a terminal is one of ${TERMINALS.join(", ")}`);
+  return { encoding: terminal === "xterm" ? "utf-8" : encoding, terminal };
+}
+
 /** Compiles the module: bytes, a module, or a response. */
 async function compiled(source) {
   source = await source;
@@ -160,10 +167,10 @@ class Core {
     if (xterm !== 0) this.#free("xterm_close", xterm);
   }
 
-  key(key, modes = {}) {
-    const len = this.input(encoder.encode(key));
+  key(key, modes = {}, options) {
+    const { encoding, terminal } = languageOf(options), len = this.input(encoder.encode(key));
     const set = MODES.reduce((bits, name, i) => (modes[name] ? bits | (1 << i) : bits), 0);
-    this.expect(this.calls.key(set, len));
+    this.expect(this.calls.key(2 * TERMINALS.indexOf(terminal) || ENCODINGS.indexOf(encoding), set, len));
     return this.out();
   }
 
@@ -188,12 +195,11 @@ export class Terminal {
   #isUtf8;
   #pending = new Uint8Array(PENDING);
 
-  constructor(core, { encoding = "dec", terminal = "vt220" } = {}) {
+  constructor(core, options) {
     if (!(core instanceof Core)) throw new TypeError("a terminal needs the core that load() returns");
-    if (!ENCODINGS.includes(encoding)) throw new TypeError(`an encoding is one of ${ENCODINGS.join(", ")}`);
-    if (!TERMINALS.includes(terminal)) throw new TypeError(`a terminal is one of ${TERMINALS.join(", ")}`);
+    const { encoding, terminal } = languageOf(options);
     this.#core = core;
-    this.#isUtf8 = encoding === "utf-8" || terminal === "xterm";
+    this.#isUtf8 = encoding === "utf-8";
     this.#at = core.open(this, "open", "close");
     try {
       if (terminal === "xterm") this.#xterm = core.open(this, "xterm_open", "xterm_close");

@@ -1,4 +1,4 @@
-// Tests what keys send, by the rows of tests-c/keys.txt.
+// Tests what keys send, by the rows of tests-c/keys.txt and xterm-keys.txt.
 const ERRORS = { "no key": "NO_KEY", "no character": "NO_CHARACTER" };
 const MODES = ["lnm", "decckm", "keypadApplication", "reports8bit"];
 
@@ -6,12 +6,33 @@ const MODES = ["lnm", "decckm", "keypadApplication", "reports8bit"];
 const modesOf = (marks, either) => Object.fromEntries(MODES.map((name, i) => [name, marks[i] === "1" || (marks[i] === "-" && either)]));
 
 /** Returns what a key sends in hex, or the code of its error. */
-function sent(core, key, modes) {
+function sent(core, key, modes, options) {
   try {
-    return Array.from(core.key(key, modes), (byte) => byte.toString(16).padStart(2, "0").toUpperCase()).join(" ");
+    return Array.from(core.key(key, modes, options), (byte) => byte.toString(16).padStart(2, "0").toUpperCase()).join(" ");
   } catch (error) {
     return error.code;
   }
+}
+
+/** Returns in hex the bytes of a sequence that is written with CSI or SS3. The number of the modifiers stands for an m. */
+function sequenceOf(text, number, is8Bit) {
+  const controls = is8Bit ? { CSI: "\x9b", SS3: "\x8f" } : { CSI: "\x1b[", SS3: "\x1bO" };
+  const sequence = text.replace(/CSI|SS3|m| /g, (found) => controls[found] ?? (found === "m" ? number : ""));
+  return Array.from(sequence, (character) => character.charCodeAt(0).toString(16).padStart(2, "0").toUpperCase()).join(" ");
+}
+
+/** Checks the keys of an xterm. */
+export function keysOfAnXterm(core, table, check) {
+  const rows = table.split("\n").filter((line) => line !== "" && !line.startsWith("#")).map((line) => line.split("\t"));
+  const modifiers = rows.filter(([name]) => name === "modifiers").map(([, number, held]) => [number, held]);
+  const keys = rows.filter(([name]) => name !== "modifiers");
+  for (const [name, reset, set, held] of keys)
+    for (const modes of [{}, { decckm: true }, { reports8bit: true }, { decckm: true, reports8bit: true }]) {
+      const wanted = [[name, modes.decckm ? set : reset, ""], ...(held === "-" ? [] : modifiers.map(([number, prefix]) => [prefix + name, held, number]))];
+      for (const [key, text, number] of wanted)
+        check(`the key ${key} of an xterm`, sent(core, key, modes, { terminal: "xterm" }) === sequenceOf(text, number, modes.reports8bit));
+    }
+  check("a character in UTF-8", sent(core, "€", {}, { encoding: "utf-8" }) === "E2 82 AC" && sent(core, "€", {}) === "NO_CHARACTER");
 }
 
 export function keys(core, table, check) {

@@ -5,7 +5,7 @@ import { pathToFileURL } from "node:url";
 import { Worker } from "node:worker_threads";
 import { calls } from "./calls.mjs";
 import { hashes } from "./hashes.mjs";
-import { keys } from "./keys.mjs";
+import { keys, keysOfAnXterm } from "./keys.mjs";
 import { tables } from "./tables.mjs";
 import { timelines } from "./timelines.mjs";
 import { vectors } from "./vectors.mjs";
@@ -35,6 +35,7 @@ for (const [input, theirs] of all) check(`beside the library, ${input.slice(0, 2
 mine.next();
 
 keys(core, await readFile(new URL("../../tests-c/keys.txt", import.meta.url), "utf8"), check);
+keysOfAnXterm(core, await readFile(new URL("../../tests-c/xterm-keys.txt", import.meta.url), "utf8"), check);
 await calls(vt220, wasm, check);
 timelines(vt220, core, check);
 tables(vt220, core, await readFile(new URL("../../tests-c/vectors.txt", import.meta.url), "utf8"), check);

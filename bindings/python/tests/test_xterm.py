@@ -8,7 +8,7 @@ import pytest
 
 import vt220
 from vt220 import rig as rig_module
-from vt220.keyboard import Key, alt, ctrl, pressed, shift, spelled, typed
+from vt220.keyboard import Key, alt, ctrl, shift, spelled, typed
 from vt220.page import template
 from vt220.rig import END, F5, HOME, LEFT, TAB, UP, Failure, Reports
 
@@ -103,7 +103,7 @@ def test_each_key_sends_what_the_control_sequences_of_xterm_say(is_8bit):
     for name, *sent in rows:
         for decckm in (False, True):
             modes = POWER_UP._replace(decckm=decckm, reports_8bit=is_8bit)
-            assert pressed(name, modes, "xterm") == pressed(name.lower(), modes, "xterm") == sent[decckm], name
+            assert vt220.key(name, modes, terminal="xterm") == vt220.key(name.lower(), modes, terminal="xterm") == sent[decckm], name
 
 
 def test_the_keys_with_modifiers_are_those_of_terminfo():
@@ -119,7 +119,7 @@ def test_the_keys_with_modifiers_are_those_of_terminfo():
         name, _, code = line.strip().rstrip(",").partition("=")
         if name in names:
             sent = code.replace("\\E", "\033").encode()
-            assert rows[names[name]] == sent == pressed(names[name], POWER_UP._replace(decckm=True), "xterm"), name
+            assert rows[names[name]] == sent == vt220.key(names[name], POWER_UP._replace(decckm=True), terminal="xterm"), name
             seen += 1
     # The entry has kf1 to kf63, and no names beyond.
     assert seen == len(names) - 9

@@ -42,7 +42,7 @@ PICTURE_LIMIT = 659968
 PAINT_LIMIT = 93512
 XTERM_PAINT_LIMIT = 187060
 UPDATE_LIMIT = 94152
-KEY_LIMIT = 5
+KEY_LIMIT = 7
 TYPED_LIMIT = 16
 VERSION = 400
 HELD = ("nothing", "escape", "control", "string")
@@ -318,7 +318,7 @@ def _declare(library: ctypes.PyDLL) -> None:
         ("is_between", boolean, [handle]),
         ("held_kind", status, [handle]),
         ("same_state", boolean, [handle, handle]),
-        ("key", status, [ctypes.POINTER(_Modes), ctypes.c_char_p, size, buffer, size, told]),
+        ("key", status, [ctypes.c_uint32, ctypes.POINTER(_Modes), ctypes.c_char_p, size, buffer, size, told]),
         ("key_length", size, [ctypes.c_char_p, size]),
     ]
     for name, result, arguments in calls:
@@ -392,15 +392,20 @@ def _check_row(row: int) -> int:
     return number
 
 
-def key(key: Union[str, Bytes], modes: Modes) -> bytes:
+def key(key: Union[str, Bytes], modes: Modes, encoding: str = "dec", terminal: str = "vt220") -> bytes:
     """Returns what a key sends under these modes, which modes() of a Terminal returns.
 
     The key is one character, a name such as "Up", "Return" or "C-c", or the sequence that a terminal sends for it, as a text or in
-    UTF-8. vt220-keys.h lists the names. Raises NoKey or NoCharacter, which are ValueErrors.
+    UTF-8. vt220-keys.h lists the names. The encoding and the terminal are those of the Terminal. In UTF-8 each character beyond ASCII but
+    a C1 control sends itself. With terminal="xterm" a key sends what it does on an xterm, and names may have modifiers, as "C-Left".
+    Raises NoKey or NoCharacter, which are ValueErrors.
     """
+    if encoding not in ENCODINGS or terminal not in TERMINALS:
+        raise ValueError(f"no terminal has the encoding {encoding!r} and the terminal {terminal!r}")
+    language = 2 * TERMINALS.index(terminal) or ENCODINGS.index(encoding)
     text = key.encode("utf-8", "surrogateescape") if isinstance(key, str) else bytes(memoryview(key))
     sent, written = ctypes.create_string_buffer(KEY_LIMIT), ctypes.c_size_t()
-    _expect(_library.vt220_key(_Modes(*modes), text, len(text), sent, KEY_LIMIT, written))
+    _expect(_library.vt220_key(language, _Modes(*modes), text, len(text), sent, KEY_LIMIT, written))
     return sent.raw[: written.value]
 
 

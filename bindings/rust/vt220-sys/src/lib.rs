@@ -33,8 +33,12 @@ pub const VT220_PICTURE_LIMIT: usize = 659968;
 pub const VT220_PAINT_LIMIT: usize = 93512;
 pub const VT220_XTERM_PAINT_LIMIT: usize = 187060;
 pub const VT220_UPDATE_LIMIT: usize = 94152;
-pub const VT220_KEY_LIMIT: usize = 5;
+pub const VT220_KEY_LIMIT: usize = 7;
 pub const VT220_TYPED_LIMIT: usize = 16;
+
+pub const VT220_BYTES: u32 = 0;
+pub const VT220_UTF8: u32 = 1;
+pub const VT220_XTERM: u32 = 2;
 
 #[repr(C)]
 #[derive(Debug)]
@@ -292,7 +296,15 @@ extern "C" {
     pub fn vt220_is_between(t: *const vt220) -> bool;
     pub fn vt220_held_kind(t: *const vt220) -> u32;
     pub fn vt220_same_state(a: *const vt220, b: *const vt220) -> bool;
-    pub fn vt220_key(modes: *const vt220_mode_set, key: *const c_char, len: usize, out: *mut u8, size: usize, written: *mut usize) -> u32;
+    pub fn vt220_key(
+        language: u32,
+        modes: *const vt220_mode_set,
+        key: *const c_char,
+        len: usize,
+        out: *mut u8,
+        size: usize,
+        written: *mut usize,
+    ) -> u32;
     pub fn vt220_key_length(typed: *const c_char, len: usize) -> usize;
 }
 

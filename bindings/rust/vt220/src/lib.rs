@@ -166,23 +166,43 @@ pub fn version() -> u32 {
     unsafe { sys::vt220_version() }
 }
 
+/// What a host and its terminal speak.
+#[derive(Clone, Copy, Debug, Default, PartialEq, Eq)]
+pub enum Language {
+    /// A VT220's bytes.
+    #[default]
+    Bytes,
+    /// UTF-8.
+    Utf8,
+    /// What programs send under TERM=xterm, in UTF-8.
+    Xterm,
+}
+
 /// Returns what a key sends to the host under these modes, which `Terminal::modes` returns. The key is one character, a name such as
-/// `Up`, `Return` or `C-c`, or the sequence that a terminal sends for it, in UTF-8. vt220-keys.h lists the names.
+/// `Up`, `Return` or `C-c`, or the sequence that a terminal sends for it, in UTF-8. vt220-keys.h lists the names. To a host in UTF-8 each
+/// character beyond ASCII but a C1 control sends itself. Under TERM=xterm a name may have modifiers.
 ///
 /// ```
+/// use vt220::{key, Language};
 /// let modes = vt220::Terminal::new().unwrap().modes();
-/// assert_eq!(vt220::key("Up", &modes).unwrap(), b"\x1b[A");
-/// assert_eq!(vt220::key("\u{153}", &modes).unwrap(), b"\xf7");
+/// assert_eq!(key("Up", &modes, Language::Bytes).unwrap(), b"\x1b[A");
+/// assert_eq!(key("\u{153}", &modes, Language::Bytes).unwrap(), b"\xf7");
+/// assert_eq!(key("C-Left", &modes, Language::Xterm).unwrap(), b"\x1b[1;5D");
 /// ```
 ///
 /// # Errors
 ///
 /// `NoKey` if there is no such key; `NoCharacter` if it is a character that no key sends.
-pub fn key(key: impl AsRef<[u8]>, modes: &Modes) -> Result<Vec<u8>, Error> {
+pub fn key(key: impl AsRef<[u8]>, modes: &Modes, language: Language) -> Result<Vec<u8>, Error> {
+    let language = match language {
+        Language::Bytes => sys::VT220_BYTES,
+        Language::Utf8 => sys::VT220_UTF8,
+        Language::Xterm => sys::VT220_XTERM,
+    };
     let (key, modes, mut out, mut written) = (key.as_ref(), modes.handed_over(), vec![0; KEY_LIMIT], 0);
     let (at, size) = (out.as_mut_ptr(), out.len());
     // SAFETY: each length is that of its slice.
-    result(unsafe { sys::vt220_key(&modes, key.as_ptr().cast(), key.len(), at, size, &mut written) })?;
+    result(unsafe { sys::vt220_key(language, &modes, key.as_ptr().cast(), key.len(), at, size, &mut written) })?;
     out.truncate(written);
     Ok(out)
 }

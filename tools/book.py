@@ -201,6 +201,17 @@ def bodies(rule, places):
     return found
 
 
+def arms(rule):
+    """Returns the arms of the dispatcher for the final bytes of a rule's control sequences without marker and intermediate."""
+    if rule.section not in TABLES:
+        return []
+    rows = [line for sign, line in lines_of(ROOT / TABLES[rule.section]) if not sign and is_row_of(rule, sign, line)]
+    finals = [found[1] for line in rows if (found := re.match(r'\(byte \(codes "(.)"\)', line))]
+    text = (ROOT / SECTIONS[rule.section] / "src/functions.rt").read_text()
+    plain = re.search(r"^ *fn plain_sequence\(.*?^ *\}\n\n", text, re.M | re.S)[0]
+    return [arm.strip() for final in finals for arm in re.findall(rf"^ *b'{re.escape(final)}' => .*$", plain, re.M)]
+
+
 # --- vectors ---
 
 
@@ -335,7 +346,8 @@ def page_of(rule):
 def body_part(rule, places):
     found = sorted(bodies(rule, places), key=lambda one: len(one[2]))
     more = f"<p>Clauses of these cite it, too: {', '.join(f'<code>{e(name)}</code>' for _, name, _ in found[4:])}.</p>\n" if found[4:] else ""
-    return "<h2>Body</h2>\n" + ("".join(f"<p>{e(path.relative_to(TOP))}</p>\n{pre(text)}" for path, _, text in found[:4]) or "<p>No clause cites it alone.</p>\n") + more
+    calls = "".join(map(pre, arms(rule)))
+    return f"<h2>Body</h2>\n{calls}" + ("".join(f"<p>{e(path.relative_to(TOP))}</p>\n{pre(text)}" for path, _, text in found[:4]) or ("" if calls else "<p>No clause cites it alone.</p>\n")) + more
 
 
 def vectors_part(rule):

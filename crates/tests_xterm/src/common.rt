@@ -1,4 +1,4 @@
-//! Has what the tests share: terminals with a front.
+//! Terminals with a front, for several tests.
 ghost use Rattle.std.specs.Prelude.{◌≤◌};
 
 use std::alloc::{AllocError, Global};

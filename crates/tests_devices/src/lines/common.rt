@@ -1,4 +1,4 @@
-//! Has what the tests share: the lines that scroll off, alone or with those of screens that are blanked.
+//! The lines that scroll off, alone or with those of screens that are blanked, for several tests.
 ghost use Rattle.std.specs.Prelude.{◌≤◌};
 
 use std::alloc::{AllocError, Global};

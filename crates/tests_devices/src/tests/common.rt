@@ -1,4 +1,4 @@
-//! Has what the tests share.
+//! Functions for several tests.
 use std::alloc::AllocError;
 use std::io;
 

@@ -1,4 +1,4 @@
-//! Has what the tests share: the names of the events of some bytes.
+//! The names of the events of some bytes, for several tests.
 use crate::common::gives;
 use std::alloc::{AllocError, Global};
 use std::process::Abort;

@@ -1,4 +1,4 @@
-//! Has what the tests share.
+//! Functions for several tests.
 use std::fmt::Debug;
 use std::process::Abort;
 use testing::Found;

@@ -1,4 +1,4 @@
-//! Has what the tests of recordings share: rows that say how a recording is taken apart.
+//! Rows of how a recording is taken apart, for the tests of recordings.
 use std::alloc::Global;
 use vt_recording::{Break, Encoding, Format, Moment, take_apart};
 

@@ -1,4 +1,4 @@
-//! Has what the tests share: a terminal that was fed in pieces, and a replay.
+//! A terminal that was fed in pieces, and a replay, for several tests.
 ghost use Rattle.std.specs.Prelude.{◌≤◌};
 
 use std::alloc::{AllocError, Global};

@@ -1,4 +1,4 @@
-//! Has what the tests share: terminals, and updates that are played again.
+//! Terminals, and updates that are played again, for several tests.
 ghost use Rattle.std.specs.Prelude.{◌≤◌};
 
 use std::alloc::{AllocError, Global};

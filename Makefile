@@ -63,6 +63,7 @@ sources = crates.txt $(shell find $(addprefix crates/,$(call chain,$(1))) -minde
 
 PROGRAM := crates/vt220/out/vt220
 CHUNKS := crates/chunks/out/chunks
+READER := crates/recording_c/out/librecording_c.a
 SCREEN := crates/screen/out/screen
 
 .PHONY: everything program try screen lib keeper js install install-lib install-page uninstall crates version help
@@ -80,11 +81,13 @@ keeper: $(OUT)/vt220-keep
 # The time of what the toolchain builds is that of the beginning. So a source that changes meanwhile is newer.
 $(PROGRAM) $(SCREEN) $(CHUNKS): $$(call sources,$$(notdir $$@))
 	@begun=$$(mktemp); trap 'rm -f "$$begun"' EXIT; tools/prove $(notdir $@) run -- --help; touch -r "$$begun" $@
-$(NATIVE): $$(call sources,vt220_c)
-	@begun=$$(mktemp); trap 'rm -f "$$begun"' EXIT; tools/archive $(filter-out vt220_c,$(call chain,vt220_c)); touch -r "$$begun" $@
+# The crate of a static library, by its archive.
+crate_of = $(patsubst lib%.a,%,$(notdir $(1)))
+$(NATIVE) $(READER): $$(call sources,$$(call crate_of,$$@))
+	@begun=$$(mktemp); trap 'rm -f "$$begun"' EXIT; tools/archive $(call crate_of,$@) $(filter-out $(call crate_of,$@),$(call chain,$(call crate_of,$@))); touch -r "$$begun" $@
 
 crates/vt220_c/out/libvt220_c-aarch64.a: $(NATIVE)
-	@tools/compile-core aarch64-unknown-linux-gnu $@
+	@tools/compile-core vt220_c aarch64-unknown-linux-gnu $@
 
 # One object, in which only the library's own calls are global: two such libraries then link into one program.
 $(OUT)/objects/%.o: c/%.c $(HEADERS)
@@ -107,7 +110,7 @@ $(OUT)/%.h: include/%.h
 $(OUT)/vt220-keep: $(wildcard keep/*.[ch]) $(HEADERS) $(OUT)/libvt220.a
 	$(CC) $(CFLAGS) $(LDFLAGS) -Iinclude -o $@ keep/*.c $(OUT)/libvt220.a
 
-js: program lib $(CHUNKS)
+js: program lib $(CHUNKS) $(READER)
 	@js/build
 
 # What is installed: FROM:TO:MODE of each file, and TARGET:TO of each link. vt220.pc comes from standard input, since PREFIX may be another than

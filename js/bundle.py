@@ -19,20 +19,23 @@ def version():
 
 
 @functools.cache
-def notices():
-    """Returns a comment for a script that has the WebAssembly: the version, LICENCE, and the notices of others' code in it."""
-    text = f"vt220 {version()}\n\n{printed('licence', '--notice')}\nIt contains code of others, with these notices:\n{printed('third-party', '--library')}"
+def notices(part="--library"):
+    """Returns a comment for a script that has the WebAssembly: the version, LICENCE, and the notices of others' code in it. With the part
+    `--player` the script also has the reader of recordings."""
+    text = f"vt220 {version()}\n\n{printed('licence', '--notice')}\nIt contains code of others, with these notices:\n{printed('third-party', part)}"
     assert "*/" not in text and "</" not in text, "the notices would end the comment or the script"
     return f"/*!\n{text}*/\n"
 
 
 # The modules of a timeline, lowest first; those of the Worker that searches; and those of a player over them.
 TIMELINE = ["src/vt220.js", "src/finding.js", "src/timeline.js"]
-SERVING = [*TIMELINE, "src/serving.js"]
-PLAYER = ["src/playback.js", "src/screen.js", "src/live.js", "src/look.js", "src/notes.js", "src/packed.js", "src/searcher.js", "src/view.js", "src/player.js"]
+SERVING = [*TIMELINE, "src/reader.js", "src/serving.js"]
+PLAYER = ["src/playback.js", "src/screen.js", "src/sound.js", "src/typed.js", "src/live.js", "src/look.js", "src/notes.js", "src/reading.js", "src/packed.js", "src/searcher.js",
+          "src/recordings.js", "src/view.js", "src/player.js"]
 # What a script in one file has in place of what a module finds next to it.
 MODULE = "Returns the bytes of vt220.wasm next to this module"
-WORKER = "Returns a Worker that serves searches"
+READER = "Returns the bytes of reader.wasm next to this module"
+WORKER = "Returns a Worker that serves what serving.js does"
 
 
 def bundle(*names):
@@ -49,6 +52,11 @@ def with_module(text, value):
     return replaced(text, MODULE, f"/** Returns the bytes of vt220.wasm. */\nasync function nearby() {{\n  return {value};\n}}\n")
 
 
+def with_reader(text, value):
+    """Returns a bundle whose reader is the value of an expression."""
+    return replaced(text, READER, f"/** Returns the bytes of reader.wasm. */\nasync function nearbyReader() {{\n  return {value};\n}}\n")
+
+
 def replaced(text, comment, function):
     """Replaces the function whose comment begins so."""
     text, count = re.subn(rf"/\*\* {re.escape(comment)}.*?\n}}\n", lambda _: function, text, flags=re.S)
@@ -56,8 +64,9 @@ def replaced(text, comment, function):
     return text
 
 
-def player(value, *names):
-    """Returns a script of the modules of a player and others, in which the value of an expression is the module of WebAssembly.
+def player(value, reader, *names):
+    """Returns a script of the modules of a player and others, in which the values of two expressions are the modules of the terminal and of
+    the reader.
 
     The modules of a timeline are a function, whose text is also the script of the Worker that searches. That never asks for the module.
     """
@@ -65,6 +74,6 @@ def player(value, *names):
     inner = with_module(bundle(*SERVING), "packedModule()")
     worker = "let workerText = null;\n\n/** Returns a Worker of this script's own text. */\nfunction newWorker() {\n" \
         '  workerText ??= URL.createObjectURL(new Blob([`(${serving})().serve()`], { type: "text/javascript" }));\n  return new Worker(workerText);\n}\n'
-    outer = replaced(bundle(*PLAYER, *names), WORKER, worker)
+    outer = with_reader(replaced(bundle(*PLAYER, *names), WORKER, worker), reader)
     names = ", ".join(exported)
     return f"function serving() {{\n{inner}return {{ {names} }};\n}}\nconst {{ {names} }} = serving();\n\nfunction packedModule() {{\n  return {value};\n}}\n\n{outer}"

@@ -1,7 +1,7 @@
 // look.js: what the element <vt220-player> consists of, and its style. A page sets the custom properties that begin with --vt220-.
 
 export const MARKUP = `
-<div id="stage"><div id="screen" role="group" tabindex="0" aria-label="Terminal screen"></div></div>
+<div id="stage"><div id="screen" role="group" tabindex="0" aria-label="Terminal screen"></div><div id="typed" hidden></div></div>
 <fieldset id="controls" role="none" disabled>
 <div class="bar timed">
 <button id="play" aria-keyshortcuts="Space">Play</button>
@@ -45,8 +45,8 @@ export const STYLE = `
 * { box-sizing: border-box; }
 #stage { position: relative; }
 /* The text fills the width, but it is never smaller than the least size: then the screen scrolls. */
-#screen { --columns: 80; --glass: var(--vt220-background, #10140f); --glow: var(--vt220-foreground, #b8e0b0); --bright: var(--vt220-bright, #f0fff0); background: var(--glass); color: var(--glow); padding: .6em; border-radius: 6px;
-  overflow: auto hidden; outline-offset: 3px; font: max(var(--vt220-least, 12px), 100cqw / (var(--columns) * .602 + 1.4) * var(--scale, 1)) / 1.17 var(--vt220-font, "DejaVu Sans Mono", Menlo, Consolas, "Liberation Mono", monospace);
+#screen { --columns: 80; --wide: calc(100cqw / (var(--columns) * .602 + 1.4)); --high: calc(100cqh / (24 * 1.17 + 1.2)); --size: var(--wide); --glass: var(--vt220-background, #10140f); --glow: var(--vt220-foreground, #b8e0b0); --bright: var(--vt220-bright, #f0fff0); background: var(--glass); color: var(--glow); padding: .6em; border-radius: 6px;
+  overflow: auto hidden; outline-offset: 3px; font: max(var(--vt220-least, 12px), var(--size) * var(--scale, 1)) / 1.17 var(--vt220-font, "DejaVu Sans Mono", Menlo, Consolas, "Liberation Mono", monospace);
   font-variant-ligatures: none; cursor: text; min-height: calc(24 * 1.17em + 1.2em); }
 #screen.reversed { --glass: var(--vt220-foreground, #b8e0b0); --glow: var(--vt220-background, #10140f); --bright: #000000; }
 #screen div { white-space: pre; height: 1.17em; width: max-content; min-width: 100%; }
@@ -58,6 +58,16 @@ export const STYLE = `
 .playing #screen .k { animation-play-state: running; }
 #screen .c { background: var(--vt220-cursor, #5c8f55); color: #10140f; outline: 1px solid currentColor; outline-offset: -1px; }
 #screen mark, #screen mark[class] { background: var(--vt220-mark, #ffd54a); color: #000000; }
+/* A sign is drawn over its text, which isn't seen. Scan line 5 of 9 is in the middle. */
+#screen .sign { display: inline-block; position: relative; width: 1ch; height: 1.17em; vertical-align: top; overflow: hidden; -webkit-text-fill-color: transparent; }
+#screen .sign::before, #screen .sign::after { position: absolute; -webkit-text-fill-color: currentColor; line-height: 1; }
+#screen .scan::before { content: ""; left: 0; right: 0; top: calc(1.17em * (var(--scan) - .5) / 9 - .035em); border-top: .07em solid currentColor; }
+#screen .query::before { content: attr(data-first); inset: 0; line-height: 1.17; text-align: center; transform: scaleX(-1); }
+#screen .control::before, #screen .control::after { font-size: .58em; font-weight: bold; }
+#screen .control::before { content: attr(data-first); left: 0; top: .15em; }
+#screen .control::after { content: attr(data-second); right: 0; bottom: .15em; }
+#typed { position: absolute; left: 0; right: 0; bottom: .8em; text-align: center; pointer-events: none; }
+#typed kbd { display: inline-block; margin: .1em; padding: .1em .5em; color: #ffffff; background: #000000d0; border-color: #ffffffa0; }
 /* A row that differs from that of another recording. */
 #screen .d { box-shadow: inset .25em 0 var(--vt220-mark, #ffd54a); background: color-mix(in srgb, var(--vt220-mark, #ffd54a) 25%, transparent); }
 .waiting::after { content: ""; position: absolute; inset: 0; margin: auto; width: 4.5rem; height: 4.5rem; border-radius: 50%; background: #000000b0; pointer-events: none; }
@@ -89,13 +99,18 @@ option { color: #1a1a1a; background: #ffffff; }
 #markers { display: flex; flex-wrap: wrap; gap: .4rem; margin-top: .6rem; padding: 3px; max-height: 8rem; overflow: auto; }
 [hidden], #markers[hidden], .live .timed, :host([no-controls]) :is(.bar, #markers, #said, #notes, details) { display: none; }
 :host([no-controls]) #screen { --vt220-least: 0px; }
+/* With the attribute fit the element has the height of its place, and its screen what the controls leave of that. */
+:host(:is([fit=height], [fit=both])) { display: flex; flex-direction: column; height: 100%; min-height: 0; }
+:host(:is([fit=height], [fit=both])) #stage { flex: 1 1 0; min-height: 0; container-type: size; }
+:host([fit=height]) #screen { --size: calc((100cqh - 1rem) / (24 * 1.17 + 1.2)); } /* without what a scroll bar may take */
+:host([fit=both]) #screen { --size: min(var(--wide), var(--high)); }
 :host(:fullscreen) { overflow: auto; padding: 1rem max(1rem, (100vw - (100vh - 12rem) * 1.75) / 2); background: var(--ground); container-type: normal; }
 :host(:fullscreen) #stage { container-type: inline-size; }
 :host(:fullscreen) :is(details, #notes) { display: none; }
 details, #notes { margin: .5rem 0 0; }
 kbd { border: 1px solid var(--line); border-radius: 3px; padding: 0 .3em; font: inherit; }
 @media print {
-  .bar, details, #markers, #said, .waiting::before, .waiting::after { display: none; }
+  .bar, details, #markers, #said, #typed, .waiting::before, .waiting::after { display: none; }
   #screen, #screen.reversed { --glass: #ffffff; --glow: #000000; --bright: #000000; border: 1px solid #000000; }
 }
 `;

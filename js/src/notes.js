@@ -1,7 +1,7 @@
 // notes.js: sentences on what a VT220 can't show of a recording.
 
 const BYTES = 1 << 20; // that are counted at once
-const WAYS = ["as a similar one", "as \u2426", "not at all"];
+const WAYS = ["as a similar one", "as a mirrored question mark", "not at all"];
 
 /** Counts the characters beyond ASCII of bytes in UTF-8, a slice at a time, so that the page can be used meanwhile. */
 async function counted(bytes) {

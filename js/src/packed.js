@@ -1,4 +1,5 @@
 // packed.js: a recording as vt220-page writes it: JSON with the bytes and the list of chunks, both by gzip in base64.
+import { objectIn, valueIn } from "./reading.js";
 
 const SLICE = 1 << 20; // characters of base64, a multiple of four
 const LF = 10, SPACE = 32, ZERO = 48;
@@ -67,20 +68,24 @@ export async function opened({ bytes: packed, chunks }) {
   return { recording: { bytes, times, ends }, fill };
 }
 
-/** Returns the text that a source is or leads to: an address, JSON, a file, or bytes. */
-async function textOf(source) {
-  if (source instanceof Blob) return source.text();
-  if (source instanceof ArrayBuffer || ArrayBuffer.isView(source)) return new TextDecoder().decode(source);
-  if (/^\s*\{/.test(source)) return source;
+/** Returns a promise of the bytes that a source is or leads to: an address, a file, or bytes. */
+async function fileOf(source) {
+  if (source instanceof Blob) return new Uint8Array(await source.arrayBuffer());
+  if (source instanceof ArrayBuffer) return new Uint8Array(source);
+  if (ArrayBuffer.isView(source)) return new Uint8Array(source.buffer, source.byteOffset, source.byteLength);
   const response = await fetch(source);
   if (!response.ok) throw new TypeError(`${source} has the status ${response.status}`);
-  return response.text();
+  return new Uint8Array(await response.arrayBuffer());
 }
 
-/** Returns a promise of what a source has: `packed`, or the `recording` that it is. */
-export async function source(wanted) {
+/**
+ * Returns a promise of what a source has: the `recording` that it is, `packed`, if vt220-page wrote it, or any other `file`. The latter may
+ * have a timing file, of which there is a source.
+ */
+export async function source(wanted, timing) {
   if (wanted?.bytes instanceof Uint8Array) return { recording: wanted };
-  const packed = JSON.parse(await textOf(wanted));
-  if (typeof packed.bytes !== "string" || typeof packed.chunks !== "string") throw new TypeError("it isn't a recording that vt220-page wrote");
-  return { packed };
+  const isText = typeof wanted === "string" && /^\s*\{/.test(wanted), file = isText ? null : await fileOf(wanted);
+  const packed = isText ? valueIn(wanted) : objectIn(file);
+  if (typeof packed?.bytes === "string" && typeof packed.chunks === "string") return { packed };
+  return { file: file ?? new TextEncoder().encode(wanted), timing: timing === null ? null : await fileOf(timing) };
 }

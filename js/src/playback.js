@@ -17,6 +17,8 @@ export class Playback {
     /** The times of the markers, and whether it stops at each. */
     this.markers = [];
     this.stops = false;
+    /** What was typed: the time and the text of each. */
+    this.inputs = [];
     this.isPlaying = false;
     /** Where it begins to play, if that isn't the moment that is shown. */
     this.from = null;
@@ -57,14 +59,18 @@ export class Playback {
     this.changed();
   }
 
-  /** Tells of the markers after a time up to now. If it stops at markers, it goes back to the first one. */
+  /** Tells of what was typed and of the markers after a time up to now. If it stops at markers, it goes back to the first one. */
   pass(before) {
-    for (const time of this.markers.filter((marker) => before < marker && marker <= this.now)) {
-      this.told("marker", time);
-      if (!this.stops) continue;
-      this.now = time;
-      return this.pause();
-    }
+    const isPassed = (time) => before < time && time <= this.now, stop = this.stops ? this.markers.find(isPassed) : undefined;
+    if (stop !== undefined) this.now = stop;
+    for (const [time, data] of this.inputs) if (isPassed(time)) this.told("input", time, { data });
+    for (const time of this.markers.filter(isPassed)) this.told("marker", time);
+    if (stop !== undefined) this.pause();
+  }
+
+  /** Returns what was typed in so many seconds up to now. */
+  typed(seconds) {
+    return this.inputs.filter(([time]) => this.now - seconds < time && time <= this.now).map(([, data]) => data);
   }
 
   skipPause() {

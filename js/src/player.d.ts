@@ -17,26 +17,35 @@ export interface Options {
   encoding: Encoding;
   terminal: TerminalName;
   markers: [time: number, label: string][];
+  /** What was typed: the time and the text of each input. */
+  inputs: [time: number, data: string][];
+  keystrokes: boolean;
 }
 
 /**
- * The element `<vt220-player>`. It plays a recording that `vt220-page --data` wrote: at the address `src`, given as the property `src`, or in a
- * `<script type="application/json">` inside of the element. With the attribute `live` it shows what comes from a WebSocket or an EventSource.
+ * The element `<vt220-player>`. It plays a recording by asciinema, ttyrec or script, the bytes of a program, or what `vt220-page --data` wrote:
+ * at the address `src`, given as the property `src`, or inside of the element, in a `<script type="application/x-asciicast">` or, if
+ * vt220-page wrote it, `<script type="application/json">`. With the attribute `live` it shows what comes from a WebSocket or an EventSource.
  *
  * All players of a page share one core. Each property of an attribute is null if the attribute isn't there; the recording's own value counts then.
  *
  * It dispatches these events, whose `detail` has the `time` in seconds: `ready` (the first frame is shown), `play`, `pause`, `ended`, `seeked`,
- * `marker` (also with `index` and `label`), `offline` (a live one lost its connection, and connects again). `error` has a `reason` and the `error`.
+ * `marker` (also with `index` and `label`), `input` (also with `data`, what was typed then), `offline` (a live one lost its connection, and
+ * connects again). `error` has a `reason` and the `error`.
  */
 export declare class Vt220Player extends HTMLElement {
   /** What load() takes for the shared core; set it before the first player is made. */
   static wasm: Source | Promise<Source> | undefined;
+  /** reader.wasm in the same way. It is loaded when a player gets a recording that vt220-page didn't write. */
+  static reader: Source | Promise<Source> | undefined;
   /** A promise of the shared core. */
   static readonly core: Promise<Core>;
   /** A promise that the whole recording has come, or can't. */
   readonly loaded: Promise<void>;
-  /** The address of the recording, or the recording: a file or bytes that vt220-page wrote, or the bytes with their times. */
+  /** The address of the recording, or the recording: a file, its bytes, or the bytes of a program with their times. */
   src: string | Blob | ArrayBuffer | Uint8Array | Recording | null;
+  /** The address of the timing file of script, or the file: `src` is then the typescript. */
+  timing: string | Blob | ArrayBuffer | Uint8Array | null;
   /** `start`: where it begins to play, in seconds. */
   startAt: number | null;
   /** `poster`: the moment that is shown before it plays. */
@@ -55,6 +64,12 @@ export declare class Vt220Player extends HTMLElement {
   terminal: TerminalName | null;
   /** `links`: follows #t=SECONDS and #q=TEXT of the page's address, and has a button that copies such a link. */
   links: boolean | null;
+  /** `fit`: what the size of the text is taken from: the width of the element (otherwise), its height, or the smaller of both. */
+  fit: "width" | "height" | "both" | null;
+  /** `keystrokes`: shows the keys that were typed. */
+  keystrokes: boolean | null;
+  /** `audio-url`: the address of the sound, which is played in step. Pauses aren't skipped then, unless that is chosen. */
+  audioUrl: string | null;
   /** Plays, as soon as it is ready. */
   play(): Promise<void>;
   pause(): Promise<void>;

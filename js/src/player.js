@@ -3,13 +3,16 @@ import { Live, connected } from "./live.js";
 import { MARKUP, STYLE } from "./look.js";
 import { lacking } from "./notes.js";
 import { opened, source } from "./packed.js";
+import { played } from "./reading.js";
+import { Reader } from "./recordings.js";
 import { Searcher } from "./searcher.js";
 import { Timeline } from "./timeline.js";
 import { View, seconds } from "./view.js";
 import { Vt220Error, load } from "./vt220.js";
 
 // How a recording plays, if neither it nor an attribute says so.
-const DEFAULTS = { start: 0, poster: null, speed: 1, pause: 1, autoplay: false, loop: false, stops: false, controls: true, encoding: "dec", terminal: "vt220", markers: [] };
+const DEFAULTS = { start: 0, poster: null, speed: 1, pause: 1, autoplay: false, loop: false, stops: false, controls: true, encoding: "dec", terminal: "vt220", markers: [],
+  inputs: [], keystrokes: false, audio: null };
 const FLAG = { read: () => true, write: (value) => (value ? "" : null) };
 const TIME = { read: seconds, write: String }, NUMBER = { read: Number, write: String }, TEXT = { read: String, write: String };
 const LOOP = { read: (text) => text === "" || Number(text), write: (value) => (value === true ? "" : value === false ? null : String(value)) };
@@ -19,6 +22,7 @@ const ATTRIBUTES = {
   start: ["startAt", "start", TIME], poster: ["poster", "poster", TIME], speed: ["speed", "speed", NUMBER], "idle-limit": ["idleTimeLimit", "pause", NUMBER],
   autoplay: ["autoPlay", "autoplay", FLAG], loop: ["loop", "loop", LOOP], markers: ["markers", "markers", MARKERS], "pause-on-markers": ["pauseOnMarkers", "stops", FLAG],
   encoding: ["encoding", "encoding", TEXT], terminal: ["terminal", "terminal", TEXT], links: ["links", "links", FLAG],
+  fit: ["fit", "fit", TEXT], keystrokes: ["keystrokes", "keystrokes", FLAG], "audio-url": ["audioUrl", "audio", TEXT],
 };
 const LONGEST_TURN = 30; // milliseconds without a turn of the page
 const EVENTS = { seek: "seeked" };
@@ -34,19 +38,27 @@ const turn = () => new Promise((resolve) => setTimeout(resolve));
 export class Vt220Player extends Base {
   /** What load() takes for the core that all players share; set it before the first one. */
   static wasm = undefined;
+  /** What reads recordings that vt220-page didn't write: reader.wasm, as `wasm`; set it before the first one. */
+  static reader = undefined;
   static #core = null;
-  #given = null;
+  static #reader = null;
+  #given = { src: null, timing: null };
   #openings = 0;
   #parts = [];
   #view = null;
 
   static get observedAttributes() {
-    return ["src", "live", "speed", "label"];
+    return ["src", "timing", "live", "speed", "label", "keystrokes"];
   }
 
   /** A promise of the core that all players share. */
   static get core() {
     return (Vt220Player.#core ??= load(Vt220Player.wasm));
+  }
+
+  /** The reader that all players share, which is loaded when it is needed. */
+  static get #recordings() {
+    return (Vt220Player.#reader ??= new Reader(Vt220Player.reader));
   }
 
   constructor() {
@@ -58,6 +70,8 @@ export class Vt220Player extends Base {
     const root = this.attachShadow({ mode: "open", delegatesFocus: false });
     root.innerHTML = MARKUP;
     root.adoptedStyleSheets = [sheet];
+    // An event `input` of the element is what was typed in the recording.
+    root.addEventListener("input", (event) => event.stopPropagation());
     /** A promise that the whole recording has come, or can't. */
     this.loaded = Promise.resolve();
     /** A promise of the end of the notes, once the recording has come. */
@@ -75,21 +89,39 @@ export class Vt220Player extends Base {
 
   attributeChangedCallback(name, before, now) {
     if (name === "speed") this.#view?.setSpeed(now);
+    else if (name === "keystrokes") this.#view?.showKeystrokes(now !== null);
     else if (name === "label") this.shadowRoot.getElementById("screen").setAttribute("aria-label", now ?? "Terminal screen");
     else if (this.isConnected && before !== now && document.readyState !== "loading") {
-      this.#given = null;
+      if (name in this.#given) this.#given[name] = null;
       this.#open();
     }
   }
 
   /** The address of the recording, or the recording that was given. */
   get src() {
-    return this.#given ?? this.getAttribute("src");
+    return this.#source("src");
   }
 
   set src(value) {
-    if (typeof value === "string") return this.setAttribute("src", value);
-    this.#given = value;
+    this.#give("src", value);
+  }
+
+  /** The address of the timing file of script, or the file that was given. */
+  get timing() {
+    return this.#source("timing");
+  }
+
+  set timing(value) {
+    this.#give("timing", value);
+  }
+
+  #source(name) {
+    return this.#given[name] ?? this.getAttribute(name);
+  }
+
+  #give(name, value) {
+    if (typeof value === "string") return this.setAttribute(name, value);
+    this.#given[name] = value;
     if (this.isConnected) this.#open();
   }
 
@@ -112,7 +144,7 @@ export class Vt220Player extends Base {
 
   /** Returns what is to be played: what was given, at the address, or inside of the element; or null. */
   #wanted() {
-    return this.src ?? this.querySelector(':scope > script[type="application/json"]')?.textContent ?? null;
+    return this.src ?? this.querySelector(':scope > script:is([type="application/json"], [type="application/x-asciicast"])')?.textContent ?? null;
   }
 
   #open() {
@@ -146,16 +178,23 @@ export class Vt220Player extends Base {
     return options;
   }
 
+  /** Returns the terminal and the encoding that attributes ask for. */
+  #asked() {
+    const asked = ["terminal", "encoding"].filter((name) => this.hasAttribute(name));
+    return Object.fromEntries(asked.map((name) => [name, this.getAttribute(name)]));
+  }
+
   async #load(wanted, core, because, isOver) {
     because("The recording can't be fetched.");
-    const { packed, recording, notes = [] } = await source(wanted);
-    because("The recording is damaged.");
-    const options = this.#options(packed?.options), made = packed ? await opened(packed) : { recording };
+    const { packed, recording, file, timing } = await source(wanted, this.timing);
+    because(file ? "The recording can't be read." : "The recording is damaged.");
+    const made = packed ? { ...packed, ...(await opened(packed)) } : file ? await played(Vt220Player.#recordings, file, timing, this.#asked()) : { recording };
     if (isOver()) return;
+    const options = this.#options(made.options), notes = made.notes ?? [];
     const { encoding, terminal } = options, line = new Timeline(core, made.recording, { encoding, terminal });
     const searcher = new Searcher(core, line, made.recording, { encoding, terminal });
     this.#parts.push(searcher, line);
-    if (made.fill) await this.#fill(made.fill, line, () => this.#begin(core, line, searcher, options, packed.notes ?? notes), options, isOver);
+    if (made.fill) await this.#fill(made.fill, line, () => this.#begin(core, line, searcher, options, notes), options, isOver);
     else this.#begin(core, line, searcher, options, notes);
     if (!isOver()) this.noted = this.#note(core, line, made.recording.bytes, isOver);
   }
@@ -235,9 +274,9 @@ export class Vt220Player extends Base {
   }
 
   /** Tells of an event, as a DOM event. */
-  tell(event, time) {
+  tell(event, time, more = {}) {
     const markers = this.#view?.options.markers ?? [], index = event === "marker" ? markers.findIndex(([each]) => each === time) : -1;
-    const detail = index < 0 ? { time } : { index, time, label: markers[index][1] };
+    const detail = index < 0 ? { time, ...more } : { index, time, label: markers[index][1] };
     this.dispatchEvent(new CustomEvent(EVENTS[event] ?? event, { detail }));
   }
 

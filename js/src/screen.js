@@ -2,6 +2,10 @@
 import { covered, pattern } from "./finding.js";
 import { ROWS, Terminal } from "./vt220.js";
 
+// Characters that many fonts lack. They are drawn: a mirrored question mark, the scan lines of special graphics, and the letters of control
+// characters. A scan line has its number.
+const SIGNS = { "\u2426": "?", "\u23ba": 1, "\u23bb": 3, "\u23bc": 7, "\u23bd": 9, "\u2409": "HT", "\u240c": "FF", "\u240d": "CR", "\u240a": "LF", "\u2424": "NL", "\u240b": "VT" };
+
 /** Returns the classes of a cell. */
 function look(cell, isCursor) {
   const names = [];
@@ -18,17 +22,26 @@ function runs(cells, cursor, hits) {
   const made = [];
   cells.forEach((cell, i) => {
     const name = look(cell, i + 1 === cursor), isHit = hits.has(i), last = made.at(-1);
-    if (last && last.name === name && last.isHit === isHit) last.text += cell.glyph;
-    else made.push({ text: cell.glyph, name, isHit });
+    const sign = SIGNS[cell.glyph];
+    if (last && last.name === name && last.isHit === isHit && sign === undefined && last.sign === undefined) last.text += cell.glyph;
+    else made.push({ text: cell.glyph, name, isHit, sign });
   });
   return made;
 }
 
-function element({ text, name, isHit }) {
-  if (name === "" && !isHit) return document.createTextNode(text);
+/** Draws a sign by its letters or its scan line. Its text stays what it is, for who selects it or reads it aloud. */
+function draw(place, sign) {
+  place.classList.add(typeof sign === "number" ? "scan" : sign === "?" ? "query" : "control", "sign");
+  if (typeof sign === "number") place.style.setProperty("--scan", sign);
+  else [place.dataset.first, place.dataset.second = ""] = sign;
+}
+
+function element({ text, name, isHit, sign }) {
+  if (name === "" && !isHit && sign === undefined) return document.createTextNode(text);
   const made = document.createElement(isHit ? "mark" : "span");
   if (name !== "") made.className = name;
   made.textContent = text;
+  if (sign !== undefined) draw(made, sign);
   return made;
 }
 

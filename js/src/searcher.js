@@ -1,7 +1,7 @@
 // searcher.js: searches in a Worker, so that the page can be used meanwhile. Without a Worker they are on the page's thread.
 
-/** Returns a Worker that serves searches. A script in one file makes it of its own text. */
-function newWorker() {
+/** Returns a Worker that serves what serving.js does. A script in one file makes it of its own text. */
+export function newWorker() {
   return new Worker(new URL("./worker.js", import.meta.url), { type: "module" });
 }
 

@@ -2,12 +2,16 @@
 import { pattern } from "./finding.js";
 import { Playback } from "./playback.js";
 import { Screen, selectionIn } from "./screen.js";
+import { Sound } from "./sound.js";
+import { keyNames } from "./typed.js";
 
 const SPEEDS = [0.25, 0.5, 1, 2, 4, 8, 16];
 const SCALES = [0.5, 0.75, 1, 1.25, 1.5, 2, 3, 4];
 const FAR = 5; // seconds of the arrow keys; with Shift they go a tenth
 // In a hidden page no frame comes. What is played between two frames is at most this long, in seconds.
 const LONGEST_STEP = 0.5;
+const TYPED_FOR = 1.5; // seconds for which a key is shown
+const MOST_TYPED = 12; // keys that are shown at once
 // A character that a Mac may type with Option. With Alt, letters, digits and blanks are for the browser.
 const SIGN = /^[^\w\s]$/;
 
@@ -63,8 +67,11 @@ export class View {
     // Whether the focus was last moved by a pointer, what was selected then, and whether the last click on the screen plays or pauses.
     Object.assign(this, { isPointed: false, hadSelection: false, isClick: false });
     const find = (text, how) => searcher.search(text, how);
-    this.player = new Playback(line, { changed: () => this.draw(), told: (event, time) => this.told(event, time), find });
-    Object.assign(this.player, { loops: options.loop === true ? Infinity : Number(options.loop), longestPause: options.pause, stops: options.stops, markers: options.markers.map(([time]) => time) });
+    this.player = new Playback(line, { changed: () => this.draw(), told: (event, time, more) => this.told(event, time, more), find });
+    Object.assign(this.player, { loops: options.loop === true ? Infinity : Number(options.loop), longestPause: options.pause, stops: options.stops, markers: options.markers.map(([time]) => time), inputs: options.inputs });
+    // What is heard would be out of step if pauses were skipped.
+    this.sound = options.audio === null ? null : new Sound(options.audio);
+    this.$("skip").checked = this.player.skips = this.sound === null;
     this.$("controls").disabled = false;
     this.$("full").hidden = !document.fullscreenEnabled;
     this.$("link").hidden = !options.links;
@@ -84,7 +91,9 @@ export class View {
   close() {
     this.player.isPlaying = false;
     this.abort.abort();
+    this.sound?.close();
     this.screen.close();
+    this.$("typed").replaceChildren();
     this.$("markers").replaceChildren();
     this.$("notes").querySelector("ul").replaceChildren();
   }
@@ -124,9 +133,9 @@ export class View {
   }
 
   /** Tells the element's page of an event. The sign that it waits goes with the first one. */
-  told(event, time) {
+  told(event, time, more) {
     this.$("stage").classList.remove("waiting");
-    this.host.tell(event, time);
+    this.host.tell(event, time, more);
   }
 
   /** Goes to the moment or the search of the link. */
@@ -328,7 +337,22 @@ export class View {
     this.$("clock").textContent = `${time} / ${clock(line.duration)}`;
     this.$("play").textContent = player.isPlaying ? "Pause" : "Play";
     this.$("stage").classList.toggle("playing", player.isPlaying || this.options.isLive);
+    this.drawTyped();
+    this.sound?.follow(player);
     this.drawn();
+  }
+
+  /** Shows the keys that were typed last, if that is wanted. */
+  drawTyped() {
+    const names = this.options.keystrokes ? this.player.typed(TYPED_FOR).flatMap(keyNames) : [], place = this.$("typed");
+    place.replaceChildren(...names.slice(-MOST_TYPED).map((name) => Object.assign(document.createElement("kbd"), { textContent: name })));
+    place.hidden = names.length === 0;
+  }
+
+  /** Shows what was typed, or no longer does. */
+  showKeystrokes(isShown) {
+    this.options.keystrokes = isShown;
+    this.drawTyped();
   }
 
   /** Draws the spans of the search, and the markers, under the bar. */

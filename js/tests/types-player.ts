@@ -6,6 +6,9 @@ export async function use(bytes: Uint8Array): Promise<number | null> {
   for (const source of ["x.json", new Blob([]), bytes, { bytes, times: [0], ends: [bytes.length] }, null]) player.src = source;
   Object.assign(player, { startAt: 3, poster: null, autoPlay: true });
   player.loop = 3;
+  for (const timing of ["x.timing", new Blob([]), bytes, null]) player.timing = timing;
+  Object.assign(player, { fit: "both", keystrokes: true, audioUrl: "x.opus" });
+  Vt220Player.reader = fetch("reader.wasm");
   player.markers = [1, [2, "two"]];
   Vt220Player.wasm = fetch("vt220.wasm");
   await player.loaded;

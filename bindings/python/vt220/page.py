@@ -18,9 +18,9 @@ __all__ = ["FIELDS", "NoTemplate", "page", "recording", "side_by_side", "templat
 
 # The fields that a template leaves open.
 FIELDS = ("TITLE", "PLAYERS")
-# How a page plays, if its options don't name it. Times are in seconds; a marker is a time and a label.
+# How a page plays, if its options don't name it. Times are in seconds; a marker is a time and a label, and an input a time and a text.
 OPTIONS: Mapping[str, object] = {"start": 0, "poster": None, "speed": 1, "pause": 1, "autoplay": False, "loop": False, "stops": False, "controls": True,
-                                "encoding": "dec", "terminal": "vt220", "markers": ()}
+                                "encoding": "dec", "terminal": "vt220", "markers": (), "inputs": (), "keystrokes": False}
 
 
 class NoTemplate(OSError):

@@ -1,0 +1,6 @@
+//! The reader of recordings for C, and for all that calls C. js/ makes a module of WebAssembly of it.
+#![tactic(auto)]
+
+mod events;
+mod heading;
+mod status;

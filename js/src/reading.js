@@ -1,0 +1,131 @@
+// reading.js: what is played of a file: a recording by asciinema, ttyrec or script, or the bytes of a program. vt220-page does the same.
+import { INPUT, MARKER, OUTPUT } from "./reader.js";
+
+const CHUNK = 48, PACE = 0.05; // a line of 9600 baud carries 960 bytes a second: a chunk every 50 ms
+const WIDE = 132, SIZES = [80, WIDE], HEIGHT = 24;
+const TO_WIDE = { vt220: "\x1b[?3h", xterm: "\x1b[?40h\x1b[?3h\x1b[?40l" };
+
+const utf8 = { from: (text) => new TextEncoder().encode(text), to: (bytes) => new TextDecoder().decode(bytes) };
+
+/** Returns the value that a text in JSON is, or null. */
+export function valueIn(text) {
+  try {
+    return JSON.parse(text);
+  } catch {
+    return null;
+  }
+}
+
+const isObject = (value) => typeof value === "object" && value !== null && !Array.isArray(value);
+
+/** Returns the object in JSON that a file's first line is, or the file as a whole, or null. */
+export function objectIn(file) {
+  if (!utf8.to(file.subarray(0, 1024)).trimStart().startsWith("{")) return null;
+  const end = file.indexOf(0x0a), value = (end < 0 ? null : valueIn(utf8.to(file.subarray(0, end)))) ?? valueIn(utf8.to(file));
+  return isObject(value) ? value : null;
+}
+
+/**
+ * Returns a recording by asciinema of version 1, which is one value, as the lines of version 3. Returns any other file as it is. Both count
+ * the time of an event from the one before it.
+ */
+function inLines(file, cast) {
+  if (cast?.version !== 1 || !Array.isArray(cast.stdout)) return file;
+  const { stdout, ...header } = cast;
+  const events = stdout.map((event) => (Array.isArray(event) ? [event[0], "o", ...event.slice(1)] : event));
+  const term = { cols: cast.width, rows: cast.height, type: isObject(cast.env) ? cast.env.TERM : undefined };
+  return utf8.from([{ ...header, version: 3, term }, ...events].map((line) => `${JSON.stringify(line)}\n`).join(""));
+}
+
+/** Returns the times and the ends of chunks of bytes that have no times. */
+function at9600Baud(length) {
+  const count = Math.ceil(length / CHUNK);
+  return { times: Float64Array.from({ length: count }, (_, i) => PACE * (i + 1)), ends: Float64Array.from({ length: count }, (_, i) => Math.min(length, CHUNK * (i + 1))) };
+}
+
+/** Moves the bytes of the events that are output together, and returns these, with their times and ends. A time that is earlier than the one before it is that one. */
+function outputOf({ events: { times, lengths, kinds }, text }) {
+  const isHeard = (i) => kinds[i] === OUTPUT && lengths[i] > 0, heard = kinds.reduce((sum, _, i) => sum + isHeard(i), 0);
+  const made = { bytes: text, times: new Float64Array(heard), ends: new Float64Array(heard) };
+  let chunk = 0, from = 0, to = 0, time = 0;
+  kinds.forEach((_, i) => {
+    if (isHeard(i)) {
+      text.copyWithin(to, from, from + lengths[i]);
+      made.times[chunk] = time = Math.max(time, times[i]);
+      made.ends[chunk++] = to += lengths[i];
+    }
+    from += lengths[i];
+  });
+  made.bytes = text.subarray(0, to);
+  return made;
+}
+
+/** Returns the times and the texts of the events of a kind. */
+function textsOf({ events: { times, lengths, kinds }, text }, wanted) {
+  const made = [];
+  let at = 0;
+  kinds.forEach((kind, i) => {
+    if (kind === wanted) made.push([times[i], utf8.to(text.subarray(at, at + lengths[i]))]);
+    at += lengths[i];
+  });
+  return made;
+}
+
+/** Returns the terminal and the encoding for which a recording is played: those that are asked for, otherwise those of its first line. */
+function language(read, isCast, { terminal: asked, encoding }) {
+  const terminal = asked ?? (encoding === "dec" ? "vt220" : read.terminal ?? "vt220");
+  return { terminal, encoding: terminal === "xterm" || isCast ? "utf-8" : encoding ?? "dec" };
+}
+
+/** Puts the bytes that make the screen 132 columns wide before a recording. */
+function widened({ bytes, times, ends }, terminal) {
+  const front = utf8.from(TO_WIDE[terminal]), all = new Uint8Array(front.length + bytes.length);
+  all.set(front);
+  all.set(bytes, front.length);
+  const made = { bytes: all, times: new Float64Array(times.length + 1), ends: new Float64Array(ends.length + 1) };
+  made.times.set(times, 1);
+  made.ends.set(ends, 1);
+  made.ends.forEach((end, i) => (made.ends[i] = end + front.length));
+  return made;
+}
+
+/** Returns whether bytes have characters beyond ASCII, and all are characters in UTF-8. */
+function looksUtf8(bytes) {
+  if (!bytes.some((byte) => byte > 0x7f)) return false;
+  try {
+    new TextDecoder("utf-8", { fatal: true }).decode(bytes);
+    return true;
+  } catch {
+    return false;
+  }
+}
+
+/** Returns what a VT220 can't show of a recording, a sentence each. */
+function notesOn(read, isTimed, bytes, { terminal, encoding }) {
+  const [columns, rows] = read.size ?? [SIZES[0], HEIGHT], notes = [];
+  if (!SIZES.includes(columns) || rows !== HEIGHT) notes.push(`It was recorded in a window of ${columns} columns and ${rows} rows. A VT220 has 80 or 132 columns and 24 rows, so lines may be in other places.`);
+  if (read.terminal === "xterm" && terminal === "vt220") notes.push("It was recorded for an xterm. A VT220 ignores what it doesn't know of it, such as colours.");
+  if (terminal === "xterm") notes.push("Colours aren't shown.");
+  if (encoding === "dec" && looksUtf8(bytes)) notes.push("Its bytes look like UTF-8, which a VT220 doesn't read.");
+  if (!isTimed) notes.push("It has no times, and is played as over a line of 9600 baud.");
+  if (read.broken !== null) notes.push(`${read.broken.part === "timing" ? "Its timing file" : "It"} breaks its format at byte ${read.broken.at}. What follows isn't shown.`);
+  return notes;
+}
+
+/**
+ * Returns a promise of what is played of a file: the recording, the options that it has, and notes. `timing` is the timing file of script, or
+ * null. `asked` has the terminal and the encoding that are asked for, if any.
+ */
+export async function played(reader, file, timing, asked) {
+  const header = objectIn(file), read = await reader.read(inLines(file, header), timing), isCast = read.format === "asciicast";
+  if (read.format === "compressed") throw new TypeError("it is compressed: decompress it first");
+  if (!isCast && Number.isInteger(header?.version)) throw new TypeError(`it is by asciinema, of version ${header.version}, which isn't known`);
+  const isTimed = isCast || read.format === "ttyrec" || timing !== null, chosen = language(read, isCast, asked);
+  const markers = textsOf(read, MARKER), inputs = textsOf(read, INPUT), output = outputOf(read);
+  const timed = isTimed ? output : { bytes: output.bytes, ...at9600Baud(output.bytes.length) }, limit = header?.idle_time_limit;
+  return {
+    recording: read.size?.[0] === WIDE ? widened(timed, chosen.terminal) : timed,
+    options: { ...chosen, markers, inputs, ...(limit >= 0 && { pause: limit }) },
+    notes: notesOn(read, isTimed, output.bytes, chosen),
+  };
+}

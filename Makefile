@@ -1,11 +1,12 @@
 # Builds and installs. crates.txt is the graph of the crates. The toolchain proves what isn't proved before it builds.
 #
-#   make              the program, the library for C and the session keeper
+#   make              the program, the library for C, the session keeper and the fleet's holder of programs
 #   make program      crates/vt220/out/vt220, which ./vt220 runs
 #   make try          prints the screen that the bytes of standard input leave, or those of a small example. The core runs without a proof
 #   make screen       crates/screen/out/screen, the smallest program over the core, which is proved first
 #   make lib          the library for C in out/: libvt220.a, libvt220.so and vt220.pc, with its headers
 #   make keeper       out/vt220-keep
+#   make holder       out/vt220-fleet-holder, which needs nothing that is proved
 #   make js           the package for JavaScript in out/js/: vt220.wasm, package/ and vt220-VERSION.tgz; and what js/vt220-page
 #                     and the fleet's page need
 #   make install      installs these under PREFIX with their manual pages and completions, and prints each file
@@ -66,8 +67,8 @@ CHUNKS := crates/chunks/out/chunks
 READER := crates/recording_c/out/librecording_c.a
 SCREEN := crates/screen/out/screen
 
-.PHONY: everything program try screen lib keeper js install install-lib install-page uninstall crates version help
-everything: program lib keeper
+.PHONY: everything program try screen lib keeper holder js install install-lib install-page uninstall crates version help
+everything: program lib keeper holder
 program: $(PROGRAM)
 screen: $(SCREEN)
 # What rt prints besides the screen is shown if it fails.
@@ -77,6 +78,7 @@ try:
 	  cd crates/screen; rt try 2>"$$log" || { cat "$$log" >&2; exit 1; }
 lib: $(OUT)/libvt220.a $(OUT)/libvt220.so $(OUT)/vt220.pc $(addprefix $(OUT)/,$(notdir $(HEADERS)))
 keeper: $(OUT)/vt220-keep
+holder: $(OUT)/vt220-fleet-holder
 
 # The time of what the toolchain builds is that of the beginning. So a source that changes meanwhile is newer.
 $(PROGRAM) $(SCREEN) $(CHUNKS): $$(call sources,$$(notdir $$@))
@@ -109,6 +111,9 @@ $(OUT)/%.h: include/%.h
 	@cp $< $@
 $(OUT)/vt220-keep: $(wildcard keep/*.[ch]) $(HEADERS) $(OUT)/libvt220.a
 	$(CC) $(CFLAGS) $(LDFLAGS) -Iinclude -o $@ keep/*.c $(OUT)/libvt220.a
+$(OUT)/vt220-fleet-holder: fleet/holder/holder.c $(wildcard keep/command.[ch] keep/frame.[ch])
+	@mkdir -p $(@D)
+	$(CC) -std=c11 $(CFLAGS) $(LDFLAGS) -o $@ $(filter %.c,$^)
 
 js: program lib $(CHUNKS) $(READER)
 	@js/build

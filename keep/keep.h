@@ -68,9 +68,6 @@ int wire_begin(int socket, char ask, uint8_t flags, struct hello *hello, char *w
 struct hello wire_greet(int socket, const char *name, char ask, uint8_t flags); /* ends the program unless the keeper will do what it is asked */
 /* Ends the program if a keeper that closed the connection has ended. So has the session then, which is what was asked of a kill. */
 void wire_look_for_end(const char *name, char ask);
-bool wire_send(int socket, char letter, const void *bytes, size_t len);
-bool wire_receive(int socket, char *letter, uint8_t *bytes, size_t room, size_t *len);
-void wire_patience(int socket, int milliseconds);
 /* Sends a request and reads the reply. Ends the program if there is none. `bytes` has FRAME_LIMIT bytes. */
 size_t wire_ask(int socket, const char *name, char ask, const char *argument, uint8_t *bytes);
 /* Asks the keeper to become the program that runs here. Ends the program if it doesn't. */

@@ -1,17 +1,13 @@
 /* The keeper's side of the program: its pseudo-terminal, and the terminal that plays what it writes. */
 #include "session.h"
+#include "command.h"
 #include <errno.h>
-#include <fcntl.h>
-#include <pty.h>
 #include <signal.h>
 #include <stdio.h>
 #include <stdlib.h>
 #include <string.h>
 #include <sys/ioctl.h>
-#include <sys/wait.h>
-#include <termios.h>
 #include <unistd.h>
-#include <utmp.h>
 
 enum { DRAIN_LIMIT = 256 /* the most chunks that are read once the command has ended */ };
 
@@ -130,17 +126,10 @@ void drain_program(void) {
 
 /* --- the command --- */
 
-/* Resets every signal, also those that the parent ignores, so that Ctrl-C can end the command. */
-static void free_signals(void) {
-    sigset_t none;
-    sigemptyset(&none);
-    for (int number = 1; number < NSIG; number++) signal(number, SIG_DFL);
-    sigprocmask(SIG_SETMASK, &none, NULL);
-}
-
 /* Sets the environment to the command's terminal, and removes that of the terminal on which `vt220-keep new` ran. If the terminal doesn't
  * read UTF-8, the C locale is needed: many bytes of UTF-8 are control characters there, and one can hide all that follows. */
-static void set_environment(const struct beginning *beginning) {
+static void set_environment(const void *of) {
+    const struct beginning *beginning = of;
     static const char *const others[] = {
         "ABDUCO_SESSION", "ABDUCO_SOCKET", "ALACRITTY_LOG", "ALACRITTY_SOCKET", "ALACRITTY_WINDOW_ID", "COLORFGBG", "COLORTERM", "COLUMNS",
         "GNOME_TERMINAL_SCREEN", "GNOME_TERMINAL_SERVICE", "INSIDE_EMACS", "ITERM_PROFILE", "ITERM_SESSION_ID", "KITTY_PID",
@@ -155,50 +144,16 @@ static void set_environment(const struct beginning *beginning) {
     if (*locale != 0) setenv("LC_ALL", locale, 1);
 }
 
-static noreturn void become_command(const struct beginning *beginning, int told) {
-    free_signals();
-    set_environment(beginning);
-    int why = login_tty(the.slave) == 0 ? 0 : errno;
-    if (why == 0) execvp(beginning->command[0], beginning->command);
-    why = why == 0 ? errno : why;
-    if (write(told, &why, sizeof why) < 0) _exit(1);
-    _exit(127);
-}
-
-/* Sets whether the line erases whole characters of UTF-8. */
-static void set_line(bool is_utf8) {
-    struct termios it;
-    if (tcgetattr(the.slave, &it) != 0) return;
-    it.c_iflag = is_utf8 ? it.c_iflag | IUTF8 : it.c_iflag & ~(tcflag_t)IUTF8;
-    tcsetattr(the.slave, TCSANOW, &it);
-}
-
 /* Runs the command on a new pseudo-terminal. The keeper keeps the other side open as well, so that it never looks closed while the
  * command runs. Returns true when the command runs. Returns false if it can't be run: *status is then that of env(1). */
 bool run_command(const struct beginning *beginning, char *why, int *status) {
-    struct winsize size = {.ws_row = VT220_ROWS, .ws_col = 80};
-    int told[2], error = 0;
-    *status = 1;
+    struct line line;
     the.width = 80;
-    if (pipe2(told, O_CLOEXEC) != 0 || openpty(&the.master, &the.slave, NULL, NULL, &size) != 0) {
-        snprintf(why, WHY_LIMIT, "cannot open a pseudo-terminal: %s", strerror(errno));
-        return false;
-    }
-    set_line(beginning->language != VT220_BYTES);
-    fcntl(the.master, F_SETFD, FD_CLOEXEC);
-    fcntl(the.slave, F_SETFD, FD_CLOEXEC);
-    fcntl(the.master, F_SETFL, O_NONBLOCK);
-    the.command = fork();
-    if (the.command == 0) become_command(beginning, told[1]);
-    if (the.command < 0) error = errno;
-    close(told[1]);
-    while (the.command > 0 && read(told[0], &error, sizeof error) < 0 && errno == EINTR) {}
-    close(told[0]);
-    if (error == 0) return true;
-    if (the.command > 0) waitpid(the.command, NULL, 0);
-    snprintf(why, WHY_LIMIT, "%.200s: %s", beginning->command[0], strerror(error));
-    *status = error == ENOENT ? 127 : 126;
-    return false;
+    int error = start_command(&line, beginning->command, beginning->language != VT220_BYTES, set_environment, beginning, status);
+    if (error == 0) the.master = line.master, the.slave = line.slave, the.command = line.command;
+    else if (*status == COMMAND_REFUSED) snprintf(why, WHY_LIMIT, "cannot open a pseudo-terminal: %s", strerror(error));
+    else snprintf(why, WHY_LIMIT, "%.200s: %s", beginning->command[0], strerror(error));
+    return error == 0;
 }
 
 /* Sends SIGHUP to the command. Processes that don't end are killed some time later. */

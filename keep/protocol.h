@@ -11,6 +11,7 @@
 #ifndef KEEP_PROTOCOL_H
 #define KEEP_PROTOCOL_H
 
+#include "frame.h"
 #include "vt220.h"
 
 enum {
@@ -76,7 +77,6 @@ struct ending {
 };
 
 enum {
-    FRAME_HEAD = 5,
     FRAME_LIMIT = VT220_UPDATE_LIMIT, /* of what a keeper sends */
     KEYS_LIMIT = 4096                 /* of what a client sends */
 };

@@ -6,19 +6,12 @@
 #include <stdlib.h>
 #include <string.h>
 #include <sys/socket.h>
-#include <sys/time.h>
 #include <unistd.h>
 
 enum {
     KILL_MORE = 8000,   /* milliseconds more for a command that has to be killed */
     UPGRADE_MORE = 8000 /* and for a new program that doesn't answer its keeper */
 };
-
-void wire_patience(int socket, int milliseconds) {
-    struct timeval limit = {milliseconds / 1000, milliseconds % 1000 * 1000};
-    setsockopt(socket, SOL_SOCKET, SO_RCVTIMEO, &limit, sizeof limit);
-    setsockopt(socket, SOL_SOCKET, SO_SNDTIMEO, &limit, sizeof limit);
-}
 
 const char *encoding_name(uint32_t language) {
     return language != VT220_BYTES ? "utf-8" : "dec";
@@ -30,47 +23,6 @@ const char *terminal_name(uint32_t language) {
 
 bool types_keys(char ask) {
     return ask == ASK_ATTACH || ask == ASK_SEND;
-}
-
-static bool has_closed; /* whether the keeper has closed the connection, instead of saying nothing */
-
-static bool receive(int socket, void *to, size_t len) {
-    for (size_t at = 0; at < len;) {
-        ssize_t n = recv(socket, (char *)to + at, len - at, 0);
-        if (n < 0 && errno == EINTR) continue;
-        if (n == 0 || (n < 0 && errno == ECONNRESET)) has_closed = true;
-        if (n <= 0) return false;
-        at += (size_t)n;
-    }
-    return true;
-}
-
-static bool send_all(int socket, const void *bytes, size_t len) {
-    for (size_t at = 0; at < len;) {
-        ssize_t n = send(socket, (const char *)bytes + at, len - at, MSG_NOSIGNAL);
-        if (n < 0 && errno == EINTR) continue;
-        if (n < 0 && (errno == EPIPE || errno == ECONNRESET)) has_closed = true;
-        if (n <= 0) return false;
-        at += (size_t)n;
-    }
-    return true;
-}
-
-bool wire_send(int socket, char letter, const void *bytes, size_t len) {
-    uint8_t head[FRAME_HEAD] = {(uint8_t)letter};
-    uint32_t length = (uint32_t)len;
-    memcpy(head + 1, &length, sizeof length);
-    return send_all(socket, head, sizeof head) && send_all(socket, bytes, len);
-}
-
-bool wire_receive(int socket, char *letter, uint8_t *bytes, size_t room, size_t *len) {
-    uint8_t head[FRAME_HEAD];
-    uint32_t length;
-    if (!receive(socket, head, sizeof head)) return false;
-    *letter = (char)head[0];
-    memcpy(&length, head + 1, sizeof length);
-    *len = length;
-    return length <= room && receive(socket, bytes, length);
 }
 
 /* Reads a frame that has a byte, which is 0 or 1. */
@@ -103,7 +55,7 @@ int wire_begin(int socket, char ask, uint8_t flags, struct hello *hello, char *w
     wire_patience(socket, patience);
     memset(hello, 0, sizeof *hello);
     /* A keeper that rejects a client closes at once, so its frame is read even if nothing could be sent. */
-    send_all(socket, asked, sizeof asked);
+    wire_send_all(socket, asked, sizeof asked);
     if (!wire_receive(socket, &letter, told, sizeof told - 1, &len)) return WIRE_SILENT;
     if (letter == FRAME_FULL) return WIRE_FULL;
     if (letter == FRAME_ANSWER) {
@@ -122,7 +74,7 @@ int wire_begin(int socket, char ask, uint8_t flags, struct hello *hello, char *w
 
 void wire_look_for_end(const char *name, char ask) {
     struct folder folder = open_folder();
-    bool is_gone = has_closed && connect_to(folder.file, name) < 0 && (errno == ENOENT || errno == ECONNREFUSED);
+    bool is_gone = wire_has_closed && connect_to(folder.file, name) < 0 && (errno == ENOENT || errno == ECONNREFUSED);
     if (is_gone && ask == ASK_KILL) exit(0);
     if (is_gone) fail(1, "no such session: %s", name);
     close(folder.file);

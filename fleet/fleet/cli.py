@@ -19,7 +19,6 @@ from .config import CHOICES, Beyond, Settings, Unclear, seconds, within
 LEAVING = 10.0  # seconds to wait for a store after a signal to end, at most
 HEALTH = 2.0  # seconds to wait for a store that the page's /healthz asks
 ENDS = (signal.SIGHUP, signal.SIGTERM, signal.SIGINT)
-HEEDED = (*ENDS, signal.SIGUSR1)  # by a host
 TAKEN, FAULT, NONE, REFUSED, UNFIT, DENIED, CONFIGURATION = 5, 4, 3, 6, 69, 77, 78
 
 
@@ -77,23 +76,34 @@ def on_end(call):
 
 
 def do_host(words, settings):
-    from .host import Host
-    from .program import hide
+    from .program import become_holder
 
     if bool(words.replay) == bool(words.command):
         raise Unclear("host needs a command, or --replay FILE")
+    language, chosen = chosen_language(words, settings.host), settings.host
+    if words.replay:
+        return replay(settings, words, language)
+    chosen.input, chosen.user = words.input or chosen.input, words.user or chosen.user
+    become_holder(words.name, words.command, language, chosen, min(LEAVING, settings.store.give_up))
+
+
+def do_daemon(words, settings):
+    from .daemon import Daemon
+    from .program import hide
+    from .wire import path_of
+
     hide()
     store = settings.connect(waits=True)
     store.examine(settings.store.unsafe)
-    made = store, words.name, settings.host.lease, words.input or settings.host.input
-    language = chosen_language(words, settings.host)
-    if not words.replay:
-        return keep_running(made, language, words, settings)
-    host = Host(*made, words.replay, None, *language)
-    served_metrics(host, words.metrics or settings.host.metrics)
-    host.register()
-    host.end(replay(host, words.replay, words.rate))
-    return 0
+    daemon = Daemon(store, settings.host, path_of(settings.host))
+    address = words.metrics or settings.host.metrics
+    if address:
+        from .metrics import DaemonMetrics, serve
+
+        serve(DaemonMetrics(daemon), address)
+    for ends in ENDS:  # the programs stay with their holders
+        signal.signal(ends, lambda *_: os._exit(0))
+    daemon.serve()
 
 
 def chosen_language(words, chosen):
@@ -104,64 +114,20 @@ def chosen_language(words, chosen):
     return "utf-8" if terminal == "xterm" else words.encoding or chosen.encoding, terminal
 
 
-def keep_running(made, language, words, settings):
-    """Runs a command as a session, or goes on with it if its host was killed or is another version's. Returns its exit status."""
-    from . import wire
+def replay(settings, words, language):
+    """Sends a file's bytes as a session, at `rate` bytes a second, in twenty parts a second."""
     from .host import Host
-    from .program import Program, held, started
 
-    path = wire.path_of(settings.store.url, words.name)
-    link, state = held(path, words.command)
-    incarnation, *language = (state["incarnation"], state["encoding"], state["terminal"]) if state else (None, *language)
-    host = Host(*made, " ".join(words.command), incarnation, *language)
-    metrics = served_metrics(host, words.metrics or settings.host.metrics)
-    try:
-        host.resume()
-    except Exception:
-        if link:  # the session was closed, or its name is another's
-            wire.end(link)
-        raise
-    if link:
-        program = Program(host, link, state)
-    else:
-        signal.pthread_sigmask(signal.SIG_UNBLOCK, HEEDED)  # the program has the mask of this thread
-        program = started(host, words.command, path, words.user or settings.host.user, settings.host.orphan)
-    if metrics:
-        metrics.program = program
-    on_end(lambda: (program.stop(), setattr(made[0], "patience", min(LEAVING, settings.store.give_up))))
-    signal.signal(signal.SIGUSR1, lambda *_: program.leave())
-    signal.pthread_sigmask(signal.SIG_UNBLOCK, HEEDED)
-    status = program.run()
-    if program.is_leaving and status is None and not host.fault:
-        signal.pthread_sigmask(signal.SIG_BLOCK, HEEDED)  # until the next version heeds them
-        os.execv(sys.executable, [sys.executable, *sys.orig_argv[1:]])
-    try:
-        if host.fault:
-            raise host.fault
-        host.end("lost" if status is None else status)
-    finally:
-        program.done()
-    return 1 if status is None else status
-
-
-def served_metrics(host, address):
-    """Serves a host's metrics if there is an address, and returns them."""
-    if not address:
-        return None
-    from .metrics import HostMetrics, serve
-
-    made = HostMetrics(host)
-    serve(made, address)
-    return made
-
-
-def replay(host, path, rate):
-    """Sends a file's bytes at `rate` bytes a second, in twenty parts a second."""
-    with open(path, "rb") as file:
-        while data := file.read(max(1, rate // 20)):
+    store = settings.connect(waits=True)
+    store.examine(settings.store.unsafe)
+    host = Host(store, words.name, settings.host.lease, words.input or settings.host.input, words.replay, None, *language)
+    host.register()
+    with open(words.replay, "rb") as file:
+        while data := file.read(max(1, words.rate // 20)):
             host.send(data)
             host.renew_if_due()
-            time.sleep(len(data) / rate)
+            time.sleep(len(data) / words.rate)
+    host.end(0)
     return 0
 
 
@@ -328,14 +294,15 @@ def add_hosts(add):
     each.add_argument("--most", type=option(int, "most"), help="the most sessions that it plays (1000000)")
     each.add_argument("--retain", type=option(seconds, "retain"), help="how long an ended session stays in the store, such as 7d (for ever)")
     each.add_argument("--metrics", metavar="HOST:PORT", help="serves metrics for Prometheus at this address")
-    each = add("host", do_host, "runs a command on a pseudo-terminal of 24 rows by 80 columns, as a session")
+    each = add("daemon", do_daemon, "has the sessions of this machine until it ends; the next daemon goes on with them")
+    each.add_argument("--metrics", metavar="HOST:PORT", help="serves metrics for Prometheus at this address")
+    each = add("host", do_host, "runs a command on a pseudo-terminal of 24 rows by 80 columns, as a session of this machine's daemon")
     each.add_argument("--input", action="store_true", help="allows viewers to type")
     each.add_argument("--encoding", choices=CHOICES["encoding"], help="what the command writes: the VT220's own bytes, or UTF-8 (dec)")
     each.add_argument("--terminal", choices=CHOICES["terminal"], help="the terminal that the command writes for; xterm is in UTF-8 (vt220)")
     each.add_argument("--replay", metavar="FILE", help="sends a file's bytes instead of running a command")
-    each.add_argument("--user", help="runs the command as this user, which needs root: so it can't read what this host reads")
+    each.add_argument("--user", help="runs the command and its holder as this user, which needs root")
     each.add_argument("--rate", type=option(int, "rate"), default=9600, help="bytes a second for --replay (9600)")
-    each.add_argument("--metrics", metavar="HOST:PORT", help="serves metrics for Prometheus at this address")
     each.add_argument("name")
     each.add_argument("command", nargs=argparse.REMAINDER)
 

@@ -49,6 +49,7 @@ class Host:
     orphan: float = 7 * 86400.0
     encoding: str = "dec"
     terminal: str = "vt220"
+    daemon: str = ""
     metrics: str = ""
 
 
@@ -113,6 +114,8 @@ class Settings:
         for each in found:
             self.read(each)
         self.store.url = os.environ.get("FLEET_REDIS") or self.store.url or DEFAULT_STORE
+        self.store.password_file = os.environ.get("FLEET_PASSWORD_FILE") or self.store.password_file
+        self.web.token_file = os.environ.get("FLEET_TOKEN_FILE") or self.web.token_file
 
     def read(self, path):
         parser = configparser.ConfigParser(interpolation=None)
@@ -138,7 +141,7 @@ class Settings:
 
     def connect(self, waits=False):
         """Returns the store. If `waits` is true, its calls wait for ever, otherwise at most give-up seconds. The password is from
-        its file, so that it is on no command line and in no environment."""
-        store = connect(self.store.url, self.store.password_file, socket_timeout=self.store.timeout)
+        its file, so that it is on no command line and in no environment. FLEET_USER names its user."""
+        store = connect(self.store.url, self.store.password_file, os.environ.get("FLEET_USER"), socket_timeout=self.store.timeout)
         store.patience = None if waits else self.store.give_up
         return store

@@ -1,7 +1,6 @@
 """The host's side of a session: its bytes go into the store, and reports and keys come back from there.
 
-A Host appends bytes, each one once, and passes on what comes for the program, each thing once. `Program` in program.py runs a
-command behind a pseudo-terminal over it.
+A Host appends bytes, each one once, and reads what comes for the program, each thing once. `Program` in program.py has the program's holder.
 """
 import collections
 import logging
@@ -13,7 +12,8 @@ import time
 
 from . import keys
 from .keys import PIECE, key
-from .store import RedisError, ResponseError, is_for_now, is_of_session
+from .store import ResponseError, is_of_session
+from .wire import STREAMS
 
 log = logging.getLogger("fleet.host")
 
@@ -25,7 +25,6 @@ TRIM = 512  # reports that were passed on until they are dropped from the store
 KEYS = 4096  # bytes of one thing that a viewer types
 COUNT = 256  # entries of a stream that are read at once
 BEAT = 10 / 3  # seconds between two looks at the store, at most
-INPUTS = ("answers", "keys", "signals")  # the streams with what comes for the program
 
 
 def birth(pid):
@@ -35,6 +34,11 @@ def birth(pid):
             return stat.read().rpartition(")")[2].split()[19]
     except (FileNotFoundError, ProcessLookupError):
         return ""
+
+
+def name_of_host():
+    """Returns a name of this process that no other ever has: the store takes a session's bytes from one host alone."""
+    return f"{os.uname().nodename}:{os.getpid()}:{secrets.token_hex(2)}-{birth(os.getpid())}"
 
 
 def is_dead_here(host):
@@ -61,11 +65,10 @@ class WentBack(keys.Fault):
 class Host:
     """A session's only writer."""
 
-    def __init__(self, store, name, lease=10.0, takes_input=False, command="", incarnation=None, encoding="dec", terminal="vt220"):
+    def __init__(self, store, name, lease=10.0, takes_input=False, command="", incarnation=None, encoding="dec", terminal="vt220", me=None):
         self.store, self.name, self.lease = store, keys.checked_name(name), lease
         self.incarnation = incarnation or keys.new_id()
-        # The store takes bytes from this host alone.
-        self.me = f"{os.uname().nodename}:{os.getpid()}:{secrets.token_hex(2)}-{birth(os.getpid())}"
+        self.me = me or name_of_host()
         self.about = ["host", self.me, "input", int(takes_input), "command", command[:500]]
         self.language = keys.Language(encoding, terminal)
         needed = keys.NEEDED[self.language]
@@ -85,11 +88,12 @@ class Host:
         self.is_ended = False
         self.said_fault = None
         self.lock = threading.RLock()  # one call to the store that writes at a time
-        self.last = dict.fromkeys(INPUTS, b"0-0")  # the last entry of each stream that was read
+        self.last = dict.fromkeys(STREAMS, b"0-0")  # the last entry of each stream that was read
         self.passed_on = 0
         self.rebuilt = 0  # how often the store had to be sent something again
         self.is_waiting = False  # more than WAITING isn't played
-        self.renewed = 0.0
+        self.renewed, self.renews = 0.0, True  # when the lease was renewed, and whether this host does that by itself
+        self.news = collections.deque()  # what the store said to renewals by another, and what it had acknowledged before
         self.is_program_over = lambda: False
 
     def part(self, name):
@@ -110,10 +114,10 @@ class Host:
 
     # Another host's session, whose program lives.
 
-    def resume(self):
+    def resume(self, is_waited_for=is_dead_here):
         """Takes over a session from its last host, which is no more. If another session has the name, and its host died on this machine, waits
         for the end of its lease. Raises Taken if the session isn't there to be taken."""
-        self.at, self.played = self.register_in_time(is_dead_here)
+        self.at, self.played = self.register_in_time(is_waited_for)
         self.begun = self.stored = self.at
 
     def adopt(self, begin, end, last):
@@ -127,7 +131,7 @@ class Host:
             self.last[stream] = entry_id.encode()
             if stream != "answers":  # its last host may have ended before it removed them
                 moment, number = entry_id.split("-")
-                self.store.execute_command("XTRIM", self.part(stream), "MINID", f"{moment}-{int(number) + 1}")
+                self.store.xtrim(self.part(stream), minid=f"{moment}-{int(number) + 1}", approximate=False)
 
     def is_whole(self):
         """Returns whether this host holds all that the store has and the program's holder had."""
@@ -228,7 +232,7 @@ class Host:
         continue the session, the program waits until somebody ends it: nobody could ever play its bytes."""
         while self.at - self.played > WAITING and not self.fault:
             self.is_waiting = True
-            if self.said_fault and self.is_program_over():
+            if self.is_program_over() and self.said_fault:
                 raise Unplayable(f"no worker can continue this session: {self.said_fault}")
             time.sleep(0.02)
             self.played = keys.number(self.store.hget(self.part("about"), "played"), self.played)
@@ -249,27 +253,29 @@ class Host:
 
     # The lease.
 
-    def is_due(self):
-        return time.monotonic() - self.renewed >= self.beat
-
     def renew_if_due(self):
         """Renews the lease on the name, and looks whether the store still has what was sent."""
-        if not self.is_due():
+        while self.news:
+            self.heed(*self.news.popleft())
+        if not self.renews or time.monotonic() - self.renewed < self.beat:
             return
         with self.lock:
             if not self.is_ended:
                 self.renewed = time.monotonic()
-                self.heed(self.store.run(*self.renewal()))
+                self.heed(self.store.run(*self.renewal())[1], self.at)
 
     def renewal(self):
-        return "renew", self.name, self.incarnation, int(self.lease * 1000), self.me
+        return "renew", int(self.lease * 1000), self.me, self.name, self.incarnation
 
-    def heed(self, answer):
-        """Takes in what the store said to a renewal."""
-        if answer[0] == "taken":
+    def heed(self, answer, at):
+        """Takes in what the store said to a renewal. It had acknowledged the bytes up to `at` before."""
+        said = keys.text(answer[0])
+        if said == "wrong":
+            raise ResponseError(keys.shown(answer[1]))
+        if said == "taken":
             self.fail(Taken(f"the name {self.name!r} or the session was taken by another ({keys.shown(answer[1])})"))
-        there = 0 if answer[0] == "lost" else int(answer[1])
-        if answer[0] == "lost" or there < self.at:
+        there = 0 if said == "lost" else int(answer[1])
+        if said == "lost" or there < at:
             self.rebuild(there)
         else:
             fault = keys.shown(answer[4]) if len(answer) > 4 else None
@@ -288,56 +294,26 @@ class Host:
             self.forget(stream, entry_id)
         return [(kind, what) for kind, _, _, what in got]
 
-    def receive_entries(self, patience, names=INPUTS):
+    def receive_entries(self, patience):
         """Waits for what comes for the program. Returns it, as a list of (kind, stream, id, what). Each one is to be given to `forget`
         once the program has it."""
         try:
-            return self.read_entries(self.store.read_streams(COUNT, self.streams(names), patience))
+            return self.read_entries(self.store.read_streams(COUNT, self.streams(), patience))
         except ResponseError as error:
             self.remove_wrong(error)
             return []
-
-    def receive_next(self):
-        """Waits for what comes for the program until the lease is to be renewed, and otherwise renews it. Returns what came."""
-        left = self.renewed + self.beat - time.monotonic()
-        return self.receive_entries(left) if left > 0 else self.renew_and_receive()
-
-    def renew_and_receive(self):
-        """Renews the lease, and waits for what comes for the program: the store is told both at once. So an idle host costs it one
-        message with each renewal."""
-        with self.lock:
-            if self.is_ended:
-                return []
-            self.renewed = time.monotonic()
-            words = self.store.call_of(*self.renewal())
-            answer, awaited = self.store.call_and_read(words, COUNT, self.streams(), self.beat)
-            try:
-                self.heed(answer)
-            except BaseException:
-                awaited.drop()
-                raise
-        try:
-            came = awaited.answer()
-        except (RedisError, OSError) as error:
-            if isinstance(error, RedisError) and not is_for_now(error):
-                self.remove_wrong(error)
-            else:
-                self.store.is_away(error)
-                self.renewed = 0.0
-            came = []
-        return self.read_entries(came)
 
     def remove_wrong(self, error):
         """Removes what somebody wrote in place of a stream for the program, so that the other streams can be read. Raises the error if it is
         another one."""
         if not is_of_session(error):
             raise error
-        for part in map(self.part, INPUTS):
+        for part in map(self.part, STREAMS):
             if self.store.type(part) not in (b"stream", b"none"):
                 log.error("%s: removed, as it isn't a stream: %s", self.name, part)
                 self.store.delete(part)
 
-    def streams(self, names=INPUTS):
+    def streams(self, names=STREAMS):
         return {self.part(name).encode(): self.last[name] for name in names}
 
     def read_entries(self, came):
@@ -352,10 +328,6 @@ class Host:
                 else:
                     self.forget(name, self.last[name])
         return got
-
-    def receive_signals(self):
-        """Returns the signals that came for the program, without waiting: it may read none of what came before them."""
-        return self.receive_entries(0, ("signals",))
 
     def read_entry(self, name, entry_id, fields):
         """Returns the kind of an entry for the program, and what it is, or None if it isn't one."""
@@ -383,4 +355,4 @@ class Host:
             return
         self.passed_on += 1
         if self.passed_on % TRIM == 0:
-            self.store.execute_command("XTRIM", self.part("answers"), "MINID", entry_id)
+            self.store.xtrim(self.part("answers"), minid=entry_id, approximate=False)

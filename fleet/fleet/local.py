@@ -1,15 +1,16 @@
-"""A store and workers on this machine, for `fleet run`, the tests and the measurements: a Redis that is reached through a Unix
+"""A store, a host daemon and workers on this machine, for `fleet run`, the tests and the measurements: a Redis that is reached through a Unix
 socket in a directory of mode 0700, so by this user alone, and that writes each change to disk before it answers."""
+import contextlib
 import ctypes
 import os
 import shutil
 import signal
+import socket
 import subprocess
 import sys
 import tempfile
 import time
 
-from . import wire
 from .store import connect
 
 HERE = os.path.dirname(os.path.abspath(__file__))
@@ -30,8 +31,14 @@ def tied():
     return tie
 
 
+def is_listening(path):
+    with socket.socket(socket.AF_UNIX) as made:
+        return made.connect_ex(path) == 0
+
+
 class LocalStore:
     before = None  # what each child calls before its program starts
+    daemon = None  # the process of the host daemon, if it was started
 
     def __init__(self, *options):
         self.folder = tempfile.mkdtemp(prefix="fleet-")  # of mode 0700
@@ -51,12 +58,37 @@ class LocalStore:
         self.server.kill()
         self.server.wait()
 
+    def where(self):
+        """Returns the environment of the commands that use this store and its daemon."""
+        return {"FLEET_REDIS": self.url, "FLEET_DAEMON": os.path.join(self.folder, "daemon")}
+
+    def start_daemon(self, *words, url=None):
+        """Starts the host daemon, and waits until it listens. Programs go on with the next one."""
+        with open(os.path.join(self.folder, "daemon-log"), "ab") as said:
+            words = [PYTHON, COMMAND, "daemon", *words]
+            self.daemon = subprocess.Popen(words, stdout=said, stderr=said, env=os.environ | self.where() | ({"FLEET_REDIS": url} if url else {}), preexec_fn=self.before)
+        while self.daemon.poll() is None and not is_listening(self.where()["FLEET_DAEMON"]):
+            time.sleep(0.02)
+
     def holders(self):
-        """Returns the directory of the programs whose sessions are here: they end with the store."""
-        return os.path.join(self.folder, "holders")
+        """Returns the processes of the holders whose daemon is here."""
+        found, path = [], os.fsencode(self.where()["FLEET_DAEMON"])
+        for pid in filter(str.isdigit, os.listdir("/proc")):
+            with contextlib.suppress(OSError), open(f"/proc/{pid}/cmdline", "rb") as words:
+                name, *rest = words.read().split(b"\0")
+                found += [int(pid)] if name.endswith(b"/vt220-fleet-holder") and rest[0] == path else []
+        return found
+
+    def kill_daemon(self):
+        self.daemon.kill()
+        self.daemon.wait()
 
     def stop(self):
-        wire.end_all(self.holders())
+        """Ends the programs, the daemon and the store."""
+        for pid in self.holders():
+            os.kill(pid, signal.SIGTERM)
+        if self.daemon:
+            self.kill_daemon()
         self.kill()
         shutil.rmtree(self.folder, ignore_errors=True)
 
@@ -100,7 +132,8 @@ def run(count, command):
         signal.signal(ends, lambda *_: sys.exit(1))
     store = LocalStore()
     workers = Workers(count, store.folder, store.url)
-    where = {"FLEET_REDIS": store.url, "FLEET_HOLDERS": store.holders()}
+    store.start_daemon()
+    where = store.where()
     print("export", *(f"{name}={value}" for name, value in where.items()), file=sys.stderr, flush=True)
     try:
         if command:

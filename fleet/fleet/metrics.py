@@ -78,36 +78,33 @@ class WorkerMetrics:
 PROGRAM_STATES = ("running", "slowed", "ended")
 
 
-class HostMetrics:
-    """Those of a host. `program` is set when its program runs."""
+class DaemonMetrics:
+    """Those of a machine's host daemon."""
 
-    def __init__(self, host):
-        self.host, self.program = host, None
+    def __init__(self, daemon):
+        self.daemon = daemon
 
-    def state(self):
-        """Returns what its program does: it is slowed if more than may wait isn't played, or if the store is away."""
-        if self.program.is_ended:
-            return "ended"
-        return "slowed" if self.host.is_waiting or self.host.store.away_since is not None else "running"
+    def states(self):
+        """Returns how many programs are in each state: one is slowed if more than may wait isn't played, or if the store is away."""
+        is_away = self.daemon.store.away_since is not None
+        found = dict.fromkeys(PROGRAM_STATES, 0)
+        for each in self.daemon.all():
+            found["ended" if each.is_over else "slowed" if each.host.is_waiting or is_away else "running"] += 1
+        return found
 
     def collect(self):
-        host, program = self.host, self.program
-        yield counter("host_bytes", "Bytes of its program that the store has taken from this host", host.stored - host.begun)
-        yield gauge("host_unplayed_bytes", "Bytes in the store that no worker has played, as far as this host knows", max(0, host.stored - host.played))
-        yield from of_store(host.store)
-        if not program:
-            return
-        since = program.sends_since
-        yield gauge("host_lag_bytes", "Bytes of its program that the store doesn't have", max(0, program.end - host.stored))
-        yield gauge("host_lag_seconds", "Seconds for which the same bytes are being sent", 0 if since is None else time.monotonic() - since)
-        yield counter("host_inputs", "Keys and reports that its program was given", program.given)
-        yield counted(GaugeMetricFamily, "host_program", "1 for the state of its program", "state", dict.fromkeys(PROGRAM_STATES, 0) | {self.state(): 1})
+        programs, now = self.daemon.all(), time.monotonic()
+        yield gauge("host_unplayed_bytes", "Bytes in the store that no worker has played, as far as this daemon knows", sum(max(0, each.host.stored - each.host.played) for each in programs))
+        yield gauge("host_lag_bytes", "Bytes of its programs that the store doesn't have", sum(max(0, each.end - each.host.stored) for each in programs))
+        yield gauge("host_lag_seconds", "Seconds for which the same bytes of a program are being sent, at most", max((now - since for each in programs if (since := each.sends_since) is not None), default=0))
+        yield counter("host_bytes", "Bytes of its programs that the store has taken from this daemon", self.daemon.counts["bytes"] + sum(each.counts()["bytes"] for each in programs))
+        yield counter("host_inputs", "Keys and reports that its programs were given", self.daemon.counts["inputs"] + sum(each.counts()["inputs"] for each in programs))
+        yield counted(GaugeMetricFamily, "host_programs", "Its programs by their state", "state", self.states())
+        yield from of_store(self.daemon.store)
 
     def problem(self):
-        """Returns why this host isn't well, or nothing."""
-        if self.host.store.away_since is not None:
-            return "the store is away"
-        return self.host.said_fault or ""
+        """Returns why this daemon isn't well, or nothing."""
+        return "the store is away" if self.daemon.store.away_since is not None else ""
 
 
 class PageMetrics:

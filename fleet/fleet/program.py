@@ -1,172 +1,234 @@
-"""A program behind a pseudo-terminal, whose bytes a Host sends. Its holder, a separate process, outlives the host: another host goes on
-where this one stopped."""
+"""A session as the host daemon has it: what its program's holder says goes into the store, and what comes from there to the holder. The
+holder is a separate process, which outlives the daemon: the next daemon goes on where this one stopped."""
+import contextlib
 import ctypes
-import json
 import logging
 import os
+import pwd
 import queue
-import subprocess
-import sys
+import select
+import socket
+import struct
 import threading
 import time
 
 from vt220.process import LOCALES, TERMS
 
 from . import wire
-from .host import Taken
-from .keys import DEC, PIECE, Fault
-from .store import is_for_now
+from .host import Host, is_dead_here
+from .keys import PIECE, Fault, checked_name, language_of
 
 log = logging.getLogger("fleet.host")
 
-HOLDER = os.path.join(os.path.dirname(os.path.abspath(__file__)), "holder.py")
-GATHER = 0.003  # seconds that a host waits for more of the same output
-ENDING = 10.0  # seconds that a host waits for the end of its program's holder, at most
+HERE = os.path.dirname(os.path.abspath(__file__))
+HOLDERS = [os.path.join(HERE, place, "vt220-fleet-holder") for place in ("..", "../../out")]  # of the package, and of the repository
+GATHER = 0.003  # seconds that more of the same output is waited for
+CHOKED = 256  # inputs that a program may not have read; more stay in the store
+NEWS = object()  # the store said something of the session
+
+
 PR_SET_DUMPABLE = 4
 
 
-def clean_environment(language):
-    """Returns the environment for the program: nothing of the fleet's, where an address or a password may be."""
-    kept = {name: value for name, value in os.environ.items() if not name.startswith("FLEET_") and "REDIS" not in name}
-    return kept | {"TERM": TERMS[language.terminal], "LC_ALL": LOCALES[language.encoding], "LINES": "24", "COLUMNS": "80"}
-
-
 def hide():
-    """Keeps this process's environment from the program, which could read it in /proc."""
+    """Keeps this process's environment from programs of its user, which could read it in /proc."""
     ctypes.CDLL(None).prctl(PR_SET_DUMPABLE, 0, 0, 0, 0)
 
 
-def start_holder(path, name, incarnation, command, user=None, orphan=None, language=DEC):
-    """Starts the holder of a session's program. Raises OSError if it can't be."""
-    if os.path.exists(path) and not wire.connected(path):
-        os.unlink(path)  # of one that was killed
-    said = {"path": path, "name": name, "incarnation": incarnation, "command": command, "user": user, "orphan": orphan} | language._asdict()
-    words = [sys.executable, "-I", "-S", HOLDER]
-    pipes = {"stdin": subprocess.PIPE, "stdout": subprocess.PIPE, "stderr": subprocess.DEVNULL}
-    made = subprocess.Popen(words, env=clean_environment(language), start_new_session=True, **pipes)
-    made.stdin.write(json.dumps(said).encode())
-    made.stdin.close()
-    answer = made.stdout.readline().decode().strip()
-    made.stdout.close()
-    if answer != "ready":
-        raise OSError(5, f"the program's holder doesn't start: {answer}")
+class Left(Exception):
+    """Another thread goes on with the session."""
 
 
-def received(link):
-    """Returns what comes over a connection to a holder, and nothing if the holder has ended."""
+def environment_of(language, user):
+    """Returns the environment for a program, and gives this process to a user, if there is one. Nothing of the fleet's is in it, where an
+    address or a password may be."""
+    kept = {name: value for name, value in os.environ.items() if not name.startswith("FLEET_") and "REDIS" not in name}
+    kept |= {"TERM": TERMS[language[1]], "LC_ALL": LOCALES[language[0]], "LINES": "24", "COLUMNS": "80"}
+    if not user:
+        return kept
     try:
-        return link.recv(1 << 17)
-    except OSError:
-        return b""
+        found = pwd.getpwnam(user)
+    except KeyError:
+        raise ValueError(f"no such user: {user}") from None
+    os.initgroups(user, found.pw_gid)
+    os.setgid(found.pw_gid)
+    os.setuid(found.pw_uid)
+    kept.pop("XDG_RUNTIME_DIR", None)
+    return kept | {"HOME": found.pw_dir, "USER": user, "LOGNAME": user, "SHELL": found.pw_shell}
 
 
-def held(path, command):
-    """Returns a connection to the holder of a session's program and what it says, or None and None if there is none. Raises Taken if
-    it has a host, or runs another command."""
-    link = wire.connected(path)
-    if not link:
-        return None, None
-    reader, found = wire.Reader(), []
-    while not found and (data := received(link)):
-        found = list(reader.feed(data))
-    if not found:  # it has just ended
-        return None, None
-    state = json.loads(found[0][2])
-    if state["busy"] or command and state["command"] != command:
-        link.close()
-        why = "a host of this machine" if state["busy"] else f"another command here: {' '.join(state['command'])}"
-        raise Taken(f"the name {state['name']!r} is held by {why}")
-    return link, DEC._asdict() | state | {"reader": reader, "early": found[1:]}
+def become_holder(name, command, language, chosen, patience):
+    """Becomes the holder of a program, which ends with the program's status."""
+    orphan = -1 if chosen.orphan is None else int(chosen.orphan * 1000)
+    path, holder = wire.path_of(chosen), next(filter(os.path.exists, HOLDERS), HOLDERS[0])
+    words = [path, orphan, int(patience * 1000), int(chosen.input), *language, checked_name(name), *command]
+    environment = environment_of(language, chosen.user)
+    os.execve(holder, [holder, *map(str, words)], environment)
 
 
-def started(host, command, path, user=None, orphan=None):
-    """Starts a command behind a holder, for a host that is registered. Returns it as a Program."""
-    start_holder(path, host.name, host.incarnation, command, user, orphan, host.language)
-    return Program(host, *held(path, command))
+class Link:
+    """A connection to a holder. Nobody waits for a holder that doesn't read: the bytes wait."""
+
+    def __init__(self, made, events):
+        self.socket, self.events, self.reader, self.out, self.lock = made, events, wire.Reader(), bytearray(), threading.Lock()
+        self.is_open, self.waits = True, False
+        self.pid, self.user, _ = struct.unpack("3i", made.getsockopt(socket.SOL_SOCKET, socket.SO_PEERCRED, 12))
+        events.register(made, select.EPOLLIN)
+
+    def say(self, frame=b""):
+        with self.lock:
+            self.out += frame if self.is_open else b""
+            try:
+                while self.out:
+                    del self.out[: self.socket.send(self.out, socket.MSG_DONTWAIT | socket.MSG_NOSIGNAL)]
+            except BlockingIOError:
+                pass
+            except OSError:  # it has ended: what it said last is still read
+                self.out.clear()
+            if self.waits != bool(self.out):
+                self.waits = bool(self.out)
+                self.events.modify(self.socket, select.EPOLLIN | (select.EPOLLOUT if self.waits else 0))
+
+    def close(self):
+        with self.lock:
+            self.is_open, self.waits = False, False
+            self.out.clear()
+            self.events.unregister(self.socket)
+            self.socket.close()
+
+    def hear(self):
+        """Yields the frames that came. Raises EOFError if the holder has ended, or Strange if it is none."""
+        try:
+            came = self.socket.recv(1 << 17, socket.MSG_DONTWAIT)
+        except BlockingIOError:
+            return
+        except OSError:
+            came = b""
+        yield from self.reader.feed(came)
+        if not came:
+            raise EOFError
+
+    def shut(self):
+        """Has the other thread find this connection at its end."""
+        with contextlib.suppress(OSError):
+            self.socket.shutdown(socket.SHUT_RDWR)
+
+    def refuse(self, status, why):
+        self.say(wire.packed(wire.REFUSED, status, str(why).encode()[:1000]))
 
 
-class Program:
-    """A host's side of the program: what comes from the holder, and what goes there."""
+class Program(threading.Thread):
+    """A session of this machine."""
 
-    def __init__(self, host, link, state):
-        self.host, self.link = host, link
-        self.reader, self.early = state["reader"], state["early"]
-        self.came = queue.SimpleQueue()  # (position after them, bytes), and None if there is something else to look at
-        self.is_over, self.was_taken = threading.Event(), threading.Event()
-        self.is_leaving = self.passes_on = self.is_gone = False
-        self.given = self.taken = 0  # inputs, that the holder was sent and that the program has read
-        self.unread = []  # those that the program may not have read: (stream, id)
-        self.end = state["end"]  # the position after what the program wrote, as far as this host knows
+    def __init__(self, daemon, link, state, before):
+        super().__init__(daemon=True)
+        self.fleet, self.link, self.state, self.before = daemon, link, state, before
+        self.host = Host(daemon.shared, state.name, daemon.lease, state.takes_input, state.command, state.incarnation or None, *state.language, me=daemon.me)
+        self.host.renews, self.host.is_program_over = False, self.is_program_over
+        self.came = queue.SimpleQueue()  # (position after them, bytes), NEWS, or None for the end
+        self.heard = self.heard_from = state.base  # the position up to which the holder has sent bytes, and at which it began
+        self.is_named = self.passes_on = self.is_over = self.is_gone = self.is_left = False
+        self.given = self.taken = 0  # inputs that the holder was sent, and that the program has read
+        self.unread, self.lock = [], threading.Lock()  # inputs that the program may not have read: (stream, id)
+        self.end, self.status = state.end, None  # the position after what the program wrote, as far as this is known
         self.sends_since = None  # since when the same bytes are being sent
-        self.lock = threading.Lock()
-        host.is_program_over = lambda: self.is_ended
-        self.is_ended, self.status = False, None
-        host.adopt(state["base"], state["end"], state["last"])
-        self.listener = threading.Thread(target=self.listen, daemon=True)
-        self.listener.start()
 
-    def listen(self):
-        """Takes in what the holder says."""
-        for message in self.early:
-            self.hear(*message)
-        while data := received(self.link):
-            for message in self.reader.feed(data):
-                self.hear(*message)
-        self.is_gone = True
-        self.came.put(None)
+    # What the holder says.
 
-    def hear(self, letter, number, data):
+    def hear(self, letter, data):
+        """Takes in a frame. Raises Strange if a holder doesn't send it."""
+        if len(data) < wire.NUMBER.size:
+            raise wire.Strange("a frame without a number")
+        number, data = wire.NUMBER.unpack_from(data)[0], data[wire.NUMBER.size :]
         if letter == wire.BYTES:
-            self.end = max(self.end, number)
+            if number != self.heard + len(data) or number - max(self.heard_from, self.host.at) > 4 * wire.HELD:
+                raise wire.Strange("bytes that no holder sends")
+            self.heard, self.end = number, max(self.end, number)
             self.came.put((number, data))
         elif letter == wire.TAKEN:
-            self.taken = number
-            self.was_taken.set()
+            self.note_taken(number)
         elif letter == wire.OVER:
-            self.is_ended = True
+            self.is_over = True
         elif letter == wire.ENDED:
             self.status = number
             self.came.put(None)
 
-    def say(self, letter, number=0, data=b""):
+    def note_taken(self, number):
+        """Removes from the store what the program has."""
         with self.lock:
-            try:
-                self.link.sendall(wire.packed(letter, number, data))
-            except OSError:
-                pass
+            was_choked, count = len(self.unread) >= CHOKED, max(0, number - self.taken)
+            read, self.unread, self.taken = self.unread[:count], self.unread[count:], self.taken + count
+        for stream, entry_id in read:
+            self.host.forget(stream, entry_id)
+        if was_choked and len(self.unread) < CHOKED:
+            self.fleet.wake()
+
+    def lose(self):
+        """Notes that the holder is no more."""
+        self.is_gone = True
+        self.came.put(None)
+
+    def is_program_over(self):
+        if self.is_left:
+            raise Left
+        return self.is_over or self.is_gone
+
+    def leave(self):
+        """Has this thread end, so that another one goes on with the session."""
+        self.is_left = True
+        self.came.put(None)
+
+    def counts(self):
+        """Returns how much of this session went to the store, and to its program."""
+        return {"bytes": self.host.stored - self.host.begun, "inputs": self.given}
+
+    # What goes to the store.
 
     def run(self):
-        """Sends what the program writes until it ends. Returns its exit status, as a shell has it; None if this host leaves it."""
         try:
-            self.begin_to_pass_on()
+            self.begin()
             while came := self.next():
                 self.sends_since = time.monotonic()
                 self.host.send_up_to(*came)
                 self.sends_since = None
-                self.say(wire.KEPT, self.host.at)
-                self.begin_to_pass_on()
-        except Fault as fault:
-            log.error("%s: %s: %s", self.host.name, type(fault).__name__, fault)
-            self.host.fault = self.host.fault or fault
-        self.is_over.set()
-        if self.host.fault:
-            self.stop()
-            self.drop()
-        return self.status
+                self.say_kept()
+            self.host.end("lost" if self.status is None else self.status)
+            self.link.say(wire.packed(wire.DONE))
+        except Left:
+            pass
+        except Exception as error:
+            self.give_up(error)
+        finally:
+            self.fleet.forget(self)
+
+    def begin(self):
+        """Takes the name, once the name's session before has ended. Then the program may begin."""
+        if self.before:
+            self.before.join()
+            self.before = None
+        language_of(*(each.encode() for each in self.state.language))
+        self.host.resume(lambda host: is_dead_here(host) and not self.is_gone and not self.is_left)
+        self.host.adopt(self.state.base, self.state.end, self.state.last)
+        self.is_named = True
+        self.link.say(wire.framed(wire.NAMED, self.host.incarnation.encode()))
+        self.begin_to_pass_on()
+
+    def say_kept(self):
+        self.link.say(wire.packed(wire.KEPT, self.host.at))
+        self.begin_to_pass_on()
 
     def begin_to_pass_on(self):
         """Begins to pass on what comes for the program, once this host has all that it may have to send again."""
         if not self.passes_on and self.host.is_whole():
             self.passes_on = True
-            threading.Thread(target=self.pass_on, daemon=True).start()
+            self.fleet.wake()
 
     def next(self):
-        """Returns what the program wrote: (position after them, bytes), all that come within some milliseconds; or None if the program
-        or this host is to end."""
-        came, end = self.came.get(), time.monotonic() + GATHER
+        """Returns what the program wrote: (position after them, bytes), all that come within some milliseconds; or None at its end."""
+        came, end = self.next_part(), time.monotonic() + GATHER
         while came and len(came[1]) < PIECE and (left := end - time.monotonic()) > 0:
             try:
-                more = self.came.get(timeout=left)
+                more = self.next_part(left)
             except queue.Empty:
                 break
             if more is None:
@@ -175,71 +237,47 @@ class Program:
             came = more[0], came[1] + more[1]
         return came
 
-    def drop(self):
-        """Waits for the end of the program, and drops what it still writes."""
-        while self.status is None and not self.is_gone:
-            came = self.came.get()
-            if came:
-                self.say(wire.KEPT, came[0])
+    def next_part(self, patience=None):
+        while True:
+            part = self.came.get(timeout=patience)
+            self.is_program_over()
+            if part is not NEWS:
+                return part
+            self.host.renew_if_due()
 
-    def pass_on(self):
-        """Gives the program what comes for it, and renews the lease, until the program is over."""
-        while not self.is_over.is_set():
-            try:
-                self.give(self.host.receive_next())
-            except Fault as fault:
-                self.host.fault = self.host.fault or fault
-                self.came.put(None)
-                return
-            except Exception as error:
-                if not is_for_now(error):  # a host that ends gives up a store that is away, and says so once
-                    log.exception("%s: what came for the program", self.host.name)
-                time.sleep(0.5)
+    def give_up(self, error):
+        """Ends the program if the session can't go on, or couldn't begin. Otherwise the holder comes again."""
+        from .cli import message_of, status_of
 
-    def give(self, entries):
-        """Gives the program what came for it, and waits until the program has read it. The lease is renewed meanwhile, and signals are
-        passed on."""
-        self.send_all(entries)
-        while self.taken < self.given and not self.is_over.is_set():
-            if not self.was_taken.wait(0.5):
-                self.host.renew_if_due()
-                self.send_all(self.host.receive_signals())
-            self.was_taken.clear()
-        if self.taken >= self.given:
-            self.forget_all(self.unread)
-            self.unread = []
+        log.error("%s: %s: %s", self.host.name, type(error).__name__, error, exc_info=None if isinstance(error, Fault) else error)
+        if isinstance(error, Fault) or not self.is_named and not self.state.incarnation:
+            self.link.refuse(status_of(error) or 1, message_of(error))
+        else:
+            time.sleep(1)
+            self.link.shut()
 
-    def send_all(self, entries):
-        """Sends what came for the program to its holder. Keys stay in the store until the holder said that the program has them: if this host
-        dies, the next one removes those that the holder took. A signal is read at once, also if this host dies."""
-        for kind, stream, entry_id, what in entries:
-            is_signal = kind == "signal"
-            data = f"{stream} {entry_id.decode()}\n".encode() + (str(what).encode() if is_signal else what)
-            self.given += not is_signal
-            self.say(wire.SIGNAL if is_signal else wire.INPUT, 0, data)
-            if is_signal:
+    # What comes from the store.
+
+    def streams(self):
+        """Returns the streams in which something may come for the program: {stream: the last id}."""
+        if not self.passes_on or self.host.is_ended:
+            return {}
+        return self.host.streams(("signals",) if len(self.unread) >= CHOKED else wire.STREAMS)
+
+    def pass_on(self, part, entries):
+        """Sends what came for the program to its holder. Keys stay in the store until the holder said that the program has them: if this
+        daemon dies, the next one removes those that the holder took. A signal is read at once, also if this daemon dies."""
+        for kind, stream, entry_id, what in self.host.read_entries([[part, entries]]):
+            if kind == "signal":
+                self.link.say(wire.framed(wire.SIGNAL, wire.entry(stream, entry_id, bytes([what]))))
                 self.host.forget(stream, entry_id)
-            else:
+                continue
+            with self.lock:
+                self.given += 1
                 self.unread.append((stream, entry_id))
+            self.link.say(wire.framed(wire.INPUT, wire.entry(stream, entry_id, what)))
 
-    def forget_all(self, entries):
-        for stream, entry_id in entries:
-            self.host.forget(stream, entry_id)
-
-    def stop(self):
-        """Hangs up on the program. If it doesn't end within three seconds, it is killed."""
-        self.say(wire.STOP)
-
-    def signal(self, number):
-        """Ends the program at once, by the holder."""
-        self.say(wire.STOP, 1)
-
-    def leave(self):
-        """Leaves the program to its holder. Another host goes on with it."""
-        self.is_leaving = True
-        self.came.put(None)
-
-    def done(self):
-        """Ends the holder, whose session's end is in the store. Waits for its end, since the next host of the name must not meet it."""
-        self.say(wire.DONE)
-        self.listener.join(ENDING)
+    def note(self, answer, at):
+        """Notes what the store said to a renewal, for this session's thread."""
+        self.host.news.append((answer, at))
+        self.came.put(NEWS)

@@ -168,7 +168,7 @@ class Store(redis.Redis):
         self.outages = 0  # how often the store was away
         self.connections = 0  # that were made
         self.run_id, self.minds_runs = None, False
-        self.password_file = None
+        self.password_file = self.user = None
         self.was_let_in = False  # a password was accepted once: if it isn't any more, it is being changed
         self.patience = None  # seconds that the store is waited for; None for ever
         self.is_to_keep = False  # each run of the store has to have an append-only file
@@ -179,6 +179,8 @@ class Store(redis.Redis):
         is read anew for each connection, so that it can be changed while the fleet runs."""
         if self.password_file:
             connection.password = read_password(self.password_file)
+            if self.user:  # without a password, the store has no users
+                connection.username = self.user if connection.password else None
         try:
             connection.on_connect()
         except ResponseError as error:
@@ -292,25 +294,6 @@ class Store(redis.Redis):
 
         return self.patiently(once)
 
-    def call_and_read(self, call, count, streams, patience):
-        """Calls a function, and begins to wait for something in streams: both with one message. Returns the function's answer, and
-        what the streams are awaited with."""
-        read = packed(words_of_read(count, streams, patience))
-
-        def once():
-            connection = self.connection_pool.get_connection("XREAD")
-            try:
-                connection.send_packed_command([b"".join(connection.pack_command(*call)) + read])
-                return self.checked(connection.read_response()), Awaited(self, connection, patience)
-            except BaseException as error:
-                drop(self.connection_pool, connection)
-                if not is_missing(error):
-                    raise
-            self.load()
-            raise ConnectionError("the store had no functions")
-
-        return self.patiently(once)
-
     # Functions.
 
     def load(self):
@@ -400,7 +383,7 @@ def connections(facts):
     now, most = facts["connected_clients"], facts["maxclients"]
     said = f"{now} of {most} connections are open (maxclients)"
     if now > CROWDED * most:
-        raise Unfit(f"{said}: each host, viewer and page has one, and each worker two")
+        raise Unfit(f"{said}: each viewer and page has one, and each host daemon and worker two")
     return said
 
 
@@ -418,12 +401,12 @@ def of_sentinels(url, words):
     return Store(connection_pool=SentinelConnectionPool(parts.path.strip("/"), sentinel, **words))
 
 
-def connect(url, password_file=None, **options):
+def connect(url, password_file=None, user=None, **options):
     """Returns the store at an address: unix:///PATH, redis://HOST:PORT, rediss://HOST:PORT (TLS) or that of sentinels."""
     words = {"socket_timeout": TIMEOUT} | options
     scheme = urlsplit(url).scheme
     if scheme != "unix":
         words = {"socket_keepalive": True, "socket_connect_timeout": TIMEOUT} | words
     store = of_sentinels(url, words) if scheme == "sentinel" else Store.from_url(url, **words)
-    store.password_file = password_file
+    store.password_file, store.user = password_file, user
     return store

@@ -1,5 +1,5 @@
-"""A page in the browser with live pictures of all sessions. It listens on 127.0.0.1 unless told otherwise, and serves those
-alone who have the token that is in its address.
+"""A page in the browser with live pictures of all sessions. It listens on 127.0.0.1 unless told otherwise. The page itself is the same for all
+who ask. Only a connection that begins with the token is told of sessions. The token is in no request's address: logs and histories have those.
 
 A session's screen reaches the page as bytes, which a terminal there plays. The page puts its characters and all names into text nodes: none is
 ever markup.
@@ -30,6 +30,8 @@ log = logging.getLogger("fleet.web")
 
 HERE = os.path.join(os.path.dirname(os.path.abspath(__file__)), "page")
 PAUSE = 0.04  # seconds between two messages to a client
+ENTERING = 10.0  # seconds that a client has to say the token
+UNKNOWN = 4403  # the code with which a connection without the token is closed; page.js knows it
 BUILT = os.path.join(HERE, "..", "..", "..", "out", "js")  # of this repository
 SCREEN = "screen.global.js"  # the terminal with its screen, which `make js` builds; the package has it next to the page
 POLICY = (
@@ -123,15 +125,17 @@ class Page:
         if self.loop:
             self.loop.call_soon_threadsafe(lambda: [event.set() for event in self.events])
 
-    def demand(self, request):
-        """Refuses a request without the token."""
-        given = request.query.get("token", "")
-        if not hmac.compare_digest(given.encode(), self.token.encode()):
-            self.refused["token"] += 1
-            raise web.HTTPForbidden(text="The address of this page has a token: use the one that fleet web prints.\n")
+    def admits(self, said):
+        """Returns whether the first message of a client, if it has sent one, has the token."""
+        try:
+            given = json.loads(said)["token"].encode("utf-8", "replace")
+        except (AttributeError, KeyError, TypeError, ValueError):
+            given = b""
+        is_right = hmac.compare_digest(given, self.token.encode())
+        self.refused["token"] += not is_right
+        return is_right
 
-    async def index(self, request):
-        self.demand(request)
+    async def index(self, _):
         headers = {
             "Content-Security-Policy": self.policy,
             "Referrer-Policy": "no-referrer",
@@ -155,14 +159,20 @@ class Page:
             return "the store can't be read"
 
     async def live(self, request):
-        """A client's connection: what changed goes there, keys come from there."""
-        self.demand(request)
+        """A client's connection: first the token comes; then what changed goes there, and keys come from there."""
         origin = request.headers.get("Origin")
         if origin and urlsplit(origin).netloc != request.host:
             self.refused["origin"] += 1
             raise web.HTTPForbidden(text="Another page's.\n")
         socket = web.WebSocketResponse(heartbeat=20, max_msg_size=65536)
         await socket.prepare(request)
+        try:
+            first = (await socket.receive(timeout=ENTERING)).data
+        except asyncio.TimeoutError:
+            first = None
+        if not self.admits(first):
+            await socket.close(code=UNKNOWN)
+            return socket
         event, self.gallery.clients, self.connections = asyncio.Event(), self.gallery.clients + 1, self.connections + 1
         self.events.add(event)
         event.set()
@@ -239,8 +249,8 @@ def serve(store, asked, settings):
         serve_metrics(PageMetrics(page), settings.metrics)
     where = f"[{settings.address}]" if ":" in settings.address else settings.address
     # What a service prints is in the journal, which others may read. So a token of a file is never printed.
-    token = f"TOKEN, with the one in {settings.token_file}" if settings.token_file else page.token
-    address = f"http://{where}:{settings.port}/?token={token}"
+    address = f"http://{where}:{settings.port}/"
+    address += f" which asks for the token in {settings.token_file}" if settings.token_file else f"#token={page.token}"
 
     def announce(_):
         """Prints the address, once the page is served there."""

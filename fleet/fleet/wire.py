@@ -1,97 +1,91 @@
-"""What goes between a host and the holder of its program: messages of a letter, a number, and bytes.
+"""What goes between the host daemon and the holder of a program: frames of a letter, a length and so many bytes, as keep/frame.h has them.
+Unless a frame's line here says otherwise, it begins with a number.
 
-A holder sends STATE first. A host that isn't refused then gets BYTES and, once all are sent, ENDED.
+A holder sends STATE first. Once it was sent NAMED, it sends BYTES and, when all are sent, ENDED.
 """
-import contextlib
-import hashlib
 import os
-import socket
-import stat
 import struct
 
-HEAD = struct.Struct("!cQI")
-HELD = 1 << 20  # bytes that a host hasn't acknowledged; then the program is made to wait. As many acknowledged ones are kept
+HEAD, NUMBER, ENTRY = struct.Struct("=cI"), struct.Struct("=Q"), struct.Struct("=BQQ")
+HELD = 1 << 20  # bytes that a daemon hasn't acknowledged; then the program is made to wait. As many acknowledged ones are kept
+LONGEST = 1 << 18  # of a frame of a holder
+VERSION = "2"  # of these frames
+STREAMS = ("answers", "keys", "signals")  # an input has the number of its stream here
+PLACE = "vt220-fleet/daemon"  # of a daemon's socket, in the runtime directory
 
 # Of a holder:
-STATE = b"S"  # JSON: what is held; "busy" if it has a host
+STATE = b"S"  # no number: the words of State, each with a NUL after it
 BYTES = b"B"  # the number is the position after them
-TAKEN = b"W"  # the number is how many inputs of this host were written to the program
+TAKEN = b"W"  # the number is how many inputs of this daemon were written to the program
 OVER = b"C"  # the program itself has ended; others may still have its terminal
 ENDED = b"E"  # the number is the exit status, as a shell has it
 
-# Of a host:
+# Of a daemon:
+NAMED = b"N"  # no number: the incarnation. A program that doesn't run yet begins now
+REFUSED = b"R"  # the number is the exit status, and the bytes say why. A program that runs is hung up on
 KEPT = b"A"  # the store has the bytes up to the number
-INPUT = b"I"  # STREAM ID LF BYTES, for the program; a holder drops one whose id isn't after the last one of its stream
-SIGNAL = b"X"  # STREAM ID LF NUMBER, likewise
-STOP = b"T"  # hang up on the program, and kill it if it doesn't end
-DONE = b"D"  # the holder ends, once the program has ended
+INPUT = b"I"  # no number: an ENTRY's stream and id, and bytes for the program; a holder drops one whose id isn't after the last one of its stream
+SIGNAL = b"X"  # likewise; the byte is the signal's number
+STOP = b"T"  # hang up on the program, and kill it if it doesn't end; 1: at once
+DONE = b"D"  # the end is in the store: the holder ends
+
+
+class Strange(Exception):
+    """What came isn't what a holder sends."""
+
+
+def framed(letter, data=b""):
+    return HEAD.pack(letter, len(data)) + data
 
 
 def packed(letter, number=0, data=b""):
-    return HEAD.pack(letter, number, len(data)) + data
+    return framed(letter, NUMBER.pack(number) + data)
 
 
 class Reader:
-    """Takes messages apart."""
+    """Takes frames apart."""
 
     def __init__(self):
         self.data = bytearray()
 
     def feed(self, data):
-        """Yields the whole messages that came, as (letter, number, bytes)."""
+        """Yields the whole frames that came, as (letter, bytes). Raises Strange if one is too long."""
         self.data += data
         while len(self.data) >= HEAD.size:
-            letter, number, length = HEAD.unpack_from(self.data)
+            letter, length = HEAD.unpack_from(self.data)
+            if length > LONGEST:
+                raise Strange(f"a frame of {length} bytes")
             if len(self.data) < HEAD.size + length:
                 return
-            message = bytes(self.data[HEAD.size : HEAD.size + length])
+            frame = bytes(self.data[HEAD.size : HEAD.size + length])
             del self.data[: HEAD.size + length]
-            yield letter, number, message
+            yield letter, frame
 
 
-def order(entry_id):
-    """Returns an id of a stream as numbers, which can be compared."""
-    return tuple(int(part) for part in entry_id.split(b"-"))
+class State:
+    """What a holder has: its session, the bytes between two positions, and the last input of each stream."""
+
+    def __init__(self, data):
+        try:
+            version, name, incarnation, takes_input, encoding, terminal, *rest = data.decode("utf-8", "surrogateescape").split("\0")[:-1]
+            numbers = [int(each) for each in rest[:8]]
+            self.base, self.end = numbers[:2]
+            self.last = {stream: f"{numbers[2 + 2 * at]}-{numbers[3 + 2 * at]}" for at, stream in enumerate(STREAMS)}
+        except (ValueError, IndexError):
+            raise Strange("no state of a holder") from None
+        if version != VERSION:
+            raise Strange(f"a holder of version {version[:9]!r}; this daemon knows version {VERSION}")
+        self.name, self.incarnation, self.language = name, incarnation, (encoding, terminal)
+        self.takes_input, self.command = takes_input == "1", " ".join(rest[8:])
 
 
-def folder():
-    """Returns the directory of the holders' sockets, which is this user's alone: FLEET_HOLDERS, or one in the runtime directory."""
-    base = os.environ.get("XDG_RUNTIME_DIR") or os.environ.get("RUNTIME_DIRECTORY", "").split(":")[0]
-    path = os.environ.get("FLEET_HOLDERS") or (f"{base}/vt220-fleet" if base else f"/tmp/vt220-fleet-{os.getuid()}")
-    os.makedirs(path, mode=0o700, exist_ok=True)
-    found = os.lstat(path)
-    if not stat.S_ISDIR(found.st_mode) or found.st_uid != os.getuid() or found.st_mode & 0o077:
-        raise PermissionError(13, "the directory of the programs isn't this user's alone", path)
-    return path
+def entry(stream, entry_id, data):
+    """Returns an input as its frame has it."""
+    return ENTRY.pack(STREAMS.index(stream), *map(int, entry_id.split(b"-"))) + data
 
 
-def path_of(url, name):
-    """Returns the path of the socket of a session's holder. Sessions of different stores never meet."""
-    address = url.rsplit("@", 1)[-1]
-    return os.path.join(folder(), hashlib.sha256(f"{address}\0{name}".encode()).hexdigest()[:24])
-
-
-def connected(path):
-    """Returns a connection to the holder at a path, or None if there is none."""
-    made = socket.socket(socket.AF_UNIX)
-    try:
-        made.connect(path)
-        return made
-    except (FileNotFoundError, ConnectionRefusedError):
-        made.close()
-        return None
-
-
-def end(holder, number=0):
-    """Has a holder hang up on its program, or with 1 kill it, and then end. A holder that has just ended needs no word."""
-    with contextlib.suppress(OSError):
-        holder.sendall(packed(STOP, number) + packed(DONE))
-
-
-def end_all(path):
-    """Ends all holders in a directory, with their programs."""
-    for each in os.listdir(path) if os.path.isdir(path) else ():
-        holder = connected(os.path.join(path, each))
-        if holder:
-            end(holder, 1)
-            holder.close()
+def path_of(chosen):
+    """Returns the path of the daemon's socket: that of FLEET_DAEMON, of the configuration's [host], or in a runtime directory."""
+    named = os.environ.get("FLEET_DAEMON") or chosen.daemon
+    places = [f"{place}/{PLACE}" for place in (os.environ.get("XDG_RUNTIME_DIR"), "/run") if place]
+    return named or next(filter(os.path.exists, places), places[0])

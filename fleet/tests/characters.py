@@ -4,12 +4,9 @@ import json
 import os
 import random
 
-import aiohttp
-
-from harness import PATIENCE, Processes, Source, bury, check, keys, raises, session, settings, stores, until, wait_for, with_machine, worker
-from operators import OnTerminal, written
+from harness import PATIENCE, Processes, Source, another_daemon, bury, check, keys, program, raises, session, settings, stores, until, wait_for, with_machine, worker, written
+from operators import OnTerminal
 from safety import fleet
-from stores_faults import program
 from web import Served
 from fleet.worker import Worker
 import vt220
@@ -143,10 +140,8 @@ def a_program_writes_and_reads_utf_8(machine, _):
     store = stores.connect(url)
     wait_for(lambda: b"ready" in written(store, name))
     check(written(store, name).split()[:2] == [b"iutf8", b"C.UTF-8"], name, f"its line and its locale: {written(store, name)}")
-    host.kill()
-    host.wait()
-    host = program(machine, name, command, "--input")
-    check(fleet(url, "type", name, "\u00fc")[0] == 0, name, "it takes a character, also from another host")
+    another_daemon(machine)
+    check(fleet(url, "type", name, "\u00fc")[0] == 0, name, "it takes a character, also from another daemon")
     check(wait_for(lambda: "Gr\u00fc\u00dfe".encode() in written(store, name)), name, "goes on")
     check(b"c3 bc" in written(store, name), name, f"and has got it in UTF-8: {written(store, name)}")
     check("Gr\u00fc\u00dfe" in fleet(url, "text", name)[1], name, "the text")
@@ -174,10 +169,7 @@ def viewers_type_in_utf_8(machine, _):
     served = Served(machine, "--typing")
 
     async def ask():
-        async with aiohttp.ClientSession() as client, client.ws_connect(served.url.replace("/?", "/live?")) as socket:
-            known = set()
-            while source.incarnation not in known:
-                known |= {each["session"] for each in json.loads((await socket.receive(PATIENCE)).data).get("news", [])}
+        async with served.live(source.incarnation) as socket:
             await socket.send_json({"session": source.incarnation, "text": sent})
             return await asyncio.to_thread(wait_for, lambda: got() == 2 * sent.encode())
 

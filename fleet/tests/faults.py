@@ -10,16 +10,16 @@ from harness import (
     is_buried,
     key,
     keys,
+    local,
     played,
+    program,
     raises,
     stores,
     until,
     wait_for,
-    local,
     with_machine,
     worker,
 )
-from stores_faults import program
 from fleet.host import Taken
 from fleet.worker import REPORTS
 

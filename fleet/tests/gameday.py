@@ -5,23 +5,20 @@ import os
 import re
 import subprocess
 import threading
-import types
+import time
 import urllib.error
 
-from aiohttp import web
 from prometheus_client import CollectorRegistry, generate_latest
 
-from harness import HERE, PATIENCE, PATIENT, Clock, Processes, Proxy, Source, check, compare, configured, keys, local, raises
+from harness import Clock, HERE, PATIENCE, PATIENT, Processes, Proxy, Source, check, compare, configured, keys, local, program
 from harness import settings, stores, until, wait_for, with_machine
 from operators import asked, metrics_at, state
 from safety import fleet, free_port
-from stores_faults import program
-from fleet import config, metrics, wire
+from fleet import config, metrics
 from fleet.claims import Claims
-from fleet.host import Host
-from fleet.metrics import HostMetrics, PageMetrics, WholeFleet
+from fleet.daemon import Daemon
+from fleet.metrics import DaemonMetrics, PageMetrics, WholeFleet
 from fleet.operate import Typist
-from fleet.program import started
 from fleet.web import Page
 from fleet.worker import Worker
 
@@ -228,6 +225,28 @@ def a_backup_is_restored(machine, data):
 
 
 @with_machine
+def a_store_is_upgraded(machine, data):
+    """Debian has one version of Redis, which is also the oldest that has functions. So it writes the file in the form that all versions read, and
+    is started again over this file alone."""
+    name, one = "upgrade", Worker(stores.connect(machine.url), settings(lease=3600))
+    source = Source(machine.url, name).send(data[:2000])
+    until(lambda: source.incarnation in one.kept and not one.due, one)
+    run_of("Upgrade of the store", machine)
+    machine.server.wait()
+    place = os.path.join(machine.folder, "appendonlydir")
+    files = [file for file in os.listdir(place) if ".base." in file]
+    with open(os.path.join(place, files[0]), "rb") as base:
+        text = base.read()
+    check(len(files) == 1 and text.startswith(b"*") and b"FUNCTION" in text, name, f"the file has plain commands, and the functions: {files} {text[:20]}")
+    machine.start()
+    check(fleet(machine.url, "check-store")[0] == 0, name, "the store is fit")
+    source.send(data[2000:] + b"\033[6n").end(0)
+    check(until(source.is_ended, one), name, "the session goes on to its end")
+    source.receive()
+    compare(source, name)
+
+
+@with_machine
 def a_target_is_down(machine, _):
     """`fleet metrics` ends, and that of another fleet doesn't."""
     port, one = free_port(), lives(machine)
@@ -369,23 +388,22 @@ def sessions_wait(machine, _):
 
 @with_machine
 def hosts_are_silent(machine, _):
-    """A host is killed, and the same command goes on with its program."""
+    """A host daemon is killed, and the next one goes on with its programs."""
     name, store, day = "silent", stores.connect(machine.url), Day(all=of_collector(whole_of(machine)))
     one, command = lives(machine), ["sh", "-c", "echo on; read x; exit 3"]
     with configured(machine, *PATIENT, "[host]", "lease = 1"):
-        first = program(machine, name, command, "--input")
+        host = program(machine, name, command, "--input")
     wait_for(lambda: (state(store, name) or {"size": 0})["size"])  # so its program runs
     one.take(16)
     silent = 'fleet_states{state="no host",'
     day.look(silent, "0.0")
-    first.kill()
-    first.wait()
+    machine.kill_daemon()
     day.look(silent, "1.0")
-    again = program(machine, name, command, "--input")
+    machine.start_daemon()
     check(wait_for(lambda: state(store, name)["state"] == "running"), name, "it has a host again")
     day.look(silent, "0.0")
     Typist(store, state(store, name)["incarnation"]).type(b"\r")
-    check(again.wait(PATIENCE) == 3, name, f"and its program lives: {again.returncode}")
+    check(host.wait(PATIENCE) == 3, name, f"and its program lives: {host.returncode}")
     day.judge(machine, "FleetHostsSilent")
 
 
@@ -442,34 +460,33 @@ def a_worker_is_cut_off(machine, _):
 
 @with_machine
 def a_host_is_behind(machine, _):
-    """No worker plays its session, and its program writes more than may wait."""
+    """No worker plays a session, and its program writes more than may wait. The daemon is in this process."""
     name, clock, real = "behind", Clock(), metrics.time
-    host = Host(stores.connect(machine.url), name, lease=3600)
-    of_host = HostMetrics(host)
-    host.register()
-    ran = of_host.program = started(host, ["sh", "-c", "read x; head -c 3000000 /dev/zero"], os.path.join(machine.folder, "holder"))
-    day, runs = Day(one=of_collector(of_host), all=of_collector(whole_of(machine))), threading.Thread(target=ran.run)
+    daemon = machine.daemon = Daemon(stores.connect(machine.url), config.Host(lease=3600), machine.where()["FLEET_DAEMON"])
+    threading.Thread(target=daemon.serve, daemon=True).start()
+    day = Day(one=of_collector(DaemonMetrics(daemon)), all=of_collector(whole_of(machine)))
     metrics.time = clock
     try:
         lives(machine)
+        host = program(machine, name, ["sh", "-c", "read x; head -c 3000000 /dev/zero"], "--input")
+        wait_for(lambda: daemon.all() and daemon.all()[0].is_named)
+        [ran], clock.now = daemon.all(), time.monotonic()
         day.look()
-        runs.start()
-        ran.say(wire.INPUT, 0, b"keys 1-0\n\r")
-        wait_for(lambda: host.is_waiting)
+        Typist(daemon.store, ran.host.incarnation).type(b"\r")
+        wait_for(lambda: ran.host.is_waiting)
         clock.now = ran.sends_since + 60
         day.look()
         one = Worker(stores.connect(machine.url), settings(lease=3600))
-        check(until(lambda: not runs.is_alive(), one) and ran.status == 0, name, "a worker plays it, so the program goes on")
+        check(until(lambda: host.poll() is not None, one) and host.returncode == 0, name, "a worker plays it, so the program goes on")
         day.look()
     finally:
-        metrics.time = real
-    ran.done()
+        metrics.time, machine.daemon = real, None
     day.judge(machine, "FleetHostBehind")
 
 
 @with_machine
 def a_page_is_asked_without_its_token(machine, _):
-    store, asks = stores.connect(machine.url), types.SimpleNamespace(query={"token": "a guess"})
+    store = stores.connect(machine.url)
 
     def served():
         return Page(store, store, config.Web())
@@ -479,7 +496,7 @@ def a_page_is_asked_without_its_token(machine, _):
     lives(machine)
     day.look()
     for _ in range(30):
-        check(raises(web.HTTPForbidden, page.demand, asks), "page", "it is refused")
+        check(not page.admits('{"token": "a guess"}'), "page", "it is refused")
     day.look()
     page = served()  # with another token
     day.look()
@@ -487,4 +504,4 @@ def a_page_is_asked_without_its_token(machine, _):
 
 
 CASES = [the_store_is_away, the_store_is_slow, sessions_wait, hosts_are_silent, sessions_have_faults, a_worker_is_cut_off, a_host_is_behind]
-CASES += [a_page_is_asked_without_its_token, an_upgrade_fails, an_error_is_taken_back, no_workers, a_session_stands_still, a_format_is_missing, connections_run_out, a_backup_is_restored, a_target_is_down]
+CASES += [a_page_is_asked_without_its_token, an_upgrade_fails, an_error_is_taken_back, no_workers, a_session_stands_still, a_format_is_missing, connections_run_out, a_backup_is_restored, a_store_is_upgraded, a_target_is_down]

@@ -29,7 +29,7 @@ PATIENCE = 300  # seconds until what is waited for counts as hanging
 PATIENT = ["[store]", "timeout = 60", f"give-up = {PATIENCE}"]
 stores.TIMEOUT = 60.0
 frames.WATCHED = frames.FORGET = 3600
-programs.ENDING = PATIENCE
+HOLDER = next(filter(os.path.exists, programs.HOLDERS), programs.HOLDERS[0])
 
 counts = {"passed": 0, "failed": 0}
 
@@ -209,6 +209,27 @@ class Processes:
 
     def __getattr__(self, name):
         return getattr(self.group, name)
+
+
+def program(machine, name, command, *words, **options):
+    """Starts a program as a session of the machine's daemon, which is started if there is none. The process becomes the holder."""
+    if not machine.daemon:
+        machine.start_daemon()
+    words = [local.PYTHON, local.COMMAND, "host", *words, name, *command]
+    return subprocess.Popen(words, env=os.environ | machine.where(), **{"stdout": subprocess.DEVNULL, "stderr": subprocess.DEVNULL} | options)
+
+
+def another_daemon(machine):
+    """Kills the machine's daemon, and starts another one."""
+    machine.kill_daemon()
+    machine.start_daemon()
+
+
+def written(store, name):
+    """Returns what a session's program has written so far."""
+    incarnation = store.hget(keys.NAMES, name)
+    entries = store.xrange(key(incarnation.decode(), "bytes")) if incarnation else []
+    return b"".join(fields.get(b"bytes", b"") for _, fields in entries)
 
 
 def bury(one):

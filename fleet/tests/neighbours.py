@@ -5,8 +5,6 @@ import os
 import signal
 import time
 
-import aiohttp
-
 import load
 from harness import (
     Processes,
@@ -16,6 +14,7 @@ from harness import (
     compare,
     key,
     keys,
+    program,
     raises,
     settings,
     stores,
@@ -26,7 +25,6 @@ from harness import (
 )
 from safety import fleet
 from operators import OnTerminal
-from stores_faults import program
 from web import Served
 from fleet.gallery import READ, Gallery
 from fleet.host import WAITING, Taken
@@ -257,10 +255,7 @@ def a_browser_types_into_others_beside_a_session_that_reads_nothing(machine, _):
     served = Served(machine, "--typing")
 
     async def ask():
-        async with aiohttp.ClientSession() as client, client.ws_connect(served.url.replace("/?", "/live?")) as socket:
-            known = set()
-            while not known >= {deaf.incarnation, good.incarnation}:
-                known |= {each["session"] for each in json.loads((await socket.receive(120)).data).get("news", [])}
+        async with served.live(deaf.incarnation, good.incarnation) as socket:
             for _ in range(40):  # more than there are threads
                 await socket.send_json({"session": deaf.incarnation, "text": "z" * 2000})
             await socket.send_json({"session": good.incarnation, "text": "heard"})
@@ -341,8 +336,7 @@ def a_stream_of_a_wrong_type_takes_nothing_else_from_a_host(url, _):
     source.store.set(source.part("keys"), "x")
     check(until(lambda: source.receive().got, one), name, "the report comes")
     source.store.set(source.part("signals"), "x")
-    source.host.renewed = -1e9
-    source.host.receive_next()
+    source.receive()
     typist = Typist(source.store, source.incarnation)
     typist.type(b"a")
     typist.signal(1)

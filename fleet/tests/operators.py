@@ -6,7 +6,6 @@ import os
 import pty
 import re
 import select
-import signal
 import socket
 import struct
 import subprocess
@@ -28,7 +27,7 @@ from harness import (
     key,
     keys,
     local,
-    played,
+    program,
     raises,
     stores,
     until,
@@ -36,13 +35,13 @@ from harness import (
     wanted,
     with_machine,
     worker,
+    written,
 )
 from fleet import claims, config, host, metrics
 from fleet.config import Settings, Unclear
-from fleet.metrics import HostMetrics, PageMetrics, WholeFleet, WorkerMetrics, server
+from fleet.metrics import DaemonMetrics, PageMetrics, WholeFleet, WorkerMetrics, server
 from fleet.web import Page
 from safety import conf, fleet, free_port
-from stores_faults import program
 
 SHELL = ["sh", "-c", "while read x; do echo got $x; done; exit 9"]
 
@@ -69,7 +68,7 @@ def run_leaves_nothing_when_it_is_killed(machine, _):
     url = next(found[1] for found in map(re.compile(r"export FLEET_REDIS=(\S+)").match, runs.stderr) if found)
     check(wait_for(lambda: stores.connect(url).hlen(keys.WORKERS) == 2), name, "its workers live")
     started = children_of(runs.pid)
-    check(len(started) == 3 and all(map(is_there, started)), name, f"a store and two workers: {started}")
+    check(len(started) == 4 and all(map(is_there, started)), name, f"a store, a host daemon and two workers: {started}")
     runs.kill()
     runs.wait()
     check(wait_for(lambda: not any(map(is_there, started))), name, "they end with it")
@@ -102,13 +101,6 @@ def state(store, name):
     from fleet.operate import everything
 
     return next((each for each in everything(store) if each["name"] == name), None)
-
-
-def written(store, name):
-    """Returns what a session's program has written so far."""
-    incarnation = store.hget(keys.NAMES, name)
-    entries = store.xrange(key(incarnation.decode(), "bytes")) if incarnation else []
-    return b"".join(fields.get(b"bytes", b"") for _, fields in entries)
 
 
 @with_machine
@@ -159,12 +151,13 @@ def kill_end_and_their_statuses(machine, data):
     check(fleet(url, "kill", "--signal", "TERM", "--patience", "1", "stubborn")[0] == 6, name, "one that minds no signal: 6")
     check(fleet(url, "kill", "--signal", "KILL", *patiently, "stubborn")[0] == 0, name, "but KILL")
     check(host.wait(PATIENCE) == 137, name, f"which its host's status shows: {host.returncode}")
+    machine.kill_daemon()
     with configured(machine, *PATIENT, "[host]", "lease = 1"):
-        lost = program(machine, "lost", ["sleep", "infinity"])
+        machine.start_daemon()
+        program(machine, "lost", ["sleep", "infinity"])
     wait_for(lambda: state(store, "lost"))
-    lost.kill()
-    lost.wait()
-    check(wait_for(lambda: state(store, "lost")["state"] == "no host", 0.2), name, "a host that was killed")
+    machine.kill_daemon()
+    check(wait_for(lambda: state(store, "lost")["state"] == "no host", 0.2), name, "a daemon that was killed")
     check(fleet(url, "kill", "lost")[0] == 6, name, "nobody is there to pass a signal on: 6")
     incarnation = state(store, "lost")["incarnation"]
     check(fleet(url, "end", "--keep", "2h", "lost")[0] == 0, name, "it is ended")
@@ -189,7 +182,7 @@ def kill_end_and_their_statuses(machine, data):
 def a_host_ends_also_without_a_store(machine, _):
     name, words = "no store", ["sh", "-c", "echo on; exec sleep infinity"]
     with configured(machine, "[store]", "timeout = 60", "give-up = 1"):
-        host = subprocess.Popen([local.PYTHON, local.COMMAND, "host", name, *words], env=os.environ | {"FLEET_REDIS": machine.url}, stderr=subprocess.PIPE, text=True)
+        host = program(machine, name, words, stderr=subprocess.PIPE, text=True)
         store = stores.connect(machine.url)
         wait_for(lambda: b"on" in written(store, name))
     machine.kill()
@@ -234,7 +227,7 @@ def drain_hands_over(machine, data):
 def viewers_type_in_order_and_once(machine, _):
     """Through a link that swallows answers: what is typed is there once, in order."""
     from harness import Proxy
-    from fleet.operate import Refused, Typist
+    from fleet.operate import Typist
 
     name, proxy = "type", Proxy(machine, 0.05)
     workers = Processes(machine, 1)
@@ -449,38 +442,41 @@ def metrics_at(port):
 
 
 @with_machine
-def a_host_has_metrics(machine, _):
+def a_daemon_has_metrics(machine, _):
     name, port, steps = "host metrics", free_port(), [os.path.join(machine.folder, each) for each in ("first", "second")]
     waits = ["while [ ! -e %s ]; do sleep 0.05; done" % step for step in steps]
     script = f"printf begins; {waits[0]}; printf ' and on'; {waits[1]}; exit 3"
-    host = program(machine, name, ["sh", "-c", script], "--metrics", f"127.0.0.1:{port}")
+    machine.start_daemon("--metrics", f"127.0.0.1:{port}")
+    host = program(machine, name, ["sh", "-c", script])
     store, now = stores.connect(machine.url), lambda: metrics_at(port)
     wait_for(lambda: written(store, name) == b"begins")
     check(wait_for(lambda: now()["fleet_host_bytes_total"] == 6), name, f"bytes: {now()}")
     before = now()
-    wanted = {'fleet_host_program{state="running"}': 1, 'fleet_host_program{state="slowed"}': 0, 'fleet_host_program{state="ended"}': 0}
+    wanted = {'fleet_host_programs{state="running"}': 1, 'fleet_host_programs{state="slowed"}': 0, 'fleet_host_programs{state="ended"}': 0}
     wanted |= {"fleet_host_lag_bytes": 0, "fleet_host_unplayed_bytes": 6, "fleet_store_is_away": 0, "fleet_store_outages_total": 0}
     check(wanted.items() <= before.items() and before["fleet_store_connections_total"] > 0, name, str(before))
     check(asked(port, "healthz") == (200, "ok\n"), name, "it is well")
     machine.kill()
     open(steps[0], "w").close()
-    wanted = {'fleet_host_program{state="slowed"}': 1, "fleet_host_lag_bytes": 7, "fleet_host_bytes_total": 6, "fleet_store_is_away": 1}
+    wanted = {'fleet_host_programs{state="slowed"}': 1, "fleet_host_lag_bytes": 7, "fleet_host_bytes_total": 6, "fleet_store_is_away": 1}
     check(wait_for(lambda: wanted.items() <= now().items()), name, f"without a store: {now()}")
     # The host begins to send these bytes a moment after it has them.
     check(wait_for(lambda: now()["fleet_host_lag_seconds"] > 0), name, f"it is behind: {now()}")
     check(asked(port, "healthz") == (503, "the store is away\n"), name, "and not well")
     machine.start()
-    wanted = {'fleet_host_program{state="running"}': 1, "fleet_host_lag_bytes": 0, "fleet_host_lag_seconds": 0, "fleet_host_bytes_total": 13}
+    wanted = {'fleet_host_programs{state="running"}': 1, "fleet_host_lag_bytes": 0, "fleet_host_lag_seconds": 0, "fleet_host_bytes_total": 13}
     check(wait_for(lambda: wanted.items() <= now().items()), name, f"it goes on: {now()}")
     after = now()
     check(all(after[each] > before[each] for each in ("fleet_store_outages_total", "fleet_store_connections_total")), name, f"over a new connection: {after}")
     machine.kill()
     open(steps[1], "w").close()
-    check(wait_for(lambda: now()['fleet_host_program{state="ended"}'] == 1), name, f"its program has ended: {now()}")
+    check(wait_for(lambda: now()['fleet_host_programs{state="ended"}'] == 1), name, f"its program has ended: {now()}")
     machine.start()
-    check(host.wait(PATIENCE) == 3, name, f"and so does it: {host.returncode}")
-    taken = program(machine, "other", ["true"], "--metrics", "127.0.0.1:99999")
-    check(taken.wait(PATIENCE) == 2 and not store.hexists(keys.NAMES, "other"), name, "if there is no such address, nothing begins")
+    check(host.wait(PATIENCE) == 3, name, f"and so does its holder: {host.returncode}")
+    check(wait_for(lambda: now()['fleet_host_programs{state="ended"}'] == 0) and now()["fleet_host_bytes_total"] == 13, name, f"the counts stay: {now()}")
+    machine.kill_daemon()
+    machine.start_daemon("--metrics", "127.0.0.1:99999")
+    check(machine.daemon.wait(PATIENCE) == 2, name, "if there is no such address, the daemon ends")
 
 
 def names_of(collector):
@@ -491,9 +487,8 @@ def names_of(collector):
 
 def alerts_and_documents_name_the_metrics_that_there_are(url, _):
     name, store, source = "alerts", stores.connect(url), Source(url, "one")
-    of_host = HostMetrics(source.host)
-    of_host.program = types.SimpleNamespace(end=0, is_ended=False, sends_since=None, given=0)
-    known = set().union(*map(names_of, (WorkerMetrics(worker(url)), of_host, PageMetrics(Page(store, store, config.Web())), WholeFleet(store))))
+    of_daemon = DaemonMetrics(types.SimpleNamespace(store=store, all=list, counts=dict.fromkeys(("bytes", "inputs"), 0)))
+    known = set().union(*map(names_of, (WorkerMetrics(worker(url)), of_daemon, PageMetrics(Page(store, store, config.Web())), WholeFleet(store))))
     texts = {}
     for file in ("alerts.yml", "README.md", "RUNBOOK.md"):
         with open(os.path.join(HERE, "..", file)) as read:
@@ -597,7 +592,7 @@ CASES = [
     a_viewer_follows_and_types_on_a_terminal,
     sessions_are_looked_at_and_exported,
     metrics_and_logs,
-    a_host_has_metrics,
+    a_daemon_has_metrics,
     alerts_and_documents_name_the_metrics_that_there_are,
     metrics_of_the_whole_fleet,
     the_configuration_is_read_and_checked,

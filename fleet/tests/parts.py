@@ -1,23 +1,17 @@
 """Each part of the fleet by itself."""
-import os
-import signal
+import re
 import socket
 import subprocess
 import sys
 import tempfile
-import threading
 
 import redis
 
-from harness import PATIENCE, Source, check, key, keys, played, raises, session, stores, until, wanted, worker, compare
+from harness import HOLDER, PATIENCE, Source, check, compare, key, keys, played, program, raises, session, stores, until, wait_for, with_machine, worker
 import load
-import vt220
 from fleet import frames
-from fleet.cli import on_end
-from fleet.host import Host, Taken
+from fleet.host import Taken
 from fleet.operate import Typist
-from fleet import wire
-from fleet.program import held, started
 from fleet.store import has_come, packed
 from fleet.view import Viewer
 
@@ -195,97 +189,29 @@ def a_session_that_stands_still_is_shown_also_later(url, _):
         frames.FORGET = before
 
 
-def a_program_gets_its_answers(url, _):
+@with_machine
+def a_program_gets_its_answers(machine, _):
     """Through a pseudo-terminal: a shell asks where the cursor is, and prints what it was told."""
-    name = "program"
+    name, one, store = "program", worker(machine.url), stores.connect(machine.url)
     asks = (
         r"""stty -echo raw; printf 'ab\033[6n'; a=$(dd bs=1 count=6 2>/dev/null); stty sane; printf %s "$a" | od -An -c; exit 3"""
     )
-    host = Host(stores.connect(url), name)
-    host.register()
-    one = worker(url)
-    program = started(host, ["sh", "-c", asks], wire.path_of(url, name))
-    runs = threading.Thread(target=lambda: host.end(program.run()))
-    runs.start()
-    store = stores.connect(url)
-    check(until(lambda: store.exists(key(host.incarnation, "ended")), one), name, "it ends")
-    runs.join()
-    program.done()
-    check(not os.path.exists(wire.path_of(url, name)), name, "its holder has ended before its host")
-    ended = store.hgetall(key(host.incarnation, "ended"))
+    host = program(machine, name, ["sh", "-c", asks])
+    wait_for(lambda: store.hexists(keys.NAMES, name))
+    incarnation = store.hget(keys.NAMES, name).decode()
+    check(until(lambda: store.exists(key(incarnation, "ended")), one), name, "it ends")
+    check(host.wait(PATIENCE) == 3, name, "and so does its holder, with its status")
+    ended = store.hgetall(key(incarnation, "ended"))
     check(ended[b"status"] == b"3", name, "its status")
     check(" ".join(ended[b"text"].decode().split()) == "ab 033 [ 1 ; 3 R", name, "the answer")
 
 
-def a_killed_program_has_a_shell_s_status(url, _):
-    host = Host(stores.connect(url), "killed")
-    host.register()
-    program = started(host, ["sh", "-c", "kill -9 $$"], wire.path_of(url, "killed"))
-    check(program.run() == 137, "killed", "137, as a shell has it")
-    host.end(137)
-    program.done()
-
-
-def a_holder_that_has_just_ended_is_no_fault(_url, _):
-    """It ends before it lets in who has connected. The connection is reset then."""
-    name, before = "just ended", wire.connected
-
-    def connected(_path):
-        with socket.socket(socket.AF_UNIX) as listener:
-            listener.bind(os.path.join(place, str(len(os.listdir(place)))))
-            listener.listen()
-            return before(listener.getsockname())
-
-    with tempfile.TemporaryDirectory() as place:
-        wire.connected = connected
-        try:
-            check(held(place, ["true"]) == (None, None), name, "a new host finds none")
-            check(not raises(OSError, wire.end_all, place), name, "and there is none to be ended")
-        finally:
-            wire.connected = before
-
-
-class Interrupted:
-    """A link to a holder: a signal comes in the midst of each message that is sent."""
-
-    def __init__(self, link):
-        self.link = link
-
-    def __getattr__(self, name):
-        return getattr(self.link, name)
-
-    def sendall(self, data):
-        self.link.sendall(data[:5])
-        signal.raise_signal(signal.SIGTERM)
-        self.link.sendall(data[5:])
-
-
-def expire(*_):
-    raise RuntimeError("what is waited for never comes")
-
-
-def a_signal_comes_in_the_midst_of_a_message(url, _):
-    """The thread that sends the message has the lock that the hang-up waits for."""
-    name, ends = "interrupted", (signal.SIGHUP, signal.SIGTERM, signal.SIGINT, signal.SIGALRM)
-    before = [signal.getsignal(each) for each in ends]
-    host = Host(stores.connect(url), name)
-    host.register()
-    program = started(host, ["sh", "-c", "echo; exec sleep infinity"], wire.path_of(url, name))
-    on_end(program.stop)
-    signal.signal(signal.SIGALRM, expire)
-    signal.alarm(PATIENCE)
-    try:
-        host.send_up_to(*program.next())  # the program has begun
-        program.link, link = Interrupted(program.link), program.link
-        program.say(wire.KEPT, host.at)
-        program.link = link
-        check(program.run() == 128 + signal.SIGHUP, name, "the program ends, and both messages are whole")
-    finally:
-        signal.alarm(0)
-        for each, handler in zip(ends, before):
-            signal.signal(each, handler)
-    host.end(128 + signal.SIGHUP)
-    program.done()
+@with_machine
+def a_program_that_is_killed_or_can_t_be_run_has_a_shell_s_status(machine, _):
+    name, store = "status", stores.connect(machine.url)
+    for number, (command, status) in enumerate(((["sh", "-c", "kill -9 $$"], 137), (["no-such-program"], 127), (["/etc/passwd"], 126))):
+        check(program(machine, f"{name}-{number}", command).wait(PATIENCE) == status, name, f"{command}: {status}")
+    check(store.scard(keys.LIVE) == 3 and not store.exists(keys.lease(f"{name}-0")), name, "each has its end in the store, for a worker")
 
 
 def a_store_that_resets_a_connection_is_away(_url, _):
@@ -312,33 +238,50 @@ def commands(store):
     return {name[8:]: each["calls"] for name, each in store.info("commandstats").items() if name != "cmdstat_info"}
 
 
-def an_idle_host_costs_the_store_one_message_a_beat(url, _):
-    name, one = "idle", worker(url)
+def a_lease_brings_back_what_the_store_lost(url, _):
+    name, one = "renewal", worker(url)
     source = Source(url, name, takes_input=True).send(b"x")
     until(lambda: source.incarnation in one.kept and not one.due, one)
-    host, typist = source.host, Typist(source.store, source.incarnation)
 
-    def next_beat(seconds=0.01):
-        host.renewed, host.beat = -1e9, seconds
-        return host.receive_next()
+    def renew():
+        source.host.renewed = -1e9
+        source.host.renew_if_due()
 
-    next_beat()
-    before = commands(source.store)
-    check(next_beat() == [], name, "nothing comes")
-    counts = {each: count - before.get(each, 0) for each, count in commands(source.store).items() if count != before.get(each)}
-    check((counts.get("fcall"), counts.get("xread")) == (1, 1) and sum(counts.values()) <= 9, name, f"few commands: {counts}")
-    typist.type(b"key")
-    check([what for *_, what in next_beat(3600)] == [b"key"], name, "what is there comes at once")
-    source.store.delete(keys.lease(name))
-    next_beat()
-    check(source.store.get(keys.lease(name)) == source.incarnation.encode(), name, "the lease is renewed")
-    for part in (keys.NAMES, keys.ALL, keys.LIVE):
+    renew()
+    for part in (keys.lease(name), keys.NAMES, keys.ALL, keys.LIVE):
         source.store.delete(part)
-        next_beat()
+        renew()
         check(source.store.exists(part), name, f"{part} comes back")
     source.store.run("end", source.incarnation, 1, keys.version(), 0)
-    check(raises(Taken, next_beat), name, "an end by force is noticed")
-    check(source.store.ping() and not host.receive_entries(0.01), name, "and no answer is left on a connection")
+    check(raises(Taken, renew), name, "an end by force is noticed")
+
+
+SESSIONS = 100
+
+
+@with_machine
+def the_sessions_of_a_machine_cost_the_store_one_call_a_beat(machine, _):
+    name, store = "machine", stores.connect(machine.url)
+    known = {each["id"] for each in store.client_list()}
+    machine.start_daemon()
+    words = [HOLDER, machine.where()["FLEET_DAEMON"], "-1", "0", "1", "dec", "vt220"]
+    holders = [subprocess.Popen([*words, f"idle-{number}", "sleep", "infinity"]) for number in range(SESSIONS)]
+    check(wait_for(lambda: store.hlen(keys.NAMES) == SESSIONS), name, "all have begun")
+    others = [each for each in store.client_list() if each["id"] not in known]
+    check(len(others) <= 2, name, f"{SESSIONS} sessions have two connections: {[(each['cmd'], each['age']) for each in others]}")
+    store.config_resetstat()
+    check(wait_for(lambda: commands(store).get("set", 0) >= 2 * SESSIONS), name, "leases are renewed")
+    calls = commands(store)
+    check(calls["set"] == SESSIONS * calls["fcall"], name, f"a call renews those of {SESSIONS} sessions: {calls}")
+    sizes = [int(re.search(r"Pss:\s+(\d+)", open(f"/proc/{each.pid}/smaps_rollup").read())[1]) for each in holders]
+    check(max(sizes) < 1000, name, f"a holder takes less than a megabyte: {max(sizes)} KB")
+    incarnation = store.hget(keys.NAMES, "idle-0").decode()
+    Typist(store, incarnation).signal(9)
+    check(holders[0].wait(PATIENCE) == 137, name, "each is reached by itself")
+    machine.kill_daemon()
+    for each in holders:
+        each.kill()
+        each.wait()
 
 
 def calls_of(work):
@@ -381,7 +324,8 @@ def an_entry_costs_a_worker_few_calls(url, _):
 
 CASES = [
     an_entry_costs_a_worker_few_calls,
-    an_idle_host_costs_the_store_one_message_a_beat,
+    a_lease_brings_back_what_the_store_lost,
+    the_sessions_of_a_machine_cost_the_store_one_call_a_beat,
     a_worker_ends_a_session,
     reports_are_at_what_they_answer,
     another_worker_goes_on,
@@ -392,8 +336,6 @@ CASES = [
     viewers_join_late,
     a_session_that_stands_still_is_shown_also_later,
     a_program_gets_its_answers,
-    a_killed_program_has_a_shell_s_status,
-    a_holder_that_has_just_ended_is_no_fault,
-    a_signal_comes_in_the_midst_of_a_message,
+    a_program_that_is_killed_or_can_t_be_run_has_a_shell_s_status,
     a_store_that_resets_a_connection_is_away,
 ]

@@ -1,13 +1,17 @@
 """Who may do what: the socket, passwords, TLS, users, the program's environment, and reports that are none."""
 import os
 import random
-import re
+import shutil
 import socket
 import stat
 import subprocess
+import sys
+import tempfile
+import types
 
 from harness import (
     HERE,
+    HOLDER,
     PATIENCE,
     PATIENT,
     Processes,
@@ -17,14 +21,18 @@ from harness import (
     keys,
     local,
     played,
+    program,
     raises,
     stores,
     until,
     wait_for,
     with_machine,
     worker,
+    written,
 )
+from fleet import wire
 from fleet.host import REPORT, REPORT_LIMIT
+from fleet.operate import Typist
 from fleet.view import Viewer
 
 held = []  # sockets that hold ports as long as this process lives
@@ -53,15 +61,16 @@ def the_program_learns_no_address(machine, _):
     workers = Processes(machine, 1)
     config = os.path.join(machine.folder, "conf")
     open(config, "w").close()
-    program = "env; tr '\\0' '\\n' </proc/$PPID/cmdline; ls -ln /proc/$PPID/environ"
-    status, _, _ = fleet(machine.url, "host", name, "sh", "-c", program, config=config)
+    machine.start_daemon()
+    reads = "env; cat /proc/$PPID/cmdline /proc/$PPID/environ | tr '\\0' '\\n'"
+    status, _, _ = fleet(machine.url, "host", name, "sh", "-c", reads, config=config)
     store = stores.connect(machine.url)
     incarnation = store.hget(keys.NAMES, name).decode()
     wait_for(lambda: store.exists(key(incarnation, "ended")))
     said = b"".join(f[b"bytes"] for _, f in store.xrange(key(incarnation, "bytes")) if b"bytes" in f).decode()
     check(status == 0 and "TERM=vt220" in said, name, "the program ran")
     check("FLEET" not in said and "redis" not in said.lower(), name, "no variable and no argument has the address")
-    check(re.search(r"^-r-+ +\d+ +0 +0 ", said, re.MULTILINE), name, "and the host's environment isn't this user's to read")
+    check(said.count("TERM=vt220") == 2, name, "neither of its own nor of its holder's")
     workers.stop()
 
 
@@ -184,10 +193,15 @@ def users_have_the_rights_that_they_need(machine, _):
     check(status == 69 and "prepare-store" in said, "users", f"without them a worker ends: {status} {said}")
     check(fleet(urls["operator"], "prepare-store")[0] == 0, "users", "an operator loads them")
     workers = Processes(machine, 1, "--lease", "1", "--retain", "1h", url=urls["worker"])
-    words = [local.PYTHON, local.COMMAND, "host", "--input", "roles", "sh", "-c", PROGRAM_THAT_ASKS]
-    host = subprocess.Popen(words, env=os.environ | {"FLEET_REDIS": urls["host"]}, stderr=subprocess.DEVNULL)
+    machine.start_daemon(url=urls["host"])
+    host = program(machine, "roles", ["sh", "-c", PROGRAM_THAT_ASKS], "--input")
     check(wait_for(lambda: fleet(urls["viewer"], "text", "roles")[1].startswith("answered")), "users", "host, worker and viewer")
     rights_of_commands(urls)
+    machine.kill_daemon()
+    machine.start_daemon(url=urls["viewer"])
+    check(program(machine, "other", ["true"]).wait(PATIENCE) == 77, "users", "a viewer is no host")
+    machine.kill_daemon()
+    machine.start_daemon(url=urls["host"])
     rights_of_calls(urls)
     store = stores.connect(urls["operator"])
     incarnation = store.hget(keys.NAMES, "roles").decode()
@@ -212,7 +226,6 @@ def rights_of_commands(urls):
     check(wait_for(lambda: "got hello" in fleet(urls["viewer"], "text", "roles")[1]), "users", "and the program reads it")
     check(fleet(urls["typist"], "kill", "roles")[0] == 77, "users", "but sends no signal")
     check(fleet(urls["viewer"], "end", "--force", "roles")[0] == 77, "users", "a viewer ends nothing")
-    check(fleet(urls["viewer"], "host", "other", "true")[0] == 77, "users", "and is no host")
 
 
 def rights_of_calls(urls):
@@ -231,6 +244,107 @@ def rights_of_calls(urls):
         for words in calls:
             call = stores.connect(urls[user]).execute_command
             check(raises(stores.NoPermissionError, call, *words), "users", f"{user}: no {words[0]}")
+
+
+def state_of_holder(name="other", version=wire.VERSION, encoding="dec", numbers="0"):
+    return wire.framed(wire.STATE, "".join(f"{word}\0" for word in (version, name, "", "1", encoding, "vt220", *[numbers] * 8, "true")).encode("utf-8", "surrogateescape"))
+
+
+@with_machine
+def what_is_no_holder_harms_no_session(machine, _):
+    """It is refused or left, and the daemon goes on."""
+    name, store = "no holder", stores.connect(machine.url)
+    host = program(machine, "good", ["sh", "-c", "stty -echo; echo on; while read x; do echo got $x; done"], "--input")
+    check(wait_for(lambda: b"on" in written(store, "good")), name, "a session runs")
+
+    def connected():
+        made = socket.socket(socket.AF_UNIX)
+        made.connect(machine.where()["FLEET_DAEMON"])
+        return made
+
+    silent = [connected() for _ in range(50)]
+    too_long = wire.HEAD.pack(wire.STATE, wire.LONGEST + 1)
+    strange = [b"x" * 100, too_long, wire.framed(wire.STATE), wire.packed(wire.BYTES, 1, b"x"), state_of_holder(version="1"), state_of_holder("a\nb")]
+    strange += [state_of_holder("\udcff"), state_of_holder("x" * 300), state_of_holder(encoding="utf-7"), state_of_holder(numbers="x"), state_of_holder("good")]
+    strange += [state_of_holder() + frame for frame in (wire.packed(wire.BYTES, 5, b"x"), wire.packed(wire.BYTES, 1 << 63, b"x"), wire.framed(wire.TAKEN))]
+    for number, data in enumerate(strange):
+        with connected() as made:
+            made.sendall(data)
+            check(wire.REFUSED in made.recv(4096), name, f"{number} is refused: {data[:40]}")
+    chance = random.Random(1)
+    for _ in range(200):
+        with connected() as made:
+            made.sendall((state_of_holder() if chance.random() < 0.5 else b"") + chance.randbytes(chance.randrange(200)))
+    Typist(store, store.hget(keys.NAMES, "good").decode()).type(b"hello\r")
+    check(wait_for(lambda: b"got hello" in written(store, "good")), name, "the session goes on")
+    check(machine.daemon.poll() is None and host.poll() is None, name, "and so does the daemon")
+    for each in silent:
+        each.close()
+
+
+UNITS = os.path.join(HERE, "..", "systemd")
+ATTACK = r"""cat %s/*/password /proc/*/environ; %s %s -1 0 1 dec vt220 victim true; echo "status $?"; [ "$(id -u)" -ne 0 ] && kill -9 -1; echo survived"""
+
+
+class Units:
+    """Commands under the users that their units have: a user of the same name is the same one, and a dynamic one is each unit's own. systemd doesn't
+    run here. Each unit has its password as LoadCredential gives it."""
+
+    def __init__(self, machine):
+        self.machine, self.users, self.first = machine, {}, 10**6 + 100 * random.randrange(10**6)
+        self.place = tempfile.mkdtemp(prefix="units-")
+        os.chmod(self.place, 0o755)
+
+    def start(self, unit, *words, instance=""):
+        with open(os.path.join(UNITS, f"vt220-fleet-{unit}.service")) as file:
+            said = dict(line.split("=", 1) for line in file.read().splitlines() if "=" in line and line[0] != "#")
+        mine = os.path.join(self.place, f"{unit}{instance}")
+        user = self.users.setdefault(mine if said.get("DynamicUser") == "yes" else said["User"], self.first + len(self.users))
+        where = {"FLEET_REDIS": self.machine.url, "FLEET_DAEMON": os.path.join(self.place, "daemon", "socket")}
+        os.makedirs(mine)
+        if "LoadCredential" in said:
+            where["FLEET_PASSWORD_FILE"] = conf(types.SimpleNamespace(folder=mine), "password", "secret")
+            os.chown(where["FLEET_PASSWORD_FILE"], user, user)
+            os.chmod(where["FLEET_PASSWORD_FILE"], 0o400)
+        os.chown(mine, user, user)
+        words = ["setpriv", f"--reuid={user}", f"--regid={user}", "--clear-groups", local.PYTHON, local.COMMAND, *words]
+        return subprocess.Popen(words, env=os.environ | where, stdout=subprocess.DEVNULL, stderr=subprocess.DEVNULL)
+
+
+@with_machine
+def a_session_reaches_no_other_and_no_password(machine, _):
+    """A program reads what it may, takes another session's name, and kills all that it may."""
+    name = "apart"
+    if os.getuid() != 0:
+        print(f"skipped: {name}: it needs root, for sessions of several users", file=sys.stderr)
+        return
+    units = Units(machine)
+    stores.connect(machine.url).config_set("requirepass", "secret")
+    os.chmod(machine.folder, 0o711)
+    os.chmod(machine.socket, 0o777)
+    configuration = os.environ["FLEET_CONFIG"]
+    os.chmod(configuration, 0o644)
+    store = stores.connect(machine.url, conf(machine, "password", "secret"))
+    served = [units.start("daemon", "daemon"), units.start("worker@", "worker")]
+    socket_of_daemon = os.path.join(units.place, "daemon", "socket")
+    check(wait_for(lambda: os.path.exists(socket_of_daemon)), name, "the daemon listens")
+    victim = units.start("host@", "host", "--input", "victim", "sh", "-c", "stty -echo; echo on; while read x; do echo got $x; done", instance="victim")
+    check(wait_for(lambda: b"on" in written(store, "victim")), name, "a session runs")
+    attack = ATTACK % (units.place, os.path.realpath(HOLDER), socket_of_daemon)
+    attacker = units.start("host@", "host", "attacker", "sh", "-c", attack, instance="attacker")
+    check(attacker.wait(PATIENCE) == -9, name, f"its holder ends with it: {attacker.returncode}")
+    check(wait_for(lambda: store.hget(key(store.hget(keys.NAMES, "attacker").decode(), "about"), "closed") == b"lost"), name, "so its session is lost")
+    said = written(store, "attacker")
+    check(b"secret" not in said and b"denied" in said and b"survived" not in said, name, f"it reads no password: {said}")
+    check(b"status 5" in said, name, f"nor has it another user's name: {said}")
+    check(all(each.poll() is None for each in (*served, victim)), name, "daemon, worker and the other session live")
+    typist = Typist(store, store.hget(keys.NAMES, "victim").decode())
+    typist.type(b"hello\r")
+    check(wait_for(lambda: b"got hello" in written(store, "victim")), name, "and go on")
+    for each in (victim, *served):
+        each.terminate()
+        each.wait()
+    shutil.rmtree(units.place)
 
 
 def certify(at):
@@ -266,5 +380,7 @@ CASES = [
     every_report_of_the_terminal_has_the_form,
     a_password_is_needed_and_read_from_a_file,
     users_have_the_rights_that_they_need,
+    what_is_no_holder_harms_no_session,
+    a_session_reaches_no_other_and_no_password,
     tls_is_spoken,
 ]

@@ -17,10 +17,9 @@ from harness import (
     configured,
     key,
     keys,
-    local,
     played,
+    program,
     raises,
-    session,
     stores,
     until,
     wait_for,
@@ -31,14 +30,6 @@ from safety import free_port
 from fleet.host import WAITING, WentBack
 from fleet.session import bytes_of
 from fleet.view import Viewer
-
-
-def program(machine, name, command, *words):
-    """Starts a host with a program, as a process of its own."""
-    words = [local.PYTHON, local.COMMAND, "host", *words, name, *command]
-    return subprocess.Popen(
-        words, env=os.environ | {"FLEET_REDIS": machine.url}, stdout=subprocess.DEVNULL, stderr=subprocess.DEVNULL
-    )
 
 
 ASK = r"""stty -echo raw; while [ ! -e "$0" ]; do sleep 0.1; done; printf 'ab\033[6n'; a=$(dd bs=1 count=6 2>/dev/null)
@@ -322,7 +313,7 @@ def without_a_worker_bytes_wait_within_a_bound(machine, _):
     check(WAITING <= there <= WAITING + 65536, name, f"a mebibyte waits, and no more: {there}")
     workers = Processes(machine, 1)
     check(wait_for(lambda: int(store.hget(key(incarnation, "about"), "end")) > 2 * WAITING), name, "with a worker it goes on")
-    host.kill()
+    host.terminate()
     host.wait(PATIENCE)
     workers.stop()
 

@@ -1,13 +1,13 @@
 """What is replaced while sessions live: formats, leases, hosts; and what is removed in the end."""
 import os
 import random
-import re
 import signal
-import stat
+import subprocess
 import sys
-import threading
 
 from harness import (
+    HOLDER,
+    another_daemon,
     Clock,
     PATIENCE,
     PATIENT,
@@ -19,6 +19,7 @@ from harness import (
     configured,
     key,
     keys,
+    program,
     raises,
     settings,
     stores,
@@ -27,13 +28,12 @@ from harness import (
     wanted,
     with_machine,
     worker,
+    written,
 )
-from operators import children_of, written
-from safety import conf, fleet
-from stores_faults import program
-from fleet import claims, holder, wire
+from safety import fleet
+from fleet import claims, wire
+from fleet.daemon import listening
 from fleet.operate import Typist
-from fleet.program import Program
 from fleet.worker import Worker
 
 seed, rounds = 1, 20
@@ -188,7 +188,7 @@ sys.exit(3)
 
 
 class Run:
-    """A host with a program that writes bytes and writes down the reports. It may be killed, and started again."""
+    """A session with a program that writes bytes and writes down the reports."""
 
     def __init__(self, machine, name, parts, has_gates=False):
         self.machine, self.name, self.data = machine, name, b"".join(parts)
@@ -198,19 +198,11 @@ class Run:
             file.write(self.data)
         self.reports = wanted("reports", self.data)[1]
         self.gate = os.path.join(machine.folder, f"{name}.gate") if has_gates else ""
-        self.command = [sys.executable, "-c", ASKER, self.file, self.got, str(len(parts[0])), self.gate]
-        self.start()
-
-    def start(self):
-        self.host = program(self.machine, self.name, self.command)
+        self.host = program(machine, name, [sys.executable, "-c", ASKER, self.file, self.got, str(len(parts[0])), self.gate])
 
     def open_gate(self, number):
         """Lets the program go on up to the gate after this one."""
         open(f"{self.gate}-{number}", "w").close()
-
-    def kill(self):
-        self.host.kill()
-        self.host.wait()
 
     def incarnation(self):
         found = self.store.hget(keys.NAMES, self.name)
@@ -221,7 +213,7 @@ class Run:
         return int(self.store.hget(key(self.incarnation() or "", "about"), "end") or 0)
 
     def wait(self):
-        """Waits until the host ends, for as long as the session goes on. Returns its exit status; None if the session hangs."""
+        """Waits until the holder ends, for as long as the session goes on. Returns its exit status; None if the session hangs."""
         before = -1
         while self.host.poll() is None and self.end() > before:
             before = self.end()
@@ -248,8 +240,8 @@ def asking(data, times, size=100):
 
 @with_machine
 def a_program_outlives_its_host(machine, data):
-    """The host is killed again and again, at no moment in particular, and started again. However late a kill comes, the program goes on
-    after it."""
+    """The host daemon is killed again and again, at no moment in particular, and started again. However late a kill comes, the program goes
+    on after it."""
     name, workers, gates = "outlives", Processes(machine, 1), 10
     run, kills = Run(machine, name, asking(data * 20, 20 * gates), has_gates=True), gates - 2
     run.open_gate(0)
@@ -259,53 +251,100 @@ def a_program_outlives_its_host(machine, data):
         before = run.end()
         run.open_gate(number)
         wait_for(lambda: run.end() > before, 0)
-        run.kill()
-        run.start()
+        another_daemon(machine)
     run.open_gate(gates - 1)
-    check(run.host.wait(PATIENCE) == 3, name, f"the last host has the program's status: {run.host.returncode}")
-    check(run.incarnation() == first, name, f"it is one session over {kills + 1} hosts")
+    check(run.host.wait(PATIENCE) == 3, name, f"the holder has the program's status: {run.host.returncode}")
+    check(run.incarnation() == first, name, f"it is one session over {kills + 1} daemons")
     run.hold()
-    check(wait_for(lambda: not os.listdir(machine.holders())), name, "the holder has ended")
     workers.stop()
 
 
-@with_machine
-def keys_of_a_host_that_is_killed_are_not_lost(machine, _):
-    """The holder meets the host's end when it sends, before it has read what the host said last. The turns are the test's."""
-    name, path = "last keys", os.path.join(machine.folder, "holder")
-    said = {"path": path, "name": name, "incarnation": "a", "command": ["cat"], "encoding": "dec", "terminal": "vt220"}
-    one = holder.Holder(said)
-    link = wire.connected(path)
-    one.meet()
-    link.sendall(wire.packed(wire.INPUT, 0, b"keys 1-0\nabc") + wire.packed(wire.INPUT, 0, b"keys 2-0\ndef"))
-    link.close()
-    one.data += b"what the program wrote"
-    one.send_host()
-    check((one.host, one.input, one.last) == (None, b"abcdef", {"keys": b"2-0"}), name, f"it has all: {one.input} {one.last}")
-    link = wire.connected(path)
-    one.meet()
-    source = Source(machine.url, name, takes_input=True)
-    hosted = Program(source.host, link, {"base": 0, "end": 0, "last": {}, "reader": wire.Reader(), "early": []})
-    typist = Typist(source.store, source.incarnation)
-    typist.type(b"ghi")
-    hosted.send_all(source.host.receive_entries(0))
-    check(source.store.xlen(source.part("keys")) == 1, name, "keys are in the store until the holder says that the program has them")
-    for call in (lambda: hosted.give([]), one.run):
-        threading.Thread(target=call, daemon=True).start()
-    check(wait_for(lambda: source.store.xlen(source.part("keys")) == 0), name, "then they are removed")
-    one.signal(signal.SIGKILL)
+class Said:
+    """A daemon that is the test: what a holder says to it, and what it says to the holder."""
+
+    def __init__(self, machine, command):
+        self.path = os.path.join(machine.folder, "said")
+        self.listener = listening(self.path)
+        words = [HOLDER, self.path, "-1", "0", "1", "dec", "vt220", "said", *command]
+        self.holder = subprocess.Popen(words)
+        self.meet()
+
+    def meet(self):
+        self.link, self.reader = self.listener.accept()[0], wire.Reader()
+        self.frames = []
+        self.state = wire.State(self.next(wire.STATE))
+
+    def next(self, letter):
+        """Returns the next frame of a kind."""
+        while True:
+            while self.frames:
+                found, data = self.frames.pop(0)
+                if found == letter:
+                    return data
+            self.frames += self.reader.feed(self.link.recv(65536))
+
+    def say(self, letter, data):
+        self.link.sendall(wire.framed(letter, data))
+
+    def stop(self):
+        self.holder.kill()
+        self.holder.wait()
+        self.listener.close()
 
 
 @with_machine
-def a_host_waits_for_the_lease_of_one_that_died_with_its_program(machine, _):
-    """As when the kernel ends all of a unit, which is then started again."""
+def keys_of_a_daemon_that_is_killed_are_not_lost(machine, _):
+    """The holder meets the daemon's end when it has something to send, before it has read what the daemon said last."""
+    name, got = "last keys", os.path.join(machine.folder, "got")
+    said = Said(machine, ["sh", "-c", f"stty raw -echo; printf ready; head -c 6 >{got}; printf read; exec sleep infinity"])
+    said.say(wire.NAMED, b"0123456789abcdef")
+    said.next(wire.BYTES)
+    said.holder.send_signal(signal.SIGSTOP)
+    for number, data in ((1, b"abc"), (2, b"def"), (2, b"twice")):
+        said.say(wire.INPUT, wire.entry("keys", b"%d-0" % number, data))
+    said.say(wire.SIGNAL, wire.entry("signals", b"1-0", bytes([signal.SIGCONT])))
+    said.link.close()
+    said.holder.send_signal(signal.SIGCONT)
+    said.meet()
+    check(said.state.last == {"answers": "0-0", "keys": "2-0", "signals": "1-0"}, name, f"the next daemon learns what was taken: {said.state.last}")
+    check((said.state.incarnation, said.state.base) == ("0123456789abcdef", 0), name, "of the same session, with all bytes")
+    written = b""
+    while not written.endswith(b"readyread"):
+        written += said.next(wire.BYTES)[wire.NUMBER.size :]
+    check(open(got, "rb").read() == b"abcdef", name, "and the program has each key once")
+    said.say(wire.STOP, wire.NUMBER.pack(1))
+    check(wire.NUMBER.unpack(said.next(wire.ENDED)) == (129,), name, "it ends when it is told to")
+    said.stop()
+
+
+@with_machine
+def keys_stay_in_the_store_until_the_program_has_them(machine, _):
+    name, store = "kept keys", stores.connect(machine.url)
+    host = program(machine, name, ["sh", "-c", "stty raw -echo; printf ready; exec sleep infinity"], "--input")
+    wait_for(lambda: written(store, name) == b"ready")
+    incarnation = store.hget(keys.NAMES, name).decode()
+    host.send_signal(signal.SIGSTOP)
+    Typist(store, incarnation).type(b"abc")
+    marker = program(machine, "marker", ["true"])  # once it ended, the daemon has had the keys for long
+    check(marker.wait(PATIENCE) == 0 and store.xlen(key(incarnation, "keys")) == 1, name, "a holder that stands still hasn't taken them")
+    another_daemon(machine)
+    host.send_signal(signal.SIGCONT)
+    check(wait_for(lambda: store.xlen(key(incarnation, "keys")) == 0), name, "once it has, they are removed")
+    host.terminate()
+    check(host.wait(PATIENCE) == 129, name, "it ends")
+
+
+@with_machine
+def a_session_begins_anew_after_daemon_and_program_died(machine, _):
+    """As when the kernel ends them both. The unit starts the session again, which waits for the end of the dead one's lease."""
     name, store = "both", stores.connect(machine.url)
     first = program(machine, name, ["sleep", "infinity"])
-    wait_for(lambda: store.hexists(keys.NAMES, name) and os.path.isdir(machine.holders()) and os.listdir(machine.holders()))
+    wait_for(lambda: store.hexists(keys.NAMES, name))
     before = store.hget(keys.NAMES, name)
-    for pid in (*children_of(first.pid), first.pid):
-        os.kill(pid, signal.SIGKILL)
+    machine.kill_daemon()
+    first.kill()
     first.wait()
+    machine.start_daemon()
     store.config_resetstat()
     second = program(machine, name, ["sh", "-c", "exit 3"])
     wait_for(lambda: second.poll() is not None or store.info("commandstats").get("cmdstat_fcall", {}).get("calls", 0) > 3)
@@ -340,12 +379,11 @@ def a_storm_with_hosts_among_the_victims(machine, data):
             elif victim == "store":
                 machine.kill()
                 machine.start()
-            elif one.host.poll() is None:
-                one.kill()
-                one.start()
+            else:
+                another_daemon(machine)
             kills[victim] += 1
         for each, first in zip(runs, firsts):
-            check(each.wait() == 3, each.name, f"its last host has the program's status: {each.host.returncode}")
+            check(each.wait() == 3, each.name, f"its holder has the program's status: {each.host.returncode}")
             check(each.incarnation() == first, each.name, "it is one session")
             each.hold()
     check(min(kills.values()) > 0, name, f"all kinds were killed: {kills}")
@@ -357,14 +395,8 @@ def a_storm_with_hosts_among_the_victims(machine, data):
     workers.stop()
 
 
-def heeds(pid, number):
-    """Returns whether a process has a handler for a signal."""
-    with open(f"/proc/{pid}/status") as status:
-        return bool(int(re.search(r"SigCgt:\s+(\w+)", status.read())[1], 16) >> (number - 1) & 1)
-
-
 @with_machine
-def a_host_is_replaced_by_a_newer_one(machine, _):
+def a_daemon_is_replaced_by_a_newer_one(machine, _):
     name, workers = "replaced", Processes(machine, 1)
     command = ["sh", "-c", 'stty -echo; echo on; while read x; do echo "got $x"; done; exit 4']
     host = program(machine, name, command, "--input")
@@ -375,22 +407,18 @@ def a_host_is_replaced_by_a_newer_one(machine, _):
     def held_by():
         return store.hget(key(incarnation, "about"), "host")
 
-    check(fleet(machine.url, "host", name, *command)[0] == 5, name, "a second host is refused while the first one lives")
+    check(program(machine, name, command).wait(PATIENCE) == 5, name, "another session of the name is refused while the first one lives")
+    check(fleet(machine.url, "daemon")[0] == 1, name, "and so is another daemon")
     before = held_by()
     for number in range(3):
-        host.send_signal(signal.SIGUSR1)
-        wait_for(lambda: not heeds(host.pid, signal.SIGUSR1) or held_by() != before, 0)
-        host.send_signal(signal.SIGUSR1)  # once more, while the next version starts
-        check(wait_for(lambda: held_by() != before) and host.poll() is None, name, f"SIGUSR1: it is another one: {host.poll()}")
+        machine.daemon.terminate()
+        check(machine.daemon.wait(PATIENCE) == 0, name, "a daemon ends when it is told to")
+        machine.start_daemon()
+        check(wait_for(lambda: held_by() != before) and host.poll() is None, name, f"the next one goes on: {host.poll()}")
         before = held_by()
         check(fleet(machine.url, "type", "--enter", name, f"line {number}")[0] == 0, name, "which takes keys")
         check(wait_for(lambda: b"got line %d" % number in written(store, name)), name, "for the same program")
     check(written(store, name).count(b"got") == 3, name, "each once")
-    host.kill()
-    host.wait()
-    check(fleet(machine.url, "host", name, "sleep", "1")[0] == 5, name, "another command doesn't take the name")
-    host = program(machine, name, command, "--input")
-    check(wait_for(lambda: held_by() != before), name, "the same one goes on")
     check(fleet(machine.url, "kill", "--patience", str(PATIENCE), name)[0] == 0 and host.wait(PATIENCE) == 129, name, "signals reach it")
     workers.stop()
 
@@ -421,32 +449,15 @@ def an_old_host_writes_nothing_once_there_is_a_new_one(machine, _):
 
 
 @with_machine
-def a_program_without_a_host_is_ended_in_time(machine, _):
+def a_program_without_a_daemon_is_ended_in_time(machine, _):
     name, marker = "orphan", os.path.join(machine.folder, "hung-up")
     with configured(machine, *PATIENT, "[host]", "orphan = 0.1"):
         host = program(machine, name, ["sh", "-c", f"trap ': >{marker}; exit' HUP; echo on; sleep 100000 & wait"])
         store = stores.connect(machine.url)
         wait_for(lambda: b"on" in written(store, name))
-        host.kill()
-        host.wait()
-        check(wait_for(lambda: not os.listdir(machine.holders())), name, "its holder ends")
-        check(wait_for(lambda: os.path.exists(marker)), name, "and hangs up on it")
-
-
-@with_machine
-def a_program_of_another_user_reads_no_password(machine, _):
-    if os.getuid() != 0:
-        return
-    name, password = "user", conf(machine, "password", "secret")
-    stores.connect(machine.url).config_set("requirepass", "secret")
-    config = conf(machine, "conf", *PATIENT, f"password-file = {password}", "[host]", "user = nobody")
-    os.chmod(machine.folder, stat.S_IRWXU | stat.S_IXOTH)  # so that only the file's own mode keeps the program from it
-    read = f"id -un; cat {password}; cat {machine.holders()}/*; exit 7"
-    status, _, _ = fleet(machine.url, "host", name, "sh", "-c", read, config=config)
-    store = stores.connect(machine.url, password)
-    said = written(store, name)
-    check(status == 7 and said.startswith(b"nobody"), name, f"it runs as that user: {status} {said}")
-    check(b"secret" not in said and said.count(b"denied") == 2, name, f"and reads neither the password nor a socket: {said}")
+        machine.kill_daemon()
+        host.wait(PATIENCE)
+        check(os.path.exists(marker), name, "its holder hangs up on it, and ends")
 
 
 CASES = [
@@ -455,11 +466,11 @@ CASES = [
     a_worker_is_dead_by_its_own_lease,
     what_nobody_needs_is_removed,
     a_program_outlives_its_host,
-    keys_of_a_host_that_is_killed_are_not_lost,
-    a_host_waits_for_the_lease_of_one_that_died_with_its_program,
+    keys_of_a_daemon_that_is_killed_are_not_lost,
+    keys_stay_in_the_store_until_the_program_has_them,
+    a_session_begins_anew_after_daemon_and_program_died,
     a_storm_with_hosts_among_the_victims,
-    a_host_is_replaced_by_a_newer_one,
+    a_daemon_is_replaced_by_a_newer_one,
     an_old_host_writes_nothing_once_there_is_a_new_one,
-    a_program_without_a_host_is_ended_in_time,
-    a_program_of_another_user_reads_no_password,
+    a_program_without_a_daemon_is_ended_in_time,
 ]

@@ -1,6 +1,7 @@
 """The page in a headless Chromium, with real sessions; by keyboard, for screen readers, and attacked."""
 import asyncio
 import base64
+import contextlib
 import json
 import os
 import socket
@@ -9,12 +10,12 @@ import subprocess
 import aiohttp
 
 from browser import Browser
-from harness import PATIENCE, PATIENT, Processes, Source, check, key, keys, local, played, stores, wait_for, wanted, with_machine
+from harness import PATIENCE, PATIENT, Processes, Source, check, keys, local, played, program, stores, wait_for, wanted, with_machine
 from operators import asked, metrics_at
 from safety import conf, free_port
-from stores_faults import program
 from fleet import claims
 from fleet.gallery import Followed, Picture
+from fleet.web import UNKNOWN
 import vt220
 
 HOSTILE = "<b>bold</b><script>alert(1)</script>&amp;\"'"
@@ -32,6 +33,19 @@ class Served:
         )
         self.url = self.process.stderr.readline().strip()
         wait_for(self.listens)
+
+    def token(self):
+        return self.url.split("#token=")[1]
+
+    @contextlib.asynccontextmanager
+    async def live(self, *sessions):
+        """A browser's connection that has said the token, once it was told of these sessions."""
+        async with aiohttp.ClientSession() as client, client.ws_connect(f"http://127.0.0.1:{self.port}/live") as socket:
+            await socket.send_json({"token": self.token()})
+            known = set()
+            while not known >= set(sessions):
+                known |= {each["session"] for each in json.loads((await socket.receive(PATIENCE)).data).get("news", [])}
+            yield socket
 
     def listens(self):
         with socket.socket() as client:
@@ -98,6 +112,7 @@ def real_sessions_in_the_browser(machine, _):
     browser = Browser(served.url)
     try:
         check(wait_for(lambda: browser.run("document.querySelectorAll('li').length") == 4), name, "all sessions are there")
+        check(browser.run("location.href") == f"http://127.0.0.1:{served.port}/", name, "the token is no longer in the address")
         names = browser.run("[...document.querySelectorAll('.name')].map(e => e.textContent)")
         check(names == sorted(["editor", "top", "flood", HOSTILE]), name, f"by name: {names}")
         markup_is_text(browser, name)
@@ -109,7 +124,7 @@ def real_sessions_in_the_browser(machine, _):
     finally:
         browser.stop()
         for host in hosts:
-            host.kill()
+            host.terminate()
             host.wait()
         served.stop()
         workers.stop()
@@ -224,6 +239,7 @@ def by_keyboard_alone(browser, name):
 MESSAGES = """new Promise(done => {
   const got = [], begun = performance.now(), other = new WebSocket(socket.url);
   let moves = 0;
+  other.addEventListener("open", () => other.send(JSON.stringify({ token: sessionStorage.getItem("token") })));
   other.addEventListener("message", event => {
     got.push(event.data);
     moves += (JSON.parse(event.data).news || []).some(each => each.session === MOVING && each.bytes);
@@ -351,19 +367,19 @@ def the_page_has_metrics(machine, _):
     name, port = "page metrics", free_port()
     served = Served(machine, "--typing", "--metrics", f"127.0.0.1:{port}")
     source, now = Source(machine.url, "one", takes_input=True, lease=600).listen(), lambda: metrics_at(port)
-    live, keys_sent = served.url.replace("/?", "/live?"), json.dumps({"session": source.incarnation, "text": "typed"})
+    live, keys_sent = f"http://127.0.0.1:{served.port}/live", json.dumps({"session": source.incarnation, "text": "typed"})
 
     async def ask():
         async with aiohttp.ClientSession() as client:
-            wrong = f"http://127.0.0.1:{served.port}/"
-            statuses = [(await client.get(each, headers=headers)).status for each, headers in
-                        ((wrong, {}), (wrong + "?token=x", {}), (wrong + "live?token=x", {}), (live, {"Origin": "http://evil.example"}))]
-            check(statuses == [403] * 4, name, f"requests are refused: {statuses}")
-            check(now()['fleet_page_refused_total{why="token"}'] == 3 and now()['fleet_page_refused_total{why="origin"}'] == 1, name, f"and counted: {now()}")
+            codes = [await refusal(client, live, first) for first in FIRST]
+            check(codes == [UNKNOWN] * len(FIRST), name, f"connections are refused: {codes}")
+            check((await client.get(live, headers={"Origin": "http://evil.example"})).status == 403, name, "and so is another page's")
+            check(now()['fleet_page_refused_total{why="token"}'] == len(FIRST) and now()['fleet_page_refused_total{why="origin"}'] == 1, name, f"and counted: {now()}")
             check((now()["fleet_page_clients"], now()["fleet_page_connections_total"], now()["fleet_page_sent_bytes_total"]) == (0, 0, 0), name, "nobody is let in")
             page = await (await client.get(served.url)).read()
             check(now()["fleet_page_sent_bytes_total"] == len(page), name, "the page's bytes")
             async with client.ws_connect(live) as socket:
+                await socket.send_str(json.dumps({"token": served.token()}))
                 known, got = set(), 0
                 while source.incarnation not in known:
                     message = (await socket.receive(PATIENCE)).data
@@ -431,21 +447,28 @@ async def raw(base, path):
     return int(line.split()[1])
 
 
-async def connect_from_elsewhere(client, base, token, name):
+FIRST = ("", "x", "[]", "{}", '{"token": 1}', '{"token": ""}', '{"token": "a guess"}', '{"token": "\\ud800"}')
+
+
+async def refusal(client, address, first):
+    """Returns the code with which a connection ends that begins with this message."""
+    async with client.ws_connect(address) as socket:
+        await socket.send_str(first)
+        await socket.receive(PATIENCE)
+        return socket.close_code
+
+
+async def connect_from_elsewhere(client, base, name):
     try:
-        await client.ws_connect(f"{base}/live?token={token}", origin="http://evil.example")
+        await client.ws_connect(f"{base}/live", origin="http://evil.example")
         status = 101
     except aiohttp.WSServerHandshakeError as refused:
         status = refused.status
     check(status == 403, name, "another page's script is refused")
 
 
-async def type_without_right(client, base, token, name):
-    async with client.ws_connect(f"{base}/live?token={token}") as socket:
-        session = None
-        while session is None:
-            said = json.loads((await socket.receive(PATIENCE)).data)
-            session = next((each["session"] for each in said.get("news", [])), None)
+async def type_without_right(served, session, name):
+    async with served.live(session) as socket:
         for bad in (
             {"session": session, "text": "id\r"},
             {"session": "x", "text": "y"},
@@ -465,32 +488,51 @@ async def type_without_right(client, base, token, name):
 @with_machine
 def only_the_token_opens_the_page(machine, _):
     name, served = "token", Served(machine)
-    Source(machine.url, "session", takes_input=True).send(b"x")
-    base, token = served.url.split("/?")[0], served.url.split("token=")[1]
+    source = Source(machine.url, "session", takes_input=True).send(b"x")
+    base, token = f"http://127.0.0.1:{served.port}", served.token()
     check(served.url.startswith("http://127.0.0.1:") and len(token) >= 32, name, "on 127.0.0.1 alone, with a long token")
 
     async def ask():
         async with aiohttp.ClientSession() as client:
-            for path in ("/", "/?token=", "/?token=x", "/live", "/live?token=x", f"/?token={token}x", "/?token=%C3%A4"):
-                async with client.get(base + path) as answer:
-                    check(answer.status == 403, name, f"{path}: {answer.status}")
+            for first in FIRST + (json.dumps({"token": token + "x"}), json.dumps({"token": token[:-1]})):
+                code = await refusal(client, base + f"/live?token={token}", first)
+                check(code == UNKNOWN, name, f"{first}: {code}")
             for path in ("/page.js", "/../cli.py", "/%2e%2e/cli.py", "//etc/passwd"):
                 status = await raw(base, f"{path}?token={token}")
                 check(status in (403, 404), name, f"{path}: {status}")
-            async with client.get(served.url) as answer:
+            async with client.get(base + "/") as answer:
+                check(token not in await answer.text(), name, "the page has no token")
                 policy = answer.headers["Content-Security-Policy"]
                 loose = policy.replace("'wasm-unsafe-eval'", "")
                 check(answer.status == 200 and "default-src 'none'" in policy and "unsafe" not in loose, name, "a strict policy")
                 check(answer.headers["Referrer-Policy"] == "no-referrer", name, "the token leaks to no other page")
-            await connect_from_elsewhere(client, base, token, name)
-            await type_without_right(client, base, token, name)
+            await connect_from_elsewhere(client, base, name)
+            await type_without_right(served, source.incarnation, name)
 
     try:
         asyncio.run(ask())
     finally:
         served.stop()
-    store = stores.connect(machine.url)
-    check(not store.exists(key(store.hget(keys.NAMES, "session").decode(), "keys")), name, "nothing was typed")
+    check(not source.store.exists(source.part("keys")), name, "nothing was typed")
+
+
+def the_page_asks_for_the_token(address, token, name):
+    """Typed into its field, it opens the page. It comes into no address, so into no history and no log."""
+    browser = Browser(address)
+
+    def typed(what):
+        browser.run(f"document.getElementById('token').value = {json.dumps(what)}; document.getElementById('enter').requestSubmit()")
+
+    try:
+        check(wait_for(lambda: not browser.run("document.getElementById('enter').hidden")), name, "the page asks for the token")
+        typed("a guess")
+        check(wait_for(lambda: "not the token" in browser.run("document.getElementById('problem').textContent")), name, "a wrong one is refused")
+        check(not browser.run("document.getElementById('enter').hidden"), name, "and asked for again")
+        typed(token)
+        check(wait_for(lambda: "session" in browser.run("document.getElementById('summary').textContent")), name, "the right one opens the page")
+        check(browser.run("location.href") == address and browser.run("document.getElementById('enter').hidden"), name, "and isn't in its address")
+    finally:
+        browser.stop()
 
 
 @with_machine
@@ -500,6 +542,7 @@ def a_token_of_a_file_is_not_printed(machine, _):
     file = conf(machine, "token", token)
     served = Served(machine, config=conf(machine, "web.conf", *PATIENT, "[web]", f"token-file = {file}"))
     check(token not in served.url and file in served.url, name, f"the file is named: {served.url}")
+    the_page_asks_for_the_token(f"http://127.0.0.1:{served.port}/", token, name)
     base = f"http://127.0.0.1:{served.port}"
 
     async def ask():
@@ -509,7 +552,9 @@ def a_token_of_a_file_is_not_printed(machine, _):
                 async with client.get(base + path) as answer:
                     return answer.status
 
-            check(await status(f"/?token={token}") == 200, name, "its token opens the page")
+            async with client.ws_connect(base + "/live") as connection:
+                await connection.send_str(json.dumps({"token": token}))
+                check("typing" in json.loads((await connection.receive(PATIENCE)).data), name, "its token opens the page")
             check(await status("/healthz") == 503, name, "without a worker the page isn't well")
             claims.Claims(stores.connect(machine.url), 60)
             check(await status("/healthz") == 200, name, "with one it is, and tells that without the token")

@@ -3,11 +3,10 @@ import json
 import os
 import random
 
-from harness import PATIENCE, Processes, Source, check, keys, raises, session, settings, stores, until, wait_for, with_machine, worker
+from harness import PATIENCE, Processes, Source, another_daemon, check, keys, program, raises, session, settings, stores, until, wait_for, with_machine, worker, written
 from characters import cut_anywhere, played, taken_by_newer_workers
-from operators import OnTerminal, written
+from operators import OnTerminal
 from safety import fleet
-from stores_faults import program
 from fleet.worker import Worker
 import vt220
 
@@ -118,10 +117,8 @@ def a_program_has_its_terminal(machine, _):
     wait_for(lambda: b"ready" in written(store, name))
     check(written(store, name).split()[:3] == [b"xterm-256color", b"C.UTF-8", b"iutf8"], name, f"its environment and its line: {written(store, name)}")
     check(fleet(url, "text", name)[1].split() == ["ready"], name, "the alternate page is shown")
-    host.kill()
-    host.wait()
-    host = program(machine, name, command, "--input")
-    check(fleet(url, "type", name, "x")[0] == 0, name, "another host goes on with it")
+    another_daemon(machine)
+    check(fleet(url, "type", name, "x")[0] == 0, name, "another daemon goes on with it")
     check(wait_for(lambda: b"back" in written(store, name)), name, "the program goes on")
     check(fleet(url, "text", name)[1].splitlines()[0] == "xterm-256color C.UTF-8" and "        back" in fleet(url, "text", name)[1], name, "the main page is back")
     recording = [json.loads(line) for line in fleet(url, "export", name)[1].splitlines()]

@@ -79,15 +79,14 @@ local function note_format()
   redis.call('SET', 'fleet:format', found_format() .. ' ' .. redis.call('HLEN', 'fleet:workers'))
 end
 
--- Returns the noted format; nil if there are more or fewer workers now, since another version's functions changed them. `noted` is the
--- note, if it was read before.
-local function noted_format(noted)
-  local newest, count = string.match(noted or redis.call('GET', 'fleet:format') or '', '^(%d*) (%d+)$')
+-- Returns the noted format; nil if there are more or fewer workers now, since another version's functions changed them.
+local function noted_format()
+  local newest, count = string.match(redis.call('GET', 'fleet:format') or '', '^(%d*) (%d+)$')
   return tonumber(count) == redis.call('HLEN', 'fleet:workers') and newest or nil
 end
 
 -- Returns the format that all write, so that each can go on with what another one wrote. Its cost doesn't depend on how many workers live.
-local function common_format(noted) return noted_format(noted) or found_format() end
+local function common_format() return noted_format() or found_format() end
 
 -- Removes a worker from all that names the workers.
 local function strike_off(worker)

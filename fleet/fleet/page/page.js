@@ -130,11 +130,25 @@ function pressed(event) {
   event.preventDefault();
 }
 
-function connect() {
-  const address = new URL("live" + location.search, location.href);
+// An address that `fleet web` prints has the token after the sign #, which no browser sends. It is this tab's from then on, and leaves the address.
+// Without it the page asks for it.
+function enter() {
+  const found = /^#token=(.+)$/.exec(location.hash);
+  if (found) {
+    sessionStorage.setItem("token", decodeURIComponent(found[1]));
+    history.replaceState(null, "", location.pathname);
+  }
+  const token = sessionStorage.getItem("token");
+  $("enter").hidden = token !== null;
+  if (token === null) $("token").focus();
+  else connect(token);
+}
+
+function connect(token) {
+  const address = new URL("live", location.href);
   address.protocol = location.protocol === "https:" ? "wss:" : "ws:";
   socket = new WebSocket(address);
-  socket.addEventListener("open", () => { wait = 500; $("problem").textContent = ""; });
+  socket.addEventListener("open", () => { wait = 500; $("problem").textContent = ""; socket.send(JSON.stringify({ token })); });
   socket.addEventListener("message", (event) => {
     const said = JSON.parse(event.data);
     if ("typing" in said) mayType = said.typing;
@@ -143,11 +157,19 @@ function connect() {
     if (said.order) order = said.order;
     arrange();
   });
-  socket.addEventListener("close", () => {
-    $("problem").textContent = "No connection to fleet web; trying again.";
-    setTimeout(connect, wait = Math.min(5000, wait * 1.5));
+  socket.addEventListener("close", ({ code }) => {
+    if (code === 4403) sessionStorage.removeItem("token");
+    $("problem").textContent = code === 4403 ? "This is not the token of this page." : "No connection to fleet web; trying again.";
+    setTimeout(enter, code === 4403 ? 0 : (wait = Math.min(5000, wait * 1.5)));
   });
 }
+
+$("enter").addEventListener("submit", (event) => {
+  event.preventDefault();
+  sessionStorage.setItem("token", $("token").value);
+  $("token").value = "";
+  enter();
+});
 
 $("filter").addEventListener("input", arrange);
 $("type").addEventListener("click", () => setTyping(!isTyping));
@@ -160,5 +182,5 @@ $("announce").addEventListener("change", () => { $("said").textContent = ""; });
 $("screen").addEventListener("error", ({ detail }) => { $("problem").textContent = `No terminal can run in this browser: ${detail.error.message}`; });
 $("screen").addEventListener("ready", () => vt220.Vt220Player.core.then((shared) => {
   core = shared;
-  connect();
+  enter();
 }), { once: true });

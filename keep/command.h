@@ -1,0 +1,23 @@
+/* A command on a new pseudo-terminal of 24 rows by 80 columns. */
+#ifndef COMMAND_H
+#define COMMAND_H
+
+#include <stdbool.h>
+#include <sys/types.h>
+
+enum {
+    COMMAND_REFUSED = 1, /* the statuses of env(1): of a pseudo-terminal that can't be opened, of a command that can't be run, */
+    COMMAND_NO_RUN = 126,
+    COMMAND_NOT_FOUND = 127 /* and of one that isn't there */
+};
+
+struct line {
+    int master, slave; /* both are closed in the command, which has the slave as its terminal */
+    pid_t command;
+};
+
+/* Runs a command. `prepare` is called in its process before it begins. Returns 0 when it runs. Otherwise returns the error, and nothing is
+ * open: *status is then that of env(1). */
+int start_command(struct line *line, char **command, bool is_utf8, void (*prepare)(const void *), const void *of, int *status);
+
+#endif

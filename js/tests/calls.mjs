@@ -74,8 +74,8 @@ function errors({ Terminal, Vt220Error, ROWS, COLUMNS }, core, other, check) {
   for (const row of [0, -1, 25, 1.5, NaN, "3", undefined, 2 ** 32 + 1])
     for (const call of ["rowText", "cells"]) check(`${call} of row ${row}`, thrown(() => t[call](row)) === "NO_ROW");
   check("a message", (() => { try { t.cells(25); } catch (error) { return error instanceof Vt220Error && error instanceof Error && error.message === "there is no such row"; } })());
-  const texts = Array.from({ length: 11 }, (_, status) => core.statusText(status));
-  check("a text for each status", new Set(texts).size === 11 && texts[0] === "success" && texts[10] === "unknown status");
+  const texts = Array.from({ length: 12 }, (_, status) => core.statusText(status));
+  check("a text for each status", new Set(texts).size === 12 && texts[0] === "success" && texts[11] === "unknown status");
   for (const data of ["text", [1, 2], null, new Uint16Array(2)]) check(`fed ${data}`, thrown(() => t.feed(data)) === "TypeError");
   check("another core", thrown(() => t.copyFrom(new Terminal(other))) === "TypeError" && thrown(() => t.update({})) === "TypeError");
   check("no core", thrown(() => new Terminal()) === "TypeError" && thrown(() => new Terminal({})) === "TypeError");

@@ -7,7 +7,7 @@ import type { Difference, Recording, Span } from "vt220/timeline";
 export async function use(bytes: Uint8Array): Promise<string> {
   const core: Core = await load(), from: Core = await load(bytes), rows: 24 = ROWS, columns: 132 = COLUMNS;
   const terminal = new Terminal(core), other = new Terminal(from, { encoding: "utf-8" });
-  const xterm = new Terminal(core, { terminal: "xterm" }), name: TerminalName = xterm.terminal, isAlternate: boolean = xterm.alternate, rebuilt: Uint8Array = xterm.xtermRepaint();
+  const xterm = new Terminal(core, { terminal: "xterm" }), name: TerminalName = xterm.terminal, isAlternate: boolean = xterm.alternate, rebuilt: Uint8Array = xterm.repaint("vt220");
   const encoding: Encoding = other.encoding, pending: Uint8Array = other.pending, shown: string = core.shown("x");
   const replies: Uint8Array = terminal.feed(bytes), { lines }: { lines: string[] } = terminal.feedLog(bytes);
   const cells: Cell[] = terminal.cells(1), cursor: Cursor = terminal.cursor, margins: Margins = terminal.margins, modes: Modes = terminal.modes;

@@ -54,7 +54,10 @@ fn sequence_of(text: &str, number: &str, is_8bit: bool) -> Vec<u8> {
 
 #[test]
 fn xterm_rows() {
-    let Some(rows) = rows_of("VT220_XTERM_KEYS", "tests-c/xterm-keys.txt") else { return };
+    let rows = match rows_of("VT220_XTERM_KEYS", "tests-c/xterm-keys.txt") {
+        Some(rows) => rows,
+        None => return,
+    };
     let (modifiers, keys): (Vec<_>, Vec<_>) = rows.iter().partition(|fields| fields[0] == "modifiers");
     let mut count = 0;
     let mut sends = |name: &str, modes: &Modes, wanted: Vec<u8>| {

@@ -36,6 +36,11 @@ all-rang s bytes count events rang =
     ap (λ (es : List Event). count_by (is_control 7) es) events in
     omega (arith, rang.count, same)
 
+-- a feed that doesn't stop takes all of its bytes
+pub all-taken : (n : ℕ) (piece : List ℕ) → n ≤ length piece → (n < length piece → ⊥) → take n piece ≡ piece
+all-taken n piece within all =
+    let e : n ≡ length piece = omega (arith, within, all) in rw e (take-length piece)
+
 -- one event
 pub one-rang : (s : State) (bytes : List ℕ) (event : Event) (before after rung : ℕ)
     → events_in (happenings s bytes) ≡ events_from s.held bytes → length (happenings s bytes) ≡ length bytes

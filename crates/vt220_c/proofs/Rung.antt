@@ -14,34 +14,61 @@ use Rattle.vt_syntax.specs.Held.{events_from, held_from, spell, IsHeldPart}
 use Rattle.vt_syntax.specs.Laws.{SplitLaw, SpellingLaw, ControlLaw}
 use Rattle.vt_term.specs.State.{State}
 use Rattle.vt_term.specs.Play.{play}
+use Rattle.vt_term.specs.Happenings.{happenings, events_in}
 use Rattle.vt_term.proofs.Bytes.{graphic-events}
 use Rattle.vt220_c.specs.Bells.{bells}
 use Rattle.vt220_c.specs.BellCuts.{Rang, bells-append, bells-nil}
 
+-- bytes that ring so often
+pub rings : (s : State) (bytes : List ℕ) (before after rung : ℕ) → events_in (happenings s bytes) ≡ events_from s.held bytes
+    → length (happenings s bytes) ≡ length bytes → bells s.held bytes ≡ rung → rung ≤ length bytes → after ≡ before + rung
+    → Rang (happenings s bytes) before after
+rings s bytes before after rung events count all few then =
+    let same : count_by (is_control 7) (events_in (happenings s bytes)) ≡ rung =
+    ap (λ (es : List Event). count_by (is_control 7) es) events ∙ all in
+    record { count = omega (arith, same, then); few = omega (arith, count, few, then) }
+
+-- a count of bells, by the happenings of bytes
+pub all-rang : (s : State) (bytes : List ℕ) (count : ℕ) → events_in (happenings s bytes) ≡ events_from s.held bytes
+    → Rang (happenings s bytes) 0 count → count ≡ bells s.held bytes
+all-rang s bytes count events rang =
+    let same : count_by (is_control 7) (events_in (happenings s bytes)) ≡ bells s.held bytes =
+    ap (λ (es : List Event). count_by (is_control 7) es) events in
+    omega (arith, rang.count, same)
+
+-- a feed that doesn't stop takes all of its bytes
+pub all-taken : (n : ℕ) (piece : List ℕ) → n ≤ length piece → (n < length piece → ⊥) → take n piece ≡ piece
+all-taken n piece within all =
+    let e : n ≡ length piece = omega (arith, within, all) in rw e (take-length piece)
+
 -- one event
-pub one-rang : (s : State) (bytes : List ℕ) (event : Event) (before after rung : ℕ) → 1 ≤ length bytes
+pub one-rang : (s : State) (bytes : List ℕ) (event : Event) (before after rung : ℕ)
+    → events_in (happenings s bytes) ≡ events_from s.held bytes → length (happenings s bytes) ≡ length bytes
+    → 1 ≤ length bytes
     → events_from s.held bytes ≡ event ∷ [] → rung ≡ cond (is_control 7 event) 1 0 → rung ≤ 1 → after ≡ before + rung
-    → Rang s bytes before after
-one-rang s bytes event before after rung some is one few then =
+    → Rang (happenings s bytes) before after
+one-rang s bytes event before after rung events count some is one few then =
     let all : bells s.held bytes ≡ 0 + cond (is_control 7 event) 1 0 =
     ap (λ (events : List Event). count_by (is_control 7) events) is in
-    record { count = omega (arith, all, one, then); few = omega (arith, some, few, then) }
+    rings s bytes before after rung events count (omega (arith, all, one)) (omega (arith, some, few)) then
 
 -- no event
-pub none-rang : (s : State) (bytes : List ℕ) (n : ℕ) → events_from s.held bytes ≡ [] → Rang s bytes n n
-none-rang s bytes n none =
-    let all : bells s.held bytes ≡ 0 = ap (λ (events : List Event). count_by (is_control 7) events) none in
-    record { count = omega (arith, all); few = omega arith }
+pub none-rang : (s : State) (bytes : List ℕ) (n : ℕ) → events_in (happenings s bytes) ≡ events_from s.held bytes
+    → length (happenings s bytes) ≡ length bytes → events_from s.held bytes ≡ [] → Rang (happenings s bytes) n n
+none-rang s bytes n events count none =
+    rings s bytes n n 0 events count (ap (λ (events : List Event). count_by (is_control 7) events) none) (omega arith)
+    (omega arith)
 
 prints-quiet : (bytes : List ℕ) → count_by (is_control 7) (map Print bytes) ≡ 0
 prints-quiet [] = refl
 prints-quiet (b ∷ bytes) = prints-quiet bytes
 
 -- graphic bytes
-pub run-rang : SpellingLaw → (s : State) (bytes : List ℕ) (n : ℕ) → s.held ≡ Nothing → All HasGlyph bytes → Rang s bytes n n
-run-rang spelling s bytes n between have =
+pub run-rang : SpellingLaw → (s : State) (bytes : List ℕ) (n : ℕ) → events_in (happenings s bytes) ≡ events_from s.held bytes
+    → length (happenings s bytes) ≡ length bytes → s.held ≡ Nothing → All HasGlyph bytes → Rang (happenings s bytes) n n
+run-rang spelling s bytes n events count between have =
     let all : bells s.held bytes ≡ 0 = rw (between, graphic-events spelling bytes have) (prints-quiet bytes) in
-    record { count = omega (arith, all); few = omega arith }
+    rings s bytes n n 0 events count all (omega arith) (omega arith)
 
 module _ (law : SplitLaw) where
   -- bytes of which none is a BEL

@@ -10,6 +10,7 @@ ghost use Rattle.vt220_c.specs.BellCuts.{rung_by_character};
 
 use vt_syntax::EventKind;
 use vt_syntax::laws::{controls, spelled};
+use vt_term::laws::happened;
 use vt_term::{Held, Lines, Observer, ROW_TEXT_LIMIT, Terminal};
 
 /// BEL.
@@ -71,9 +72,9 @@ pub(crate) struct Bells {
 
 impl Observer for Bells {
     ghost use Rattle.std.specs.Prelude.{⊤, ◌≤◌, ◌+◌, false};
-    ghost use Rattle.vt220_c.specs.BellCuts.{Rang, bells_cut};
+    ghost use Rattle.vt220_c.specs.BellCuts.{Rang, bells_joined};
 
-    ghost Saw = { λ o s bytes p. Rang s bytes o.count p.count };
+    ghost Saw = { λ o hs p. Rang hs o.count p.count };
 
     ghost Takes = { λ o n. o.count + n ≤ 0xFFFFFFFFFFFFFFFF };
 
@@ -85,7 +86,7 @@ impl Observer for Bells {
 
     ghost Stops = { false };
 
-    ghost cut = { bells_cut (λ o. o.count) };
+    ghost joined = { bells_joined (λ o. o.count) };
 
     #[inline(always)]
     fn stops(&self) -> bool {
@@ -99,6 +100,7 @@ impl Observer for Bells {
 
     #[inline(always)]
     fn event(&mut self, terminal: &Terminal, bytes: &[u8], kind: EventKind, values: &[u16]) {
+        happened();
         self.count += rung_by(kind);
     }
 
@@ -109,11 +111,14 @@ impl Observer for Bells {
 
     #[inline(always)]
     fn run(&mut self, terminal: &Terminal, bytes: &[u8]) {
+        happened();
         spelled();
     }
 
     #[inline(always)]
-    fn part(&mut self, bytes: &[u8]) {}
+    fn part(&mut self, bytes: &[u8]) {
+        happened();
+    }
 }
 
 /// Returns the bells if they are counted, otherwise 0.
@@ -145,6 +150,8 @@ pub(crate) fn feed_counting(terminal: &mut Terminal, piece: &[u8], out: &mut Vec
     ensures bounded { vec_len out.new ≤ vec_len out.old + 10 * length piece.now }
     ensures capacity { vec_capacity out.old ≤ vec_capacity out.new }
 {
+    let _ = terminal.width();
+    happened();
     let mut bells = Bells { count: 0 };
     terminal.feed_observed(piece, &mut bells, out);
     bells.count
@@ -178,6 +185,8 @@ pub(crate) fn feed_log_counting(
     ensures reports_capacity { vec_capacity reports.old ≤ vec_capacity reports.new }
     ensures lines_capacity { vec_capacity lines.old ≤ vec_capacity lines.new }
 {
+    let _ = terminal.width();
+    happened();
     let end = lines.len().saturating_add(most);
     let mut log = Lines {
         lines,

@@ -8,9 +8,11 @@ use Rattle.vt_syntax.specs.declared.event.Event.{Event}
 use Rattle.vt_syntax.specs.declared.event.Event.TheVariants.{Print}
 use Rattle.vt_syntax.specs.declared.held.Held.TheVariants.{Nothing}
 use Rattle.vt_syntax.specs.Held.{events_from}
-use Rattle.vt_syntax.specs.Laws.{SpellingLaw}
+use Rattle.vt_syntax.specs.Laws.{SplitLaw, SpellingLaw}
 use Rattle.vt_term.specs.State.{Display, State}
 use Rattle.vt_term.specs.Functions.{effect}
+use Rattle.vt_term.specs.Sound.{IsSound}
+use Rattle.vt_term.specs.Happenings.{happenings}
 use Rattle.vt_term.specs.Text.{line_text}
 use Rattle.vt_term.specs.Scrolling.{line_off, lines_off, scrolled_off}
 use Rattle.std.specs.Prelude.{slice_index}
@@ -18,8 +20,9 @@ use Rattle.vt_screen.specs.declared.cell.Cell.{Cell}
 use Rattle.vt_term.specs.ScrollSteps.{Fits}
 use Rattle.vt_term.proofs.Scrolled.{run-line}
 use Rattle.vt_term.proofs.Bytes.{graphic-events}
+use Rattle.vt_term.proofs.Happened.{happened, length-happenings}
 use Rattle.vt_replay.specs.Pages.{taken_off, pages_off, pages}
-use Rattle.vt_replay.specs.PageCuts.{IsPaged}
+use Rattle.vt_replay.specs.PageCuts.{IsPaged, pages_at, pages_in, pages-none, pages-append}
 
 prints-pages : (bytes : List ℕ) (s : Display)
     → pages_off (map Print bytes) s ≡ flat_map line_text (lines_off (map Print bytes) s)
@@ -45,6 +48,22 @@ pub one-page : (s : State) (bytes : List ℕ) (event : Event) → events_from s.
 unfolding pages
 one-page s bytes event is = rw is (append-nil (taken_off event s.display))
 
-pub paged-one : (s : State) (bytes xs ys text : List ℕ) → 1 ≤ length bytes → pages s bytes ≡ text → ys ≡ xs ++ text
-    → length ys ≤ length xs + 9528 → IsPaged s bytes xs ys
-paged-one s bytes xs ys text some is told few = record { lines = rw is told; bounded = omega (arith, some, few) }
+-- the pages of bytes are those of what happens at them
+pub pages-happened : SplitLaw → (s : State) (bytes : List ℕ) → IsSound s → pages_in (happenings s bytes) ≡ pages s bytes
+unfolding pages
+pages-happened split s bytes sound =
+    happened split pages_at pages (pages-none split) (pages-append split) (λ s b. refl) s bytes sound.held
+
+pub paged-one : SplitLaw → (s : State) (bytes xs ys text : List ℕ) → IsSound s → 1 ≤ length bytes → pages s bytes ≡ text
+    → ys ≡ xs ++ text → length ys ≤ length xs + 9528 → IsPaged (happenings s bytes) xs ys
+paged-one split s bytes xs ys text sound some is told few = record {
+  lines = rw (pages-happened split s bytes sound, is) told;
+  bounded = omega (arith, some, few, length-happenings s bytes);
+}
+
+pub paged-none : SplitLaw → (s : State) (bytes xs : List ℕ) → IsSound s → events_from s.held bytes ≡ []
+    → IsPaged (happenings s bytes) xs xs
+paged-none split s bytes xs sound none = record {
+  lines = rw (pages-happened split s bytes sound, no-pages s bytes none) (sym (append-nil xs));
+  bounded = omega arith;
+}

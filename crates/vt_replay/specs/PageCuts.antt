@@ -1,14 +1,16 @@
 -- The pages of bytes in parts. Contracts of private functions cite this, and no public clause does.
-use Rattle.std.specs.Prelude.{◌≡◌, ℕ, ◌+◌, ◌*◌, ◌≤◌, ◌++◌, ◌∷◌, ◌||◌, List, [], Bool, length, ⊤}
+use Rattle.std.specs.Prelude.{◌≡◌, ℕ, ◌+◌, ◌*◌, ◌≤◌, ◌++◌, ◌∷◌, ◌||◌, List, [], Bool, length, flat_map, ⊤}
 use Rattle.std.proofs.Common.{refl, sym, ap, ◌∙◌, arith, append_assoc, append-nil, length-append}
+use Rattle.std.proofs.lemmas.Grind.{flat_map-append}
 use Rattle.vt_syntax.specs.declared.event.Event.{Event}
-use Rattle.vt_syntax.specs.Held.{events_from}
+use Rattle.vt_syntax.specs.Held.{events_from, IsHeldPart}
 use Rattle.vt_syntax.specs.Laws.{SplitLaw}
 use Rattle.vt_term.specs.State.{Display, State}
 use Rattle.vt_term.specs.Sound.{IsSound}
 use Rattle.vt_term.specs.Functions.{effect}
 use Rattle.vt_term.specs.Play.{play, after_events}
-use Rattle.vt_term.specs.Observing.{AreCut}
+use Rattle.vt_term.specs.Happenings.{Happening}
+use Rattle.vt_term.specs.Observing.{AreJoined}
 use Rattle.vt_term.specs.Scrolling.{scrolls_off}
 use Rattle.vt_replay.specs.Pages.{blanks_screen, taken_off, pages_off, pages}
 
@@ -16,10 +18,17 @@ use Rattle.vt_replay.specs.Pages.{blanks_screen, taken_off, pages_off, pages}
 abbrev pub takes_off : Event → Display → Bool
 takes_off event s = blanks_screen event s || scrolls_off event s
 
--- the lines and pages of bytes come after what was before
-pub record IsPaged (s : State) (bytes before after : List ℕ) : Type 0 where
-  pub lines : after ≡ before ++ pages s bytes
-  pub bounded : length after ≤ length before + 9528 * length bytes
+-- what a happening takes off the screen, and all of it of happenings
+abbrev pub pages_at : Happening → List ℕ
+pages_at h = pages_off h.events h.before
+
+abbrev pub pages_in : List Happening → List ℕ
+pages_in hs = flat_map pages_at hs
+
+-- the lines and pages of happenings come after what was before
+pub record IsPaged (hs : List Happening) (before after : List ℕ) : Type 0 where
+  pub lines : after ≡ before ++ pages_in hs
+  pub bounded : length after ≤ length before + 9528 * length hs
 
 pages_off-append : (xs ys : List Event) (s : Display)
     → pages_off (xs ++ ys) s ≡ pages_off xs s ++ pages_off ys (after_events xs s)
@@ -34,34 +43,30 @@ pages-append split s a b =
     ap (λ (es : List Event). pages_off es s.display) (split.events_append s.held a b)
     ∙ pages_off-append (events_from s.held a) (events_from (play s a).state.held b) s.display
 
-pub pages-nothing : SplitLaw → (s : State) → IsSound s → pages s [] ≡ []
+pub pages-none : SplitLaw → (s : State) → IsHeldPart s.held → pages s [] ≡ []
 unfolding pages
-pages-nothing split s sound = ap (λ (es : List Event). pages_off es s.display) (split.events_nil s.held sound.held)
+pages-none split s part = ap (λ (es : List Event). pages_off es s.display) (split.events_nil s.held part)
 
-paged-nothing : SplitLaw → (s : State) (xs : List ℕ) → IsSound s → IsPaged s [] xs xs
-paged-nothing split s xs sound = record {
-  lines = sym (ap (λ (t : List ℕ). xs ++ t) (pages-nothing split s sound) ∙ append-nil xs);
-  bounded = omega arith;
+pub pages-nothing : SplitLaw → (s : State) → IsSound s → pages s [] ≡ []
+pages-nothing split s sound = pages-none split s sound.held
+
+paged-more : (hs ks : List Happening) (xs ys zs : List ℕ) → IsPaged hs xs ys → IsPaged ks ys zs → IsPaged (hs ++ ks) xs zs
+paged-more hs ks xs ys zs first second = record {
+  lines = second.lines ∙ ap (λ (t : List ℕ). t ++ pages_in ks) first.lines
+      ∙ append_assoc xs (pages_in hs) (pages_in ks)
+      ∙ ap (λ (t : List ℕ). xs ++ t) (sym (flat_map-append pages_at hs ks));
+  bounded = omega (arith, first.bounded, second.bounded, length-append hs ks);
 }
 
-paged-more : SplitLaw → (s : State) (a b xs ys zs : List ℕ) → IsPaged s a xs ys → IsPaged (play s a).state b ys zs
-    → IsPaged s (a ++ b) xs zs
-paged-more split s a b xs ys zs first second = record {
-  lines = second.lines ∙ ap (λ (t : List ℕ). t ++ pages (play s a).state b) first.lines
-      ∙ append_assoc xs (pages s a) (pages (play s a).state b)
-      ∙ ap (λ (t : List ℕ). xs ++ t) (sym (pages-append split s a b));
-  bounded = omega (arith, first.bounded, second.bounded, length-append a b);
-}
-
-pub pages_cut : {O N : Type 0} (lines : O → List ℕ) (room : O → ℕ) (name : O → N) → AreCut {O = O}
-    (λ o s bytes p. (name p ≡ name o) × IsPaged s bytes (lines o) (lines p) × (room o ≤ room p)) (λ o n. ⊤)
-pages_cut lines room name = record {
-  nothing = λ split o s sound. (refl, paged-nothing split s (lines o) sound, omega arith);
-  more = λ split o p q s a b sound first second. (
+pub pages_joined : {O N : Type 0} (lines : O → List ℕ) (room : O → ℕ) (name : O → N) → AreJoined {O = O}
+    (λ o hs p. (name p ≡ name o) × IsPaged hs (lines o) (lines p) × (room o ≤ room p)) (λ o n. ⊤)
+pages_joined lines room name = record {
+  nothing = λ o. (refl, record { lines = sym (append-nil (lines o)); bounded = omega arith }, omega arith);
+  more = λ o p q xs ys first second. (
     second.0 ∙ first.0,
-    paged-more split s a b (lines o) (lines p) (lines q) first.1 second.1,
+    paged-more xs ys (lines o) (lines p) (lines q) first.1 second.1,
     omega (arith, first.2, second.2),
   );
   fewer = λ o m n few takes. tt;
-  left = λ o p s bytes n saw takes. tt;
+  left = λ o p hs n saw takes. tt;
 }

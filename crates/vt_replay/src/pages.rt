@@ -10,7 +10,8 @@ ghost use Rattle.vt_replay.specs.PageCuts.{takes_off};
 use crate::blanks::{blanks_screen, push_page, takes_off};
 use std::alloc::AllocError;
 use vt_syntax::EventKind;
-use vt_syntax::laws::spelled;
+use vt_syntax::laws::{one_split, spelled};
+use vt_term::laws::happened;
 use vt_term::{Observer, REPORT_LIMIT, TEXT_LIMIT, Terminal};
 
 /// The most bytes of lines for each byte of a piece: the 24 lines of the screen.
@@ -77,6 +78,9 @@ pub fn feed_pages_reserved(
     ensures reports_capacity { vec_capacity reports.old ≤ vec_capacity reports.new }
     ensures lines_capacity { vec_capacity lines.old ≤ vec_capacity lines.new }
 {
+    let _ = terminal.width();
+    one_split();
+    happened();
     let mut observer = Pages { lines };
     terminal.feed_observed(piece, &mut observer, reports)
 }
@@ -121,10 +125,10 @@ impl Observer for Pages<'_> {
     ghost use Rattle.std.specs.Prelude.{◌≡◌, ◌<◌, ◌≤◌, ◌+◌, ◌&&◌, vec_len, vec_capacity, true, ⊤};
     ghost use Rattle.vt_term.specs.Scrolling.{is_at_end};
     ghost use Rattle.vt_term.specs.ScrollSteps.{Fits as RowFits};
-    ghost use Rattle.vt_replay.specs.PageCuts.{IsPaged, pages_cut, takes_off};
+    ghost use Rattle.vt_replay.specs.PageCuts.{IsPaged, pages_joined, takes_off};
 
-    ghost Saw = { λ o s bytes p. (p.lines.ghost_name ≡ o.lines.ghost_name)
-        × IsPaged s bytes o.lines.now.items p.lines.now.items
+    ghost Saw = { λ o hs p. (p.lines.ghost_name ≡ o.lines.ghost_name)
+        × IsPaged hs o.lines.now.items p.lines.now.items
         × (vec_capacity o.lines.now ≤ vec_capacity p.lines.now) };
 
     ghost Takes = { λ o n. ⊤ };
@@ -138,7 +142,7 @@ impl Observer for Pages<'_> {
 
     ghost Stops = { true };
 
-    ghost cut = { pages_cut (λ o. o.lines.now.items) (λ o. vec_capacity o.lines.now) (λ o. o.lines.ghost_name) };
+    ghost joined = { pages_joined (λ o. o.lines.now.items) (λ o. vec_capacity o.lines.now) (λ o. o.lines.ghost_name) };
 
     #[inline(always)]
     fn stops(&self) -> bool {
@@ -152,6 +156,7 @@ impl Observer for Pages<'_> {
 
     #[inline(always)]
     fn event(&mut self, terminal: &Terminal, bytes: &[u8], kind: EventKind, values: &[u16]) {
+        one_split();
         self.keep(terminal, kind, values)
     }
 
@@ -162,10 +167,13 @@ impl Observer for Pages<'_> {
 
     #[inline(always)]
     fn run(&mut self, terminal: &Terminal, bytes: &[u8]) {
+        one_split();
         spelled();
         self.keep(terminal, EventKind::Print(bytes[0]), &[])
     }
 
     #[inline(always)]
-    fn part(&mut self, bytes: &[u8]) {}
+    fn part(&mut self, bytes: &[u8]) {
+        one_split();
+    }
 }

@@ -11,6 +11,7 @@ pub mod SoundEffects
 pub mod Tables
 pub mod Silent
 pub mod SoundPlay
+pub mod Happened
 mod Playing
 mod Forgetting
 mod Passing

@@ -14,9 +14,11 @@ use Rattle.vt_term.specs.Sound.{IsSound}
 use Rattle.vt_term.specs.Functions.{effect}
 use Rattle.vt_term.specs.Reports.{report}
 use Rattle.vt_term.specs.Play.{play, after_events, reports_of}
-use Rattle.vt_term.specs.Observing.{Feeds, AreCut}
+use Rattle.vt_term.specs.Happenings.{Happening, happenings}
+use Rattle.vt_term.specs.Observing.{Feeds, AreJoined}
 use Rattle.vt_term.proofs.Cuts.{play-append, play-nothing}
 use Rattle.vt_term.proofs.Bytes.{taken, behind, taken-more, but-last}
+use Rattle.vt_term.proofs.Happened.{happenings-append, length-happenings}
 
 -- bytes that are these events
 pub feeds-events : (s : State) (bytes : List ℕ) (events : List Event) (d : Display) (h : Held)
@@ -107,34 +109,37 @@ module _ (split : SplitLaw) where
 
 -- ---- what an observer saw
 
-module _ {O : Type 0} (Saw : O → State → List ℕ → O → Type 0) (Takes : O → ℕ → Type 0) (cut : AreCut Saw Takes) where
+module _ {O : Type 0} (Saw : O → List Happening → O → Type 0) (Takes : O → ℕ → Type 0) (joined : AreJoined Saw Takes) where
   -- it may be told of a front of what it may be told of
   pub takes-front : (o : O) (piece : List ℕ) (n : ℕ) → Takes o (length piece) → Takes o (length (take n piece))
-  takes-front o piece n = cut.fewer o (length (take n piece)) (length piece) (omega (arith, length-take n piece))
+  takes-front o piece n = joined.fewer o (length (take n piece)) (length piece) (omega (arith, length-take n piece))
 
   -- after the front of a piece, it may be told of what is left
-  pub takes-rest : (o p : O) (s : State) (piece : List ℕ) (at n : ℕ) → at + n ≡ length piece → Saw o s (take at piece) p
-      → Takes o (length piece) → Takes p n
+  pub takes-rest : (o p : O) (s : State) (piece : List ℕ) (at n : ℕ) → at + n ≡ length piece
+      → Saw o (happenings s (take at piece)) p → Takes o (length piece) → Takes p n
   takes-rest o p s piece at n is saw takes =
-      let same : length piece ≡ length (take at piece) + n = omega (arith, length-take at piece, is) in
-      cut.left o p s (take at piece) n saw (rw same at takes)
+      let same : length piece ≡ length (happenings s (take at piece)) + n =
+      omega (arith, length-happenings s (take at piece), length-take at piece, is) in
+      joined.left o p (happenings s (take at piece)) n saw (rw same at takes)
 
-module _ {O : Type 0} (Saw : O → State → List ℕ → O → Type 0) (Takes : O → ℕ → Type 0) (cut : AreCut Saw Takes)
+module _ {O : Type 0} (Saw : O → List Happening → O → Type 0) (Takes : O → ℕ → Type 0) (joined : AreJoined Saw Takes)
     (split : SplitLaw) where
   -- one part of a piece, and the next
   pub saw-more : (o p q : O) (s t : State) (piece before out : List ℕ) (at n : ℕ)
-      → IsSound s → Feeds s (take at piece) t before out → Saw o s (take at piece) p → Saw p t (take n (drop at piece)) q
-      → Saw o s (take (at + n) piece) q
+      → IsSound s → Feeds s (take at piece) t before out → Saw o (happenings s (take at piece)) p
+      → Saw p (happenings t (take n (drop at piece))) q → Saw o (happenings s (take (at + n) piece)) q
   saw-more o p q s t piece before out at n sound fed first second =
-      rw (take-add at n piece) (cut.more split o p q s (take at piece) (take n (drop at piece)) sound first
-      (rw (← fed.state) second))
+      let a = take at piece in
+      let b = take n (drop at piece) in
+      rw (take-add at n piece, happenings-append split s a b sound)
+      (joined.more o p q (happenings s a) (happenings (play s a).state b) first (rw (← fed.state) second))
 
   -- the same by what is left of the piece
   pub saw-rest : (o p q : O) (s t : State) (piece rest before out : List ℕ) (n : ℕ)
       → IsSound s → length rest ≤ length piece → n ≤ length rest → rest ≡ drop (taken piece rest) piece
-      → Feeds s (take (taken piece rest) piece) t before out → Saw o s (take (taken piece rest) piece) p
-      → Saw p t (take n rest) q → Saw o s (take (taken piece (behind n rest)) piece) q
+      → Feeds s (take (taken piece rest) piece) t before out → Saw o (happenings s (take (taken piece rest) piece)) p
+      → Saw p (happenings t (take n rest)) q → Saw o (happenings s (take (taken piece (behind n rest)) piece)) q
   saw-rest o p q s t piece rest before out n sound within fits is fed first second =
-      subst (λ (at : ℕ). Saw o s (take at piece) q) (sym (taken-more piece rest n within fits))
+      subst (λ (at : ℕ). Saw o (happenings s (take at piece)) q) (sym (taken-more piece rest n within fits))
       (saw-more o p q s t piece before out (taken piece rest) n sound fed first
-      (subst (λ (xs : List ℕ). Saw p t (take n xs) q) is second))
+      (subst (λ (xs : List ℕ). Saw p (happenings t (take n xs)) q) is second))

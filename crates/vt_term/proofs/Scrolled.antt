@@ -15,6 +15,7 @@ use Rattle.vt_term.specs.Functions.{effect}
 use Rattle.vt_term.specs.Writing.{write_if_read, put_glyph}
 use Rattle.vt_term.specs.Scrolling.{is_at_end, line_off, lines_off, scrolled_off, scrolls_off, log}
 use Rattle.vt_term.specs.ScrollSteps.{EndInRow, Fits, Logs}
+use Rattle.vt_term.specs.Happenings.{happenings}
 use Rattle.vt_term.specs.Text.{line_text}
 use Rattle.vt_term.specs.Sound.{IsSound}
 use Rattle.vt_term.specs.Play.{play}
@@ -22,6 +23,7 @@ use Rattle.vt_term.specs.Observers.{scrolled-append, scrolled-nothing}
 use Rattle.std.specs.List.{flat_map}
 use Rattle.std.proofs.lemmas.Grind.{flat_map-append}
 use Rattle.vt_term.proofs.Bytes.{graphic-events}
+use Rattle.vt_term.proofs.Happened.{length-happenings, lines-happened}
 
 pub on-true : (r : Bool) (P : Type 0) → (r ≡ true → P) → OnTrue r P
 on-true true P f = f refl
@@ -38,9 +40,20 @@ pub one-line : (s : State) (bytes : List ℕ) (event : Event) → events_from s.
 unfolding scrolled_off
 one-line s bytes event is = rw is (append-nil (line_off event s.display))
 
-pub logs-one : (s : State) (bytes xs ys : List ℕ) (rows : List (List Cell)) → 1 ≤ length bytes
-    → scrolled_off s bytes ≡ rows → ys ≡ xs ++ flat_map line_text rows → length ys ≤ length xs + 397 → Logs s bytes xs ys
-logs-one s bytes xs ys rows some is told few = record { lines = rw is told; bounded = omega (arith, some, few) }
+pub logs-one : SplitLaw → (s : State) (bytes xs ys : List ℕ) (rows : List (List Cell)) → IsSound s → 1 ≤ length bytes
+    → scrolled_off s bytes ≡ rows → ys ≡ xs ++ flat_map line_text rows → length ys ≤ length xs + 397
+    → Logs (happenings s bytes) xs ys
+logs-one split s bytes xs ys rows sound some is told few = record {
+  lines = rw (lines-happened split s bytes sound.held, is) told;
+  bounded = omega (arith, some, few, length-happenings s bytes);
+}
+
+pub logs-none : SplitLaw → (s : State) (bytes xs : List ℕ) → IsSound s → events_from s.held bytes ≡ []
+    → Logs (happenings s bytes) xs xs
+logs-none split s bytes xs sound none = record {
+  lines = rw (lines-happened split s bytes sound.held, no-line s bytes none) (sym (append-nil xs));
+  bounded = omega arith;
+}
 
 -- a line that is appended fits
 pub line-fits : (off : Bool) (len after end : ℕ) → len ≤ end → after ≤ len + 397 → (off ≡ true → len + 397 ≤ end)

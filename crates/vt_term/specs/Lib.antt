@@ -18,6 +18,7 @@ pub mod Names
 pub mod Play
 pub mod Text
 pub mod Scrolling
+pub mod Happenings
 pub mod ScrollSteps
 pub mod Observing
 pub mod Observers

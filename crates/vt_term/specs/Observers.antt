@@ -5,7 +5,7 @@ use Rattle.std.specs.List.{flat_map}
 use Rattle.std.proofs.lemmas.Grind.{flat_map-append}
 use Rattle.vt_screen.specs.declared.cell.Cell.{Cell}
 use Rattle.vt_syntax.specs.declared.event.Event.{Event}
-use Rattle.vt_syntax.specs.Held.{events_from}
+use Rattle.vt_syntax.specs.Held.{events_from, IsHeldPart}
 use Rattle.vt_syntax.specs.Laws.{SplitLaw}
 use Rattle.vt_term.specs.State.{Display, State}
 use Rattle.vt_term.specs.Sound.{IsSound}
@@ -14,14 +14,15 @@ use Rattle.vt_term.specs.Play.{play, after_events}
 use Rattle.vt_term.specs.Scrolling.{line_off, lines_off, scrolled_off}
 use Rattle.vt_term.specs.ScrollSteps.{Logs}
 use Rattle.vt_term.specs.Text.{line_text}
-use Rattle.vt_term.specs.Observing.{AreCut}
+use Rattle.vt_term.specs.Happenings.{Happening, lines_in}
+use Rattle.vt_term.specs.Observing.{AreJoined}
 
-pub nobody_cut : {O : Type 0} → AreCut {O = O} (λ o s bytes p. ⊤) (λ o n. ⊤)
-nobody_cut = record {
-  nothing = λ split o s sound. tt;
-  more = λ split o p q s a b sound first second. tt;
+pub nobody_joined : {O : Type 0} → AreJoined {O = O} (λ o hs p. ⊤) (λ o n. ⊤)
+nobody_joined = record {
+  nothing = λ o. tt;
+  more = λ o p q xs ys first second. tt;
   fewer = λ o m n few takes. tt;
-  left = λ o p s bytes n saw takes. tt;
+  left = λ o p hs n saw takes. tt;
 }
 
 -- ---- the lines that scroll off, in parts
@@ -40,59 +41,59 @@ scrolled-append split s a b =
     ap (λ (es : List Event). lines_off es s.display) (split.events_append s.held a b)
     ∙ lines_off-append (events_from s.held a) (events_from (play s a).state.held b) s.display
 
-pub scrolled-nothing : SplitLaw → (s : State) → IsSound s → scrolled_off s [] ≡ []
+pub scrolled-none : SplitLaw → (s : State) → IsHeldPart s.held → scrolled_off s [] ≡ []
 unfolding scrolled_off
-scrolled-nothing split s sound = rw (split.events_nil s.held sound.held) refl
+scrolled-none split s part = rw (split.events_nil s.held part) refl
 
--- ---- no bytes scroll no line off
-logs-nothing : SplitLaw → (s : State) (xs : List ℕ) → IsSound s → Logs s [] xs xs
-logs-nothing split s xs sound = record {
-  lines = sym (ap (λ (rows : List (List Cell)). xs ++ flat_map line_text rows) (scrolled-nothing split s sound) ∙ append-nil xs);
-  bounded = omega arith;
-}
+pub scrolled-nothing : SplitLaw → (s : State) → IsSound s → scrolled_off s [] ≡ []
+scrolled-nothing split s sound = scrolled-none split s sound.held
 
-logs-more : SplitLaw → (s : State) (a b xs ys zs : List ℕ) → Logs s a xs ys → Logs (play s a).state b ys zs
-    → Logs s (a ++ b) xs zs
-logs-more split s a b xs ys zs first second = record {
+-- ---- the laws of the log and of two observers
+
+logs-nothing : (xs : List ℕ) → Logs [] xs xs
+logs-nothing xs = record { lines = sym (append-nil xs); bounded = omega arith }
+
+logs-more : (hs ks : List Happening) (xs ys zs : List ℕ) → Logs hs xs ys → Logs ks ys zs → Logs (hs ++ ks) xs zs
+logs-more hs ks xs ys zs first second = record {
   lines = second.lines
-      ∙ ap (λ (t : List ℕ). t ++ flat_map line_text (scrolled_off (play s a).state b)) first.lines
-      ∙ append_assoc xs (flat_map line_text (scrolled_off s a)) (flat_map line_text (scrolled_off (play s a).state b))
+      ∙ ap (λ (t : List ℕ). t ++ flat_map line_text (lines_in ks)) first.lines
+      ∙ append_assoc xs (flat_map line_text (lines_in hs)) (flat_map line_text (lines_in ks))
       ∙ ap (λ (t : List ℕ). xs ++ t) (sym (ap (λ (rows : List (List Cell)). flat_map line_text rows)
-      (scrolled-append split s a b) ∙ flat_map-append line_text (scrolled_off s a) (scrolled_off (play s a).state b)));
-  bounded = omega (arith, first.bounded, second.bounded, length-append a b);
+      (flat_map-append (λ h. h.lines) hs ks) ∙ flat_map-append line_text (lines_in hs) (lines_in ks)));
+  bounded = omega (arith, first.bounded, second.bounded, length-append hs ks);
 }
 
-pub lines_cut : {O N : Type 0} (lines : O → List ℕ) (len end room : O → ℕ) (name : O → N) → AreCut {O = O}
-    (λ o s bytes p. (name p ≡ name o) × (end p ≡ end o) × Logs s bytes (lines o) (lines p) × (room o ≤ room p)
+pub lines_joined : {O N : Type 0} (lines : O → List ℕ) (len end room : O → ℕ) (name : O → N) → AreJoined {O = O}
+    (λ o hs p. (name p ≡ name o) × (end p ≡ end o) × Logs hs (lines o) (lines p) × (room o ≤ room p)
     × (len o ≤ end o → len p ≤ end o))
     (λ o n. ⊤)
-lines_cut lines len end room name = record {
-  nothing = λ split o s sound. (refl, refl, logs-nothing split s (lines o) sound, omega arith, λ fits. fits);
-  more = λ split o p q s a b sound first second. (
+lines_joined lines len end room name = record {
+  nothing = λ o. (refl, refl, logs-nothing (lines o), omega arith, λ fits. fits);
+  more = λ o p q xs ys first second. (
     second.0 ∙ first.0,
     second.1 ∙ first.1,
-    logs-more split s a b (lines o) (lines p) (lines q) first.2 second.2,
+    logs-more xs ys (lines o) (lines p) (lines q) first.2 second.2,
     omega (arith, first.3, second.3),
     λ fits. rw (← first.1) (second.4 (rw first.1 (first.4 fits))),
   );
   fewer = λ o m n few takes. tt;
-  left = λ o p s bytes n saw takes. tt;
+  left = λ o p hs n saw takes. tt;
 }
 
-pub both_cut : {O A B : Type 0} (SawA : A → State → List ℕ → A → Type 0) (SawB : B → State → List ℕ → B → Type 0)
+pub both_joined : {O A B : Type 0} (SawA : A → List Happening → A → Type 0) (SawB : B → List Happening → B → Type 0)
     (TakesA : A → ℕ → Type 0) (TakesB : B → ℕ → Type 0) (a : O → A) (b : O → B)
-    → AreCut {O = A} SawA TakesA → AreCut {O = B} SawB TakesB
-    → AreCut {O = O} (λ o s bytes p. SawA (a o) s bytes (a p) × SawB (b o) s bytes (b p))
+    → AreJoined {O = A} SawA TakesA → AreJoined {O = B} SawB TakesB
+    → AreJoined {O = O} (λ o hs p. SawA (a o) hs (a p) × SawB (b o) hs (b p))
     (λ o n. TakesA (a o) n × TakesB (b o) n)
-both_cut SawA SawB TakesA TakesB a b one other = record {
-  nothing = λ split o s sound. (one.nothing split (a o) s sound, other.nothing split (b o) s sound);
-  more = λ split o p q s xs ys sound first second. (
-    one.more split (a o) (a p) (a q) s xs ys sound first.0 second.0,
-    other.more split (b o) (b p) (b q) s xs ys sound first.1 second.1,
+both_joined SawA SawB TakesA TakesB a b one other = record {
+  nothing = λ o. (one.nothing (a o), other.nothing (b o));
+  more = λ o p q xs ys first second. (
+    one.more (a o) (a p) (a q) xs ys first.0 second.0,
+    other.more (b o) (b p) (b q) xs ys first.1 second.1,
   );
   fewer = λ o m n few takes. (one.fewer (a o) m n few takes.0, other.fewer (b o) m n few takes.1);
-  left = λ o p s bytes n saw takes. (
-    one.left (a o) (a p) s bytes n saw.0 takes.0,
-    other.left (b o) (b p) s bytes n saw.1 takes.1,
+  left = λ o p hs n saw takes. (
+    one.left (a o) (a p) hs n saw.0 takes.0,
+    other.left (b o) (b p) hs n saw.1 takes.1,
   );
 }

@@ -1,8 +1,8 @@
 -- Runs of characters of which at most the first scrolls a line off, and the log's observer. Contracts of private functions and
 -- of `Terminal::row_limit` cite this, and no other public clause does.
 use Rattle.std.specs.Prelude.{◌≡◌, ℕ, ◌+◌, ◌*◌, ◌≤◌, ◌⊎◌, ◌++◌, List, length, false, flat_map}
-use Rattle.vt_term.specs.State.{Display, State, last_column}
-use Rattle.vt_term.specs.Scrolling.{scrolled_off}
+use Rattle.vt_term.specs.State.{Display, last_column}
+use Rattle.vt_term.specs.Happenings.{Happening, lines_in}
 use Rattle.vt_term.specs.Text.{line_text}
 
 -- so many characters end in the cursor's row
@@ -18,7 +18,7 @@ Fits count s = EndInRow count s ⊎ (count ≤ 1)
 abbrev pub HasRoom : ℕ → ℕ → ℕ → Type 0
 HasRoom len capacity end = (len + 397 ≤ capacity) × (len + 397 ≤ end)
 
--- the texts of the lines that bytes scroll off come after those before
-pub record Logs (s : State) (bytes before after : List ℕ) : Type 0 where
-  pub lines : after ≡ before ++ flat_map line_text (scrolled_off s bytes)
-  pub bounded : length after ≤ length before + 397 * length bytes
+-- the texts of the lines that are scrolled off come after those before
+pub record Logs (hs : List Happening) (before after : List ℕ) : Type 0 where
+  pub lines : after ≡ before ++ flat_map line_text (lines_in hs)
+  pub bounded : length after ≤ length before + 397 * length hs

@@ -10,6 +10,7 @@ ghost use Rattle.vt_syntax.specs.Front.{IsFront, IsFinal, AreFirst, front_list};
 ghost use Rattle.vt_syntax.specs.declared.event.Event.TheVariants.{Sequence};
 ghost use Rattle.vt_term.specs.Play.{play};
 ghost use Rattle.vt_term.specs.Runs.{WritesAscii};
+ghost use Rattle.vt_term.specs.Happenings.{happenings};
 ghost use Rattle.vt_term.specs.Observing.{Feeds};
 
 use crate::codes::{CR, LF, RIGHT};
@@ -134,7 +135,7 @@ impl Terminal {
         ensures all { result < length piece.now → O.Stopped observer.new }
         ensures state { self.new ≡ (play self.old (take result piece.now)).state }
         ensures reports { out.new.items ≡ out.old.items ++ (play self.old (take result piece.now)).reports }
-        ensures saw { O.Saw observer.old self.old (take result piece.now) observer.new }
+        ensures saw { O.Saw observer.old (happenings self.old (take result piece.now)) observer.new }
         ensures bounded { vec_len out.new ≤ vec_len out.old + 10 * result }
         ensures capacity { vec_capacity out.old ≤ vec_capacity out.new }
     {
@@ -168,7 +169,7 @@ impl Terminal {
         ensures some { OnFalse result.1 (1 ≤ result.0) }
         ensures within { result.0 ≤ length piece.now }
         ensures fed { Feeds self.old (take result.0 piece.now) self.new out.old.items out.new.items }
-        ensures saw { O.Saw observer.old self.old (take result.0 piece.now) observer.new }
+        ensures saw { O.Saw observer.old (happenings self.old (take result.0 piece.now)) observer.new }
         ensures next { OnTrue result.1 (O.Stopped observer.new) }
         ensures bounded { vec_len out.new ≤ vec_len out.old + 10 * result.0 }
         ensures capacity { vec_capacity out.old ≤ vec_capacity out.new }
@@ -204,7 +205,7 @@ impl Terminal {
         ensures within { result ≤ length piece.now }
         ensures between { self.new.held ≡ Nothing }
         ensures fed { Feeds self.old (take result piece.now) self.new out.old.items out.new.items }
-        ensures saw { O.Saw observer.old self.old (take result piece.now) observer.new }
+        ensures saw { O.Saw observer.old (happenings self.old (take result piece.now)) observer.new }
         ensures bounded { vec_len out.new ≤ vec_len out.old + 10 * result }
         ensures capacity { vec_capacity out.old ≤ vec_capacity out.new }
     {
@@ -238,7 +239,7 @@ impl Terminal {
         ensures within { result ≤ length piece.now }
         ensures between { self.new.held ≡ Nothing }
         ensures fed { Feeds self.old (take result piece.now) self.new out.old.items out.new.items }
-        ensures saw { O.Saw observer.old self.old (take result piece.now) observer.new }
+        ensures saw { O.Saw observer.old (happenings self.old (take result piece.now)) observer.new }
         ensures bounded { vec_len out.new ≤ vec_len out.old + 10 * result }
         ensures capacity { vec_capacity out.old ≤ vec_capacity out.new }
     {
@@ -261,7 +262,7 @@ impl Terminal {
     fn by_parser<O: Observer>(&self, observer: &O) -> usize
         ensures none { result ≡ 0 }
         ensures nothing { (out : List ℕ) → Feeds self.now [] self.now out out }
-        ensures saw { O.Saw observer.now self.now [] observer.now }
+        ensures saw { O.Saw observer.now [] observer.now }
     {
         let _ = observer;
         self.soundness();
@@ -285,7 +286,7 @@ impl Terminal {
         ensures within { result ≤ length piece.now }
         ensures between { self.new.held ≡ Nothing }
         ensures fed { Feeds self.old (take result piece.now) self.new out.old.items out.new.items }
-        ensures saw { O.Saw observer.old self.old (take result piece.now) observer.new }
+        ensures saw { O.Saw observer.old (happenings self.old (take result piece.now)) observer.new }
         ensures bounded { vec_len out.new ≤ vec_len out.old + 10 * result }
         ensures capacity { vec_capacity out.old ≤ vec_capacity out.new }
     {
@@ -324,7 +325,7 @@ impl Terminal {
         ensures within { result ≤ length piece.now }
         ensures between { self.new.held ≡ Nothing }
         ensures fed { Feeds self.old (take result piece.now) self.new out.old.items out.new.items }
-        ensures saw { O.Saw observer.old self.old (take result piece.now) observer.new }
+        ensures saw { O.Saw observer.old (happenings self.old (take result piece.now)) observer.new }
         ensures bounded { vec_len out.new ≤ vec_len out.old + 10 * result }
         ensures capacity { vec_capacity out.old ≤ vec_capacity out.new }
     {
@@ -359,7 +360,7 @@ impl Terminal {
         ensures within { result ≤ length piece.now }
         ensures between { self.new.held ≡ Nothing }
         ensures fed { Feeds self.old (take result piece.now) self.new out.old.items out.new.items }
-        ensures saw { O.Saw observer.old self.old (take result piece.now) observer.new }
+        ensures saw { O.Saw observer.old (happenings self.old (take result piece.now)) observer.new }
         ensures bounded { vec_len out.new ≤ vec_len out.old + 10 * result }
         ensures capacity { vec_capacity out.old ≤ vec_capacity out.new }
     {
@@ -392,7 +393,7 @@ impl Terminal {
         ensures within { result ≤ length piece.now }
         ensures between { self.new.held ≡ Nothing }
         ensures fed { Feeds self.old (take result piece.now) self.new out.old.items out.new.items }
-        ensures saw { O.Saw observer.old self.old (take result piece.now) observer.new }
+        ensures saw { O.Saw observer.old (happenings self.old (take result piece.now)) observer.new }
         ensures bounded { vec_len out.new ≤ vec_len out.old + 10 * result }
         ensures capacity { vec_capacity out.old ≤ vec_capacity out.new }
     {
@@ -425,7 +426,7 @@ impl Terminal {
         ensures within { result ≤ length piece.now }
         ensures between { self.new.held ≡ Nothing }
         ensures fed { Feeds self.old (take result piece.now) self.new out.old.items out.new.items }
-        ensures saw { O.Saw observer.old self.old (take result piece.now) observer.new }
+        ensures saw { O.Saw observer.old (happenings self.old (take result piece.now)) observer.new }
         ensures bounded { vec_len out.new ≤ vec_len out.old + 10 * result }
         ensures capacity { vec_capacity out.old ≤ vec_capacity out.new }
     {
@@ -461,7 +462,7 @@ impl Terminal {
         ensures within { result ≤ length piece.now }
         ensures between { self.new.held ≡ Nothing }
         ensures fed { Feeds self.old (take result piece.now) self.new out.old.items out.new.items }
-        ensures saw { O.Saw observer.old self.old (take result piece.now) observer.new }
+        ensures saw { O.Saw observer.old (happenings self.old (take result piece.now)) observer.new }
         ensures bounded { vec_len out.new ≤ vec_len out.old + 10 * result }
         ensures capacity { vec_capacity out.old ≤ vec_capacity out.new }
     {
@@ -501,7 +502,7 @@ impl Terminal {
         ensures within { result ≤ length piece.now }
         ensures between { self.new.held ≡ Nothing }
         ensures fed { Feeds self.old (take result piece.now) self.new out.old.items out.new.items }
-        ensures saw { O.Saw observer.old self.old (take result piece.now) observer.new }
+        ensures saw { O.Saw observer.old (happenings self.old (take result piece.now)) observer.new }
         ensures bounded { vec_len out.new ≤ vec_len out.old + 10 * result }
         ensures capacity { vec_capacity out.old ≤ vec_capacity out.new }
     {
@@ -530,7 +531,7 @@ impl Terminal {
         requires takes { O.Takes observer.old (length piece.now) }
         ensures within { result ≤ length piece.now }
         ensures fed { Feeds self.old (take result piece.now) self.new out.old.items out.new.items }
-        ensures saw { O.Saw observer.old self.old (take result piece.now) observer.new }
+        ensures saw { O.Saw observer.old (happenings self.old (take result piece.now)) observer.new }
         ensures stops { result ≡ 0 → O.Stops ≡ true }
         ensures next { result ≡ 0 → O.Stopped observer.new }
         ensures bounded { vec_len out.new ≤ vec_len out.old + 10 * result }

@@ -1,5 +1,6 @@
 //! Laws over the definitions alone. A caller cites a law by a call of its function.
-ghost use Rattle.std.specs.Prelude.{◌≡◌, ℕ, List, [], ◌++◌, true, false, ◌==◌, None};
+ghost use Rattle.std.specs.Prelude.{◌≡◌, ℕ, List, [], ◌++◌, length, true, false, ◌==◌, None};
+ghost use Rattle.vt_syntax.specs.Held.{events_from};
 ghost use Rattle.vt_syntax.specs.declared.event.Event.TheVariants.{Print, Control};
 ghost use Rattle.vt_glyph.specs.Invocation.{has_no_glyph, glyph_read, after_read};
 ghost use Rattle.vt_glyph.specs.Tables.{substitute_glyph};
@@ -12,6 +13,7 @@ ghost use Rattle.vt_term.specs.State.{State, power_up};
 ghost use Rattle.vt_term.specs.Sound.{IsSound};
 ghost use Rattle.vt_term.specs.Scrolling.{scrolled_off, log};
 ghost use Rattle.vt_term.specs.Play.{play, both, play_all, joined};
+ghost use Rattle.vt_term.specs.Happenings.{happenings, events_in, lines_in};
 
 use vt_glyph::laws::{glyphs, soundness as sets_soundness};
 use vt_syntax::laws::one_split;
@@ -37,6 +39,18 @@ pub fn cuts()
 {
     one_split();
     soundness();
+}
+
+/// States that what happens at bytes are their events, and the lines that they scroll off, one happening for each byte. It may
+/// be told in parts.
+pub fn happened()
+    ensures events { (s : State) (bytes : List ℕ) → IsSound s → events_in (happenings s bytes) ≡ events_from s.held bytes }
+    ensures lines { (s : State) (bytes : List ℕ) → IsSound s → lines_in (happenings s bytes) ≡ scrolled_off s bytes }
+    ensures count { (s : State) (bytes : List ℕ) → length (happenings s bytes) ≡ length bytes }
+    ensures two { (s : State) (a b : List ℕ) → IsSound s
+        → happenings s (a ++ b) ≡ happenings s a ++ happenings (play s a).state b }
+{
+    one_split();
 }
 
 /// States that the log of chunks in turn is the log of the chunks joined.

@@ -8,7 +8,9 @@ ghost use Rattle.vt_syntax.specs.Spelling.{IsEvent};
 ghost use Rattle.vt_syntax.specs.Event.{event_of};
 ghost use Rattle.vt_syntax.specs.Held.{events_from};
 ghost use Rattle.vt_term.specs.State.{State, Display};
-ghost use Rattle.vt_term.specs.Observing.{AreCut};
+ghost use Rattle.vt_term.specs.Sound.{IsSound};
+ghost use Rattle.vt_term.specs.Happenings.{Happening, happenings};
+ghost use Rattle.vt_term.specs.Observing.{AreJoined};
 
 use crate::terminal::Terminal;
 use vt_syntax::EventKind;
@@ -16,11 +18,13 @@ use vt_syntax::EventKind;
 /// An observer of a feed. A feed asks it before each event whether the event may be carried out, and then tells it of the
 /// event, in the state before it. It also tells it of bytes without an event. The feed stops before an event that the
 /// observer doesn't let.
+///
+/// What it is told of is a list of happenings, one for each byte.
 pub trait Observer {
-    /// The observer after it was told of bytes that are played from a state.
-    ghost Saw: { Self → State → List ℕ → Self → Type 0 };
+    /// The observer after it was told of happenings.
+    ghost Saw: { Self → List Happening → Self → Type 0 };
 
-    /// The observer may be told of so many more bytes: it can count them, or has capacity for them.
+    /// The observer may be told of so many more happenings: it can count them, or has capacity for them.
     ghost Takes: { Self → ℕ → Type 0 };
 
     /// The observer lets an event be carried out.
@@ -51,9 +55,10 @@ pub trait Observer {
         requires event { IsEvent (event_of kind values.now) }
         requires lets { Lets self.old terminal.now.display (event_of kind values.now) }
         requires takes { Takes self.old (length bytes.now) }
-        ensures { (s : State) → s.display ≡ terminal.now.display
+        ensures { (s : State) → IsSound s → s.display ≡ terminal.now.display
             → events_from s.held bytes.now ≡ event_of kind values.now ∷ []
-            → events_from s.held (take (length bytes.now - 1) bytes.now) ≡ [] → Saw self.old s bytes.now self.new };
+            → events_from s.held (take (length bytes.now - 1) bytes.now) ≡ []
+            → Saw self.old (happenings s bytes.now) self.new };
 
     /// Returns how many graphic bytes it lets be written at once. If it is none, the feed stops before the first one.
     fn limit(&self, terminal: &Terminal) -> usize
@@ -67,16 +72,17 @@ pub trait Observer {
         requires graphic { All HasGlyph bytes.now }
         requires fits { Fits self.old terminal.now.display (length bytes.now) }
         requires takes { Takes self.old (length bytes.now) }
-        ensures { (s : State) → s.display ≡ terminal.now.display → s.held ≡ Nothing
-            → Saw self.old s bytes.now self.new };
+        ensures { (s : State) → IsSound s → s.display ≡ terminal.now.display → s.held ≡ Nothing
+            → Saw self.old (happenings s bytes.now) self.new };
 
     /// Is told of bytes without an event: of a sequence that isn't whole, or that asks for nothing.
     fn part(&mut self, bytes: &[u8])
         requires { Takes self.old (length bytes.now) }
-        ensures { (s : State) → events_from s.held bytes.now ≡ [] → Saw self.old s bytes.now self.new };
+        ensures { (s : State) → IsSound s → events_from s.held bytes.now ≡ []
+            → Saw self.old (happenings s bytes.now) self.new };
 
-    /// The observer may be told of bytes in parts.
-    ghost cut: { AreCut Saw Takes };
+    /// The observer may be told in parts.
+    ghost joined: { AreJoined Saw Takes };
 }
 
 /// The observer of a feed that nobody observes.
@@ -84,10 +90,10 @@ pub trait Observer {
 pub struct Nobody;
 
 impl Observer for Nobody {
-    ghost use Rattle.vt_term.specs.Observers.{nobody_cut};
+    ghost use Rattle.vt_term.specs.Observers.{nobody_joined};
     ghost use Rattle.std.specs.Prelude.{⊤};
 
-    ghost Saw = { λ o s bytes p. ⊤ };
+    ghost Saw = { λ o hs p. ⊤ };
 
     ghost Takes = { λ o n. ⊤ };
 
@@ -104,7 +110,7 @@ impl Observer for Nobody {
         false
     }
 
-    ghost cut = { nobody_cut };
+    ghost joined = { nobody_joined };
 
     #[inline(always)]
     fn lets(&self, _: &Terminal, _: EventKind, _: &[u16]) -> bool {
@@ -136,10 +142,10 @@ pub struct Both<A: Drop, B: Drop> {
 }
 
 impl<A: Observer + Drop, B: Observer + Drop> Observer for Both<A, B> {
-    ghost use Rattle.vt_term.specs.Observers.{both_cut};
+    ghost use Rattle.vt_term.specs.Observers.{both_joined};
     ghost use Rattle.std.specs.Prelude.{◌⊎◌, ◌||◌};
 
-    ghost Saw = { λ o s bytes p. A.Saw o.a s bytes p.a × B.Saw o.b s bytes p.b };
+    ghost Saw = { λ o hs p. A.Saw o.a hs p.a × B.Saw o.b hs p.b };
 
     ghost Takes = { λ o n. A.Takes o.a n × B.Takes o.b n };
 
@@ -151,7 +157,7 @@ impl<A: Observer + Drop, B: Observer + Drop> Observer for Both<A, B> {
 
     ghost Stops = { A.Stops || B.Stops };
 
-    ghost cut = { both_cut A.Saw B.Saw A.Takes B.Takes (λ o. o.a) (λ o. o.b) A.cut B.cut };
+    ghost joined = { both_joined A.Saw B.Saw A.Takes B.Takes (λ o. o.a) (λ o. o.b) A.joined B.joined };
 
     #[inline(always)]
     fn stops(&self) -> bool {

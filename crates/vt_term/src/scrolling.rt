@@ -11,11 +11,12 @@ ghost use Rattle.vt_term.specs.ScrollSteps.{Fits};
 ghost use Rattle.vt_term.specs.Text.{line_text};
 
 use crate::codes::{FF, HALF, IND, LF, NEL, SUB, VT};
+use crate::laws::happened;
 use crate::observing::{Nobody, Observer};
 use crate::terminal::{REPORT_LIMIT, ROW_TEXT_LIMIT, Terminal};
 use std::alloc::AllocError;
 use vt_syntax::EventKind;
-use vt_syntax::laws::spelled;
+use vt_syntax::laws::{one_split, spelled};
 
 /// Returns whether a control is a line feed.
 #[inline(always)]
@@ -94,6 +95,8 @@ impl Terminal {
         ensures reports_capacity { vec_capacity reports.old ≤ vec_capacity reports.new }
         ensures lines_capacity { vec_capacity lines.old ≤ vec_capacity lines.new }
     {
+        self.soundness();
+        happened();
         let mut observer = Lines {
             lines,
             end: usize::MAX,
@@ -197,11 +200,11 @@ impl<A: Observer + Drop> Observer for Lines<'_, A> {
     ghost use Rattle.std.specs.Prelude.{true, ⊤};
     ghost use Rattle.vt_term.specs.Scrolling.{scrolls_off, is_at_end};
     ghost use Rattle.vt_term.specs.ScrollSteps.{Fits as RowFits, HasRoom, Logs};
-    ghost use Rattle.vt_term.specs.Observers.{lines_cut, both_cut};
+    ghost use Rattle.vt_term.specs.Observers.{lines_joined, both_joined};
 
-    ghost Saw = { λ o s bytes p. ((p.lines.ghost_name ≡ o.lines.ghost_name) × (p.end ≡ o.end)
-        × Logs s bytes o.lines.now.items p.lines.now.items × (vec_capacity o.lines.now ≤ vec_capacity p.lines.now)
-        × (vec_len o.lines.now ≤ o.end → vec_len p.lines.now ≤ o.end)) × A.Saw o.beside s bytes p.beside };
+    ghost Saw = { λ o hs p. ((p.lines.ghost_name ≡ o.lines.ghost_name) × (p.end ≡ o.end)
+        × Logs hs o.lines.now.items p.lines.now.items × (vec_capacity o.lines.now ≤ vec_capacity p.lines.now)
+        × (vec_len o.lines.now ≤ o.end → vec_len p.lines.now ≤ o.end)) × A.Saw o.beside hs p.beside };
 
     ghost Takes = { λ o n. ⊤ × A.Takes o.beside n };
 
@@ -217,13 +220,13 @@ impl<A: Observer + Drop> Observer for Lines<'_, A> {
 
     ghost Stops = { true };
 
-    ghost cut = { both_cut
-        (λ o s bytes p. (p.lines.ghost_name ≡ o.lines.ghost_name) × (p.end ≡ o.end)
-        × Logs s bytes o.lines.now.items p.lines.now.items × (vec_capacity o.lines.now ≤ vec_capacity p.lines.now)
+    ghost joined = { both_joined
+        (λ o hs p. (p.lines.ghost_name ≡ o.lines.ghost_name) × (p.end ≡ o.end)
+        × Logs hs o.lines.now.items p.lines.now.items × (vec_capacity o.lines.now ≤ vec_capacity p.lines.now)
         × (vec_len o.lines.now ≤ o.end → vec_len p.lines.now ≤ o.end))
         A.Saw (λ o n. ⊤) A.Takes (λ o. o) (λ o. o.beside)
-        (lines_cut (λ o. o.lines.now.items) (λ o. vec_len o.lines.now) (λ o. o.end) (λ o. vec_capacity o.lines.now)
-        (λ o. o.lines.ghost_name)) A.cut };
+        (lines_joined (λ o. o.lines.now.items) (λ o. vec_len o.lines.now) (λ o. o.end) (λ o. vec_capacity o.lines.now)
+        (λ o. o.lines.ghost_name)) A.joined };
 
     #[inline(always)]
     fn stops(&self) -> bool {
@@ -238,6 +241,7 @@ impl<A: Observer + Drop> Observer for Lines<'_, A> {
 
     #[inline(always)]
     fn event(&mut self, terminal: &Terminal, bytes: &[u8], kind: EventKind, values: &[u16]) {
+        one_split();
         terminal.line_off_reserved(kind, self.lines);
         self.beside.event(terminal, bytes, kind, values);
     }
@@ -251,6 +255,7 @@ impl<A: Observer + Drop> Observer for Lines<'_, A> {
 
     #[inline(always)]
     fn run(&mut self, terminal: &Terminal, bytes: &[u8]) {
+        one_split();
         spelled();
         terminal.line_off_reserved(EventKind::Print(bytes[0]), self.lines);
         self.beside.run(terminal, bytes);
@@ -258,6 +263,7 @@ impl<A: Observer + Drop> Observer for Lines<'_, A> {
 
     #[inline(always)]
     fn part(&mut self, bytes: &[u8]) {
+        one_split();
         self.beside.part(bytes);
     }
 }

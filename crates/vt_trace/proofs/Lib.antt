@@ -6,5 +6,6 @@ pub mod Coming
 pub mod Contents
 mod Leaves
 pub mod Runs
+mod Happened
 mod Digits
 pub mod ItemKinds

@@ -26,7 +26,7 @@ use Rattle.vt_trace.specs.Trace.{begins, item_place, place_of, is_text, text_of,
 use Rattle.vt_trace.specs.Trace.{between, is_nothing, is_string, cuts_off, ends_silent, item_first, code_after, ended_kind, skipped_lines}
 use Rattle.vt_trace.specs.Trace.{skipped, goes_on, traced, tracer_after, trace, tracer_all}
 use Rattle.vt_trace.specs.Runs.{IsShown, IsItem, is_graphic}
-use Rattle.vt_trace.specs.Observed.{AreRead, Completes, IsTold, skim, skimmed, skipped_all, held_all}
+use Rattle.vt_trace.specs.Observed.{AreRead, Completes, skim, skimmed, skipped_all, held_all}
 use Rattle.vt_trace.proofs.Leaves.{single_leaves, plain_leaves}
 
 abbrev made : ℕ → ℕ → Bool → Tracer
@@ -502,6 +502,12 @@ last_apart xs some =
 
 -- ---- functions
 
+-- the trace of bytes is written
+pub record IsTraced (s : State) (bytes : List ℕ) (k : Held) (t u : Tracer) (old new : List ℕ) : Type 0 where
+  pub held : k ≡ (play s bytes).state.held
+  pub lines : new ≡ old ++ trace s t bytes
+  pub tracer : u ≡ tracer_all s t bytes
+
 module _ (law : SpellingLaw) (split : SplitLaw) (bytes : List ℕ) (e : Event) (some : 1 ≤ length bytes) where
   abbrev front : List ℕ
   front = take (length bytes - 1) bytes
@@ -536,7 +542,7 @@ module _ (law : SpellingLaw) (split : SplitLaw) (bytes : List ℕ) (e : Event) (
   pub event_told : (s : State) (h k : Held) (t u : Tracer) (old mid new : List ℕ) (v : Bool)
       → Completes h bytes e → (Completes h bytes e → AreRead h k t u bytes old mid)
       → new ≡ mid ++ told_at s.display u last e → v ≡ is_text e
-      → h ≡ s.held → IsTold s bytes k t (with_text v u) old new
+      → h ≡ s.held → IsTraced s bytes k t (with_text v u) old new
   unfolding with_text play
   event_told s h k t u old mid new v one reads told text is =
       let read = reads one in
@@ -567,7 +573,7 @@ held_is split h (b ∷ bytes) part =
 
 -- bytes without an event
 pub part_told : SpellingLaw → SplitLaw → (s : State) (h k : Held) (t u : Tracer) (bytes old new : List ℕ)
-    → events_from s.held bytes ≡ [] → AreRead h k t u bytes old new → h ≡ s.held → IsTold s bytes k t u old new
+    → events_from s.held bytes ≡ [] → AreRead h k t u bytes old new → h ≡ s.held → IsTraced s bytes k t u old new
 unfolding play
 part_told law split s h k t u bytes old new none read is = record {
   held = read.held ∙ ap (λ (k : Held). held_from k bytes) is;
@@ -580,7 +586,7 @@ part_told law split s h k t u bytes old new none read is = record {
 pub run_told : SpellingLaw → SplitLaw → (s : State) (h : Held) (t : Tracer) (run old mid new : List ℕ) → 1 ≤ length run
     → All HasGlyph run → s.held ≡ Nothing → mid ≡ old ++ text_begin t.in_text t.place → new ≡ mid ++ shown run
     → h ≡ s.held
-    → IsTold s run h t (made (t.place + (length run - 1)) (t.place + (length run - 1) + 1) true) old new
+    → IsTraced s run h t (made (t.place + (length run - 1)) (t.place + (length run - 1) + 1) true) old new
 unfolding play
 run_told law split s h t [] old mid new some all nothing is then_so same = absurd (omega (arith, some))
 run_told law split s h t (b ∷ run) old mid new some all nothing is then_so same = record {

@@ -1,16 +1,14 @@
 -- The events that a tracer is told of. The observer of a trace and contracts of private functions cite this, and no public clause does.
-use Rattle.std.specs.Prelude.{◌≡◌, ℕ, ◌+◌, ◌-◌, ◌*◌, ◌^◌, ◌<◌, ◌≤◌, List, [], ◌∷◌, ◌++◌, length, take, if◌then◌else◌}
-use Rattle.std.proofs.Common.{refl, sym, ap, ◌∙◌, arith, append_assoc, append-nil, length-append}
+use Rattle.std.specs.Prelude.{◌≡◌, ℕ, ◌+◌, ◌-◌, ◌*◌, ◌^◌, ◌<◌, ◌≤◌, List, [], ◌∷◌, ◌++◌, ⊤, length, take, if◌then◌else◌}
+use Rattle.std.proofs.Common.{refl, sym, ap, ◌∙◌, subst, arith, append_assoc, append-nil, length-append}
 use Rattle.vt_syntax.specs.declared.event.Event.{Event}
 use Rattle.vt_syntax.specs.declared.held.Held.{Held}
 use Rattle.vt_syntax.specs.Held.{events_from, held_from}
-use Rattle.vt_syntax.specs.Laws.{SplitLaw}
-use Rattle.vt_term.specs.State.{State}
-use Rattle.vt_term.specs.Sound.{IsSound}
-use Rattle.vt_term.specs.Play.{play}
-use Rattle.vt_term.specs.Observing.{AreCut}
+use Rattle.vt_term.specs.Happenings.{Happening}
+use Rattle.vt_term.specs.Observing.{AreJoined}
 use Rattle.vt_trace.specs.declared.tracing.Tracer.{Tracer}
-use Rattle.vt_trace.specs.Trace.{item_place, is_nothing, is_string, item_first, code_after, skipped, goes_on, trace, tracer_all}
+use Rattle.vt_trace.specs.Trace.{place_of, item_place, is_nothing, is_string, item_first, code_after, skipped, goes_on}
+use Rattle.vt_trace.specs.Trace.{written_all, text_after}
 
 -- ---- bytes without their events
 
@@ -58,75 +56,112 @@ pub record Completes (h : Held) (bytes : List ℕ) (event : Event) : Type 0 wher
 
 -- ---- what the tracer was told
 
-pub record TraceLaw : Type 0 where
-  pub keeps : (s : State) (bytes : List ℕ) → IsSound s → IsSound (play s bytes).state
-  pub lines : (s : State) (t : Tracer) (a b : List ℕ) → IsSound s
-      → trace s t (a ++ b) ≡ trace s t a ++ trace (play s a).state (tracer_all s t a) b
-  pub tracers : (s : State) (t : Tracer) (a b : List ℕ) → IsSound s
-      → tracer_all s t (a ++ b) ≡ tracer_all (play s a).state (tracer_all s t a) b
+-- what is written of a happening, as of its byte
+abbrev pub traced_at : Tracer → Happening → List ℕ
+traced_at t h =
+    skipped t h.held h.byte
+    ++ written_all (goes_on t h.held h.byte) (place_of t.place (item_place t h.held h.byte) h.byte) h.events h.before
 
-pub record IsTold (s : State) (bytes : List ℕ) (k : Held) (t u : Tracer) (old new : List ℕ) : Type 0 where
-  pub held : k ≡ (play s bytes).state.held
-  pub lines : new ≡ old ++ trace s t bytes
-  pub tracer : u ≡ tracer_all s t bytes
+-- the tracer after it
+abbrev pub tracer_at : Tracer → Happening → Tracer
+tracer_at t h =
+    let after = skim h.held t h.byte in record after { in_text = text_after after.in_text h.events }
+
+-- the same of happenings
+abbrev pub traced_told : Tracer → List Happening → List ℕ
+traced_told t [] = []
+traced_told t (h ∷ hs) = traced_at t h ++ traced_told (tracer_at t h) hs
+
+abbrev pub tracer_told : Tracer → List Happening → Tracer
+tracer_told t [] = t
+tracer_told t (h ∷ hs) = tracer_told (tracer_at t h) hs
+
+-- what is held after happenings
+abbrev pub held_told : Held → List Happening → Held
+held_told k [] = k
+held_told k (h ∷ hs) = held_told (held_from k (h.byte ∷ [])) hs
+
+-- this is held before the first of them, and before each other one what its byte left
+abbrev pub Follow : Held → List Happening → Type 0
+Follow k [] = ⊤
+Follow k (h ∷ hs) = (k ≡ h.held) × Follow (held_from k (h.byte ∷ [])) hs
+
+pub record IsTold (hs : List Happening) (h k : Held) (t u : Tracer) (old new : List ℕ) : Type 0 where
+  pub held : k ≡ held_told h hs
+  pub lines : new ≡ old ++ traced_told t hs
+  pub tracer : u ≡ tracer_told t hs
 
 -- if the copy of what is held was right, it is right again, and the trace is written
-abbrev pub Told : State → List ℕ → (h k : Held) → (t u : Tracer) → (old new : List ℕ) → Type 0
-Told s bytes h k t u old new = TraceLaw → IsSound s → h ≡ s.held → IsTold s bytes k t u old new
+abbrev pub Told : List Happening → (h k : Held) → (t u : Tracer) → (old new : List ℕ) → Type 0
+Told hs h k t u old new = Follow h hs → IsTold hs h k t u old new
 
--- so many bytes more are traced
+-- so many happenings more are traced
 pub record AreCounted (n from to len more room capacity : ℕ) : Type 0 where
   pub place : to ≡ from + n
   pub bounded : more ≤ len + 420 * n
   pub capacity_stays : room ≤ capacity
 
-told-nothing : SplitLaw → (s : State) (h : Held) (t : Tracer) (xs : List ℕ) → Told s [] h h t t xs xs
-unfolding play trace tracer_all
-told-nothing split s h t xs = λ law sound is. record {
-  held = is ∙ sym (split.held_nil s.held sound.held);
-  lines = sym (append-nil xs);
-  tracer = refl;
-}
+traced-append : (t : Tracer) (xs ys : List Happening)
+    → traced_told t (xs ++ ys) ≡ traced_told t xs ++ traced_told (tracer_told t xs) ys
+traced-append t [] ys = refl
+traced-append t (x ∷ xs) ys =
+    ap (λ (l : List ℕ). traced_at t x ++ l) (traced-append (tracer_at t x) xs ys)
+    ∙ sym (append_assoc (traced_at t x) (traced_told (tracer_at t x) xs)
+    (traced_told (tracer_told (tracer_at t x) xs) ys))
 
-play_held : SplitLaw → (s : State) (a b : List ℕ) → (play (play s a).state b).state.held ≡ (play s (a ++ b)).state.held
-unfolding play
-play_held split s a b = sym (split.held_append s.held a b)
+tracer-append : (t : Tracer) (xs ys : List Happening) → tracer_told t (xs ++ ys) ≡ tracer_told (tracer_told t xs) ys
+tracer-append t [] ys = refl
+tracer-append t (x ∷ xs) ys = tracer-append (tracer_at t x) xs ys
 
-told-more : SplitLaw → (s : State) (a b : List ℕ) (h k m : Held) (t u v : Tracer) (xs ys zs : List ℕ)
-    → Told s a h k t u xs ys → Told (play s a).state b k m u v ys zs → Told s (a ++ b) h m t v xs zs
-told-more split s a b h k m t u v xs ys zs first second = λ law sound is.
-    let one = first law sound is in
-    let two = second law (law.keeps s a sound) one.held in
+held-append : (k : Held) (xs ys : List Happening) → held_told k (xs ++ ys) ≡ held_told (held_told k xs) ys
+held-append k [] ys = refl
+held-append k (x ∷ xs) ys = held-append (held_from k (x.byte ∷ [])) xs ys
+
+follow-front : (k : Held) (xs ys : List Happening) → Follow k (xs ++ ys) → Follow k xs
+follow-front k [] ys follow = tt
+follow-front k (x ∷ xs) ys follow = (follow.0, follow-front (held_from k (x.byte ∷ [])) xs ys follow.1)
+
+follow-rest : (k : Held) (xs ys : List Happening) → Follow k (xs ++ ys) → Follow (held_told k xs) ys
+follow-rest k [] ys follow = follow
+follow-rest k (x ∷ xs) ys follow = follow-rest (held_from k (x.byte ∷ [])) xs ys follow.1
+
+told-nothing : (h : Held) (t : Tracer) (xs : List ℕ) → Told [] h h t t xs xs
+told-nothing h t xs = λ follow. record { held = refl; lines = sym (append-nil xs); tracer = refl }
+
+told-more : (hs ks : List Happening) (h k m : Held) (t u v : Tracer) (xs ys zs : List ℕ)
+    → Told hs h k t u xs ys → Told ks k m u v ys zs → Told (hs ++ ks) h m t v xs zs
+told-more hs ks h k m t u v xs ys zs first second = λ follow.
+    let one = first (follow-front h hs ks follow) in
+    let two = second (subst (λ (l : Held). Follow l ks) (sym one.held) (follow-rest h hs ks follow)) in
     record {
-      held = two.held ∙ play_held split s a b;
-      lines = two.lines ∙ ap (λ (l : List ℕ). l ++ trace (play s a).state u b) one.lines
-          ∙ append_assoc xs (trace s t a) (trace (play s a).state u b)
-          ∙ ap (λ (w : Tracer). xs ++ (trace s t a ++ trace (play s a).state w b)) one.tracer
-          ∙ ap (λ (l : List ℕ). xs ++ l) (sym (law.lines s t a b sound));
-      tracer = two.tracer ∙ ap (λ (w : Tracer). tracer_all (play s a).state w b) one.tracer
-          ∙ sym (law.tracers s t a b sound);
+      held = two.held ∙ ap (λ (l : Held). held_told l ks) one.held ∙ sym (held-append h hs ks);
+      lines = two.lines ∙ ap (λ (l : List ℕ). l ++ traced_told u ks) one.lines
+          ∙ append_assoc xs (traced_told t hs) (traced_told u ks)
+          ∙ ap (λ (w : Tracer). xs ++ (traced_told t hs ++ traced_told w ks)) one.tracer
+          ∙ ap (λ (l : List ℕ). xs ++ l) (sym (traced-append t hs ks));
+      tracer = two.tracer ∙ ap (λ (w : Tracer). tracer_told w ks) one.tracer ∙ sym (tracer-append t hs ks);
     }
 
-pub trace_cut : {O N M : Type 0} (one : O → N) (other : O → M) (held : O → Held) (tracer : O → Tracer) (lines : O → List ℕ)
-    (len room : O → ℕ) → AreCut {O = O}
-    (λ o s bytes p. (one p ≡ one o) × (other p ≡ other o)
-    × Told s bytes (held o) (held p) (tracer o) (tracer p) (lines o) (lines p)
-    × AreCounted (length bytes) (tracer o).place (tracer p).place (len o) (len p) (room o) (room p))
+pub trace_joined : {O N M : Type 0} (one : O → N) (other : O → M) (held : O → Held) (tracer : O → Tracer)
+    (lines : O → List ℕ) (len room : O → ℕ) → AreJoined {O = O}
+    (λ o hs p. (one p ≡ one o) × (other p ≡ other o)
+    × Told hs (held o) (held p) (tracer o) (tracer p) (lines o) (lines p)
+    × AreCounted (length hs) (tracer o).place (tracer p).place (len o) (len p) (room o) (room p))
     (λ o n. ((tracer o).place + n < 2 ^ 64) × (len o + 420 * n ≤ room o))
-trace_cut one other held tracer lines len room = record {
-  nothing = λ split o s sound. (
+trace_joined one other held tracer lines len room = record {
+  nothing = λ o. (
     refl,
     refl,
-    told-nothing split s (held o) (tracer o) (lines o),
+    told-nothing (held o) (tracer o) (lines o),
     record { place = omega arith; bounded = omega arith; capacity_stays = omega arith },
   );
-  more = λ split o p q s a b sound first second.
-      let long = length-append a b in
+  more = λ o p q xs ys first second.
+      let long = length-append xs ys in
       let was = first.3 in
       let then_so = second.3 in (
         second.0 ∙ first.0,
         second.1 ∙ first.1,
-        told-more split s a b (held o) (held p) (held q) (tracer o) (tracer p) (tracer q) (lines o) (lines p) (lines q)
+        told-more xs ys (held o) (held p) (held q) (tracer o) (tracer p) (tracer q) (lines o) (lines p) (lines q)
             first.2 second.2,
         record {
           place = omega (arith, long, was.place, then_so.place);
@@ -136,7 +171,7 @@ trace_cut one other held tracer lines len room = record {
       );
   fewer = λ o m n few takes.
       let place = takes.0 in let fits = takes.1 in (omega (arith, few, place), omega (arith, few, fits));
-  left = λ o p s bytes n saw takes.
+  left = λ o p hs n saw takes.
       let was = saw.3 in
       let place = takes.0 in
       let fits = takes.1 in

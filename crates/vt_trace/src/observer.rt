@@ -9,12 +9,11 @@ ghost use Rattle.vt_trace.specs.Observed.{AreRead, Completes};
 
 use crate::bytes::{push_all_shown, push_bytes};
 use crate::items::{are_shown, is_item};
-use crate::laws::cuts;
 use crate::skipped::skip_all;
 use crate::tracing::{TRACE_LIMIT, Tracer, is_text, place_of, push_event, push_text_begin};
 use vt_syntax::laws::{one_split, spelled};
 use vt_syntax::{EventKind, Parser, Values};
-use vt_term::laws::soundness;
+use vt_term::laws::happened;
 use vt_term::{Observer, Terminal};
 
 /// Plays the front of a chunk that isn't empty, and appends its reports and its trace: as many bytes as `out` has capacity
@@ -41,9 +40,7 @@ pub(crate) fn trace_front(
     ensures reports_capacity { vec_capacity reports.old ≤ vec_capacity reports.new }
     ensures capacity { vec_capacity out.old ≤ vec_capacity out.new }
 {
-    let _ = terminal.width();
-    soundness();
-    cuts();
+    happened();
     let count = piece.len().min((out.capacity() - out.len()) / TRACE_LIMIT);
     let mut observer = Tracing {
         tracer,
@@ -115,11 +112,11 @@ fn push_run(run: &[u8], out: &mut Vec<u8>)
 
 impl Observer for Tracing<'_> {
     ghost use Rattle.std.specs.Prelude.{◌≡◌, ◌<◌, ◌≤◌, ◌+◌, ◌*◌, ◌^◌, length, vec_len, vec_capacity, false, ⊤};
-    ghost use Rattle.vt_trace.specs.Observed.{Told, AreCounted, trace_cut};
+    ghost use Rattle.vt_trace.specs.Observed.{Told, AreCounted, trace_joined};
 
-    ghost Saw = { λ o s bytes p. (p.tracer.ghost_name ≡ o.tracer.ghost_name) × (p.out.ghost_name ≡ o.out.ghost_name)
-        × Told s bytes o.parser p.parser o.tracer.now p.tracer.now o.out.now.items p.out.now.items
-        × AreCounted (length bytes) o.tracer.now.place p.tracer.now.place (vec_len o.out.now) (vec_len p.out.now)
+    ghost Saw = { λ o hs p. (p.tracer.ghost_name ≡ o.tracer.ghost_name) × (p.out.ghost_name ≡ o.out.ghost_name)
+        × Told hs o.parser p.parser o.tracer.now p.tracer.now o.out.now.items p.out.now.items
+        × AreCounted (length hs) o.tracer.now.place p.tracer.now.place (vec_len o.out.now) (vec_len p.out.now)
         (vec_capacity o.out.now) (vec_capacity p.out.now) };
 
     ghost Takes = { λ o n. (o.tracer.now.place + n < 2 ^ 64) × (vec_len o.out.now + 420 * n ≤ vec_capacity o.out.now) };
@@ -132,7 +129,7 @@ impl Observer for Tracing<'_> {
 
     ghost Stops = { false };
 
-    ghost cut = { trace_cut (λ o. o.tracer.ghost_name) (λ o. o.out.ghost_name) (λ o. o.parser) (λ o. o.tracer.now)
+    ghost joined = { trace_joined (λ o. o.tracer.ghost_name) (λ o. o.out.ghost_name) (λ o. o.parser) (λ o. o.tracer.now)
         (λ o. o.out.now.items) (λ o. vec_len o.out.now) (λ o. vec_capacity o.out.now) };
 
     #[inline(always)]

@@ -142,6 +142,7 @@ pub(crate) fn skip_all(
     requires place { tracer.old.place + length bytes.now < 2 ^ 64 }
     requires room { vec_len out.old + SKIPPED_LIMIT * length bytes.now ≤ vec_capacity out.old }
     ensures read { AreRead parser.old parser.new tracer.old tracer.new bytes.now out.old.items out.new.items }
+    ensures held_part { IsHeldPart parser.old }
     ensures place { tracer.new.place ≡ tracer.old.place + length bytes.now }
     ensures bounded { vec_len out.new ≤ vec_len out.old + SKIPPED_LIMIT * length bytes.now }
     ensures capacity { vec_capacity out.old ≤ vec_capacity out.new }

@@ -8,6 +8,7 @@ ghost use Rattle.vt_utf8.specs.Translation.{translation};
 ghost use Rattle.vt_utf8.specs.Logs.{AreKept};
 
 use crate::feeding::{feed_beyond_ascii, feed_beyond_ascii_log};
+use vt_term::laws::happened;
 use vt_term::{Lines, Nobody, Observer, Terminal};
 
 /// A place for the lines that scroll off.
@@ -121,6 +122,8 @@ impl<A: Observer + Drop> Log for Lines<'_, A> {
 impl BytesLog for Lines<'_, Nobody> {
     #[inline(always)]
     fn feed(&mut self, terminal: &mut Terminal, piece: &[u8], out: &mut Vec<u8>) -> usize {
+        let _ = terminal.width();
+        happened();
         terminal.feed_observed(piece, self, out)
     }
 }

@@ -10,6 +10,7 @@ ghost use Rattle.vt_xterm.specs.Terminals.{IsTerminals};
 use crate::attributes::begins_colour;
 use vt_syntax::EventKind;
 use vt_syntax::laws::spelled;
+use vt_term::laws::happened;
 use vt_term::{Observer, Terminal};
 
 /// Returns whether a parameter begins a colour.
@@ -91,10 +92,10 @@ pub(crate) struct Finder;
 
 impl Observer for Finder {
     ghost use Rattle.std.specs.Prelude.{⊤, true};
-    ghost use Rattle.vt_xterm.specs.Terminals.{IsTerminals, PlaysTerminals};
-    ghost use Rattle.vt_xterm.specs.Private.Finding.{finder_cut};
+    ghost use Rattle.vt_xterm.specs.Terminals.{IsTerminals};
+    ghost use Rattle.vt_xterm.specs.Private.Finding.{FindsNone, finder_joined};
 
-    ghost Saw = { λ o s bytes p. PlaysTerminals s bytes };
+    ghost Saw = { λ o hs p. FindsNone hs };
 
     ghost Takes = { λ o n. ⊤ };
 
@@ -106,7 +107,7 @@ impl Observer for Finder {
 
     ghost Stops = { true };
 
-    ghost cut = { finder_cut };
+    ghost joined = { finder_joined };
 
     #[inline(always)]
     fn stops(&self) -> bool {
@@ -119,7 +120,9 @@ impl Observer for Finder {
     }
 
     #[inline(always)]
-    fn event(&mut self, terminal: &Terminal, bytes: &[u8], kind: EventKind, values: &[u16]) {}
+    fn event(&mut self, terminal: &Terminal, bytes: &[u8], kind: EventKind, values: &[u16]) {
+        happened();
+    }
 
     #[inline(always)]
     fn limit(&self, terminal: &Terminal) -> usize {
@@ -128,9 +131,12 @@ impl Observer for Finder {
 
     #[inline(always)]
     fn run(&mut self, terminal: &Terminal, bytes: &[u8]) {
+        happened();
         spelled();
     }
 
     #[inline(always)]
-    fn part(&mut self, bytes: &[u8]) {}
+    fn part(&mut self, bytes: &[u8]) {
+        happened();
+    }
 }

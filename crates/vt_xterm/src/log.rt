@@ -10,6 +10,7 @@ ghost use Rattle.vt_xterm.specs.Terminals.{PlaysTerminals};
 
 use crate::finder::Finder;
 use vt_syntax::EventKind;
+use vt_term::laws::happened;
 use vt_term::{Lines, Nobody, TEXT_LIMIT, Terminal, count};
 use vt_utf8::{Log, UTF8_LINES_LIMIT};
 
@@ -50,6 +51,8 @@ pub(crate) fn feed_terminals(terminal: &mut Terminal, piece: &[u8], out: &mut Ve
     ensures bounded { vec_len out.new ≤ vec_len out.old + 10 * result }
     ensures capacity { vec_capacity out.old ≤ vec_capacity out.new }
 {
+    let _ = terminal.width();
+    happened();
     terminal.feed_observed(piece, &mut Finder, out)
 }
 
@@ -68,6 +71,8 @@ impl PageLog for Nobody {
 impl PageLog for Lines<'_, Finder> {
     #[inline(always)]
     fn feed(&mut self, terminal: &mut Terminal, piece: &[u8], out: &mut Vec<u8>) -> usize {
+        let _ = terminal.width();
+        happened();
         terminal.feed_observed(piece, self, out)
     }
 

@@ -12,8 +12,9 @@ pub mod Resets
 pub mod Editing
 pub mod Rendition
 pub mod Reports
-pub mod Sound
+pub mod Happenings
 pub mod Scrolling
+pub mod Sound
 pub mod Text
 pub mod Pages
 pub mod ScrollSteps

@@ -1,4 +1,5 @@
 //! The calls of vt_term/src/feeding.
+ghost use Rattle.promises.specs.v0_3.term.Happenings.{happenings};
 ghost use Rattle.promises.specs.v0_3.term.Play.{play};
 ghost use Rattle.std.specs.Prelude.{IsOk, length, OnErr, OnOk, take, vec_capacity, vec_len, ◌*◌, ◌++◌, ◌+◌, ◌<◌, ◌≡◌};
 ghost use Rattle.std.specs.Prelude.{◌≤◌};
@@ -47,7 +48,7 @@ pub fn terminal_feed_observed<O: Observer>(
     ensures all { result < length piece.now → O.Stopped observer.new }
     ensures state { terminal.new ≡ (play terminal.old (take result piece.now)).state }
     ensures reports { out.new.items ≡ out.old.items ++ (play terminal.old (take result piece.now)).reports }
-    ensures saw { O.Saw observer.old terminal.old (take result piece.now) observer.new }
+    ensures saw { O.Saw observer.old (happenings terminal.old (take result piece.now)) observer.new }
     ensures bounded { vec_len out.new ≤ vec_len out.old + 10 * result }
     ensures capacity { vec_capacity out.old ≤ vec_capacity out.new }
 {

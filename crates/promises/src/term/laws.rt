@@ -2,12 +2,14 @@
 ghost use Rattle.promises.specs.v0_3.glyph.Invocation.{after_read, glyph_read};
 ghost use Rattle.promises.specs.v0_3.glyph.Tables.{substitute_glyph};
 ghost use Rattle.promises.specs.v0_3.screen.Grid.{scroll_up};
+ghost use Rattle.promises.specs.v0_3.syntax.Held.{events_from};
 ghost use Rattle.promises.specs.v0_3.term.Functions.{effect};
+ghost use Rattle.promises.specs.v0_3.term.Happenings.{events_in, happenings, lines_in};
 ghost use Rattle.promises.specs.v0_3.term.Play.{both, joined, play, play_all};
 ghost use Rattle.promises.specs.v0_3.term.Scrolling.{is_at_end, is_line_feed, log, scrolled_off, scrolls_off};
 ghost use Rattle.promises.specs.v0_3.term.State.{at_place, power_up};
 ghost use Rattle.promises.specs.v0_3.term.Writing.{put_glyph, write_if_read};
-ghost use Rattle.std.specs.Prelude.{[], false, List, true, ℕ, ◌++◌, ◌==◌, ◌≡◌};
+ghost use Rattle.std.specs.Prelude.{[], false, length, List, true, ℕ, ◌++◌, ◌==◌, ◌≡◌};
 ghost use Rattle.vt_syntax.specs.declared.event.Event.TheVariants.{Control, Print};
 ghost use Rattle.vt_term.specs.Sound.{IsSound};
 ghost use Rattle.vt_term.specs.State.{Display, State};
@@ -30,6 +32,17 @@ pub fn cuts()
     ensures all { (s : State) (pieces : List (List ℕ)) → IsSound s → play_all s pieces ≡ play s (joined pieces) }
 {
     vt_term::laws::cuts()
+}
+
+/// Promises what `vt_term::laws::happened` promises.
+pub fn happened()
+    ensures events { (s : State) (bytes : List ℕ) → IsSound s → events_in (happenings s bytes) ≡ events_from s.held bytes }
+    ensures lines { (s : State) (bytes : List ℕ) → IsSound s → lines_in (happenings s bytes) ≡ scrolled_off s bytes }
+    ensures count { (s : State) (bytes : List ℕ) → length (happenings s bytes) ≡ length bytes }
+    ensures two { (s : State) (a b : List ℕ) → IsSound s
+        → happenings s (a ++ b) ≡ happenings s a ++ happenings (play s a).state b }
+{
+    vt_term::laws::happened()
 }
 
 /// Promises what `vt_term::laws::log_cuts` promises.

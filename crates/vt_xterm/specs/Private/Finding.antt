@@ -1,13 +1,11 @@
 -- The law of the observer that finds the events that a front doesn't leave to the terminal.
 use Rattle.std.specs.Prelude.{◌≡◌, ℕ, ◌++◌, ◌∷◌, List, [], ⊤}
 use Rattle.std.proofs.Common.{subst, sym}
+use Rattle.std.proofs.lemmas.Grind.{flat_map-append}
 use Rattle.vt_syntax.specs.declared.event.Event.{Event}
-use Rattle.vt_syntax.specs.Held.{events_from}
-use Rattle.vt_syntax.specs.Laws.{SplitLaw}
-use Rattle.vt_term.specs.State.{State}
-use Rattle.vt_term.specs.Play.{play}
-use Rattle.vt_term.specs.Observing.{AreCut}
-use Rattle.vt_xterm.specs.Terminals.{AreTerminals, PlaysTerminals}
+use Rattle.vt_term.specs.Happenings.{Happening, events_in}
+use Rattle.vt_term.specs.Observing.{AreJoined}
+use Rattle.vt_xterm.specs.Terminals.{AreTerminals}
 
 pub terminals-append : (xs ys : List Event) → AreTerminals xs → AreTerminals ys → AreTerminals (xs ++ ys)
 unfolding AreTerminals
@@ -18,17 +16,16 @@ pub terminals-none : (events : List Event) → events ≡ [] → AreTerminals ev
 unfolding AreTerminals
 terminals-none events is = subst AreTerminals (sym is) tt
 
-plays-more : SplitLaw → (s : State) (a b : List ℕ) → PlaysTerminals s a → PlaysTerminals (play s a).state b
-    → PlaysTerminals s (a ++ b)
-unfolding play
-plays-more split s a b first second =
-    subst AreTerminals (sym (split.events_append s.held a b))
-    (terminals-append (events_from s.held a) (events_from (play s a).state.held b) first second)
+-- all events of the happenings have a VT220's effect
+abbrev pub FindsNone : List Happening → Type 0
+FindsNone hs = AreTerminals (events_in hs)
 
-pub finder_cut : {O : Type 0} → AreCut {O = O} (λ o s bytes p. PlaysTerminals s bytes) (λ o n. ⊤)
-finder_cut = record {
-  nothing = λ split o s sound. terminals-none (events_from s.held []) (split.events_nil s.held sound.held);
-  more = λ split o p q s a b sound first second. plays-more split s a b first second;
+pub finder_joined : {O : Type 0} → AreJoined {O = O} (λ o hs p. FindsNone hs) (λ o n. ⊤)
+unfolding AreTerminals
+finder_joined = record {
+  nothing = λ o. tt;
+  more = λ o p q xs ys first second. subst AreTerminals (sym (flat_map-append (λ h. h.events) xs ys))
+      (terminals-append (events_in xs) (events_in ys) first second);
   fewer = λ o m n few takes. tt;
-  left = λ o p s bytes n saw takes. tt;
+  left = λ o p hs n saw takes. tt;
 }

@@ -4,6 +4,8 @@ use Rattle.vt220_c.proofs.Rung.{one-rang}
 use Rattle.vt220_c.proofs.bells.BellsObserver.event.Goals as goal
 
 pub returns : goal.returns
-returns c = λ s same is last.
-    one-rang s c.args.bytes.now (event_of c.args.kind c.args.values.now) c.args.self.now.count _ c.rung_by.result
-    c.requires.some is (c.rung_by.ensures.bells c.args.values.now) c.rung_by.ensures.few refl
+returns c = λ s sound same is last.
+    let bytes = c.args.bytes.now in
+    one-rang s bytes (event_of c.args.kind c.args.values.now) c.args.self.now.count _ c.rung_by.result
+    (c.happened.ensures.events s bytes sound) (c.happened.ensures.count s bytes) c.requires.some is
+    (c.rung_by.ensures.bells c.args.values.now) c.rung_by.ensures.few refl

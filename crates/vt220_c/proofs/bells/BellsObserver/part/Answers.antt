@@ -2,4 +2,6 @@ use Rattle.vt220_c.proofs.Rung.{none-rang}
 use Rattle.vt220_c.proofs.bells.BellsObserver.part.Goals as goal
 
 pub returns : goal.returns
-returns c = λ s none. none-rang s c.args.bytes.now c.args.self.now.count none
+returns c = λ s sound none.
+    let bytes = c.args.bytes.now in
+    none-rang s bytes c.args.self.now.count (c.happened.ensures.events s bytes sound) (c.happened.ensures.count s bytes) none

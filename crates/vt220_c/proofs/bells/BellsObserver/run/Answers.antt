@@ -2,4 +2,7 @@ use Rattle.vt220_c.proofs.Rung.{run-rang}
 use Rattle.vt220_c.proofs.bells.BellsObserver.run.Goals as goal
 
 pub returns : goal.returns
-returns c = λ s same between. run-rang c.spelled.ensures s c.args.bytes.now c.args.self.now.count between c.requires.graphic
+returns c = λ s sound same between.
+    let bytes = c.args.bytes.now in
+    run-rang c.spelled.ensures s bytes c.args.self.now.count (c.happened.ensures.events s bytes sound)
+    (c.happened.ensures.count s bytes) between c.requires.graphic

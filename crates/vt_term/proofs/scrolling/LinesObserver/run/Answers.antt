@@ -6,14 +6,14 @@ use Rattle.vt_term.proofs.Scrolled.{run-line, logs-one, line-fits, print-off}
 use Rattle.vt_term.proofs.scrolling.LinesObserver.run.Goals as goal
 
 pub returns : goal.returns
-returns g c = λ s same between.
+returns g c = λ s sound same between.
     let few = c.line_off_reserved.ensures.bounded in
     let bytes = c.args.bytes.now in (
       (
         refl,
         refl,
-        logs-one s bytes c.args.self.now.lines.now.items c.line_off_reserved.new.lines.items
-            (line_off (Print (slice_index bytes 0)) s.display) c.requires.some
+        logs-one c.one_split.ensures s bytes c.args.self.now.lines.now.items c.line_off_reserved.new.lines.items
+            (line_off (Print (slice_index bytes 0)) s.display) sound c.requires.some
             (run-line c.spelled.ensures s bytes between c.requires.graphic c.requires.some (rw same c.requires.fits.0.0))
             (rw same (c.line_off_reserved.ensures.lines [])) (omega (arith, few)),
         c.line_off_reserved.ensures.capacity,
@@ -22,5 +22,5 @@ returns g c = λ s same between.
             (λ off. (c.requires.fits.0.1 c.requires.some (print-off (slice_index bytes 0) c.args.terminal.now.display off)).1)
             (c.line_off_reserved.ensures.none []),
       ),
-      c.run.ensures s same between,
+      c.run.ensures s sound same between,
     )

@@ -7,4 +7,4 @@ returns-clause-nothing g c = λ out.
 
 pub returns-clause-saw : goal.returns-clause-saw
 returns-clause-saw g c =
-    g.met.O.Observer.cut.nothing c.one_split.ensures c.args.observer.now c.args.self.now c.soundness.ensures
+    g.met.O.Observer.joined.nothing c.args.observer.now

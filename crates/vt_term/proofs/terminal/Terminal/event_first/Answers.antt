@@ -11,7 +11,7 @@ returns-then-not-lets-clause-fed g c =
 
 pub returns-then-not-lets-clause-saw : goal.returns-then-not-lets-clause-saw
 returns-then-not-lets-clause-saw g c =
-    g.met.O.Observer.cut.nothing c.one_split.ensures c.args.observer.now c.args.self.now c.soundness.ensures
+    g.met.O.Observer.joined.nothing c.args.observer.now
 
 pub returns-clause-fed : goal.returns-clause-fed
 returns-clause-fed g c =
@@ -22,9 +22,9 @@ returns-clause-fed g c =
 
 pub returns-clause-saw : goal.returns-clause-saw
 returns-clause-saw g c =
-    c.event.ensures c.args.self.now refl
+    c.event.ensures c.args.self.now c.soundness.ensures refl
     (front-events c.args.self.now c.args.piece.now c.args.bytes (event_of c.args.kind []) c.requires.between c.requires.front)
     (front-last c.args.self.now c.args.piece.now c.args.bytes (event_of c.args.kind []) c.requires.between c.requires.front)
 
 pub event-requires-clause-takes : goal.event-requires-clause-takes
-event-requires-clause-takes g c = takes-front g.O.Observer.Saw g.O.Observer.Takes g.met.O.Observer.cut _ c.args.piece.now _ c.requires.takes
+event-requires-clause-takes g c = takes-front g.O.Observer.Saw g.O.Observer.Takes g.met.O.Observer.joined _ c.args.piece.now _ c.requires.takes

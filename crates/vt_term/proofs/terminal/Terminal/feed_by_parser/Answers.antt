@@ -41,7 +41,7 @@ returns-in_default-clause-fed g c =
     (sym (append-nil c.args.out.now.items)))
 
 pub event-requires-clause-takes : goal.event-requires-clause-takes
-event-requires-clause-takes g c = takes-front g.O.Observer.Saw g.O.Observer.Takes g.met.O.Observer.cut _ c.args.piece.now _ c.requires.takes
+event-requires-clause-takes g c = takes-front g.O.Observer.Saw g.O.Observer.Takes g.met.O.Observer.joined _ c.args.piece.now _ c.requires.takes
 
 pub part-requires : goal.part-requires
-part-requires g c = takes-front g.O.Observer.Saw g.O.Observer.Takes g.met.O.Observer.cut _ c.args.piece.now _ c.requires.takes
+part-requires g c = takes-front g.O.Observer.Saw g.O.Observer.Takes g.met.O.Observer.joined _ c.args.piece.now _ c.requires.takes

@@ -7,7 +7,7 @@ pub loop-at-init : goal.loop-at-init
 loop-at-init g c = record {
   within = omega arith;
   fed = feeds-nothing c.one_split.ensures c.args.self.now c.args.out.now.items c.soundness.ensures;
-  saw = g.met.O.Observer.cut.nothing c.one_split.ensures c.args.observer.now c.args.self.now c.soundness.ensures;
+  saw = g.met.O.Observer.joined.nothing c.args.observer.now;
   bounded = omega arith;
   capacity = omega arith;
 }
@@ -24,7 +24,7 @@ returns-then-stops-clause-reports g c =
 
 pub returns-then-stops-clause-saw : goal.returns-then-stops-clause-saw
 returns-then-stops-clause-saw g c =
-    saw-more g.O.Observer.Saw g.O.Observer.Takes g.met.O.Observer.cut c.one_split.ensures _ _ _ _ _ c.args.piece.now _ _ c.loop-at.at
+    saw-more g.O.Observer.Saw g.O.Observer.Takes g.met.O.Observer.joined c.one_split.ensures _ _ _ _ _ c.args.piece.now _ _ c.loop-at.at
     c.feed_next-bytes.result.0 c.soundness.ensures c.loop-at.invariant.fed c.loop-at.invariant.saw
     (rw (rest-of c.args.piece.now c.loop-at.at) at c.feed_next-bytes.ensures.saw)
 
@@ -35,7 +35,7 @@ loop-at-preserved g c =
       within = omega (arith, inside);
       fed = feeds-more c.one_split.ensures _ _ _ c.args.piece.now c.loop-at.at c.feed_next-bytes.result.0 _ _ _
           c.loop-at.invariant.fed (rw rest at c.feed_next-bytes.ensures.fed);
-      saw = saw-more g.O.Observer.Saw g.O.Observer.Takes g.met.O.Observer.cut c.one_split.ensures _ _ _ _ _ c.args.piece.now _ _ c.loop-at.at
+      saw = saw-more g.O.Observer.Saw g.O.Observer.Takes g.met.O.Observer.joined c.one_split.ensures _ _ _ _ _ c.args.piece.now _ _ c.loop-at.at
           c.feed_next-bytes.result.0 c.soundness.ensures c.loop-at.invariant.fed c.loop-at.invariant.saw
           (rw rest at c.feed_next-bytes.ensures.saw);
       bounded = omega arith;
@@ -44,5 +44,5 @@ loop-at-preserved g c =
 
 pub feed_next-bytes-requires-clause-takes : goal.feed_next-bytes-requires-clause-takes
 feed_next-bytes-requires-clause-takes g c =
-    takes-rest g.O.Observer.Saw g.O.Observer.Takes g.met.O.Observer.cut _ _ _ c.args.piece.now c.loop-at.at _
+    takes-rest g.O.Observer.Saw g.O.Observer.Takes g.met.O.Observer.joined _ _ _ c.args.piece.now c.loop-at.at _
     (omega (arith, length-drop c.loop-at.at c.args.piece.now)) c.loop-at.invariant.saw c.requires.takes

@@ -6,4 +6,4 @@ returns-then-limit-eq0-clause-fed g c =
     feeds-nothing c.one_split.ensures c.args.self.now c.args.out.now.items c.soundness.ensures
 
 pub run_first-requires-clause-takes : goal.run_first-requires-clause-takes
-run_first-requires-clause-takes g c = takes-front g.O.Observer.Saw g.O.Observer.Takes g.met.O.Observer.cut _ c.args.piece.now _ c.requires.takes
+run_first-requires-clause-takes g c = takes-front g.O.Observer.Saw g.O.Observer.Takes g.met.O.Observer.joined _ c.args.piece.now _ c.requires.takes

@@ -12,7 +12,7 @@ returns-then-not-lets-clause-fed g c =
 
 pub returns-then-not-lets-clause-saw : goal.returns-then-not-lets-clause-saw
 returns-then-not-lets-clause-saw g c =
-    g.met.O.Observer.cut.nothing c.one_split.ensures c.args.observer.now c.args.self.now c.soundness.ensures
+    g.met.O.Observer.joined.nothing c.args.observer.now
 
 pub returns-clause-fed : goal.returns-clause-fed
 returns-clause-fed g c =
@@ -27,11 +27,11 @@ returns-clause-fed g c =
 pub returns-clause-saw : goal.returns-clause-saw
 returns-clause-saw g c =
     let front = c.args.front.now in
-    c.event.ensures c.args.self.now refl
+    c.event.ensures c.args.self.now c.soundness.ensures refl
     (front-events c.args.self.now c.args.piece.now front.bytes
     (Sequence None (record { items = front_list front }) None front.last) c.requires.between c.requires.front)
     (front-last c.args.self.now c.args.piece.now front.bytes
     (Sequence None (record { items = front_list front }) None front.last) c.requires.between c.requires.front)
 
 pub event-requires-clause-takes : goal.event-requires-clause-takes
-event-requires-clause-takes g c = takes-front g.O.Observer.Saw g.O.Observer.Takes g.met.O.Observer.cut _ c.args.piece.now _ c.requires.takes
+event-requires-clause-takes g c = takes-front g.O.Observer.Saw g.O.Observer.Takes g.met.O.Observer.joined _ c.args.piece.now _ c.requires.takes

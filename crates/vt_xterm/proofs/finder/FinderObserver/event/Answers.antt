@@ -1,8 +1,10 @@
-use Rattle.vt_syntax.specs.Held.{events_from}
+use Rattle.std.proofs.Common.{◌∙◌}
 use Rattle.vt_syntax.specs.Event.{event_of}
+use Rattle.vt_term.specs.Happenings.{happenings, events_in}
 use Rattle.vt_xterm.proofs.Terminals.{terminals-one}
 use Rattle.vt_xterm.proofs.finder.FinderObserver.event.Goals as goal
 
 pub returns : goal.returns
-returns c = λ s same is last.
-    terminals-one (events_from s.held c.args.bytes.now) (event_of c.args.kind c.args.values.now) is c.requires.lets
+returns c = λ s sound same is last.
+    terminals-one (events_in (happenings s c.args.bytes.now)) (event_of c.args.kind c.args.values.now)
+    (c.happened.ensures.events s c.args.bytes.now sound ∙ is) c.requires.lets

@@ -1,6 +1,8 @@
-use Rattle.vt_syntax.specs.Held.{events_from}
+use Rattle.std.proofs.Common.{◌∙◌}
+use Rattle.vt_term.specs.Happenings.{happenings, events_in}
 use Rattle.vt_xterm.specs.Private.Finding.{terminals-none}
 use Rattle.vt_xterm.proofs.finder.FinderObserver.part.Goals as goal
 
 pub returns : goal.returns
-returns c = λ s none. terminals-none (events_from s.held c.args.bytes.now) none
+returns c = λ s sound none.
+    terminals-none (events_in (happenings s c.args.bytes.now)) (c.happened.ensures.events s c.args.bytes.now sound ∙ none)

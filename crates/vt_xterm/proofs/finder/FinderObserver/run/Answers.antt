@@ -1,5 +1,9 @@
+use Rattle.std.proofs.Common.{subst, sym}
+use Rattle.vt_xterm.specs.Terminals.{AreTerminals}
 use Rattle.vt_xterm.proofs.Terminals.{terminals-run}
 use Rattle.vt_xterm.proofs.finder.FinderObserver.run.Goals as goal
 
 pub returns : goal.returns
-returns c = λ s same between. terminals-run c.spelled.ensures s c.args.bytes.now between c.requires.graphic
+returns c = λ s sound same between.
+    subst AreTerminals (sym (c.happened.ensures.events s c.args.bytes.now sound))
+    (terminals-run c.spelled.ensures s c.args.bytes.now between c.requires.graphic)

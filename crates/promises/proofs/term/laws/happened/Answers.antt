@@ -1,0 +1,21 @@
+use Rattle.promises.proofs.term.laws.happened.Goals as goal
+use Rattle.promises.proofs.v0_3.syntax.Held.{events_from-same}
+use Rattle.promises.proofs.v0_3.term.Happenings.{happenings-same}
+use Rattle.promises.proofs.v0_3.term.Play.{play-same}
+use Rattle.promises.proofs.v0_3.term.Scrolling.{scrolled_off-same}
+use Rattle.std.specs.Prelude.{length, List, ℕ, ◌++◌, ◌≡◌}
+use Rattle.vt_term.specs.Happenings.{events_in, lines_in}
+use Rattle.vt_term.specs.Sound.{IsSound}
+use Rattle.vt_term.specs.State.{State}
+
+pub returns-clause-events : goal.returns-clause-events
+returns-clause-events c = coe 1 0 (ι. (s : State) (bytes : List ℕ) → IsSound s → events_in ((happenings-same ι) s bytes) ≡ (events_from-same ι) s.held bytes) c.happened.ensures.events
+
+pub returns-clause-lines : goal.returns-clause-lines
+returns-clause-lines c = coe 1 0 (ι. (s : State) (bytes : List ℕ) → IsSound s → lines_in ((happenings-same ι) s bytes) ≡ (scrolled_off-same ι) s bytes) c.happened.ensures.lines
+
+pub returns-clause-count : goal.returns-clause-count
+returns-clause-count c = coe 1 0 (ι. (s : State) (bytes : List ℕ) → length ((happenings-same ι) s bytes) ≡ length bytes) c.happened.ensures.count
+
+pub returns-clause-two : goal.returns-clause-two
+returns-clause-two c = coe 1 0 (ι. (s : State) (a b : List ℕ) → IsSound s → (happenings-same ι) s (a ++ b) ≡ (happenings-same ι) s a ++ (happenings-same ι) ((play-same ι) s a).state b) c.happened.ensures.two

@@ -1,0 +1,39 @@
+-- What happens at the bytes of a feed, as its observers are told of it. Contracts of `Observer` and of `Terminal::feed_observed` cite
+-- this, and no other public clause does.
+use Rattle.std.specs.Prelude.{ℕ, List, [], ◌∷◌, flat_map}
+use Rattle.vt_syntax.specs.declared.event.Event.{Event}
+use Rattle.vt_syntax.specs.declared.held.Held.{Held}
+use Rattle.vt_syntax.specs.Held.{events_from}
+use Rattle.vt_screen.specs.declared.cell.Cell.{Cell}
+use Rattle.vt_term.specs.State.{Display, State}
+use Rattle.vt_term.specs.Play.{play}
+use Rattle.vt_term.specs.Scrolling.{scrolled_off}
+
+-- a byte with what is held before it, the display before it, its events, and the lines that they scroll off
+pub record Happening : Type 0 where
+  pub held : Held
+  pub byte : ℕ
+  pub before : Display
+  pub events : List Event
+  pub lines : List (List Cell)
+
+abbrev pub happening : State → ℕ → Happening
+happening s b = record {
+  held = s.held;
+  byte = b;
+  before = s.display;
+  events = events_from s.held (b ∷ []);
+  lines = scrolled_off s (b ∷ []);
+}
+
+-- one for each byte, so the place of a byte is that of its happening
+abbrev pub happenings : State → List ℕ → List Happening
+happenings s [] = []
+happenings s (b ∷ bytes) = happening s b ∷ happenings (play s (b ∷ [])).state bytes
+
+-- all their events, and all their lines
+abbrev pub events_in : List Happening → List Event
+events_in hs = flat_map (λ h. h.events) hs
+
+abbrev pub lines_in : List Happening → List (List Cell)
+lines_in hs = flat_map (λ h. h.lines) hs

@@ -1,0 +1,24 @@
+use Rattle.std.proofs.Common.{◌++◌, ◌∙◌, List, ap, subst, take}
+use Rattle.std.specs.Prelude.{flat_map}
+use Rattle.vt_screen.specs.declared.cell.Cell.{Cell}
+use Rattle.vt_term.specs.Text.{line_text}
+use Rattle.vt_xterm.specs.Terminals.{AreTerminals}
+use Rattle.vt_xterm.proofs.log.LinesFinderPageLog.feed.Goals as goal
+
+pub returns-clause-terminals : goal.returns-clause-terminals
+returns-clause-terminals c =
+    subst AreTerminals
+    (c.happened.ensures.events c.args.terminal.now (take c.feed_observed.result c.args.piece.now) c.width.ensures.sound)
+    c.feed_observed.ensures.saw.1
+
+pub returns-clause-keeps : goal.returns-clause-keeps
+returns-clause-keeps c =
+    let bytes = take c.feed_observed.result c.args.piece.now in
+    let saw = c.feed_observed.ensures.saw.0 in (
+      saw.0,
+      saw.1,
+      saw.2.lines ∙ ap (λ (rows : List (List Cell)). c.args.self.now.lines.now.items ++ flat_map line_text rows)
+          (c.happened.ensures.lines c.args.terminal.now bytes c.width.ensures.sound),
+      saw.3,
+      saw.4,
+    )

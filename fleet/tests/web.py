@@ -524,7 +524,7 @@ def the_page_asks_for_the_token(address, token, name):
         browser.run(f"document.getElementById('token').value = {json.dumps(what)}; document.getElementById('enter').requestSubmit()")
 
     try:
-        check(wait_for(lambda: not browser.run("document.getElementById('enter').hidden")), name, "the page asks for the token")
+        check(wait_for(lambda: browser.run("document.getElementById('enter')?.hidden === false")), name, "the page asks for the token")
         typed("a guess")
         check(wait_for(lambda: "not the token" in browser.run("document.getElementById('problem').textContent")), name, "a wrong one is refused")
         check(not browser.run("document.getElementById('enter').hidden"), name, "and asked for again")

@@ -966,8 +966,8 @@ def test_a_look_at_a_stored_screen_makes_few_calls(monkeypatch):
     assert screen_of(b"other").stored() != stored  # each call is loaded
     repaint = terminal.repaint()
     made = calls_of(monkeypatch, lambda: Screen(repaint).stored() == stored)
-    assert made.count("vt220_feed") == made.count("vt220_open") == made.count("vt220_text") == 1 and made.count("vt220_row") == vt220.ROWS
-    assert len(made) <= 60 and "vt220_repaint" not in made
+    assert made.count("vt220_feed") == made.count("vt220_open_as") == made.count("vt220_text") == 1 and made.count("vt220_row") == vt220.ROWS
+    assert len(made) <= 60 and "vt220_repaint_as" not in made
 
 
 def test_a_start_does_little_and_never_sleeps(monkeypatch):

@@ -1,5 +1,5 @@
 /* processor: on a processor that lacks a part of x86-64-v2 the open calls return VT220_UNSUPPORTED and call nothing that is proved.
- * The file with the calls is included here with a processor of our own, and the proved calls are left undefined but three. */
+ * The file with the calls is included here with a processor of our own, and the proved calls are left undefined but those that open and close. */
 #if defined __x86_64__
 #include <cpuid.h>
 static int processor(unsigned leaf, unsigned *a, unsigned *b, unsigned *c, unsigned *d);
@@ -18,6 +18,8 @@ uint32_t core_open(handle *t) {
 
 uint32_t core_scratch_open(handle *s) { return core_open(s); }
 uint32_t core_xterm_open(handle *x) { return core_open(x); }
+void core_close(handle *t) { t->is_open = false; }
+void core_xterm_close(handle *x) { core_close(x); }
 
 #if defined __x86_64__
 /* What the processor has: bits of leaf 1 and of leaf 80000001, and the greatest leaf. */

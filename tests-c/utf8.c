@@ -73,7 +73,7 @@ static void ascii_and_replies(void) {
     static const char ascii[] = "a\r\n\033[2;3H\033[1m\033(0lqk\033[6n\033[c\033]0;x\a\033[5";
     uint8_t reports[VT220_REPORT_LIMIT * sizeof ascii], other[VT220_REPORT_LIMIT * sizeof ascii];
     vt220 t = opened(), v = VT220_INIT;
-    size_t written;
+    size_t written = 0;
     CHECK(vt220_open(&v) == VT220_OK && vt220_feed(&v, BYTES(ascii), other, sizeof other, &written) == sizeof ascii - 1 && written > 0);
     CHECK(feed(&t, BYTES(ascii), sizeof ascii, reports) == written && memcmp(reports, other, written) == 0);
     CHECK(vt220_same_state(&t, &v) && is_pending(&t, ""));

@@ -33,7 +33,7 @@ _vt220_keep() {
     send)
       mapfile -t COMPREPLY < <(compgen -W 'Return Enter Delete Backspace Tab Space Escape Find Home InsertHere Insert Remove Select End PrevScreen PageUp NextScreen PageDown
         Up Down Right Left PF1 PF2 PF3 PF4 F1 F2 F3 F4 KP0 KP1 KP2 KP3 KP4 KP5 KP6 KP7 KP8 KP9 KPMinus KPComma KPPeriod KPEnter
-        F6 F7 F8 F9 F10 F11 F12 F13 F14 Help F15 Do F16 F17 F18 F19 F20 C-c C-d' -- "$word")
+        F5 F6 F7 F8 F9 F10 F11 F12 F13 F14 Help F15 Do F16 F17 F18 F19 F20 C-c C-d' -- "$word")
       ;;
     *) COMPREPLY=() ;;
   esac

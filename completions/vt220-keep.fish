@@ -5,7 +5,7 @@ end
 set -l commands new attach detach list text log repaint send kill rename upgrade help version
 set -l sessions attach detach text log repaint send kill rename upgrade
 set -l keys 'Return Enter Delete Backspace Tab Space Escape Find Home InsertHere Insert Remove Select End PrevScreen PageUp NextScreen PageDown' \
-    'Up Down Right Left PF1 PF2 PF3 PF4 F1 F2 F3 F4 KP0 KP1 KP2 KP3 KP4 KP5 KP6 KP7 KP8 KP9 KPMinus KPComma KPPeriod KPEnter F6 F7 F8 F9 F10 F11 F12 F13 F14 Help F15 Do F16 F17 F18 F19 F20 C-c C-d'
+    'Up Down Right Left PF1 PF2 PF3 PF4 F1 F2 F3 F4 KP0 KP1 KP2 KP3 KP4 KP5 KP6 KP7 KP8 KP9 KPMinus KPComma KPPeriod KPEnter F5 F6 F7 F8 F9 F10 F11 F12 F13 F14 Help F15 Do F16 F17 F18 F19 F20 C-c C-d'
 complete -c vt220-keep -n "not __fish_seen_subcommand_from $commands" -f -a "$commands"
 complete -c vt220-keep -n "__fish_seen_subcommand_from $sessions" -f -a '(__vt220_keep_sessions)'
 complete -c vt220-keep -n '__fish_seen_subcommand_from new' -s A -d 'Attach to it'

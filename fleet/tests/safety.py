@@ -283,7 +283,7 @@ def what_is_no_holder_harms_no_session(machine, _):
 
 
 UNITS = os.path.join(HERE, "..", "systemd")
-ATTACK = r"""cat %s/*/password /proc/*/environ; %s %s -1 0 1 dec vt220 victim true; echo "status $?"; [ "$(id -u)" -ne 0 ] && kill -9 -1; echo survived"""
+ATTACK = r"""cat %s/*/password /proc/*/environ; %s %s -1 0 1 dec vt220 victim true; echo "status $?"; until [ -e %s/go ]; do sleep 0.1; done; [ "$(id -u)" -ne 0 ] && kill -9 -1; echo survived"""
 
 
 class Units:
@@ -330,13 +330,15 @@ def a_session_reaches_no_other_and_no_password(machine, _):
     check(wait_for(lambda: os.path.exists(socket_of_daemon)), name, "the daemon listens")
     victim = units.start("host@", "host", "--input", "victim", "sh", "-c", "stty -echo; echo on; while read x; do echo got $x; done", instance="victim")
     check(wait_for(lambda: b"on" in written(store, "victim")), name, "a session runs")
-    attack = ATTACK % (units.place, os.path.realpath(HOLDER), socket_of_daemon)
+    attack = ATTACK % (units.place, os.path.realpath(HOLDER), socket_of_daemon, units.place)
     attacker = units.start("host@", "host", "attacker", "sh", "-c", attack, instance="attacker")
+    check(wait_for(lambda: b"status 5" in written(store, "attacker")), name, "it doesn't get another user's name")
+    with open(os.path.join(units.place, "go"), "w"):
+        pass
     check(attacker.wait(PATIENCE) == -9, name, f"its holder ends with it: {attacker.returncode}")
     check(wait_for(lambda: store.hget(key(store.hget(keys.NAMES, "attacker").decode(), "about"), "closed") == b"lost"), name, "so its session is lost")
     said = written(store, "attacker")
     check(b"secret" not in said and b"denied" in said and b"survived" not in said, name, f"it reads no password: {said}")
-    check(b"status 5" in said, name, f"nor has it another user's name: {said}")
     check(all(each.poll() is None for each in (*served, victim)), name, "daemon, worker and the other session live")
     typist = Typist(store, store.hget(keys.NAMES, "victim").decode())
     typist.type(b"hello\r")

@@ -8,7 +8,7 @@ use Rattle.std.proofs.lemmas.List.Elements.{All-map}
 use Rattle.vt_syntax.specs.declared.event.Event.TheVariants.{Print, Control}
 use Rattle.vt_syntax.specs.declared.held.Held.TheVariants.{Nothing}
 use Rattle.vt_syntax.specs.Front.{IsFront}
-use Rattle.vt_syntax.specs.Class.{opens_string}
+use Rattle.vt_syntax.specs.Class.{opens_string, IsPlain}
 use Rattle.vt_syntax.specs.Held.{held_after, IsHeldPart}
 use Rattle.vt_syntax.specs.Reading.{events_of}
 use Rattle.vt_syntax.specs.Laws.{SpellingLaw}
@@ -59,6 +59,10 @@ prints-spelled (b ∷ bytes) = ap (λ (rest : List ℕ). b ∷ rest) (prints-spe
 pub graphic : (b : ℕ) → HasGlyph b → IsGraphic b
 graphic b (inl h) = inl h
 graphic b (inr h) = inr (omega arith)
+
+-- plain bytes are graphic
+pub plain-have : (bytes : List ℕ) → All IsPlain bytes → All HasGlyph bytes
+plain-have bytes plain = λ i x h. inl (plain i x h)
 
 module _ (spelling : SpellingLaw) (bytes : List ℕ) (have : All HasGlyph bytes) where
   prints-are : All IsEvent (map Print bytes)

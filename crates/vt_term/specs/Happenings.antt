@@ -3,11 +3,12 @@
 use Rattle.std.specs.Prelude.{ℕ, List, [], ◌∷◌, flat_map}
 use Rattle.vt_syntax.specs.declared.event.Event.{Event}
 use Rattle.vt_syntax.specs.declared.held.Held.{Held}
-use Rattle.vt_syntax.specs.Held.{events_from}
+use Rattle.vt_syntax.specs.Held.{events_from, held_from}
 use Rattle.vt_screen.specs.declared.cell.Cell.{Cell}
 use Rattle.vt_term.specs.State.{Display, State}
+use Rattle.vt_term.specs.Machines.{Machine, screens_after}
 use Rattle.vt_term.specs.Play.{play}
-use Rattle.vt_term.specs.Scrolling.{scrolled_off}
+use Rattle.vt_term.specs.Scrolling.{lines_off, scrolled_off}
 
 -- a byte with what is held before it, the display before it, its events, and the lines that they scroll off
 pub record Happening : Type 0 where
@@ -30,6 +31,17 @@ happening s b = record {
 abbrev pub happenings : State → List ℕ → List Happening
 happenings s [] = []
 happenings s (b ∷ bytes) = happening s b ∷ happenings (play s (b ∷ [])).state bytes
+
+-- on a machine: the lines are those that a VT220 scrolls off the display at these events
+abbrev pub happenings_on : {S : Type 0} → Machine S → S → Held → List ℕ → List Happening
+happenings_on m s held [] = []
+happenings_on m s held (b ∷ bytes) = record {
+  held = held;
+  byte = b;
+  before = m.display s;
+  events = events_from held (b ∷ []);
+  lines = lines_off (events_from held (b ∷ [])) (m.display s);
+} ∷ happenings_on m (screens_after m (events_from held (b ∷ [])) s) (held_from held (b ∷ [])) bytes
 
 -- all their events, and all their lines
 abbrev pub events_in : List Happening → List Event

@@ -15,6 +15,7 @@ pub mod Answers
 pub mod Functions
 pub mod Reports
 pub mod Names
+pub mod Machines
 pub mod Play
 pub mod Text
 pub mod Scrolling

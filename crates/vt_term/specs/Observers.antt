@@ -10,12 +10,17 @@ use Rattle.vt_syntax.specs.Laws.{SplitLaw}
 use Rattle.vt_term.specs.State.{Display, State}
 use Rattle.vt_term.specs.Sound.{IsSound}
 use Rattle.vt_term.specs.Functions.{effect}
+use Rattle.vt_term.specs.Machines.{PrintsAlike, vt220}
 use Rattle.vt_term.specs.Play.{play, after_events}
 use Rattle.vt_term.specs.Scrolling.{line_off, lines_off, scrolled_off}
 use Rattle.vt_term.specs.ScrollSteps.{Logs}
 use Rattle.vt_term.specs.Text.{line_text}
 use Rattle.vt_term.specs.Happenings.{Happening, lines_in}
 use Rattle.vt_term.specs.Observing.{AreJoined}
+
+-- a VT220's display is all of its screens
+pub vt220_prints : {K : Type 0} → PrintsAlike {K = K} vt220 (λ d k. d)
+vt220_prints = record { display = λ d k. refl; effect = λ b d k. refl; report = λ b s. refl }
 
 pub nobody_joined : {O : Type 0} → AreJoined {O = O} (λ o hs p. ⊤) (λ o n. ⊤)
 nobody_joined = record {

@@ -1,14 +1,22 @@
--- The result of playing bytes, and the law of an observer. Contracts of private functions and of `Observer` cite this, and no other
--- public clause does.
+-- The result of feeding bytes, and the law of an observer. Contracts of private functions, of `Observer` and of `feed_as` cite this,
+-- and no other public clause does.
 use Rattle.std.specs.Prelude.{◌≡◌, ℕ, ◌+◌, ◌≤◌, ◌++◌, List, [], length}
-use Rattle.vt_term.specs.State.{State}
-use Rattle.vt_term.specs.Play.{play}
-use Rattle.vt_term.specs.Happenings.{Happening}
+use Rattle.vt_syntax.specs.Held.{events_from, held_from}
+use Rattle.vt_term.specs.State.{Display, State}
+use Rattle.vt_term.specs.Machines.{Machine, screens_after, reports_after}
+use Rattle.vt_term.specs.Happenings.{Happening, happenings_on}
 
--- the state `t` and the report bytes `after` are those that bytes leave
-pub record Feeds (s : State) (bytes : List ℕ) (t : State) (before after : List ℕ) : Type 0 where
-  pub state : t ≡ (play s bytes).state
-  pub reports : after ≡ before ++ (play s bytes).reports
+-- the screens, what is held and the report bytes `after` are those that bytes leave: of a terminal in a state, with what a profile
+-- keeps besides
+pub record Feeds {S K : Type 0} (m : Machine S) (screens : Display → K → S) (s : State) (k : K) (bytes : List ℕ) (t : State) (l : K)
+    (before after : List ℕ) : Type 0 where
+  pub screens_are : screens t.display l ≡ screens_after m (events_from s.held bytes) (screens s.display k)
+  pub held : t.held ≡ held_from s.held bytes
+  pub reports : after ≡ before ++ reports_after m (events_from s.held bytes) (screens s.display k)
+
+-- what happens at bytes there
+abbrev pub happenings_of : {S K : Type 0} → Machine S → (Display → K → S) → State → K → List ℕ → List Happening
+happenings_of m screens s k bytes = happenings_on m (screens s.display k) s.held bytes
 
 -- no happenings tell nothing, and they may be told in parts; an observer that may be told of happenings may be told of fewer, and
 -- after the first ones of those that are left

@@ -1,19 +1,17 @@
 -- The state and the reports after bytes.
-use Rattle.std.specs.Prelude.{ℕ, List, [], ◌∷◌, ◌++◌, fold}
+use Rattle.std.specs.Prelude.{ℕ, List, [], ◌∷◌, ◌++◌}
 use Rattle.vt_syntax.specs.declared.event.Event.{Event}
 use Rattle.vt_syntax.specs.Held.{events_from, held_from}
 use Rattle.vt_term.specs.State.{Display, State}
-use Rattle.vt_term.specs.Functions.{effect}
-use Rattle.vt_term.specs.Reports.{report}
+use Rattle.vt_term.specs.Machines.{screens_after, reports_after, vt220}
 
 -- the state after events
 abbrev pub after_events : List Event → Display → Display
-after_events events s = fold (λ s event. effect event s) s events
+after_events events s = screens_after vt220 events s
 
 -- their reports, each in the state before its event
 abbrev pub reports_of : List Event → Display → List ℕ
-reports_of [] s = []
-reports_of (event ∷ events) s = report event s ++ reports_of events (effect event s)
+reports_of events s = reports_after vt220 events s
 
 -- a state and reports
 pub record Played : Type 0 where

@@ -1,5 +1,5 @@
 //! Feeding: a host's bytes change the state, and give report bytes.
-ghost use Rattle.std.specs.Prelude.{◌≡◌, ◌+◌, ◌*◌, ◌≤◌, ◌<◌, ◌++◌, ◌&&◌, ◌==◌, [], ℕ, List, All, true, false, length, take};
+ghost use Rattle.std.specs.Prelude.{◌≡◌, ◌+◌, ◌*◌, ◌≤◌, ◌<◌, ◌++◌, ◌&&◌, ◌==◌, [], ℕ, List, All, true, false, length, map, take};
 ghost use Rattle.std.specs.Prelude.{slice_index, vec_len, vec_capacity, None, OnOk, OnErr, IsOk};
 ghost use Rattle.std.specs.Bool.{OnTrue, OnFalse};
 ghost use Rattle.vt_glyph.specs.Invocation.{HasGlyph};
@@ -7,14 +7,15 @@ ghost use Rattle.vt_syntax.specs.declared.held.Held.TheVariants.{Nothing};
 ghost use Rattle.vt_syntax.specs.Class.{IsPlain};
 ghost use Rattle.vt_syntax.specs.Event.{event_of};
 ghost use Rattle.vt_syntax.specs.Front.{IsFront, IsFinal, AreFirst, front_list};
-ghost use Rattle.vt_syntax.specs.declared.event.Event.TheVariants.{Sequence};
-ghost use Rattle.vt_term.specs.Play.{play};
+ghost use Rattle.vt_syntax.specs.declared.event.Event.TheVariants.{Print, Sequence};
+ghost use Rattle.vt_term.specs.Play.{play, after_events};
 ghost use Rattle.vt_term.specs.Runs.{WritesAscii};
 ghost use Rattle.vt_term.specs.Happenings.{happenings};
-ghost use Rattle.vt_term.specs.Observing.{Feeds};
+ghost use Rattle.vt_term.specs.Observing.{Feeds, happenings_of};
 
 use crate::codes::{CR, LF, RIGHT};
 use crate::observing::{Nobody, Observer};
+use crate::profile::{Profile, Vt220};
 use crate::terminal::{REPORT_LIMIT, Terminal};
 use crate::unseen::{LEAST, Passed};
 use std::alloc::AllocError;
@@ -139,12 +140,36 @@ impl Terminal {
         ensures bounded { vec_len out.new ≤ vec_len out.old + 10 * result }
         ensures capacity { vec_capacity out.old ≤ vec_capacity out.new }
     {
+        self.feed_as(&mut Vt220, piece, observer, out)
+    }
+
+    /// Does the same for a profile: the functions are the profile's, and `profile` is what it keeps.
+    ///
+    /// Speed: the types of profile and observer are known when this is compiled. So a VT220 pays nothing for another profile.
+    #[inline(always)]
+    pub fn feed_as<P: Profile, O: Observer>(
+        &mut self,
+        profile: &mut P,
+        piece: &[u8],
+        observer: &mut O,
+        out: &mut Vec<u8>,
+    ) -> usize
+        requires room { vec_len out.old + 10 * length piece.now ≤ vec_capacity out.old }
+        requires takes { O.Takes observer.old (length piece.now) }
+        ensures within { result ≤ length piece.now }
+        ensures all { result < length piece.now → O.Stopped observer.new }
+        ensures fed { Feeds P.machine P.screens self.old profile.old (take result piece.now) self.new profile.new
+            out.old.items out.new.items }
+        ensures saw { O.Saw observer.old (happenings_of P.machine P.screens self.old profile.old (take result piece.now)) observer.new }
+        ensures bounded { vec_len out.new ≤ vec_len out.old + 10 * result }
+        ensures capacity { vec_capacity out.old ≤ vec_capacity out.new }
+    {
         self.soundness();
         one_split();
         let mut values = Values::new();
         let mut at = 0;
         while at < piece.len() {
-            let (bytes, stops) = self.feed_next(&piece[at..], &mut values, observer, out);
+            let (bytes, stops) = self.feed_next(profile, &piece[at..], &mut values, observer, out);
             at += bytes;
             if stops {
                 return at;
@@ -156,8 +181,9 @@ impl Terminal {
     /// Plays the front of a chunk that isn't empty: between sequences what the fronts read, and then up to the first
     /// event, by the parser. Returns how many bytes it played, and whether the observer stops there.
     #[inline(always)]
-    fn feed_next<O: Observer>(
+    fn feed_next<P: Profile, O: Observer>(
         &mut self,
+        profile: &mut P,
         piece: &[u8],
         values: &mut Values,
         observer: &mut O,
@@ -168,8 +194,9 @@ impl Terminal {
         requires takes { O.Takes observer.old (length piece.now) }
         ensures some { OnFalse result.1 (1 ≤ result.0) }
         ensures within { result.0 ≤ length piece.now }
-        ensures fed { Feeds self.old (take result.0 piece.now) self.new out.old.items out.new.items }
-        ensures saw { O.Saw observer.old (happenings self.old (take result.0 piece.now)) observer.new }
+        ensures fed { Feeds P.machine P.screens self.old profile.old (take result.0 piece.now) self.new profile.new
+            out.old.items out.new.items }
+        ensures saw { O.Saw observer.old (happenings_of P.machine P.screens self.old profile.old (take result.0 piece.now)) observer.new }
         ensures next { OnTrue result.1 (O.Stopped observer.new) }
         ensures bounded { vec_len out.new ≤ vec_len out.old + 10 * result.0 }
         ensures capacity { vec_capacity out.old ≤ vec_capacity out.new }
@@ -177,24 +204,25 @@ impl Terminal {
         self.soundness();
         one_split();
         if !self.parser.is_between() {
-            let bytes = self.feed_by_parser(piece, values, observer, out);
+            let bytes = self.feed_by_parser(profile, piece, values, observer, out);
             return (bytes, is_stop(observer, bytes));
         }
-        let at = self.feed_between(piece, observer, out);
+        let at = self.feed_between(profile, piece, observer, out);
         let is_whole = at == piece.len();
         if is_whole {
             return (at, false);
         }
         let rest = &piece[at..];
-        let bytes = self.feed_by_parser(rest, values, observer, out);
+        let bytes = self.feed_by_parser(profile, rest, values, observer, out);
         (at + bytes, is_stop(observer, bytes))
     }
 
     /// Plays the front of a chunk, between sequences, up to the first byte that goes through the parser, or the first event
     /// before which the observer stops. Returns how many bytes it played.
     #[inline(always)]
-    fn feed_between<O: Observer>(
+    fn feed_between<P: Profile, O: Observer>(
         &mut self,
+        profile: &mut P,
         piece: &[u8],
         observer: &mut O,
         out: &mut Vec<u8>,
@@ -204,8 +232,9 @@ impl Terminal {
         requires between { self.old.held ≡ Nothing }
         ensures within { result ≤ length piece.now }
         ensures between { self.new.held ≡ Nothing }
-        ensures fed { Feeds self.old (take result piece.now) self.new out.old.items out.new.items }
-        ensures saw { O.Saw observer.old (happenings self.old (take result piece.now)) observer.new }
+        ensures fed { Feeds P.machine P.screens self.old profile.old (take result piece.now) self.new profile.new
+            out.old.items out.new.items }
+        ensures saw { O.Saw observer.old (happenings_of P.machine P.screens self.old profile.old (take result piece.now)) observer.new }
         ensures bounded { vec_len out.new ≤ vec_len out.old + 10 * result }
         ensures capacity { vec_capacity out.old ≤ vec_capacity out.new }
     {
@@ -213,7 +242,7 @@ impl Terminal {
         one_split();
         let mut rest = piece;
         while !rest.is_empty() {
-            let bytes = self.feed_front(rest, observer, out);
+            let bytes = self.feed_front(profile, rest, observer, out);
             let stops = bytes == 0;
             if stops {
                 return piece.len() - rest.len();
@@ -226,8 +255,9 @@ impl Terminal {
     /// Plays the front of a chunk that isn't empty, between sequences, by its kind. Returns how many bytes it played:
     /// none if it goes through the parser, or the observer stops there.
     #[inline(always)]
-    fn feed_front<O: Observer>(
+    fn feed_front<P: Profile, O: Observer>(
         &mut self,
+        profile: &mut P,
         piece: &[u8],
         observer: &mut O,
         out: &mut Vec<u8>,
@@ -238,32 +268,48 @@ impl Terminal {
         requires between { self.old.held ≡ Nothing }
         ensures within { result ≤ length piece.now }
         ensures between { self.new.held ≡ Nothing }
-        ensures fed { Feeds self.old (take result piece.now) self.new out.old.items out.new.items }
-        ensures saw { O.Saw observer.old (happenings self.old (take result piece.now)) observer.new }
+        ensures fed { Feeds P.machine P.screens self.old profile.old (take result piece.now) self.new profile.new
+            out.old.items out.new.items }
+        ensures saw { O.Saw observer.old (happenings_of P.machine P.screens self.old profile.old (take result piece.now)) observer.new }
         ensures bounded { vec_len out.new ≤ vec_len out.old + 10 * result }
         ensures capacity { vec_capacity out.old ≤ vec_capacity out.new }
     {
         match Front::of(piece) {
-            Front::Escape => self.feed_escape(piece, observer, out),
-            Front::Plain => self.graphics_first(piece, true, observer, out),
-            Front::CarriageReturn => self.carriage_return_first(piece, observer, out),
-            Front::Right => self.graphics_first(piece, false, observer, out),
+            Front::Escape => self.feed_escape(profile, piece, observer, out),
+            Front::Plain => self.graphics_first(profile, piece, true, observer, out),
+            Front::CarriageReturn => self.carriage_return_first(profile, piece, observer, out),
+            Front::Right => self.graphics_first(profile, piece, false, observer, out),
             Front::Control(control) => {
-                self.event_first(piece, 1, EventKind::Control(control), observer, out)
+                self.event_first(
+                    profile,
+                    piece,
+                    1,
+                    EventKind::Control(control),
+                    observer,
+                    out,
+                )
             }
-            Front::Empty => self.event_first(piece, 1, EventKind::Print(piece[0]), observer, out),
-            Front::Introducer => self.by_parser(observer),
-            Front::Other => self.by_parser(observer),
+            Front::Empty => self.event_first(
+                profile,
+                piece,
+                1,
+                EventKind::Print(piece[0]),
+                observer,
+                out,
+            ),
+            Front::Introducer => self.by_parser(profile, observer),
+            Front::Other => self.by_parser(profile, observer),
         }
     }
 
     /// Plays nothing: the front goes through the parser.
     #[inline(always)]
-    fn by_parser<O: Observer>(&self, observer: &O) -> usize
+    fn by_parser<P: Profile, O: Observer>(&self, profile: &P, observer: &O) -> usize
         ensures none { result ≡ 0 }
-        ensures nothing { (out : List ℕ) → Feeds self.now [] self.now out out }
+        ensures nothing { (out : List ℕ) → Feeds P.machine P.screens self.now profile.now [] self.now profile.now out out }
         ensures saw { O.Saw observer.now [] observer.now }
     {
+        let _ = profile;
         let _ = observer;
         self.soundness();
         one_split();
@@ -273,8 +319,9 @@ impl Terminal {
     /// Plays the front of a chunk that begins with ESC, between sequences, up to the first event. Returns as
     /// `feed_front` does.
     #[inline(always)]
-    fn feed_escape<O: Observer>(
+    fn feed_escape<P: Profile, O: Observer>(
         &mut self,
+        profile: &mut P,
         piece: &[u8],
         observer: &mut O,
         out: &mut Vec<u8>,
@@ -285,30 +332,32 @@ impl Terminal {
         requires between { self.old.held ≡ Nothing }
         ensures within { result ≤ length piece.now }
         ensures between { self.new.held ≡ Nothing }
-        ensures fed { Feeds self.old (take result piece.now) self.new out.old.items out.new.items }
-        ensures saw { O.Saw observer.old (happenings self.old (take result piece.now)) observer.new }
+        ensures fed { Feeds P.machine P.screens self.old profile.old (take result piece.now) self.new profile.new
+            out.old.items out.new.items }
+        ensures saw { O.Saw observer.old (happenings_of P.machine P.screens self.old profile.old (take result piece.now)) observer.new }
         ensures bounded { vec_len out.new ≤ vec_len out.old + 10 * result }
         ensures capacity { vec_capacity out.old ≤ vec_capacity out.new }
     {
         if let Some(front) = front_values(piece) {
             if front.last == b'H' {
-                return self.values_first(piece, &front, observer, out);
+                return self.values_first(profile, piece, &front, observer, out);
             }
             if front.last == b'm' {
-                return self.values_first(piece, &front, observer, out);
+                return self.values_first(profile, piece, &front, observer, out);
             }
             if is_final(front.last) {
-                return self.values_first(piece, &front, observer, out);
+                return self.values_first(profile, piece, &front, observer, out);
             }
         }
-        self.escape_first(piece, observer, out)
+        self.escape_first(profile, piece, observer, out)
     }
 
     /// Carries out a control sequence whose values were read at the front of a chunk, between sequences. Returns as
     /// `feed_front` does.
     #[inline(always)]
-    fn values_first<O: Observer>(
+    fn values_first<P: Profile, O: Observer>(
         &mut self,
+        profile: &mut P,
         piece: &[u8],
         front: &FrontValues,
         observer: &mut O,
@@ -324,8 +373,9 @@ impl Terminal {
         requires between { self.old.held ≡ Nothing }
         ensures within { result ≤ length piece.now }
         ensures between { self.new.held ≡ Nothing }
-        ensures fed { Feeds self.old (take result piece.now) self.new out.old.items out.new.items }
-        ensures saw { O.Saw observer.old (happenings self.old (take result piece.now)) observer.new }
+        ensures fed { Feeds P.machine P.screens self.old profile.old (take result piece.now) self.new profile.new
+            out.old.items out.new.items }
+        ensures saw { O.Saw observer.old (happenings_of P.machine P.screens self.old profile.old (take result piece.now)) observer.new }
         ensures bounded { vec_len out.new ≤ vec_len out.old + 10 * result }
         ensures capacity { vec_capacity out.old ≤ vec_capacity out.new }
     {
@@ -341,14 +391,15 @@ impl Terminal {
             return 0;
         }
         observer.event(self, &piece[..front.bytes], kind, &list[..front.count]);
-        self.display.carry_out_values(front, out);
+        profile.carry_out_values(self, front, out);
         front.bytes
     }
 
     /// Plays a sequence that begins with ESC and that `front_values` doesn't read.
     #[inline(always)]
-    fn escape_first<O: Observer>(
+    fn escape_first<P: Profile, O: Observer>(
         &mut self,
+        profile: &mut P,
         piece: &[u8],
         observer: &mut O,
         out: &mut Vec<u8>,
@@ -359,26 +410,35 @@ impl Terminal {
         requires between { self.old.held ≡ Nothing }
         ensures within { result ≤ length piece.now }
         ensures between { self.new.held ≡ Nothing }
-        ensures fed { Feeds self.old (take result piece.now) self.new out.old.items out.new.items }
-        ensures saw { O.Saw observer.old (happenings self.old (take result piece.now)) observer.new }
+        ensures fed { Feeds P.machine P.screens self.old profile.old (take result piece.now) self.new profile.new
+            out.old.items out.new.items }
+        ensures saw { O.Saw observer.old (happenings_of P.machine P.screens self.old profile.old (take result piece.now)) observer.new }
         ensures bounded { vec_len out.new ≤ vec_len out.old + 10 * result }
         ensures capacity { vec_capacity out.old ≤ vec_capacity out.new }
     {
         if let Some((inter, last)) = front_escape(piece) {
             let inter = Some(inter);
-            return self.event_first(piece, 3, EventKind::Escape { inter, last }, observer, out);
+            return self.event_first(
+                profile,
+                piece,
+                3,
+                EventKind::Escape { inter, last },
+                observer,
+                out,
+            );
         }
         if let Some(kind) = front_short_escape(piece) {
-            return self.event_first(piece, 2, kind, observer, out);
+            return self.event_first(profile, piece, 2, kind, observer, out);
         }
-        self.by_parser(observer)
+        self.by_parser(profile, observer)
     }
 
     /// Carries out an event that is whole at the front of a chunk, between sequences. Returns as `feed_front` does.
     /// Speed: it is inlined in each caller, so a known kind costs no dispatch.
     #[inline(always)]
-    fn event_first<O: Observer>(
+    fn event_first<P: Profile, O: Observer>(
         &mut self,
+        profile: &mut P,
         piece: &[u8],
         bytes: usize,
         kind: EventKind,
@@ -392,8 +452,9 @@ impl Terminal {
         ensures whole { 1 ≤ result → result ≡ bytes }
         ensures within { result ≤ length piece.now }
         ensures between { self.new.held ≡ Nothing }
-        ensures fed { Feeds self.old (take result piece.now) self.new out.old.items out.new.items }
-        ensures saw { O.Saw observer.old (happenings self.old (take result piece.now)) observer.new }
+        ensures fed { Feeds P.machine P.screens self.old profile.old (take result piece.now) self.new profile.new
+            out.old.items out.new.items }
+        ensures saw { O.Saw observer.old (happenings_of P.machine P.screens self.old profile.old (take result piece.now)) observer.new }
         ensures bounded { vec_len out.new ≤ vec_len out.old + 10 * result }
         ensures capacity { vec_capacity out.old ≤ vec_capacity out.new }
     {
@@ -403,15 +464,16 @@ impl Terminal {
             return 0;
         }
         observer.event(self, &piece[..bytes], kind, &[]);
-        self.display.carry_out(kind, &[], out);
+        profile.carry_out(self, kind, &[], out);
         bytes
     }
 
     /// Plays graphic bytes at the front of a chunk, between sequences, as many as the observer is told of at once. Returns
     /// as `feed_front` does.
     #[inline(always)]
-    fn graphics_first<O: Observer>(
+    fn graphics_first<P: Profile, O: Observer>(
         &mut self,
+        profile: &mut P,
         piece: &[u8],
         is_plain: bool,
         observer: &mut O,
@@ -425,8 +487,9 @@ impl Terminal {
         requires between { self.old.held ≡ Nothing }
         ensures within { result ≤ length piece.now }
         ensures between { self.new.held ≡ Nothing }
-        ensures fed { Feeds self.old (take result piece.now) self.new out.old.items out.new.items }
-        ensures saw { O.Saw observer.old (happenings self.old (take result piece.now)) observer.new }
+        ensures fed { Feeds P.machine P.screens self.old profile.old (take result piece.now) self.new profile.new
+            out.old.items out.new.items }
+        ensures saw { O.Saw observer.old (happenings_of P.machine P.screens self.old profile.old (take result piece.now)) observer.new }
         ensures bounded { vec_len out.new ≤ vec_len out.old + 10 * result }
         ensures capacity { vec_capacity out.old ≤ vec_capacity out.new }
     {
@@ -436,7 +499,7 @@ impl Terminal {
         if limit == 0 {
             return 0;
         }
-        self.run_first(&piece[..limit], is_plain, observer, out)
+        self.run_first(profile, &piece[..limit], is_plain, observer, out)
     }
 
     /// Plays graphic bytes at the front of a chunk, between sequences. It plays a run if it may be written at once,
@@ -445,8 +508,9 @@ impl Terminal {
     /// Speed: if GL is ASCII, plain bytes are their own glyphs, and need no chart. `is_plain` says that the first byte
     /// is plain, and is known in each caller.
     #[inline(always)]
-    fn run_first<O: Observer>(
+    fn run_first<P: Profile, O: Observer>(
         &mut self,
+        profile: &mut P,
         piece: &[u8],
         is_plain: bool,
         observer: &mut O,
@@ -461,13 +525,15 @@ impl Terminal {
         requires between { self.old.held ≡ Nothing }
         ensures within { result ≤ length piece.now }
         ensures between { self.new.held ≡ Nothing }
-        ensures fed { Feeds self.old (take result piece.now) self.new out.old.items out.new.items }
-        ensures saw { O.Saw observer.old (happenings self.old (take result piece.now)) observer.new }
+        ensures fed { Feeds P.machine P.screens self.old profile.old (take result piece.now) self.new profile.new
+            out.old.items out.new.items }
+        ensures saw { O.Saw observer.old (happenings_of P.machine P.screens self.old profile.old (take result piece.now)) observer.new }
         ensures bounded { vec_len out.new ≤ vec_len out.old + 10 * result }
         ensures capacity { vec_capacity out.old ≤ vec_capacity out.new }
     {
         self.soundness();
         one_split();
+        spelled();
         if is_plain && self.display.writes_over() && self.display.sets.reads_ascii() {
             let run = plain_run(piece);
             if !right_half_at(piece, run) || run >= LONG_RUN {
@@ -477,7 +543,7 @@ impl Terminal {
             }
         }
         if !self.display.writes_over() {
-            return self.event_first(piece, 1, EventKind::Print(piece[0]), observer, out);
+            return self.event_first(profile, piece, 1, EventKind::Print(piece[0]), observer, out);
         }
         let run = graphic_run(piece);
         observer.run(self, &piece[..run]);
@@ -488,8 +554,9 @@ impl Terminal {
     /// Plays CR at the front of a chunk, and LF if it follows and the observer doesn't stop before it. Returns as
     /// `feed_front` does. Speed: most lines end so.
     #[inline(always)]
-    fn carriage_return_first<O: Observer>(
+    fn carriage_return_first<P: Profile, O: Observer>(
         &mut self,
+        profile: &mut P,
         piece: &[u8],
         observer: &mut O,
         out: &mut Vec<u8>,
@@ -501,26 +568,35 @@ impl Terminal {
         requires between { self.old.held ≡ Nothing }
         ensures within { result ≤ length piece.now }
         ensures between { self.new.held ≡ Nothing }
-        ensures fed { Feeds self.old (take result piece.now) self.new out.old.items out.new.items }
-        ensures saw { O.Saw observer.old (happenings self.old (take result piece.now)) observer.new }
+        ensures fed { Feeds P.machine P.screens self.old profile.old (take result piece.now) self.new profile.new
+            out.old.items out.new.items }
+        ensures saw { O.Saw observer.old (happenings_of P.machine P.screens self.old profile.old (take result piece.now)) observer.new }
         ensures bounded { vec_len out.new ≤ vec_len out.old + 10 * result }
         ensures capacity { vec_capacity out.old ≤ vec_capacity out.new }
     {
         self.soundness();
         one_split();
-        let first = self.event_first(piece, 1, EventKind::Control(CR), observer, out);
+        let first = self.event_first(profile, piece, 1, EventKind::Control(CR), observer, out);
         if first == 0 || piece.len() < 2 || piece[1] != LF {
             return first;
         }
-        let second = self.event_first(&piece[1..], 1, EventKind::Control(LF), observer, out);
+        let second = self.event_first(
+            profile,
+            &piece[1..],
+            1,
+            EventKind::Control(LF),
+            observer,
+            out,
+        );
         1 + second
     }
 
     /// Plays the front of a chunk that isn't empty up to the first event, by the parser. Returns how many bytes it
     /// played: none if the observer stops there.
     #[inline(never)]
-    fn feed_by_parser<O: Observer>(
+    fn feed_by_parser<P: Profile, O: Observer>(
         &mut self,
+        profile: &mut P,
         piece: &[u8],
         values: &mut Values,
         observer: &mut O,
@@ -530,8 +606,9 @@ impl Terminal {
         requires room { vec_len out.old + 10 ≤ vec_capacity out.old }
         requires takes { O.Takes observer.old (length piece.now) }
         ensures within { result ≤ length piece.now }
-        ensures fed { Feeds self.old (take result piece.now) self.new out.old.items out.new.items }
-        ensures saw { O.Saw observer.old (happenings self.old (take result piece.now)) observer.new }
+        ensures fed { Feeds P.machine P.screens self.old profile.old (take result piece.now) self.new profile.new
+            out.old.items out.new.items }
+        ensures saw { O.Saw observer.old (happenings_of P.machine P.screens self.old profile.old (take result piece.now)) observer.new }
         ensures stops { result ≡ 0 → O.Stops ≡ true }
         ensures next { result ≡ 0 → O.Stopped observer.new }
         ensures bounded { vec_len out.new ≤ vec_len out.old + 10 * result }
@@ -550,7 +627,7 @@ impl Terminal {
             return 0;
         }
         observer.event(self, &piece[..bytes], kind, values.as_slice());
-        self.display.carry_out(kind, values.as_slice(), out);
+        profile.carry_out(self, kind, values.as_slice(), out);
         bytes
     }
 
@@ -571,12 +648,10 @@ impl Terminal {
     fn write_ascii(&mut self, run: &[u8])
         requires plain { All IsPlain run.now }
         requires some { 1 ≤ length run.now }
-        requires between { self.old.held ≡ Nothing }
         requires writes { WritesAscii self.old.display }
-        ensures between { self.new.held ≡ Nothing }
-        ensures fed { (out : List ℕ) → Feeds self.old run.now self.new out out }
+        ensures held { self.new.held ≡ self.old.held }
+        ensures written { self.new.display ≡ after_events (map Print run.now) self.old.display }
     {
-        spelled();
         self.display.write_run(run);
     }
 
@@ -584,12 +659,10 @@ impl Terminal {
     fn write_in_use(&mut self, run: &[u8])
         requires graphic { All HasGlyph run.now }
         requires some { 1 ≤ length run.now }
-        requires between { self.old.held ≡ Nothing }
         requires writes { (self.old.display.sets.pending ≡ None) × (self.old.display.modes.irm ≡ false) }
-        ensures between { self.new.held ≡ Nothing }
-        ensures fed { (out : List ℕ) → Feeds self.old run.now self.new out out }
+        ensures held { self.new.held ≡ self.old.held }
+        ensures written { self.new.display ≡ after_events (map Print run.now) self.old.display }
     {
-        spelled();
         in_use();
         self.display.write_graphics(run);
     }

@@ -15,12 +15,14 @@ use Rattle.vt_term.specs.Scrolling.{scrolled_off}
 use Rattle.vt_utf8.specs.Decoding.{read, characters, pending_after, IsWhole}
 use Rattle.vt_utf8.specs.Translation.{translation}
 use Rattle.vt_utf8.proofs.Cuts.{ascii-pending, pending-append}
-use Rattle.vt_xterm.specs.Pages.{PagesState, screens, shown_by}
+use Rattle.vt_term.specs.Observing.{Feeds}
+use Rattle.vt_xterm.specs.Pages.{PagesState, Screens, screens, shown_by}
 use Rattle.vt_xterm.specs.Front.{xterm_effect}
-use Rattle.vt_xterm.specs.Play.{Whole, WholePlayed, FrontState, behind, both, play_bytes}
+use Rattle.vt_xterm.specs.Play.{Whole, WholePlayed, FrontState, behind, both, play_bytes, xterm}
 use Rattle.vt_xterm.specs.Play.{play_character, play_characters, play_xterm, nothing_played}
 use Rattle.vt_xterm.specs.Terminals.{PlaysTerminals}
 use Rattle.vt_xterm.specs.Private.Feeds.{whole_of, Leaves, FeedsBytes, FeedsXterm}
+use Rattle.vt_xterm.specs.Private.Profiles.{screens_on}
 use Rattle.vt_xterm.proofs.Cuts.{bytes-two, bytes-nothing, character-ascii, characters-two, xterm-nothing, xterm-two, xterm-ascii}
 use Rattle.vt_xterm.proofs.Terminals.{bytes-terminals}
 
@@ -55,6 +57,15 @@ feeds-more split w v u piece at n before out after first second =
     bytes-two split w a b ∙ ap (λ (x : Whole). both (play_bytes w a) (play_bytes x b)) (sym first.whole) in
     rw (take-add at n piece) (leaves-both (play_bytes w a) (play_bytes v b) (play_bytes w (a ++ b)) v u before out after
     first second two)
+
+-- bytes that the profile plays
+pub feeds-profile : (s t : State) (pages q : PagesState) (bytes before after : List ℕ)
+    → Feeds xterm screens_on s pages bytes t q before after → FeedsBytes (whole_of s pages) bytes (whole_of t q) before after
+unfolding play_bytes
+feeds-profile s t pages q bytes before after fed = record {
+  whole = rw (ap (λ (x : Screens). x.display) fed.screens_are, ap (λ (x : Screens). x.pages) fed.screens_are, fed.held) refl;
+  reports = fed.reports;
+}
 
 -- bytes whose events are a VT220's
 pub feeds-terminals : (s t : State) (pages : PagesState) (bytes before after : List ℕ) → PlaysTerminals s bytes

@@ -1,5 +1,5 @@
 -- The state, the reports and the lines that scroll off after UTF-8 under TERM=xterm.
-use Rattle.std.specs.Prelude.{ℕ, List, [], ◌∷◌, ◌++◌, nat_lt, fold, flat_map, if◌then◌else◌}
+use Rattle.std.specs.Prelude.{ℕ, List, [], ◌∷◌, ◌++◌, nat_lt, flat_map, if◌then◌else◌}
 use Rattle.vt_syntax.specs.declared.event.Event.{Event}
 use Rattle.vt_syntax.specs.Held.{events_from, held_from}
 use Rattle.vt_screen.specs.declared.cell.Cell.{Cell}
@@ -9,6 +9,7 @@ use Rattle.vt_term.specs.Pages.{IsSoundPage}
 use Rattle.vt_term.specs.Text.{line_text}
 use Rattle.vt_term.specs.Scrolling.{scrolled_off}
 use Rattle.vt_term.specs.Reports.{report}
+use Rattle.vt_term.specs.Machines.{Machine, screens_after, reports_after}
 use Rattle.vt_term.specs.Play.{play}
 use Rattle.vt_utf8.specs.Decoding.{characters, pending_after}
 use Rattle.vt_utf8.specs.Translation.{translation}
@@ -47,14 +48,17 @@ front_at_power_up = record { pending = []; pages = pages_at_power_up }
 abbrev pub behind : State → FrontState → Whole
 behind s front = record { state = s; pages = front.pages }
 
+-- an xterm; its reports are those of a VT220
+abbrev pub xterm : Machine Screens
+xterm = record { display = λ s. s.display; effect = xterm_effect; report = λ event s. report event s.display }
+
 -- the screens after events
 abbrev pub after_events : List Event → Screens → Screens
-after_events events s = fold (λ s event. xterm_effect event s) s events
+after_events events s = screens_after xterm events s
 
--- their reports are those of a VT220, each in the state before its event
+-- their reports, each in the state before its event
 abbrev pub reports_of : List Event → Screens → List ℕ
-reports_of [] s = []
-reports_of (event ∷ events) s = report event s.display ++ reports_of events (xterm_effect event s)
+reports_of events s = reports_after xterm events s
 
 -- bytes after what is held: the events of their one split are carried out, and what their rest leaves is held
 unfoldable pub play_bytes : Whole → List ℕ → WholePlayed

@@ -14,7 +14,7 @@ use crate::finder::Finder;
 use crate::front::{Front, Pages};
 use crate::functions::carry_out;
 use crate::laws::cuts;
-use crate::log::{LINES_LIMIT, PageLog, feed_terminals};
+use crate::log::{LINES_LIMIT, LineLog, PageLog, feed_terminals};
 use std::alloc::AllocError;
 use vt_syntax::laws::one_split;
 use vt_syntax::{EventKind, Taken, Values};
@@ -241,7 +241,7 @@ fn feed_ascii<L: PageLog>(
 {
     let _ = terminal.width();
     one_split();
-    feed_bytes(terminal, &mut front.pages, run, log, out)
+    log.play(terminal, &mut front.pages, run, out)
 }
 
 /// Plays a byte.
@@ -331,7 +331,7 @@ fn feed_character<L: PageLog>(
     ensures capacity { vec_capacity out.old ≤ vec_capacity out.new }
 {
     if (c as u32) < 0x80 {
-        feed_event(terminal, pages, &[c as u8], log, out);
+        log.play_some(terminal, pages, &[c as u8], out);
     } else {
         feed_beyond(terminal, pages, c, log, out);
     }
@@ -364,7 +364,7 @@ fn feed_beyond<L: PageLog>(
 }
 
 /// Plays bytes of the terminal, with the functions of xterm. Returns how many it played: fewer if the log is full.
-fn feed_bytes<L: PageLog>(
+pub(crate) fn feed_bytes<L: LineLog>(
     terminal: &mut Terminal,
     pages: &mut Pages,
     piece: &[u8],
@@ -396,7 +396,7 @@ fn feed_bytes<L: PageLog>(
 /// Plays the front of a chunk that isn't empty: up to the first event that isn't a VT220's, and this event. Returns how many
 /// bytes it played: none if the log is full.
 #[inline(always)]
-fn feed_some<L: PageLog>(
+fn feed_some<L: LineLog>(
     terminal: &mut Terminal,
     pages: &mut Pages,
     piece: &[u8],
@@ -424,7 +424,7 @@ fn feed_some<L: PageLog>(
 /// Plays the front of a chunk, up to the first event that isn't a VT220's, or up to a line for which there is no capacity.
 /// Returns how many bytes it played.
 #[inline(always)]
-fn feed_page<L: PageLog>(
+fn feed_page<L: LineLog>(
     terminal: &mut Terminal,
     pages: &Pages,
     piece: &[u8],
@@ -448,7 +448,7 @@ fn feed_page<L: PageLog>(
 
 /// Plays the front of a chunk that isn't empty, up to the first event. Returns how many bytes it played.
 #[inline(never)]
-fn feed_event<L: PageLog>(
+pub(crate) fn feed_event<L: LineLog>(
     terminal: &mut Terminal,
     pages: &mut Pages,
     piece: &[u8],
@@ -478,7 +478,7 @@ fn feed_event<L: PageLog>(
 
 /// Gives the log the lines that an event is about to scroll off.
 #[inline(always)]
-fn log_event<L: PageLog>(
+fn log_event<L: LineLog>(
     terminal: &Terminal,
     pages: &Pages,
     kind: EventKind,

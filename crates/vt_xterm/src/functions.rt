@@ -121,7 +121,7 @@ fn sequence(
 
 /// Carries out a control sequence without marker and intermediate.
 #[tactic(auto, unfolding(crate::specs::Front::function_in, vt_term::specs::Functions::sequences_of, vt_term::specs::Reports::sequence_report))]
-fn plain_sequence(
+pub(crate) fn plain_sequence(
     terminal: &mut Terminal,
     pages: &mut Pages,
     values: &[u16],

@@ -1,14 +1,18 @@
 //! Says where the lines go that scroll off: nowhere, or after others.
-ghost use Rattle.std.specs.Prelude.{◌≡◌, ◌≤◌, ◌+◌, ◌*◌, ◌++◌, ℕ, List, length, take, flat_map, vec_len, vec_capacity, None, []};
+ghost use Rattle.std.specs.Prelude.{◌≡◌, ◌≤◌, ◌<◌, ◌+◌, ◌*◌, ◌++◌, ℕ, List, length, take, flat_map, vec_len, vec_capacity, None, []};
 ghost use Rattle.vt_syntax.specs.Event.{event_of};
 ghost use Rattle.vt_term.specs.Play.{play};
 ghost use Rattle.vt_term.specs.Scrolling.{scrolled_off};
 ghost use Rattle.vt_term.specs.Text.{line_text};
 ghost use Rattle.vt_utf8.specs.Translation.{glyph_off};
 ghost use Rattle.vt_xterm.specs.Log.{first_rows, rows_off, function_off, page_line_off};
+ghost use Rattle.vt_xterm.specs.Play.{play_bytes};
 ghost use Rattle.vt_xterm.specs.Terminals.{PlaysTerminals};
+ghost use Rattle.vt_xterm.specs.Private.Feeds.{whole_of, FeedsBytes};
 
+use crate::feeding::{feed_bytes, feed_event};
 use crate::finder::Finder;
+use crate::front::Pages;
 use vt_syntax::EventKind;
 use vt_term::laws::happened;
 use vt_term::{Lines, Nobody, TEXT_LIMIT, Terminal, count};
@@ -19,8 +23,111 @@ pub const LINES_LIMIT: usize = 2 * TEXT_LIMIT;
 
 const _: () = prove!(UTF8_LINES_LIMIT <= LINES_LIMIT);
 
-/// A place for the lines that scroll off the main page.
+/// A place for the lines that scroll off the main page: nowhere, or after others. It plays the bytes that cause them.
 pub(crate) trait PageLog: Log {
+    /// Plays the front of a chunk of the terminal's bytes, with the functions of xterm, until the log is full. Returns how many
+    /// bytes it played.
+    fn play(
+        &mut self,
+        terminal: &mut Terminal,
+        pages: &mut Pages,
+        piece: &[u8],
+        out: &mut Vec<u8>,
+    ) -> usize
+        requires { vec_len out.old + 10 * length piece.now ≤ vec_capacity out.old }
+        ensures within { result ≤ length piece.now }
+        ensures all { result < length piece.now → Self.IsFull self.new 19056 }
+        ensures fed { FeedsBytes (whole_of terminal.old pages.old) (take result piece.now) (whole_of terminal.new pages.new)
+            out.old.items out.new.items }
+        ensures keeps { Self.Keeps self.old (play_bytes (whole_of terminal.old pages.old) (take result piece.now)).lines self.new }
+        ensures bounded { vec_len out.new ≤ vec_len out.old + 10 * result }
+        ensures capacity { vec_capacity out.old ≤ vec_capacity out.new };
+
+    /// Plays the front of a chunk that isn't empty: one byte, or more of them. Returns how many bytes it played.
+    fn play_some(
+        &mut self,
+        terminal: &mut Terminal,
+        pages: &mut Pages,
+        piece: &[u8],
+        out: &mut Vec<u8>,
+    ) -> usize
+        requires some { 1 ≤ length piece.now }
+        requires room { vec_len out.old + 10 * length piece.now ≤ vec_capacity out.old }
+        requires lines_room { Self.HasRoom self.old 9528 }
+        ensures some { 1 ≤ result }
+        ensures within { result ≤ length piece.now }
+        ensures fed { FeedsBytes (whole_of terminal.old pages.old) (take result piece.now) (whole_of terminal.new pages.new)
+            out.old.items out.new.items }
+        ensures keeps { Self.Keeps self.old (play_bytes (whole_of terminal.old pages.old) (take result piece.now)).lines self.new }
+        ensures bounded { vec_len out.new ≤ vec_len out.old + 10 * result }
+        ensures capacity { vec_capacity out.old ≤ vec_capacity out.new };
+}
+
+/// The lines go nowhere: a feed without an observer.
+impl PageLog for Nobody {
+    #[inline(always)]
+    fn play(
+        &mut self,
+        terminal: &mut Terminal,
+        pages: &mut Pages,
+        piece: &[u8],
+        out: &mut Vec<u8>,
+    ) -> usize {
+        feed_pages(terminal, pages, piece, out)
+    }
+
+    #[inline(always)]
+    fn play_some(
+        &mut self,
+        terminal: &mut Terminal,
+        pages: &mut Pages,
+        piece: &[u8],
+        out: &mut Vec<u8>,
+    ) -> usize {
+        feed_pages(terminal, pages, piece, out)
+    }
+}
+
+/// Plays bytes of the terminal, with the functions of xterm. Returns how many it played: all. Speed: nothing else feeds this
+/// profile without an observer, so there is one copy of the loop, in which all is inline.
+#[inline(never)]
+fn feed_pages(terminal: &mut Terminal, pages: &mut Pages, piece: &[u8], out: &mut Vec<u8>) -> usize
+    requires { vec_len out.old + 10 * length piece.now ≤ vec_capacity out.old }
+    ensures all { result ≡ length piece.now }
+    ensures fed { FeedsBytes (whole_of terminal.old pages.old) (take result piece.now) (whole_of terminal.new pages.new)
+        out.old.items out.new.items }
+    ensures bounded { vec_len out.new ≤ vec_len out.old + 10 * result }
+    ensures capacity { vec_capacity out.old ≤ vec_capacity out.new }
+{
+    terminal.feed_as(pages, piece, &mut Nobody, out)
+}
+
+/// The lines go after others.
+impl PageLog for Lines<'_, Finder> {
+    fn play(
+        &mut self,
+        terminal: &mut Terminal,
+        pages: &mut Pages,
+        piece: &[u8],
+        out: &mut Vec<u8>,
+    ) -> usize {
+        feed_bytes(terminal, pages, piece, self, out)
+    }
+
+    fn play_some(
+        &mut self,
+        terminal: &mut Terminal,
+        pages: &mut Pages,
+        piece: &[u8],
+        out: &mut Vec<u8>,
+    ) -> usize {
+        feed_event(terminal, pages, piece, self, out)
+    }
+}
+
+/// A place for lines, and a feed that stops before each event that isn't a VT220's: such an event may scroll other lines off, or
+/// show the other page.
+pub(crate) trait LineLog: Log {
     /// Plays the front of a chunk, up to the first event that isn't a VT220's, or up to a line for which there is no capacity.
     /// Returns how many bytes it played.
     fn feed(&mut self, terminal: &mut Terminal, piece: &[u8], out: &mut Vec<u8>) -> usize
@@ -56,19 +163,7 @@ pub(crate) fn feed_terminals(terminal: &mut Terminal, piece: &[u8], out: &mut Ve
     terminal.feed_observed(piece, &mut Finder, out)
 }
 
-/// The lines go nowhere.
-impl PageLog for Nobody {
-    #[inline(always)]
-    fn feed(&mut self, terminal: &mut Terminal, piece: &[u8], out: &mut Vec<u8>) -> usize {
-        feed_terminals(terminal, piece, out)
-    }
-
-    #[inline(always)]
-    fn event(&mut self, _: &Terminal, _: EventKind, _: &[u16]) {}
-}
-
-/// The lines go after others.
-impl PageLog for Lines<'_, Finder> {
+impl LineLog for Lines<'_, Finder> {
     #[inline(always)]
     fn feed(&mut self, terminal: &mut Terminal, piece: &[u8], out: &mut Vec<u8>) -> usize {
         let _ = terminal.width();

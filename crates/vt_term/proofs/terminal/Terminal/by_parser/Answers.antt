@@ -3,7 +3,7 @@ use Rattle.vt_term.proofs.terminal.Terminal.by_parser.Goals as goal
 
 pub returns-clause-nothing : goal.returns-clause-nothing
 returns-clause-nothing g c = λ out.
-    feeds-nothing c.one_split.ensures c.args.self.now out c.soundness.ensures
+    feeds-nothing g.P.Profile.machine g.P.Profile.screens c.one_split.ensures c.args.self.now c.args.profile.now out c.soundness.ensures
 
 pub returns-clause-saw : goal.returns-clause-saw
 returns-clause-saw g c =

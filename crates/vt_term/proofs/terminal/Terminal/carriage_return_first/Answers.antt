@@ -12,13 +12,13 @@ event_first-second-requires-clause-front g c = feed-behind c.args.piece.now c.if
 pub returns-clause-fed : goal.returns-clause-fed
 returns-clause-fed g c =
     let one : c.event_first-first.result ≡ 1 = c.event_first-first.ensures.whole (omega (arith, c.if-first-eq0.false)) in
-    feeds-more c.one_split.ensures _ _ _ c.args.piece.now 1 c.event_first-second.result _ _ _
+    feeds-more g.P.Profile.machine g.P.Profile.screens c.one_split.ensures _ _ _ _ _ _ c.args.piece.now 1 c.event_first-second.result _ _ _
     (rw one at c.event_first-first.ensures.fed) (rw (rest-of c.args.piece.now 1) at c.event_first-second.ensures.fed)
 
 pub returns-clause-saw : goal.returns-clause-saw
 returns-clause-saw g c =
     let one : c.event_first-first.result ≡ 1 = c.event_first-first.ensures.whole (omega (arith, c.if-first-eq0.false)) in
-    saw-more g.O.Observer.Saw g.O.Observer.Takes g.met.O.Observer.joined c.one_split.ensures _ _ _ _ _ c.args.piece.now _ _ 1
+    saw-more g.O.Observer.Saw g.O.Observer.Takes g.met.O.Observer.joined g.P.Profile.machine g.P.Profile.screens c.one_split.ensures _ _ _ _ _ _ _ c.args.piece.now _ _ 1
     c.event_first-second.result c.soundness.ensures (rw one at c.event_first-first.ensures.fed)
     (rw one at c.event_first-first.ensures.saw)
     (rw (rest-of c.args.piece.now 1) at c.event_first-second.ensures.saw)
@@ -26,5 +26,5 @@ returns-clause-saw g c =
 pub event_first-second-requires-clause-takes : goal.event_first-second-requires-clause-takes
 event_first-second-requires-clause-takes g c =
     let one : c.event_first-first.result ≡ 1 = c.event_first-first.ensures.whole (omega (arith, c.if-first-eq0.false)) in
-    takes-rest g.O.Observer.Saw g.O.Observer.Takes g.met.O.Observer.joined _ _ _ c.args.piece.now 1 _ (omega arith)
+    takes-rest g.O.Observer.Saw g.O.Observer.Takes g.met.O.Observer.joined g.P.Profile.machine g.P.Profile.screens _ _ _ _ c.args.piece.now 1 _ (omega arith)
     (rw one at c.event_first-first.ensures.saw) c.requires.takes

@@ -10,7 +10,7 @@ loop-rest-init g c =
       within = omega arith;
       rest = rw none refl;
       between = c.requires.between;
-      fed = rw none (feeds-nothing c.one_split.ensures c.args.self.now c.args.out.now.items c.soundness.ensures);
+      fed = rw none (feeds-nothing g.P.Profile.machine g.P.Profile.screens c.one_split.ensures c.args.self.now c.args.profile.now c.args.out.now.items c.soundness.ensures);
       saw = rw none (g.met.O.Observer.joined.nothing c.args.observer.now);
       bounded = omega arith;
       capacity = omega arith;
@@ -24,7 +24,7 @@ returns-then-stops-clause-fed g c =
     let none : n ≡ 0 = omega arith in
     let same : length piece - length (behind n rest) ≡ length piece - length rest =
     omega (arith, taken-more piece rest n c.loop-rest.invariant.within c.feed_front-bytes.ensures.within, none) in
-    rw (← same) (feeds-rest c.one_split.ensures _ _ _ piece rest n _ _ _
+    rw (← same) (feeds-rest g.P.Profile.machine g.P.Profile.screens c.one_split.ensures _ _ _ _ _ _ piece rest n _ _ _
     c.loop-rest.invariant.within c.feed_front-bytes.ensures.within c.loop-rest.invariant.rest
     c.loop-rest.invariant.fed c.feed_front-bytes.ensures.fed)
 
@@ -36,7 +36,7 @@ returns-then-stops-clause-saw g c =
     let none : n ≡ 0 = omega arith in
     let same : length piece - length (behind n rest) ≡ length piece - length rest =
     omega (arith, taken-more piece rest n c.loop-rest.invariant.within c.feed_front-bytes.ensures.within, none) in
-    rw (← same) (saw-rest g.O.Observer.Saw g.O.Observer.Takes g.met.O.Observer.joined c.one_split.ensures _ _ _ _ _ piece rest _ _ n c.soundness.ensures
+    rw (← same) (saw-rest g.O.Observer.Saw g.O.Observer.Takes g.met.O.Observer.joined g.P.Profile.machine g.P.Profile.screens c.one_split.ensures _ _ _ _ _ _ _ piece rest _ _ n c.soundness.ensures
     c.loop-rest.invariant.within c.feed_front-bytes.ensures.within c.loop-rest.invariant.rest
     c.loop-rest.invariant.fed c.loop-rest.invariant.saw c.feed_front-bytes.ensures.saw)
 
@@ -52,9 +52,9 @@ loop-rest-preserved g c =
       within = omega (arith, more);
       rest = behind-more piece rest n within fits c.loop-rest.invariant.rest;
       between = between;
-      fed = feeds-rest c.one_split.ensures _ _ _ piece rest n _ _ _ within fits c.loop-rest.invariant.rest
+      fed = feeds-rest g.P.Profile.machine g.P.Profile.screens c.one_split.ensures _ _ _ _ _ _ piece rest n _ _ _ within fits c.loop-rest.invariant.rest
           c.loop-rest.invariant.fed c.feed_front-bytes.ensures.fed;
-      saw = saw-rest g.O.Observer.Saw g.O.Observer.Takes g.met.O.Observer.joined c.one_split.ensures _ _ _ _ _ piece rest _ _ n c.soundness.ensures within fits
+      saw = saw-rest g.O.Observer.Saw g.O.Observer.Takes g.met.O.Observer.joined g.P.Profile.machine g.P.Profile.screens c.one_split.ensures _ _ _ _ _ _ _ piece rest _ _ n c.soundness.ensures within fits
           c.loop-rest.invariant.rest c.loop-rest.invariant.fed c.loop-rest.invariant.saw c.feed_front-bytes.ensures.saw;
       bounded = omega (arith, more);
       capacity = omega arith;
@@ -62,6 +62,6 @@ loop-rest-preserved g c =
 
 pub feed_front-bytes-requires-clause-takes : goal.feed_front-bytes-requires-clause-takes
 feed_front-bytes-requires-clause-takes g c =
-    takes-rest g.O.Observer.Saw g.O.Observer.Takes g.met.O.Observer.joined _ _ _ c.args.piece.now
+    takes-rest g.O.Observer.Saw g.O.Observer.Takes g.met.O.Observer.joined g.P.Profile.machine g.P.Profile.screens _ _ _ _ c.args.piece.now
     (length c.args.piece.now - length c.loop-rest.rest.now) _ (omega (arith, c.loop-rest.invariant.within))
     c.loop-rest.invariant.saw c.requires.takes

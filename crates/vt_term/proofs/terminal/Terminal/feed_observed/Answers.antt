@@ -1,48 +1,18 @@
-use Rattle.std.proofs.Common.{arith, length-drop}
-use Rattle.vt_term.proofs.Bytes.{rest-of}
-use Rattle.vt_term.proofs.Playing.{takes-rest, feeds-nothing, feeds-more, saw-more}
+-- A VT220 as a profile.
+use Rattle.std.proofs.Common.{take}
+use Rattle.vt_term.proofs.Playing.{feeds-vt220, happenings-vt220}
 use Rattle.vt_term.proofs.terminal.Terminal.feed_observed.Goals as goal
 
-pub loop-at-init : goal.loop-at-init
-loop-at-init g c = record {
-  within = omega arith;
-  fed = feeds-nothing c.one_split.ensures c.args.self.now c.args.out.now.items c.soundness.ensures;
-  saw = g.met.O.Observer.joined.nothing c.args.observer.now;
-  bounded = omega arith;
-  capacity = omega arith;
-}
+pub returns-clause-state : goal.returns-clause-state
+returns-clause-state g c =
+    (feeds-vt220 c.args.self.now c.feed_as.new.self _ _ (take c.feed_as.result c.args.piece.now) c.args.out.now.items
+    c.feed_as.new.out.items c.feed_as.ensures.fed).0
 
-pub returns-then-stops-clause-state : goal.returns-then-stops-clause-state
-returns-then-stops-clause-state g c =
-    (feeds-more c.one_split.ensures _ _ _ c.args.piece.now c.loop-at.at c.feed_next-bytes.result.0 _ _ _
-    c.loop-at.invariant.fed (rw (rest-of c.args.piece.now c.loop-at.at) at c.feed_next-bytes.ensures.fed)).state
+pub returns-clause-reports : goal.returns-clause-reports
+returns-clause-reports g c =
+    (feeds-vt220 c.args.self.now c.feed_as.new.self _ _ (take c.feed_as.result c.args.piece.now) c.args.out.now.items
+    c.feed_as.new.out.items c.feed_as.ensures.fed).1
 
-pub returns-then-stops-clause-reports : goal.returns-then-stops-clause-reports
-returns-then-stops-clause-reports g c =
-    (feeds-more c.one_split.ensures _ _ _ c.args.piece.now c.loop-at.at c.feed_next-bytes.result.0 _ _ _
-    c.loop-at.invariant.fed (rw (rest-of c.args.piece.now c.loop-at.at) at c.feed_next-bytes.ensures.fed)).reports
-
-pub returns-then-stops-clause-saw : goal.returns-then-stops-clause-saw
-returns-then-stops-clause-saw g c =
-    saw-more g.O.Observer.Saw g.O.Observer.Takes g.met.O.Observer.joined c.one_split.ensures _ _ _ _ _ c.args.piece.now _ _ c.loop-at.at
-    c.feed_next-bytes.result.0 c.soundness.ensures c.loop-at.invariant.fed c.loop-at.invariant.saw
-    (rw (rest-of c.args.piece.now c.loop-at.at) at c.feed_next-bytes.ensures.saw)
-
-pub loop-at-preserved : goal.loop-at-preserved
-loop-at-preserved g c =
-    let rest = rest-of c.args.piece.now c.loop-at.at in
-    let inside = simp length-drop at (rw rest at c.feed_next-bytes.ensures.within) in record {
-      within = omega (arith, inside);
-      fed = feeds-more c.one_split.ensures _ _ _ c.args.piece.now c.loop-at.at c.feed_next-bytes.result.0 _ _ _
-          c.loop-at.invariant.fed (rw rest at c.feed_next-bytes.ensures.fed);
-      saw = saw-more g.O.Observer.Saw g.O.Observer.Takes g.met.O.Observer.joined c.one_split.ensures _ _ _ _ _ c.args.piece.now _ _ c.loop-at.at
-          c.feed_next-bytes.result.0 c.soundness.ensures c.loop-at.invariant.fed c.loop-at.invariant.saw
-          (rw rest at c.feed_next-bytes.ensures.saw);
-      bounded = omega arith;
-      capacity = omega arith;
-    }
-
-pub feed_next-bytes-requires-clause-takes : goal.feed_next-bytes-requires-clause-takes
-feed_next-bytes-requires-clause-takes g c =
-    takes-rest g.O.Observer.Saw g.O.Observer.Takes g.met.O.Observer.joined _ _ _ c.args.piece.now c.loop-at.at _
-    (omega (arith, length-drop c.loop-at.at c.args.piece.now)) c.loop-at.invariant.saw c.requires.takes
+pub returns-clause-saw : goal.returns-clause-saw
+returns-clause-saw g c =
+    rw (happenings-vt220 c.args.self.now (take c.feed_as.result c.args.piece.now)) at c.feed_as.ensures.saw

@@ -1,14 +1,13 @@
 -- The observer stops, or the control sequence is carried out.
-use Rattle.std.proofs.Common.{◌∙◌, None, ap, refl}
+use Rattle.std.proofs.Common.{None, refl, take}
 use Rattle.vt_syntax.specs.declared.event.Event.TheVariants.{Sequence}
 use Rattle.vt_syntax.specs.Front.{front_list}
-use Rattle.vt_term.specs.State.{State}
-use Rattle.vt_term.proofs.Playing.{takes-front, feeds-nothing, feeds-front, front-events, front-last}
+use Rattle.vt_term.proofs.Playing.{takes-front, feeds-nothing, feeds-front, front-events, front-last, happenings-front}
 use Rattle.vt_term.proofs.terminal.Terminal.values_first.Goals as goal
 
 pub returns-then-not-lets-clause-fed : goal.returns-then-not-lets-clause-fed
 returns-then-not-lets-clause-fed g c =
-    feeds-nothing c.one_split.ensures c.args.self.now c.args.out.now.items c.soundness.ensures
+    feeds-nothing g.P.Profile.machine g.P.Profile.screens c.one_split.ensures c.args.self.now c.args.profile.now c.args.out.now.items c.soundness.ensures
 
 pub returns-then-not-lets-clause-saw : goal.returns-then-not-lets-clause-saw
 returns-then-not-lets-clause-saw g c =
@@ -16,22 +15,17 @@ returns-then-not-lets-clause-saw g c =
 
 pub returns-clause-fed : goal.returns-clause-fed
 returns-clause-fed g c =
-    let front = c.args.front.now in
-    let between = ap (λ (s : State). s.held) c.self.view_is ∙ c.requires.between in
-    rw (← c.self.view_is) (feeds-front _ c.args.piece.now front.bytes
-    (Sequence None (record { items = front_list front }) None front.last)
-    c.carry_out_values.new.self c.args.out.now.items c.carry_out_values.new.out.items
-    c.requires.front between c.carry_out_values.ensures.state
-    c.carry_out_values.ensures.items)
+    feeds-front g.P.Profile.machine g.P.Profile.screens _ _ _ _ c.args.piece.now c.args.front.now.bytes (Sequence None (record { items = front_list c.args.front.now }) None c.args.front.now.last) _ _
+    c.requires.front c.requires.between c.carry_out_values.ensures.held c.carry_out_values.ensures.screens c.carry_out_values.ensures.items
 
 pub returns-clause-saw : goal.returns-clause-saw
 returns-clause-saw g c =
-    let front = c.args.front.now in
-    c.event.ensures c.args.self.now c.soundness.ensures refl
-    (front-events c.args.self.now c.args.piece.now front.bytes
-    (Sequence None (record { items = front_list front }) None front.last) c.requires.between c.requires.front)
-    (front-last c.args.self.now c.args.piece.now front.bytes
-    (Sequence None (record { items = front_list front }) None front.last) c.requires.between c.requires.front)
+    let s = c.args.self.now in
+    let piece = c.args.piece.now in
+    let events = front-events s piece c.args.front.now.bytes (Sequence None (record { items = front_list c.args.front.now }) None c.args.front.now.last) c.requires.between c.requires.front in
+    let silent = front-last s piece c.args.front.now.bytes (Sequence None (record { items = front_list c.args.front.now }) None c.args.front.now.last) c.requires.between c.requires.front in
+    rw (happenings-front g.P.Profile.machine g.P.Profile.screens g.met.P.Profile.prints c.one_split.ensures s c.args.profile.now (take c.args.front.now.bytes piece) silent) at
+    (c.event.ensures s c.soundness.ensures refl events silent)
 
 pub event-requires-clause-takes : goal.event-requires-clause-takes
 event-requires-clause-takes g c = takes-front g.O.Observer.Saw g.O.Observer.Takes g.met.O.Observer.joined _ c.args.piece.now _ c.requires.takes

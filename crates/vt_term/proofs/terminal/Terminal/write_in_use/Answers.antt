@@ -1,7 +1,5 @@
 use Rattle.std.proofs.Common.{◌∙◌, ap}
 use Rattle.vt_term.specs.State.{State}
-use Rattle.vt_term.proofs.Bytes.{graphic-events, graphic-held}
-use Rattle.vt_term.proofs.Playing.{feeds-prints}
 use Rattle.vt_term.proofs.terminal.Terminal.write_in_use.Goals as goal
 
 pub write_graphics-requires-clause-writes : goal.write_graphics-requires-clause-writes
@@ -12,10 +10,3 @@ write_graphics-requires-clause-writes c =
       sets = λ b has. c.in_use.ensures.after c.self.inside.display.sets b none has;
       replaces = ap (λ (s : State). s.display.modes.irm) c.self.view_is ∙ c.requires.writes.1;
     }
-
-pub returns-clause-fed : goal.returns-clause-fed
-returns-clause-fed c = λ out.
-    let between = ap (λ (s : State). s.held) c.self.view_is ∙ c.requires.between in
-    rw (← c.self.view_is) (feeds-prints _ c.args.run.now c.write_graphics.new.self out between
-    (graphic-events c.spelled.ensures c.args.run.now c.requires.graphic)
-    (graphic-held c.spelled.ensures c.args.run.now c.requires.graphic) c.write_graphics.ensures)

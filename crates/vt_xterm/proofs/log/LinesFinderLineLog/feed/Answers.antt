@@ -3,7 +3,7 @@ use Rattle.std.specs.Prelude.{flat_map}
 use Rattle.vt_screen.specs.declared.cell.Cell.{Cell}
 use Rattle.vt_term.specs.Text.{line_text}
 use Rattle.vt_xterm.specs.Terminals.{AreTerminals}
-use Rattle.vt_xterm.proofs.log.LinesFinderPageLog.feed.Goals as goal
+use Rattle.vt_xterm.proofs.log.LinesFinderLineLog.feed.Goals as goal
 
 pub returns-clause-terminals : goal.returns-clause-terminals
 returns-clause-terminals c =

@@ -208,7 +208,7 @@ def arms(rule):
     rows = [line for sign, line in lines_of(ROOT / TABLES[rule.section]) if not sign and is_row_of(rule, sign, line)]
     finals = [found[1] for line in rows if (found := re.match(r'\(byte \(codes "(.)"\)', line))]
     text = (ROOT / SECTIONS[rule.section] / "src/functions.rt").read_text()
-    plain = re.search(r"^ *fn plain_sequence\(.*?^ *\}\n\n", text, re.M | re.S)[0]
+    plain = re.search(r"^ *(?:pub\(crate\) )?fn plain_sequence\(.*?^ *\}\n\n", text, re.M | re.S)[0]
     return [arm.strip() for final in finals for arm in re.findall(rf"^ *b'{re.escape(final)}' => .*$", plain, re.M)]
 
 

@@ -45,6 +45,7 @@ pub trait Profile {
     fn carry_out_values(&mut self, terminal: &mut Terminal, front: &FrontValues, out: &mut Vec<u8>)
         requires few { (1 ≤ front.now.count) × (front.now.count ≤ 3) }
         requires values { AreFirst front.now }
+        requires event { IsEvent (Sequence None (record { items = front_list front.now }) None front.now.last) }
         requires room { vec_len out.old + 10 ≤ vec_capacity out.old }
         ensures screens { screens terminal.new.display self.new
             ≡ machine.effect (Sequence None (record { items = front_list front.now }) None front.now.last)

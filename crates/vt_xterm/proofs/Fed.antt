@@ -1,11 +1,13 @@
 -- The result of feeding.
-use Rattle.std.proofs.Common.{◌≡◌, ℕ, ◌+◌, List, [], ◌∷◌, ◌++◌, All, ◌<◌, take, drop, length, refl, sym, ap, ◌∙◌, append_assoc, subst, false, arith}
+use Rattle.std.proofs.Common.{◌≡◌, ℕ, ◌+◌, List, [], ◌∷◌, ◌++◌, All, ◌<◌, take, drop, length, refl, sym, ap, ◌∙◌, append_assoc, subst, false, arith, None}
 use Rattle.std.specs.Prelude.{◌≤◌, nat_lt, if◌then◌else◌}
 use Rattle.std.proofs.lemmas.Bool.Decides.{nat_tests}
 use Rattle.std.proofs.Common.{append-nil}
 use Rattle.std.proofs.Math.Seq.{take-add, take-length}
 use Rattle.std.proofs.lemmas.List.{take_all}
 use Rattle.vt_syntax.specs.declared.event.Event.{Event}
+use Rattle.vt_syntax.specs.declared.event.Event.TheVariants.{Sequence}
+use Rattle.vt_syntax.specs.declared.held.Held.{Held}
 use Rattle.vt_syntax.specs.Held.{IsHeldPart, events_from, held_from}
 use Rattle.vt_syntax.specs.Laws.{SplitLaw}
 use Rattle.vt_term.specs.State.{State}
@@ -17,7 +19,7 @@ use Rattle.vt_utf8.specs.Translation.{translation}
 use Rattle.vt_utf8.proofs.Cuts.{ascii-pending, pending-append}
 use Rattle.vt_term.specs.Observing.{Feeds}
 use Rattle.vt_xterm.specs.Pages.{PagesState, Screens, screens, shown_by}
-use Rattle.vt_xterm.specs.Front.{xterm_effect}
+use Rattle.vt_xterm.specs.Front.{xterm_effect, function_in, functions_of, plain_functions}
 use Rattle.vt_xterm.specs.Play.{Whole, WholePlayed, FrontState, behind, both, play_bytes, xterm}
 use Rattle.vt_xterm.specs.Play.{play_character, play_characters, play_xterm, nothing_played}
 use Rattle.vt_xterm.specs.Terminals.{PlaysTerminals}
@@ -66,6 +68,14 @@ feeds-profile s t pages q bytes before after fed = record {
   whole = rw (ap (λ (x : Screens). x.display) fed.screens_are, ap (λ (x : Screens). x.pages) fed.screens_are, fed.held) refl;
   reports = fed.reports;
 }
+
+-- a control sequence of the profile
+pub values-screens : (t : State) (q : PagesState) (s : Screens) (h : Held) (params : List ℕ) (last : ℕ)
+    → t ≡ shown_by (function_in plain_functions (Sequence None (record { items = params }) None last) last params s) h
+    → q ≡ (function_in plain_functions (Sequence None (record { items = params }) None last) last params s).pages
+    → screens_on t.display q ≡ xterm.effect (Sequence None (record { items = params }) None last) s
+unfolding functions_of
+values-screens t q s h params last is kept = rw (is, kept) refl
 
 -- bytes whose events are a VT220's
 pub feeds-terminals : (s t : State) (pages : PagesState) (bytes before after : List ℕ) → PlaysTerminals s bytes

@@ -6,10 +6,22 @@ ghost use Rattle.vt_xterm.specs.Attributes.{begins_colour, colour_length, select
 use vt_term::Terminal;
 
 /// Returns whether a parameter begins a colour.
-pub(crate) fn begins_colour(p: u16) -> bool
+fn begins_colour(p: u16) -> bool
     ensures { result ≡ begins_colour p }
 {
     p == 38 || p == 48 || p == 58
+}
+
+/// Returns whether one of the parameters begins a colour.
+pub(crate) fn has_colour(values: &[u16]) -> bool
+    ensures { result ≡ list_any begins_colour values.now }
+{
+    for value in values {
+        if begins_colour(*value) {
+            return true;
+        }
+    }
+    false
 }
 
 /// Returns how many of these parameters, which come after the one that begins a colour, belong to it.
@@ -24,10 +36,13 @@ fn colour_length(params: &[u16]) -> usize
     }
 }
 
-/// Carries out SGR without its colours.
+/// Carries out SGR without its colours. Speed: most have none, and are carried out at once.
 pub(crate) fn select_attributes(terminal: &mut Terminal, params: &[u16])
     ensures { terminal.new ≡ record terminal.old { display = select_attributes params.now terminal.old.display } }
 {
+    if !has_colour(params) {
+        return terminal.select_graphic_rendition(params);
+    }
     let mut skipped = 0;
     let mut at = 0;
     while at < params.len() {

@@ -1,29 +1,15 @@
 //! The observer that finds the functions of a front: a feed stops before each event that isn't a VT220's.
 ghost use Rattle.std.specs.Prelude.{◌≡◌, ◌≤◌, ◌∷◌, [], false, true, length, Some, None};
 ghost use Rattle.std.specs.Bool.{OnFalse};
-ghost use Rattle.std.specs.List.{list_any};
 ghost use Rattle.vt_syntax.specs.Event.{event_of};
 ghost use Rattle.vt_syntax.specs.declared.event.Event.TheVariants.{Escape, Sequence};
-ghost use Rattle.vt_xterm.specs.Attributes.{begins_colour};
 ghost use Rattle.vt_xterm.specs.Terminals.{IsTerminals};
 
-use crate::attributes::begins_colour;
+use crate::attributes::has_colour;
 use vt_syntax::EventKind;
 use vt_syntax::laws::spelled;
 use vt_term::laws::happened;
 use vt_term::{Observer, Terminal};
-
-/// Returns whether a parameter begins a colour.
-fn has_colour(values: &[u16]) -> bool
-    ensures { result ≡ list_any begins_colour values.now }
-{
-    for value in values {
-        if begins_colour(*value) {
-            return true;
-        }
-    }
-    false
-}
 
 /// Returns whether a control sequence without marker and intermediate isn't a VT220's.
 #[inline(always)]

@@ -290,8 +290,8 @@ ATTACK = r"""cat %s/*/password /proc/*/environ; %s %s -1 0 1 dec vt220 victim tr
 
 
 class Units:
-    """Commands under the users that their units have: a user of the same name is the same one, and a dynamic one is each unit's own. systemd doesn't
-    run here. Each unit has its password as LoadCredential gives it."""
+    """Commands under the users that their units have: a user of the same name is the same one. That of a dynamic user is the unit's, without its
+    instance, if the unit names none. systemd doesn't run here. Each unit has its password as LoadCredential gives it."""
 
     def __init__(self, machine):
         self.machine, self.users, self.first = machine, {}, 10**6 + 100 * random.randrange(10**6)
@@ -302,7 +302,8 @@ class Units:
         with open(os.path.join(UNITS, f"vt220-fleet-{unit}.service")) as file:
             said = dict(line.split("=", 1) for line in file.read().splitlines() if "=" in line and line[0] != "#")
         mine = os.path.join(self.place, f"{unit}{instance}")
-        user = self.users.setdefault(mine if said.get("DynamicUser") == "yes" else said["User"], self.first + len(self.users))
+        named = said.get("User", f"vt220-fleet-{unit.rstrip('@')}").replace("%i", instance)
+        user = self.users.setdefault(named, self.first + len(self.users))
         where = {"FLEET_REDIS": self.machine.url, "FLEET_DAEMON": os.path.join(self.place, "daemon", "socket")}
         os.makedirs(mine)
         if "LoadCredential" in said:

@@ -31,14 +31,21 @@ stores.TIMEOUT = 60.0
 frames.WATCHED = frames.FORGET = 3600
 HOLDER = next(filter(os.path.exists, programs.HOLDERS), programs.HOLDERS[0])
 
-counts = {"passed": 0, "failed": 0}
+counts = {"case": "", "passed": 0, "failed": 0}  # of the cases that ran, with the name of the one that runs
+started = contextlib.ExitStack()  # what a case has started, which ends with it
 
 
-def check(is_so, name, what):
+def check(is_so, what):
     counts["passed" if is_so else "failed"] += 1
     if not is_so:
-        print(f"failed: {name}: {what}", file=sys.stderr, flush=True)
+        print(f"failed: {counts['case']}: {what}", file=sys.stderr, flush=True)
     return bool(is_so)
+
+
+def incarnation_of(store, name):
+    """Returns the incarnation of a name, once it has one."""
+    wait_for(lambda: store.hexists(keys.NAMES, name))
+    return store.hget(keys.NAMES, name).decode()
 
 
 def recordings():
@@ -71,13 +78,13 @@ def wait_for(is_so, pause=0.02):
 
 def until(is_so, *workers):
     """Turns of workers in this process until something is so. Returns whether it is."""
-    end = time.monotonic() + PATIENCE
-    while not is_so():
-        if time.monotonic() > end:
-            return False
+
+    def is_so_after_a_turn():
         for each in workers:
             each.turn(patience=0.01)
-    return True
+        return is_so()
+
+    return bool(is_so()) or wait_for(is_so_after_a_turn, 0 if workers else 0.02)
 
 
 def settings(**chosen):
@@ -89,6 +96,13 @@ def settings(**chosen):
 
 def worker(url, **chosen):
     return Worker(stores.connect(url), settings(**chosen))
+
+
+def replace(thing, name, value):
+    """Gives something another attribute until the case ends. Returns it."""
+    started.callback(setattr, thing, name, getattr(thing, name))
+    setattr(thing, name, value)
+    return value
 
 
 class Clock:
@@ -127,6 +141,7 @@ class Source:
         self.is_over = threading.Event()
         self.thread = threading.Thread(target=self.receive_on, daemon=True)
         self.thread.start()
+        started.callback(self.stop)
         return self
 
     def receive_on(self):
@@ -155,6 +170,19 @@ class Source:
     def reports(self):
         return b"".join(what for kind, what in self.got if kind == "report")
 
+    def renew(self):
+        """Renews the lease, whether or not that is due."""
+        self.host.renewed = -1e9
+        self.host.renew_if_due()
+
+    def ends(self, *workers, status=0):
+        """Ends the session, if it hasn't been, and compares it with the program once it is played: by workers of this process or by others."""
+        if not self.host.is_ended:
+            self.end(status)
+        check(until(self.is_ended, *workers), f"it ends: {self.fault()}")
+        self.finish()
+        compare(self, status=b"%d" % status)
+
     def part(self, name):
         return key(self.incarnation, name)
 
@@ -181,22 +209,22 @@ def wanted(word, data):
     return done.returncode, done.stdout
 
 
-def compare(source, name, data=None, status=b"0"):
+def compare(source, data=None, status=b"0"):
     """Holds an ended session against the program: its text, the reports that reached its program, and its repaint."""
     data = source.sent if data is None else data
     text = wanted("text", data)[1]
     ended = source.store.hgetall(source.part("ended"))
-    check(ended.get(b"text") == text, name, "text at the end")
-    check((ended.get(b"at"), ended.get(b"status")) == (b"%d" % len(data), status), name, f"place and status: {ended.get(b'at')}")
-    check(source.reports() == wanted("reports", data)[1], name, "reports at the program")
+    check(ended.get(b"text") == text, "text at the end")
+    check((ended.get(b"at"), ended.get(b"status")) == (b"%d" % len(data), status), f"place and status: {ended.get(b'at')}")
+    check(source.reports() == wanted("reports", data)[1], "reports at the program")
     now = session.as_it_is(source.store, source.incarnation)
-    check(now.at == len(data), name, "bytes")
-    check(now.terminal.text().encode() == text, name, "text from the checkpoint")
+    check(now.at == len(data), "bytes")
+    check(now.terminal.text().encode() == text, "text from the checkpoint")
     code, repaint = wanted("repaint", data)
     if code == 3:
-        check(raises(vt220.Partial, now.terminal.repaint), name, "the repaint is refused")
+        check(raises(vt220.Partial, now.terminal.repaint), "the repaint is refused")
     else:
-        check(now.terminal.repaint() == repaint, name, "repaint")
+        check(now.terminal.repaint() == repaint, "repaint")
 
 
 class Processes:
@@ -206,6 +234,7 @@ class Processes:
         self.machine = machine
         self.group = local.Workers(0, machine.folder, url or machine.url, *words)
         self.group.all = [self.group.another() for _ in range(count)]
+        started.callback(self.group.stop)
 
     def __getattr__(self, name):
         return getattr(self.group, name)
@@ -277,6 +306,7 @@ class Proxy:
         self.url = f"unix://{self.socket}"
         words = ["/usr/bin/python3", os.path.join(HERE, "proxy.py"), self.socket, machine.socket, str(share)]
         self.process = subprocess.Popen(words, stdout=subprocess.PIPE)
+        started.callback(self.stop)
         wait_for(lambda: os.path.exists(self.socket))
 
     def signal(self, number):
@@ -286,10 +316,5 @@ class Proxy:
 
     def stop(self):
         self.process.kill()
-        self.process.communicate()
+        self.process.wait()
 
-
-def with_machine(case):
-    """Marks a case that gets the machine, not only its store's address."""
-    case.wants_machine = True
-    return case

@@ -127,7 +127,11 @@ def a_name_whose_host_died_is_used_again(url, data):
     name, one = "died", worker(url)
     first = Source(url, name).send(data + b"\033[c")
     until(lambda: one.kept and not one.due, one)
-    check(raises(Taken, Source, url, name), "not while the lease lasts")
+    try:
+        Source(url, name)
+        check(False, "not while the lease lasts")
+    except Taken as refused:
+        check(first.host.about[1] in str(refused) and name in str(refused), f"with a clear error: {refused}")
     check(0 < first.store.ttl(keys.lease(name)) <= first.host.lease, "which ends by itself")
     first.store.pexpire(keys.lease(name), 1)
     check(until(lambda: not first.store.exists(keys.lease(name)), one), "the lease ends")
@@ -137,18 +141,6 @@ def a_name_whose_host_died_is_used_again(url, data):
     check(raises(Taken, first.host.send, b"late"), "its host, if it lives after all, is refused")
     check(until(lambda: second.receive(0.01).got, one), "the second one is played")
     check(second.got == [("report", b"\033[1;2R")], f"from its own start: {second.got}")
-
-
-def two_hosts_never_mix(url, _):
-    name, one = "two hosts", worker(url)
-    first = Source(url, name)
-    try:
-        Source(url, name)
-        check(False, "the second is refused")
-    except Taken as refused:
-        check(first.host.about[1] in str(refused) and name in str(refused), f"with a clear error: {refused}")
-    first.send(b"aaaaa").send(b"cdefghijklmnop")
-    first.ends(one)
 
 
 def what_an_old_worker_writes_meets_no_new_session(url, data):
@@ -213,27 +205,6 @@ def poison_harms_its_session_alone(url, data):
     check(store.zcard(keys.WAITING) == 0, "nothing is left that a worker could die of")
 
 
-def a_session_that_workers_die_of_is_given_up(url, _):
-    source = Source(url, "deadly").send(b"x")
-    idle = Source(url, "idle").send(b"y")
-    store = source.store
-    calm = worker(url, most=1)
-    store.zrem(keys.WAITING, source.incarnation)
-    until(lambda: idle.incarnation in calm.kept and not calm.due, calm)
-    for _ in range(11):
-        store.zadd(keys.WAITING, {source.incarnation: 0})
-        doomed = worker(url)
-        doomed.claims.take(10)  # and it dies
-        store.hdel(keys.WORKERS, doomed.claims.me)
-        store.delete(keys.of(doomed.claims.me))
-    check(source.fault().startswith("Poison"), "after ten workers")
-    for _ in range(12):  # an idle session may see any number of workers die
-        store.zadd(keys.WAITING, {idle.incarnation: 0})
-        each = worker(url)
-        until(lambda: idle.incarnation in each.kept and not each.due, each)
-    check(idle.fault() == "", "an idle session isn't taken for one")
-
-
 FLOOD = """
 import os, sys, threading, tty
 tty.setraw(0)
@@ -294,17 +265,3 @@ def a_host_that_reads_no_reports_is_waited_for(url, _):
     check(source.store.xlen(source.part("answers")) < 6000, "no more than a bound of reports waits")
     source.listen()
     check(until(lambda: len(source.got) == 20000, one), f"all come when they are read: {len(source.got)}")
-
-
-def a_worker_hands_over_and_leaves_nothing(url, data):
-    one, other = worker(url), worker(url)
-    sources = [Source(url, f"hand-{number}").send(data[:500] + b"\030") for number in range(40)]
-    until(lambda: len(one.kept) == 40, one)
-    one.is_leaving = True
-    one.turn(0.01)
-    check(until(lambda: len(other.kept) == 40, other), "another has all")
-    check(one.is_gone and sources[0].store.hlen(keys.WORKERS) == 1, "and no trace of it is left")
-    check(
-        all(s.at == 501 for s in other.kept.values()) or until(lambda: all(s.at == 501 for s in other.kept.values()), other),
-        "where they were",
-    )

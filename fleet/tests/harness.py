@@ -42,6 +42,20 @@ def check(is_so, what):
     return bool(is_so)
 
 
+def children_of(pid):
+    with open(f"/proc/{pid}/task/{pid}/children") as children:
+        return [int(each) for each in children.read().split()]
+
+
+def outlast(process, progress):
+    """Waits until a process ends, for as long as something goes on. Returns its exit status; None if it hangs."""
+    before = -1
+    while process.poll() is None and progress() > before:
+        before = progress()
+        wait_for(lambda: progress() > before or process.poll() is not None)
+    return process.poll()
+
+
 def incarnation_of(store, name):
     """Returns the incarnation of a name, once it has one."""
     wait_for(lambda: store.hexists(keys.NAMES, name))
@@ -209,14 +223,19 @@ def wanted(word, data):
     return done.returncode, done.stdout
 
 
-def compare(source, data=None, status=b"0"):
+def compare(source, status=b"0"):
     """Holds an ended session against the program: its text, the reports that reached its program, and its repaint."""
-    data = source.sent if data is None else data
+    data, (at, said) = source.sent, source.store.hmget(source.part("ended"), "at", "status")
+    check((at, said) == (b"%d" % len(data), status), f"place and status: {at} {said}")
+    check(source.reports() == wanted("reports", data)[1], f"reports at the program: {len(source.reports())} bytes")
+    check(source.incarnation.encode() not in source.store.smembers(keys.LIVE), "it no longer lives")
+    compare_screen(source, data)
+
+
+def compare_screen(source, data):
+    """Holds an ended session's text and its repaint against the program, which plays these bytes."""
     text = wanted("text", data)[1]
-    ended = source.store.hgetall(source.part("ended"))
-    check(ended.get(b"text") == text, "text at the end")
-    check((ended.get(b"at"), ended.get(b"status")) == (b"%d" % len(data), status), f"place and status: {ended.get(b'at')}")
-    check(source.reports() == wanted("reports", data)[1], "reports at the program")
+    check(source.store.hget(source.part("ended"), "text") == text, "text at the end")
     now = session.as_it_is(source.store, source.incarnation)
     check(now.at == len(data), "bytes")
     check(now.terminal.text().encode() == text, "text from the checkpoint")

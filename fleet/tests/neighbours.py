@@ -10,6 +10,7 @@ from harness import Processes, Source, bury, check, compare, incarnation_of, key
 from safety import fleet
 from operators import OnTerminal
 from web import Served
+from fleet import claims
 from fleet.gallery import READ, Gallery
 from fleet.host import WAITING, Taken
 from fleet.metrics import WholeFleet
@@ -112,6 +113,11 @@ def a_suspect_that_is_sound_is_cleared(url, _):
     check(until(lambda: other.incarnation in one.kept, one), "until it has caught up")
     check(store.hget(source.part("about"), "tries") == b"0", "then it is no suspect")
     check(store.hlen(keys.TRYING) == 0, "and no trial is left")
+    for _ in range(claims.TRIES + 2):
+        bury(one)
+        one = worker(url)
+        until(lambda: len(one.kept) == 2 and not one.due, one)
+    check(source.fault() == other.fault() == "", "however many workers die that had caught up with it")
     store.hset(keys.TRYING, one.claims.me, "a session that the store lost")
     another = Source(url, "another", lease=600).send(b"x")
     check(until(lambda: another.incarnation in one.kept, one), "a trial of a session that is gone holds nobody up")

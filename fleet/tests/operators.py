@@ -17,7 +17,7 @@ import urllib.error
 import urllib.request
 
 from harness import (
-    HERE, PATIENCE, PATIENT, PROGRAM, Processes, Source, check, configured, incarnation_of, key, keys, local, program, raises, stores, until, wait_for, wanted,
+    HERE, PATIENCE, PATIENT, PROGRAM, Processes, Source, check, children_of, configured, incarnation_of, key, keys, local, program, raises, stores, until, wait_for, wanted,
     worker, written,
 )
 from fleet import claims, config, host, metrics
@@ -27,11 +27,6 @@ from fleet.web import Page
 from safety import UNITS, conf, fleet, free_port
 
 SHELL = ["sh", "-c", "while read x; do echo got $x; done; exit 9"]
-
-
-def children_of(pid):
-    with open(f"/proc/{pid}/task/{pid}/children") as children:
-        return [int(each) for each in children.read().split()]
 
 
 def is_there(pid):
@@ -177,6 +172,7 @@ def drain_hands_over(machine, data):
     check(fleet(url, "drain", "--patience", str(PATIENCE), first.decode()[:-2])[0] == 0, "it is done")
     check(wait_for(lambda: all(store.hget(s.part("about"), "owner") not in (None, first) for s in sources)), "another has all")
     check(workers.all[0].wait(PATIENCE) == 0, "the worker has ended with 0")
+    check(wait_for(lambda: all(store.hget(s.part("about"), "played") == b"3" for s in sources)), "which goes on with each")
     [second] = store.hkeys(keys.WORKERS)
     workers.all.append(workers.another())
     wait_for(lambda: store.hlen(keys.WORKERS) == 2)
@@ -438,7 +434,7 @@ def names_of(collector):
 
 def alerts_and_documents_name_the_metrics_that_there_are(url, _):
     store, source = stores.connect(url), Source(url, "one")
-    of_daemon = DaemonMetrics(types.SimpleNamespace(store=store, all=list, counts=dict.fromkeys(("bytes", "inputs"), 0)))
+    of_daemon = DaemonMetrics(types.SimpleNamespace(store=store, all=list, totals=lambda: {"bytes": 0, "inputs": 0}))
     known = set().union(*map(names_of, (WorkerMetrics(worker(url)), of_daemon, PageMetrics(Page(store, store, config.Web())), WholeFleet(store))))
     texts = {}
     for file in ("alerts.yml", "README.md", "RUNBOOK.md"):

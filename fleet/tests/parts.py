@@ -1,14 +1,12 @@
 """Each part of the fleet by itself."""
-import re
 import socket
-import subprocess
 import sys
 import tempfile
 
 import redis
 
 from harness import (
-    HOLDER, PATIENCE, Source, check, compare, incarnation_of, key, keys, played, program, raises, replace, session, stores, until, wait_for, worker,
+    PATIENCE, Source, check, children_of, compare, incarnation_of, key, keys, played, program, raises, replace, session, stores, until, wait_for, worker,
 )
 import load
 from fleet import frames
@@ -18,17 +16,11 @@ from fleet.store import has_come, packed
 from fleet.view import Viewer
 
 
-def a_worker_ends_a_session(url, data):
-    name, one = "ends", worker(url)
-    source = Source(url, name).send(data).end(7)
-    source.ends(one, status=7)
-    check(not one.kept and not source.store.smembers(keys.LIVE), "nobody has it any more")
-
-
 def reports_are_at_what_they_answer(url, _):
     name, one = "positions", worker(url)
     source = Source(url, name).send(b"ab\033[ccd\033[6n", piece=3).end(0)
     until(source.is_ended, one)
+    check(not one.kept, "its worker has it no more")
     told = [(entry_id, fields[b"report"]) for entry_id, fields in source.store.xrange(source.part("answers"))]
     check(told == [(b"5-0", b"\033[?62;1;6c"), (b"11-0", b"\033[1;5R")], "positions")
 
@@ -224,11 +216,6 @@ def a_store_that_resets_a_connection_is_away(_url, _):
 MOST_CALLS, MOST_CALLS_TOLD = 50, 120  # for an entry, and for a session that the store is told of
 
 
-def commands(store):
-    """Returns how often each command was called, also inside functions, without the call that asks."""
-    return {name[8:]: each["calls"] for name, each in store.info("commandstats").items() if name != "cmdstat_info"}
-
-
 def a_lease_brings_back_what_the_store_lost(url, _):
     name, one = "renewal", worker(url)
     source = Source(url, name, takes_input=True).send(b"x")
@@ -253,17 +240,16 @@ def the_sessions_of_a_machine_cost_the_store_one_call_a_beat(machine, _):
     store = stores.connect(machine.url)
     known = {each["id"] for each in store.client_list()}
     machine.start_daemon()
-    words = [HOLDER, machine.where()["FLEET_DAEMON"], "-1", "0", "1", "dec", "vt220"]
-    holders = [subprocess.Popen([*words, f"idle-{number}", "sleep", "infinity"]) for number in range(SESSIONS)]
-    check(wait_for(lambda: store.hlen(keys.NAMES) == SESSIONS), "all have begun")
+    holders = load.idle_holders(machine, SESSIONS)
+    check(wait_for(lambda: all(children_of(each.pid) for each in holders)), "all have begun")
     others = [each for each in store.client_list() if each["id"] not in known]
     check(len(others) <= 2, f"{SESSIONS} sessions have two connections: {[(each['cmd'], each['age']) for each in others]}")
     store.config_resetstat()
-    check(wait_for(lambda: commands(store).get("set", 0) >= 2 * SESSIONS), "leases are renewed")
-    calls = commands(store)
-    check(calls["set"] == SESSIONS * calls["fcall"], f"a call renews those of {SESSIONS} sessions: {calls}")
-    sizes = [int(re.search(r"Pss:\s+(\d+)", open(f"/proc/{each.pid}/smaps_rollup").read())[1]) for each in holders]
-    check(max(sizes) < 1000, f"a holder takes less than a megabyte: {max(sizes)} KB")
+    check(wait_for(lambda: load.commands(store).get("cmdstat_set", 0) >= 2 * SESSIONS), "leases are renewed")
+    calls = load.commands(store)
+    check(calls["cmdstat_set"] == SESSIONS * calls["cmdstat_fcall"], f"a call renews those of {SESSIONS} sessions: {calls}")
+    most = max(load.proportional(each.pid) for each in holders)
+    check(most < 1_000_000, f"a holder takes less than a megabyte: {most}")
     incarnation = incarnation_of(store, "idle-0")
     Typist(store, incarnation).signal(9)
     check(holders[0].wait(PATIENCE) == 137, "each is reached by itself")

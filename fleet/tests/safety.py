@@ -301,7 +301,7 @@ def a_session_reaches_no_other_and_no_password(machine, _):
     store = stores.connect(machine.url, conf(machine, "password", "secret"))
     served = [units.start("daemon", "daemon"), units.start("worker@", "worker")]
     socket_of_daemon = os.path.join(units.place, "daemon", "socket")
-    check(wait_for(lambda: os.path.exists(socket_of_daemon)), "the daemon listens")
+    check(wait_for(lambda: local.is_listening(socket_of_daemon)), "the daemon listens")
     victim = units.start("host@", "host", "--input", "victim", "sh", "-c", "stty -echo; echo on; while read x; do echo got $x; done", instance="victim")
     check(wait_for(lambda: b"on" in written(store, "victim")), "a session runs")
     attack = ATTACK % (units.place, os.path.realpath(HOLDER), socket_of_daemon, units.place)

@@ -7,7 +7,7 @@ import threading
 import time
 
 from harness import (
-    HERE, PATIENCE, Processes, Proxy, Source, check, compare, configured, incarnation_of, key, keys, played, program, raises, stores, until, wait_for, worker,
+    HERE, PATIENCE, Processes, Proxy, Source, check, compare, configured, incarnation_of, key, keys, outlast, played, program, raises, stores, until, wait_for, worker,
 )
 from safety import free_port
 from fleet.host import WAITING, WentBack
@@ -163,12 +163,8 @@ def a_full_store_is_waited_for(machine, data):
     sends = threading.Thread(target=lambda: quiet.send(b"abc\033[6n"), daemon=True)
     sends.start()
     store.config_set("maxmemory", "200mb")
-    incarnation, before = store.hget(keys.NAMES, "flood").decode(), -1
-    sent = lambda: int(store.hget(key(incarnation, "about"), "end"))
-    while host.poll() is None and sent() > before:
-        before = sent()
-        wait_for(lambda: sent() > before or host.poll() is not None)
-    check(host.poll() == 5, "the flood goes on to its end")
+    incarnation = incarnation_of(store, "flood")
+    check(outlast(host, lambda: int(store.hget(key(incarnation, "about"), "end"))) == 5, "the flood goes on to its end")
     sends.join(PATIENCE)
     check(wait_for(lambda: quiet.reports() == played(quiet.sent)[1]), "the quiet session goes on")
     quiet.ends()

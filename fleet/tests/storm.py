@@ -7,12 +7,10 @@ import threading
 import time
 
 from harness import (
-    PATIENCE, QUERIES, Processes, Proxy, Source, check, configured, keys, made_up, raises, recordings, session, stores, wait_for,
-    wanted,
+    PATIENCE, QUERIES, Processes, Proxy, Source, check, compare, compare_screen, configured, keys, made_up, recordings, stores, wait_for, wanted,
 )
 from stores_faults import cut_back, shimmed
 from fleet.host import Taken
-import vt220
 
 seed, rounds = 1, 20
 SESSIONS, SENDERS, TIMES = 48, 6, 2
@@ -176,7 +174,6 @@ def storm(machine, move, proxy, chance, pieces):
     check(not errors and not any(thread.is_alive() for thread in threads), f"all hosts send to the end: {errors}")
     finish(machine, slots)
     report(workers, slots)
-    workers.stop()
 
 
 def finish(machine, slots):
@@ -197,26 +194,17 @@ def finish(machine, slots):
 def hold(source):
     """A session's text, reports and repaint are the program's. One whose end the store lost is named so, and its screen is that
     of the bytes that are there."""
-    name, store, data = source.name, source.store, source.sent
-    ended = store.hgetall(source.part("ended"))
-    if not check(ended, f"it ended: {source.fault()} {store.hgetall(source.part('about'))}"):
+    ended, reports = source.store.hgetall(source.part("ended")), wanted("reports", source.sent)[1]
+    if not check(ended, f"it ended: {source.fault()} {source.store.hgetall(source.part('about'))}"):
         return
-    reports = wanted("reports", data)[1]
-    if ended[b"status"] == b"lost":
-        # Of the bytes that the store lost after the host's end, only those reports came that were read before.
-        data = data[: int(ended[b"at"])]
-        check(reports.startswith(source.reports()), "no other reports at the program")
-        check(source.reports().startswith(wanted("reports", data)[1]), "those of the bytes that are there")
-    else:
-        check(source.reports() == reports, f"reports at the program: {len(source.reports())} bytes of {len(reports)}")
-        check((ended[b"at"], ended[b"status"]) == (b"%d" % len(data), b"0"), "place and status")
-    check(ended[b"text"] == wanted("text", data)[1], "text")
-    now = session.as_it_is(store, source.incarnation)
-    code, repaint = wanted("repaint", data)
-    if code == 3:
-        check(raises(vt220.Partial, now.terminal.repaint), "the repaint is refused")
-    else:
-        check(now.terminal.repaint() == repaint, "repaint")
+    if ended[b"status"] != b"lost":
+        compare(source)
+        return
+    # Of the bytes that the store lost after the host's end, only those reports came that were read before.
+    data = source.sent[: int(ended[b"at"])]
+    check(reports.startswith(source.reports()), "no other reports at the program")
+    check(source.reports().startswith(wanted("reports", data)[1]), "those of the bytes that are there")
+    compare_screen(source, data)
 
 
 def report(workers, slots):

@@ -6,7 +6,7 @@ import subprocess
 import sys
 
 from harness import (
-    HOLDER, another_daemon, Clock, PATIENCE, PATIENT, Processes, Source, bury, check, configured, incarnation_of, key, keys, program, raises, replace, settings,
+    HOLDER, another_daemon, Clock, PATIENCE, PATIENT, Processes, Source, bury, check, configured, incarnation_of, key, keys, outlast, program, raises, replace, settings,
     stores, until, wait_for, wanted, worker, written,
 )
 from safety import fleet
@@ -134,17 +134,13 @@ def what_nobody_needs_is_removed(url, _):
     check(not store.keys(lives.part("typed*")), "or when the typist leaves")
 
 
-# A program that writes a file in parts of so many bytes. Each part ends with a question; what comes up to its answer is written down. If it
-# has gates, it waits before each twentieth part until there is the file of the next one.
+# A program that writes a file in parts of so many bytes. Each part ends with a question; what comes up to its answer is written down.
 ASKER = r"""
-import os, sys, time, tty
+import os, sys, tty
 tty.setraw(0)
-data, size, gate = open(sys.argv[1], "rb").read(), int(sys.argv[3]), sys.argv[4]
+data, size = open(sys.argv[1], "rb").read(), int(sys.argv[3])
 got = open(sys.argv[2], "ab", buffering=0)
 for at in range(0, len(data), size):
-    number, rest = divmod(at // size, 20)
-    while gate and rest == 0 and not os.path.exists(f"{gate}-{number}"):
-        time.sleep(0.01)
     part, came = data[at : at + size], b""
     while part:
         part = part[os.write(1, part):]
@@ -158,19 +154,14 @@ sys.exit(3)
 class Run:
     """A session with a program that writes bytes and writes down the reports."""
 
-    def __init__(self, machine, name, parts, has_gates=False):
+    def __init__(self, machine, name, parts):
         self.machine, self.name, self.data = machine, name, b"".join(parts)
         self.store = stores.connect(machine.url)
         self.file, self.got = os.path.join(machine.folder, f"{name}.data"), os.path.join(machine.folder, f"{name}.got")
         with open(self.file, "wb") as file:
             file.write(self.data)
         self.reports = wanted("reports", self.data)[1]
-        self.gate = os.path.join(machine.folder, f"{name}.gate") if has_gates else ""
-        self.host = program(machine, name, [sys.executable, "-c", ASKER, self.file, self.got, str(len(parts[0])), self.gate])
-
-    def open_gate(self, number):
-        """Lets the program go on up to the gate after this one."""
-        open(f"{self.gate}-{number}", "w").close()
+        self.host = program(machine, name, [sys.executable, "-c", ASKER, self.file, self.got, str(len(parts[0]))])
 
     def incarnation(self):
         found = self.store.hget(keys.NAMES, self.name)
@@ -179,14 +170,6 @@ class Run:
     def end(self):
         """Returns how many bytes the store has."""
         return int(self.store.hget(key(self.incarnation() or "", "about"), "end") or 0)
-
-    def wait(self):
-        """Waits until the holder ends, for as long as the session goes on. Returns its exit status; None if the session hangs."""
-        before = -1
-        while self.host.poll() is None and self.end() > before:
-            before = self.end()
-            wait_for(lambda: self.end() > before or self.host.poll() is not None)
-        return self.host.poll()
 
     def hold(self):
         """Compares all with the program vt220."""
@@ -204,25 +187,6 @@ class Run:
 def asking(data, times, size=100):
     """Returns parts of the same length, each with a question at its end."""
     return [data[at : at + size].ljust(size) + b"\030\033[5n" for at in range(0, size * times, size)]
-
-
-def a_program_outlives_its_host(machine, data):
-    """The host daemon is killed again and again, at no moment in particular, and started again. However late a kill comes, the program goes
-    on after it."""
-    name, workers, gates = "outlives", Processes(machine, 1), 10
-    run, kills = Run(machine, name, asking(data * 20, 20 * gates), has_gates=True), gates - 2
-    run.open_gate(0)
-    wait_for(run.end, 0)
-    first = run.incarnation()
-    for number in range(1, kills + 1):
-        before = run.end()
-        run.open_gate(number)
-        wait_for(lambda: run.end() > before, 0)
-        another_daemon(machine)
-    run.open_gate(gates - 1)
-    check(run.host.wait(PATIENCE) == 3, f"the holder has the program's status: {run.host.returncode}")
-    check(run.incarnation() == first, f"it is one session over {kills + 1} daemons")
-    run.hold()
 
 
 class Said:
@@ -345,7 +309,7 @@ def a_storm_with_hosts_among_the_victims(machine, data):
                 another_daemon(machine)
             kills[victim] += 1
         for each, first in zip(runs, firsts):
-            check(each.wait() == 3, f"{each.name}: its holder has the program's status: {each.host.returncode}")
+            check(outlast(each.host, each.end) == 3, f"{each.name}: its holder has the program's status: {each.host.returncode}")
             check(each.incarnation() == first, f"{each.name}: it is one session")
             each.hold()
     check(min(kills.values()) > 0, f"all kinds were killed: {kills}")

@@ -9,13 +9,7 @@ from urllib.parse import unquote, urlsplit
 
 import redis
 from redis.exceptions import (
-    AuthenticationError,
-    BusyLoadingError,
-    ConnectionError,
-    NoPermissionError,
-    ReadOnlyError,
-    RedisError,
-    ResponseError,
+    AuthenticationError, BusyLoadingError, ConnectionError, NoPermissionError, ReadOnlyError, RedisError, ResponseError,
     TimeoutError,
 )
 from redis.sentinel import Sentinel, SentinelConnectionPool

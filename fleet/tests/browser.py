@@ -18,12 +18,7 @@ class Browser:
         self.loop, self.client, self.number, self.said = asyncio.new_event_loop(), None, 0, []
         self.folder = tempfile.mkdtemp(prefix="browser-")
         words = [
-            "chromium",
-            "--headless=new",
-            "--no-sandbox",
-            "--disable-gpu",
-            "--disable-dev-shm-usage",
-            "--no-first-run",
+            "chromium", "--headless=new", "--no-sandbox", "--disable-gpu", "--disable-dev-shm-usage", "--no-first-run",
             "--remote-debugging-port=0",
         ]
         words += [f"--user-data-dir={self.folder}", f"--window-size={width},{height}", "about:blank"]

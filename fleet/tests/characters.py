@@ -5,7 +5,7 @@ import os
 import random
 
 from harness import (
-    PATIENCE, Processes, Source, another_daemon, bury, check, keys, program, raises, session, settings, stores, until, wait_for, worker, written,
+    PATIENCE, Processes, Source, another_daemon, bury, check, keys, program, session, settings, stores, until, wait_for, worker, written,
 )
 from operators import OnTerminal
 from safety import fleet
@@ -126,14 +126,6 @@ def an_older_worker_takes_no_session_in_utf_8(url, _):
     check(until(other.is_ended, old, again), "an operator's end is read by the older worker, too")
 
 
-def a_wrong_encoding_is_a_fault(url, _):
-    name, one = "wrong encoding", worker(url)
-    source = Source(url, name).send(b"x")
-    source.store.hset(source.part("about"), "encoding", "utf-7")
-    check(until(source.fault, one) and source.fault().startswith("Wrong"), source.fault())
-    check(raises(keys.Wrong, session.as_it_is, source.store, source.incarnation), "for readers, too")
-
-
 def a_program_writes_and_reads_utf_8(machine, _):
     name, url, workers = "program", machine.url, Processes(machine, 1)
     command = ["sh", "-c", "stty -a | grep -o ' iutf8'; echo $LC_ALL; stty raw -echo; printf ready; head -c 2 | od -An -tx1; printf 'Gr\\303\\274\\303\\237e'; cat"]
@@ -158,11 +150,7 @@ def viewers_type_in_utf_8(machine, _):
     view = OnTerminal(machine.url, "view", "--type", name)
     check(wait_for(lambda: view.has(b"here")), "it is shown")
     os.write(view.master, sent.encode())
-
-    def got():
-        return b"".join(what for kind, what in source.got if kind == "keys")
-
-    check(wait_for(lambda: got() == sent.encode()), f"in a viewer: {got()}")
+    check(wait_for(lambda: source.keys() == sent.encode()), f"in a viewer: {source.keys()}")
     os.write(view.master, b"\x1d")
     check(view.status() == 0, "which leaves")
     served = Served(machine, "--typing")
@@ -170,6 +158,6 @@ def viewers_type_in_utf_8(machine, _):
     async def ask():
         async with served.live(source.incarnation) as socket:
             await socket.send_json({"session": source.incarnation, "text": sent})
-            return await asyncio.to_thread(wait_for, lambda: got() == 2 * sent.encode())
+            return await asyncio.to_thread(wait_for, lambda: source.keys() == 2 * sent.encode())
 
-    check(asyncio.run(ask()), f"on the page: {got()}")
+    check(asyncio.run(ask()), f"on the page: {source.keys()}")

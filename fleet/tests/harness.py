@@ -182,7 +182,13 @@ class Source:
         return self.receive()
 
     def reports(self):
-        return b"".join(what for kind, what in self.got if kind == "report")
+        return self.all_of("report")
+
+    def keys(self):
+        return self.all_of("keys")
+
+    def all_of(self, wanted):
+        return b"".join(what for kind, what in self.got if kind == wanted)
 
     def renew(self):
         """Renews the lease, whether or not that is due."""

@@ -24,7 +24,7 @@ from fleet import claims, config, host, metrics
 from fleet.config import Settings, Unclear
 from fleet.metrics import DaemonMetrics, PageMetrics, WholeFleet, WorkerMetrics, server
 from fleet.web import Page
-from safety import UNITS, conf, fleet, free_port
+from safety import UNITS, conf, fleet, fleet_bytes, free_port
 
 SHELL = ["sh", "-c", "while read x; do echo got $x; done; exit 9"]
 
@@ -240,7 +240,7 @@ def keys_have_the_form_that_the_program_asked_for(machine, _):
     """By the command and in a viewer, under LNM, DECCKM, DECKPAM and S8C1T. The bytes are those of the VT220's manual, chapter 3."""
     name, url, workers = "modes", machine.url, Processes(machine, 1)
     source = Source(url, name, takes_input=True).listen().send(b"\033[20h\033[?1h\033=\033 Gready")
-    got, wanted = (lambda: b"".join(what for kind, what in source.got if kind == "keys")), b""
+    wanted = b""
     for words, sent in (
         (["--enter", name, "œÿŒ¤é"], b"\xf7\xfd\xd7\xa8\xe9\r\n"),
         ([name, "ls\r\x7f"], b"ls\r\n\x7f"),
@@ -248,7 +248,7 @@ def keys_have_the_form_that_the_program_asked_for(machine, _):
     ):
         check(fleet(url, "type", *words)[0] == 0, f"type {words}")
         wanted += sent
-        check(wait_for(lambda: got() == wanted), f"{words} arrive: {got()}")
+        check(wait_for(lambda: source.keys() == wanted), f"{words} arrive: {source.keys()}")
     status, _, said = fleet(url, "type", name, "3÷4")
     check(status == 2 and "no key of a VT220 sends '÷'" in said, f"a character without a key: {status}, {said}")
     types = OnTerminal(url, "view", "--type", name)
@@ -256,10 +256,10 @@ def keys_have_the_form_that_the_program_asked_for(machine, _):
     for typed, sent in (("œÿé\r".encode(), b"\xf7\xfd\xe9\r\n"), (b"\033[A\033[H\033[3~\x7f", b"\x8fA\x9b1~\x9b3~\x7f"), ("3÷".encode(), b"3")):
         os.write(types.master, typed)
         wanted += sent
-        check(wait_for(lambda: got() == wanted), f"{typed} arrives: {got()}")
+        check(wait_for(lambda: source.keys() == wanted), f"{typed} arrives: {source.keys()}")
     check(wait_for(lambda: types.has(b"\a")), "a character without a key rings")
     os.write(types.master, b"\x1d")
-    check(types.status() == 0 and got() == wanted, "and nothing else was sent")
+    check(types.status() == 0 and source.keys() == wanted, "and nothing else was sent")
 
 
 def a_viewer_follows_and_types_on_a_terminal(machine, _):
@@ -307,13 +307,9 @@ def sessions_are_looked_at_and_exported(machine, data):
         check(fleet(url, "text", name)[1].encode() == wanted("text", sent)[1], f"text, {when}")
         picture = subprocess.run([PROGRAM, "picture"], input=wanted("repaint", sent)[1], stdout=subprocess.PIPE).stdout
         check(fleet(url, "picture", name)[1].encode() == picture, f"picture, {when}")
-        raw = subprocess.run([local.COMMAND, "log", name], env=os.environ | {"FLEET_REDIS": url}, stdout=subprocess.PIPE).stdout
-        check(raw == sent, f"log, {when}")
+        check(fleet_bytes(url, "log", name)[1] == sent, f"log, {when}")
     check_asciicast(fleet(url, "export", name)[1], source.sent)
-    ttyrec = subprocess.run(
-        [local.COMMAND, "export", "--ttyrec", name], env=os.environ | {"FLEET_REDIS": url}, stdout=subprocess.PIPE
-    ).stdout
-    check_ttyrec(ttyrec, source.sent)
+    check_ttyrec(fleet_bytes(url, "export", "--ttyrec", name)[1], source.sent)
     check_page(name, url, source.sent)
 
 
@@ -331,16 +327,15 @@ def check_page(name, url, sent):
     with tempfile.NamedTemporaryFile("w") as template:
         template.write("@TITLE@|@PLAYERS@")
         template.flush()
-        environment = os.environ | {"FLEET_REDIS": url, "VT220_PAGE": template.name}
-        made = subprocess.run([local.COMMAND, "export", "--page", name], env=environment, stdout=subprocess.PIPE, text=True).stdout
-        none = subprocess.run([local.COMMAND, "export", "--page", name], env=environment | {"VT220_PAGE": ""}, capture_output=True, text=True)
+        made = fleet(url, "export", "--page", name, VT220_PAGE=template.name)[1]
+    status, out, said = fleet(url, "export", "--page", name, VT220_PAGE="")
     title, players = made.split("|", 1)
     recording = json.loads(re.search(r'<script type="application/json">(.*?)</script>', players, re.S)[1])
     data, chunks = (gzip.decompress(base64.b64decode(recording[part])) for part in ("bytes", "chunks"))
     lines = [tuple(map(int, line.split())) for line in chunks.splitlines()]
     check(title == name and data == sent and sum(size for _, size in lines) == len(sent), "a page has the title and all bytes")
     check({micros for micros, _ in lines} == {0, 150000, 300000}, "and its pace")
-    check(none.returncode == 1 and "make js" in none.stderr and none.stdout == "", "without a template there is no page")
+    check(status == 1 and "make js" in said and out == "", "without a template there is no page")
 
 
 def check_ttyrec(data, sent):

@@ -21,13 +21,17 @@ from fleet.view import Viewer
 held = []  # sockets that hold ports as long as this process lives
 
 
-def fleet(url, *words, config=None, data=None):
-    """Runs the command. Returns its exit status, and what it wrote."""
-    where = {"FLEET_REDIS": url} | ({"FLEET_CONFIG": config} if config else {})
-    done = subprocess.run(
-        [local.PYTHON, local.COMMAND, *words], env=os.environ | where, input=data, capture_output=True, timeout=PATIENCE
-    )
-    return done.returncode, done.stdout.decode(), done.stderr.decode()
+def fleet(url, *words, config=None, **where):
+    """Runs the command. Returns its exit status, and what it wrote as text."""
+    status, out, said = fleet_bytes(url, *words, **({"FLEET_CONFIG": config} if config else {}), **where)
+    return status, out.decode(), said.decode()
+
+
+def fleet_bytes(url, *words, **where):
+    """Runs the command, with more variables in its environment. Returns its exit status, and the bytes that it wrote."""
+    words, where = [local.PYTHON, local.COMMAND, *words], os.environ | {"FLEET_REDIS": url} | where
+    done = subprocess.run(words, env=where, stdin=subprocess.DEVNULL, capture_output=True, timeout=PATIENCE)
+    return done.returncode, done.stdout, done.stderr
 
 
 def the_store_of_run_is_this_users_alone(machine, _):
@@ -56,24 +60,12 @@ def the_program_learns_no_address(machine, _):
 def only_reports_reach_the_program(url, _):
     name, one = "reports", worker(url)
     true = [
-        b"\033[?62;1;6c",
-        b"\033[>1;10;0c",
-        b"\033[0n",
-        b"\033[24;132R",
-        b"\033[?13n",
-        b"\033[?27;1n",
-        b"\x9b?62;1;6c",
+        b"\033[?62;1;6c", b"\033[>1;10;0c", b"\033[0n", b"\033[24;132R", b"\033[?13n", b"\033[?27;1n", b"\x9b?62;1;6c",
         b"\x9b1;1R",
     ]
     check(all(REPORT.fullmatch(each) and len(each) <= REPORT_LIMIT for each in true), "all reports of the profile have the form")
     false = [
-        b"id -u > file\n",
-        b"\033[1;1R\n",
-        b"\033[1;1Rx",
-        b"",
-        b"\033[A",
-        b"\033[11111;1R",
-        b"\033[?62;1;6c\033[0n",
+        b"id -u > file\n", b"\033[1;1R\n", b"\033[1;1Rx", b"", b"\033[A", b"\033[11111;1R", b"\033[?62;1;6c\033[0n",
         b"\n\033[0n",
     ]
     source = Source(url, name).send(b"abc")
@@ -93,21 +85,8 @@ def every_report_of_the_terminal_has_the_form(_, __):
 
     terminal, chance, made = vt220.Terminal(), random.Random(3), set()
     asks = [
-        b"\033[c",
-        b"\033Z",
-        b"\033[>c",
-        b"\033[5n",
-        b"\033[6n",
-        b"\033[?15n",
-        b"\033[?26n",
-        b"\x9a",
-        b"\033 G",
-        b"\033 F",
-        b"\033[?6h",
-        b"\033[?3h",
-        b"\033[?5n",
-        b"\033[?25n",
-        b"\033[0c",
+        b"\033[c", b"\033Z", b"\033[>c", b"\033[5n", b"\033[6n", b"\033[?15n", b"\033[?26n", b"\x9a", b"\033 G",
+        b"\033 F", b"\033[?6h", b"\033[?3h", b"\033[?5n", b"\033[?25n", b"\033[0c",
     ]
     for _ in range(20000):
         data = b"\033[%d;%dH" % (chance.randrange(30), chance.randrange(140)) + chance.choice(asks) + chance.choice(asks)
@@ -146,6 +125,8 @@ def a_password_is_needed_and_read_from_a_file(machine, _):
     check(fleet(machine.url, "list", config=config)[0] == 0, "with it")
     status, _, said = fleet(machine.url, "list", config=conf(machine, "wrong", *PATIENT, f"password-file = {config}"))
     check(status == 77, f"with another: {status} {said}")
+    status, _, said = fleet(machine.url, "list", config=conf(machine, "none", "[store]", "give-up = 0.1", "password-file = /nowhere"))
+    check(status == 69 and said.splitlines()[-1].startswith("fleet: /nowhere: "), f"with one that can't be read: {status} {said}")
 
 
 USERS = ("host", "worker", "viewer", "typist", "operator")

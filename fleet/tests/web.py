@@ -208,10 +208,7 @@ def by_keyboard_alone(browser):
     browser.press("Enter", "\r", 13)
     check(browser.run("document.getElementById('title').textContent") == "top", "Enter chooses a session")
     for each in (
-        ("button", "editor, running"),
-        ("searchbox", "Filter"),
-        ("heading", "top"),
-        ("navigation", "Sessions"),
+        ("button", "editor, running"), ("searchbox", "Filter"), ("heading", "top"), ("navigation", "Sessions"),
         ("checkbox", "Announce changes"),
     ):
         check(wait_for(lambda: each in browser.tree()), f"a screen reader finds {each}")
@@ -374,7 +371,7 @@ def the_page_sends_the_keys_of_a_vt220(machine, _):
     """Under LNM, DECCKM and S8C1T. The bytes are those of the VT220's manual, chapter 3."""
     workers, served = Processes(machine, 1), Served(machine, "--typing")
     source = Source(machine.url, "keys", takes_input=True).listen().send(b"\033[20h\033[?1h\033 Gready")
-    got, wanted = (lambda: b"".join(what for kind, what in source.got if kind == "keys")), b""
+    wanted = b""
     browser = Browser(served.url)
     check(wait_for(lambda: browser.run("document.querySelectorAll('li').length") == 1), "the session is there")
     choose(browser, "keys")
@@ -397,7 +394,7 @@ def the_page_sends_the_keys_of_a_vt220(machine, _):
     ):
         pressed()
         wanted += sent
-        check(wait_for(lambda: got() == wanted), f"{sent} arrives: {got()}")
+        check(wait_for(lambda: source.keys() == wanted), f"{sent} arrives: {source.keys()}")
     refused = lambda: browser.run("document.getElementById('problem').textContent")
     browser.type("÷")
     check(wait_for(lambda: "no key of a VT220 sends '÷'" in refused()), f"a character without a key is refused: {refused()}")
@@ -436,11 +433,7 @@ async def connect_from_elsewhere(client, base):
 async def type_without_right(served, session):
     async with served.live(session) as socket:
         for bad in (
-            {"session": session, "text": "id\r"},
-            {"session": "x", "text": "y"},
-            {"session": session},
-            [],
-            "x",
+            {"session": session, "text": "id\r"}, {"session": "x", "text": "y"}, {"session": session}, [], "x",
             {"session": session, "key": "nosuch"},
         ):
             await socket.send_str(json.dumps(bad))

@@ -101,8 +101,8 @@ def an_older_worker_takes_no_such_session(url, _):
     check(source.store.hget(source.part("ended"), "text").decode().splitlines()[0] == SHOWN, "the text")
 
 
-def a_wrong_terminal_is_a_fault(url, _):
-    for terminal_name, encoding in (("xterm-256color", "utf-8"), ("xterm", "dec")):
+def a_wrong_language_is_a_fault(url, _):
+    for terminal_name, encoding in (("xterm-256color", "utf-8"), ("xterm", "dec"), ("vt220", "utf-7")):
         name, one = f"wrong terminal {terminal_name} {encoding}", worker(url)
         source = Source(url, name).send(b"x")
         source.store.hset(source.part("about"), mapping={"terminal": terminal_name, "encoding": encoding})
@@ -138,15 +138,11 @@ def keys_are_those_of_an_xterm(machine, _):
     source = Source(machine.url, name, takes_input=True, lease=600, **XTERM).send(b"here").listen()
     view = OnTerminal(machine.url, "view", "--type", name)
     check(wait_for(lambda: view.has(b"here")), "it is shown")
-
-    def got():
-        return b"".join(what for kind, what in source.got if kind == "keys")
-
     os.write(view.master, b"\033[1~\033[25~\033[A")
     wanted = b"\033[H\033[1;2P\033[A"
-    check(wait_for(lambda: got() == wanted), f"in a viewer: {got()}")
+    check(wait_for(lambda: source.keys() == wanted), f"in a viewer: {source.keys()}")
     source.send(b"\033[?1h")
     check(fleet(machine.url, "type", name, "\033[1~")[0] == 0, "type")
-    check(wait_for(lambda: got() == wanted + b"\033OH"), f"by type: {got()}")
+    check(wait_for(lambda: source.keys() == wanted + b"\033OH"), f"by type: {source.keys()}")
     os.write(view.master, b"\x1d")
     check(view.status() == 0, "the viewer leaves")

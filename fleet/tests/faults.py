@@ -1,7 +1,7 @@
 """Faults of workers and hosts: killed, stopped, names used again, poison, hostile sessions."""
 import signal
 
-from harness import Processes, Proxy, Source, check, compare, is_buried, key, keys, local, played, program, raises, stores, until, wait_for, worker
+from harness import Processes, Proxy, Source, check, compare, is_buried, key, keys, local, played, playing, program, raises, stores, until, wait_for, worker
 from fleet.host import Taken
 from fleet.worker import REPORTS
 
@@ -124,9 +124,8 @@ def a_name_is_used_again_after_an_end(url, data):
 
 
 def a_name_whose_host_died_is_used_again(url, data):
-    name, one = "died", worker(url)
-    first = Source(url, name).send(data + b"\033[c")
-    until(lambda: one.kept and not one.due, one)
+    name = "died"
+    first, one = playing(url, name, data + b"\033[c")
     try:
         Source(url, name)
         check(False, "not while the lease lasts")

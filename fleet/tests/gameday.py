@@ -10,7 +10,7 @@ import urllib.error
 
 from prometheus_client import CollectorRegistry, generate_latest
 
-from harness import Clock, HERE, PATIENCE, PATIENT, Processes, Proxy, Source, check, configured, keys, local, program
+from harness import Clock, HERE, PATIENCE, PATIENT, Processes, Proxy, Source, check, configured, keys, local, playing, program
 from harness import replace, settings, stores, until, wait_for
 from operators import asked, metrics_at, state
 from safety import fleet, free_port
@@ -197,9 +197,7 @@ def run_of(section, machine):
 
 def a_backup_is_restored(machine, data):
     """Hosts live on meanwhile, and the backup lacks what they sent after it."""
-    name, one = "backup", Worker(stores.connect(machine.url), settings(lease=3600))
-    source = Source(machine.url, name).send(data[:2000])
-    until(lambda: source.incarnation in one.kept and not one.due, one)
+    source, one = playing(machine.url, "backup", data[:2000], lease=3600)
     run_of("Backup of the store", machine)
     source.send(data[2000:] + b"\033[6n")
     run_of("Restore of the store", machine)
@@ -212,9 +210,7 @@ def a_backup_is_restored(machine, data):
 def a_store_is_upgraded(machine, data):
     """Debian has one version of Redis, which is also the oldest that has functions. So it writes the file in the form that all versions read, and
     is started again over this file alone."""
-    name, one = "upgrade", Worker(stores.connect(machine.url), settings(lease=3600))
-    source = Source(machine.url, name).send(data[:2000])
-    until(lambda: source.incarnation in one.kept and not one.due, one)
+    source, one = playing(machine.url, "upgrade", data[:2000], lease=3600)
     run_of("Upgrade of the store", machine)
     machine.server.wait()
     place = os.path.join(machine.folder, "appendonlydir")

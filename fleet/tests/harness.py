@@ -213,6 +213,13 @@ class Source:
         return (self.store.get(self.part("fault")) or b"").decode()
 
 
+def playing(url, name, data, **chosen):
+    """Returns a session and a worker of this process that has played its bytes."""
+    one, source = worker(url, **chosen), Source(url, name).send(data)
+    until(lambda: source.incarnation in one.kept and not one.due, one)
+    return source, one
+
+
 def made_up(chance, pieces):
     """Some recordings cut at random, with questions between."""
     parts = []

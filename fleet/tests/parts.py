@@ -6,7 +6,7 @@ import tempfile
 import redis
 
 from harness import (
-    PATIENCE, Source, check, children_of, compare, incarnation_of, key, keys, played, program, raises, replace, session, stores, until, wait_for, worker,
+    PATIENCE, Source, check, children_of, compare, incarnation_of, key, keys, played, playing, program, raises, replace, session, stores, until, wait_for, worker,
 )
 import load
 from fleet import frames
@@ -43,8 +43,7 @@ def another_worker_goes_on(url, data):
 
 
 def bytes_sent_twice_are_there_once(url, _):
-    name = "twice"
-    source = Source(url, name).send(b"abc")
+    source = Source(url, "twice").send(b"abc")
     source.host.append(3, 1, b"abc")
     source.send(b"def")
     now = session.as_it_is(source.store, source.incarnation)
@@ -54,9 +53,7 @@ def bytes_sent_twice_are_there_once(url, _):
 
 
 def damaged_checkpoints_are_noticed(url, data):
-    name, one = "damaged", worker(url)
-    source = Source(url, name).send(data)
-    until(lambda: any(s.at == len(data) for s in one.kept.values()), one)
+    source, one = playing(url, "damaged", data)
     whole = source.store.hgetall(source.part("checkpoint"))
     kept, damaged = session.restored("x", whole)
     check(kept.at > 0 and not damaged, "a whole one is taken")
@@ -105,9 +102,7 @@ def other_formats_are_named(url, data):
 
 
 def trimmed_streams_are_named(url, data):
-    name, one = "trimmed", worker(url)
-    source = Source(url, name).send(data)
-    until(lambda: any(s.at == len(data) for s in one.kept.values()), one)
+    source, one = playing(url, "trimmed", data)
     at = int(source.store.hget(source.part("checkpoint"), "at"))
     source.store.xtrim(source.part("bytes"), minid=f"{at}-0", approximate=False)
     check(session.as_it_is(source.store, source.incarnation).at == len(data), "up to the checkpoint nothing is missing")

@@ -7,7 +7,7 @@ import threading
 import time
 
 from harness import (
-    HERE, PATIENCE, Processes, Proxy, Source, check, compare, configured, incarnation_of, key, keys, outlast, played, program, raises, stores, until, wait_for, worker,
+    HERE, PATIENCE, Processes, Proxy, Source, check, compare, configured, incarnation_of, key, keys, outlast, played, playing, program, raises, stores, until, wait_for, worker,
 )
 from safety import free_port
 from fleet.host import WAITING, WentBack
@@ -75,9 +75,7 @@ def a_store_that_went_back_is_noticed(machine, data):
 
 def reports_that_the_store_lost_are_made_again(machine, _):
     """The store went back past a report that the host hadn't read. The worker that had sent it lives, and is ahead of the store."""
-    name, one = "lost report", worker(machine.url)
-    source = Source(machine.url, name).send(b"ab")
-    until(lambda: one.kept and not one.due, one)
+    source, one = playing(machine.url, "lost report", b"ab")
     source.send(b"\033[6n")
     until(lambda: source.store.xlen(source.part("answers")) == 1, one)
     cut_back(machine, lambda gone: gone.count(b"bytes\r\n") > 1)
@@ -91,10 +89,7 @@ def reports_that_the_store_lost_are_made_again(machine, _):
 
 def what_cannot_be_rebuilt_is_a_named_fault(machine, data):
     """The store lost more than the host can send again."""
-    name = "lost"
-    one = worker(machine.url, keep=1000)
-    source = Source(machine.url, name).send(data)
-    until(lambda: one.kept and not one.due, one)
+    source, one = playing(machine.url, "lost", data, keep=1000)
     source.host.held.clear()
     source.host.held_from = source.host.at
     source.store.flushall()
@@ -106,14 +101,11 @@ def what_cannot_be_rebuilt_is_a_named_fault(machine, data):
 
 def a_store_without_persistence_is_refused_and_rebuilt(machine, data):
     """It is started anew, and empty. Whoever allows that gets what hosts can send again."""
-    name = "no persistence"
     machine.kill()
     machine.start("--appendonly", "no")
     check(raises(stores.Unfit, stores.connect(machine.url).examine), "it is refused")
     stores.connect(machine.url).examine(True)
-    one = worker(machine.url)
-    source = Source(machine.url, name).send(data)
-    until(lambda: one.kept and not one.due, one)
+    source, one = playing(machine.url, "no persistence", data)
     source.receive()
     machine.kill()
     machine.start("--appendonly", "no")
@@ -302,9 +294,7 @@ def a_failover_is_followed(machine, data):
     check(raises(ValueError, stores.connect, "sentinel://127.0.0.1/fleet"), "so is an address that is none")
     wait_for(lambda: asked.execute_command("SENTINEL", "REPLICAS", "fleet"))
     stores.connect(url).examine()
-    one = worker(url, lease=20)
-    source = Source(url, name).send(data)
-    check(until(lambda: one.kept and not one.due, one), "it is played")
+    source, one = playing(url, name, data, lease=20)
     wait_for(lambda: second.info("replication").get("master_link_status") == "up")
     source.store.execute_command("WAIT", 1, 0)
     machine.kill()

@@ -5,7 +5,8 @@ import os
 import random
 
 from harness import (
-    PATIENCE, Processes, Source, another_daemon, bury, check, keys, program, session, settings, stores, until, wait_for, worker, written,
+    PATIENCE, Processes, Source, another_daemon, bury, check, keys, program, session, settings, stores, until, wait_for,
+    worker, written,
 )
 from operators import OnTerminal
 from safety import fleet

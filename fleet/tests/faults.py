@@ -1,7 +1,10 @@
 """Faults of workers and hosts: killed, stopped, names used again, poison, hostile sessions."""
 import signal
 
-from harness import Processes, Proxy, Source, check, compare, is_buried, key, keys, local, played, playing, program, raises, stores, until, wait_for, worker
+from harness import (
+    Processes, Proxy, Source, check, compare, is_buried, key, keys, local, played, playing, program, raises, stores,
+    until, wait_for, worker,
+)
 from fleet.host import Taken
 from fleet.worker import REPORTS
 

@@ -10,8 +10,10 @@ import urllib.error
 
 from prometheus_client import CollectorRegistry, generate_latest
 
-from harness import Clock, HERE, PATIENCE, PATIENT, Processes, Proxy, Source, check, configured, keys, local, playing, program
-from harness import replace, settings, stores, until, wait_for
+from harness import (
+    Clock, HERE, PATIENCE, PATIENT, Processes, Proxy, Source, check, configured, keys, local, playing, program, replace,
+    settings, started, stores, until, wait_for,
+)
 from operators import asked, metrics_at, state
 from safety import fleet, free_port
 from fleet import config, metrics
@@ -232,6 +234,7 @@ def a_target_is_down(machine, _):
     def served():
         words = [local.PYTHON, local.COMMAND, "metrics", f"127.0.0.1:{port}"]
         made = subprocess.Popen(words, env=os.environ | {"FLEET_REDIS": machine.url})
+        started.callback(made.kill)
         check(wait_for(of_port(port)), "it serves")
         day.look()
         return made

@@ -6,7 +6,10 @@ import signal
 import time
 
 import load
-from harness import Processes, Source, bury, check, compare, incarnation_of, key, keys, program, raises, settings, stores, until, wait_for, worker
+from harness import (
+    Processes, Source, bury, check, compare, incarnation_of, key, keys, program, raises, settings, stores, until,
+    wait_for, worker,
+)
 from safety import fleet
 from operators import OnTerminal
 from web import Served

@@ -17,8 +17,8 @@ import urllib.error
 import urllib.request
 
 from harness import (
-    HERE, PATIENCE, PATIENT, PROGRAM, Processes, Source, check, children_of, configured, incarnation_of, key, keys, local, program, raises, stores, until, wait_for, wanted,
-    worker, written,
+    HERE, PATIENCE, PATIENT, PROGRAM, Processes, Source, check, children_of, configured, incarnation_of, key, keys,
+    local, program, raises, stores, until, wait_for, wanted, worker, written,
 )
 from fleet import claims, config, host, metrics
 from fleet.config import Settings, Unclear

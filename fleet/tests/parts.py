@@ -6,7 +6,8 @@ import tempfile
 import redis
 
 from harness import (
-    PATIENCE, Source, check, children_of, compare, incarnation_of, key, keys, played, playing, program, raises, replace, session, stores, until, wait_for, worker,
+    PATIENCE, Source, check, children_of, compare, incarnation_of, key, keys, played, playing, program, raises, replace,
+    session, stores, until, wait_for, worker,
 )
 import load
 from fleet import frames
@@ -14,6 +15,47 @@ from fleet.host import Taken
 from fleet.operate import Typist
 from fleet.store import has_come, packed
 from fleet.view import Viewer
+
+
+MOST_CALLS, MOST_CALLS_TOLD = 50, 120  # for an entry, and for a session that the store is told of
+
+
+def calls_of(work):
+    """Returns how many functions Python calls meanwhile, those in C among them."""
+    count = 0
+
+    def note(_frame, event, _what):
+        nonlocal count
+        count += event in ("call", "c_call")
+
+    sys.setprofile(note)
+    try:
+        work()
+    finally:
+        sys.setprofile(None)
+    return count
+
+
+def an_entry_costs_a_worker_few_calls(url, _):
+    """A turn with an entry of each of many typists, and what the store is told of them. Calls are counted, and no time."""
+    count, one = 100, worker(url, lease=3600, every=10**6)
+    sessions = load.Sessions(url, count)
+    until(lambda: len(one.kept) == count and not one.due, one)
+    one.noted = one.swept = float("inf")  # nothing but these entries is due
+
+    def play():
+        played = one.counts["entries"] + count
+        until(lambda: one.counts["entries"] == played, one)
+
+    def calls_of_a_play():
+        sessions.send(sessions.incarnations, b"x" * 70)
+        return calls_of(play)
+
+    # The first time other things happen, too, and messages may come in parts.
+    made = min(calls_of_a_play() for _ in range(4)) / count
+    check(made <= MOST_CALLS, f"an entry: {made}")
+    told = min(calls_of(lambda: one.tell(list(one.kept.values()))) for _ in range(3)) / count
+    check(told <= MOST_CALLS_TOLD, f"what the store is told: {told}")
 
 
 def reports_are_at_what_they_answer(url, _):
@@ -208,9 +250,6 @@ def a_store_that_resets_a_connection_is_away(_url, _):
         listener.close()
 
 
-MOST_CALLS, MOST_CALLS_TOLD = 50, 120  # for an entry, and for a session that the store is told of
-
-
 def a_lease_brings_back_what_the_store_lost(url, _):
     name, one = "renewal", worker(url)
     source = Source(url, name, takes_input=True).send(b"x")
@@ -249,41 +288,3 @@ def the_sessions_of_a_machine_cost_the_store_one_call_a_beat(machine, _):
     Typist(store, incarnation).signal(9)
     check(holders[0].wait(PATIENCE) == 137, "each is reached by itself")
     machine.kill_daemon()
-
-
-def calls_of(work):
-    """Returns how many functions Python calls meanwhile, those in C among them."""
-    count = 0
-
-    def note(_frame, event, _what):
-        nonlocal count
-        count += event in ("call", "c_call")
-
-    sys.setprofile(note)
-    try:
-        work()
-    finally:
-        sys.setprofile(None)
-    return count
-
-
-def an_entry_costs_a_worker_few_calls(url, _):
-    """A turn with an entry of each of many typists, and what the store is told of them. Calls are counted, and no time."""
-    count, one = 100, worker(url, lease=3600, every=10**6)
-    sessions = load.Sessions(url, count)
-    until(lambda: len(one.kept) == count and not one.due, one)
-    one.noted = one.swept = float("inf")  # nothing but these entries is due
-
-    def play():
-        played = one.counts["entries"] + count
-        until(lambda: one.counts["entries"] == played, one)
-
-    def calls_of_a_play():
-        sessions.send(sessions.incarnations, b"x" * 70)
-        return calls_of(play)
-
-    # The first time other things happen, too, and messages may come in parts.
-    made = min(calls_of_a_play() for _ in range(4)) / count
-    check(made <= MOST_CALLS, f"an entry: {made}")
-    told = min(calls_of(lambda: one.tell(list(one.kept.values()))) for _ in range(3)) / count
-    check(told <= MOST_CALLS_TOLD, f"what the store is told: {told}")

@@ -10,8 +10,8 @@ import tempfile
 import types
 
 from harness import (
-    HERE, HOLDER, PATIENCE, PATIENT, Processes, Source, check, incarnation_of, key, keys, local, played, program, raises, stores, until, wait_for, worker,
-    written,
+    HERE, HOLDER, PATIENCE, PATIENT, Processes, Source, check, incarnation_of, key, keys, local, played, program,
+    raises, stores, until, wait_for, worker, written,
 )
 from fleet import wire
 from fleet.host import REPORT, REPORT_LIMIT

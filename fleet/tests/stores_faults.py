@@ -7,7 +7,8 @@ import threading
 import time
 
 from harness import (
-    HERE, PATIENCE, Processes, Proxy, Source, check, compare, configured, incarnation_of, key, keys, outlast, played, playing, program, raises, stores, until, wait_for, worker,
+    HERE, PATIENCE, Processes, Proxy, Source, check, compare, configured, incarnation_of, key, keys, outlast, played,
+    playing, program, raises, started, stores, until, wait_for, worker,
 )
 from safety import free_port
 from fleet.host import WAITING, WentBack
@@ -277,7 +278,7 @@ def the_clock_may_jump(machine, data):
 
 def a_failover_is_followed(machine, data):
     """The store's address is that of a sentinel. The master is killed, and the replica takes its place."""
-    name, ports, processes = "failover", [free_port() for _ in range(3)], []
+    ports = [free_port() for _ in range(3)]
     machine.kill()
     machine.start("--port", str(ports[0]), "--repl-diskless-sync-delay", "0")
     replica, conf = os.path.join(machine.folder, "replica"), os.path.join(machine.folder, "sentinel.conf")
@@ -287,22 +288,20 @@ def a_failover_is_followed(machine, data):
         file.write("sentinel down-after-milliseconds fleet 3000\nsentinel failover-timeout fleet 10000\n")
     words = ["--port", str(ports[1]), "--dir", replica, "--replicaof", "127.0.0.1", str(ports[0])]
     for each in (["redis-server", *words, "--appendonly", "yes", "--appendfsync", "always"], ["redis-server", conf, "--sentinel"]):
-        processes.append(subprocess.Popen(each, stdout=subprocess.DEVNULL))
+        started.callback(subprocess.Popen(each, stdout=subprocess.DEVNULL).kill)
     url = f"sentinel://127.0.0.1:{ports[2]}/fleet"
     asked, second = stores.connect(f"redis://127.0.0.1:{ports[2]}"), stores.connect(f"redis://127.0.0.1:{ports[1]}")
     check(raises(stores.Unfit, asked.examine), "a sentinel's own address is refused")
     check(raises(ValueError, stores.connect, "sentinel://127.0.0.1/fleet"), "so is an address that is none")
     wait_for(lambda: asked.execute_command("SENTINEL", "REPLICAS", "fleet"))
     stores.connect(url).examine()
-    source, one = playing(url, name, data, lease=20)
+    source, one = playing(url, "failover", data, lease=20)
     wait_for(lambda: second.info("replication").get("master_link_status") == "up")
     source.store.execute_command("WAIT", 1, 0)
     machine.kill()
-    source.send(b"abc\033[6n").end(0)
-    check(until(source.is_ended, one), "host and worker go on with the replica")
-    check(source.store.info("replication")["role"] == "master" and second.info("replication")["role"] == "master", "as the master")
-    source.receive()
-    compare(source)
+    source.send(b"abc\033[6n")
+    source.ends(one)
+    check(source.store.info("replication")["role"] == "master" and second.info("replication")["role"] == "master", "on the new master")
 
 
 def a_cluster_is_refused(machine, _):

@@ -7,7 +7,8 @@ import threading
 import time
 
 from harness import (
-    PATIENCE, QUERIES, Processes, Proxy, Source, check, compare, compare_screen, configured, keys, made_up, recordings, stores, wait_for, wanted,
+    PATIENCE, Processes, Proxy, QUERIES, Source, check, compare, compare_screen, configured, keys, made_up, recordings,
+    stores, wait_for, wanted,
 )
 from stores_faults import cut_back, shimmed
 from fleet.host import Taken

@@ -6,8 +6,8 @@ import subprocess
 import sys
 
 from harness import (
-    HOLDER, another_daemon, Clock, PATIENCE, PATIENT, Processes, Source, bury, check, configured, incarnation_of, key, keys, outlast, program, raises, replace, settings,
-    stores, until, wait_for, wanted, worker, written,
+    Clock, HOLDER, PATIENCE, PATIENT, Processes, Source, another_daemon, bury, check, configured, incarnation_of, key,
+    keys, outlast, program, raises, replace, settings, stores, until, wait_for, wanted, worker, written,
 )
 from safety import fleet
 from fleet import claims, wire

@@ -4,7 +4,8 @@ import os
 import random
 
 from harness import (
-    PATIENCE, Processes, Source, another_daemon, check, keys, program, raises, session, settings, stores, until, wait_for, worker, written,
+    PATIENCE, Processes, Source, another_daemon, check, keys, program, raises, session, settings, stores, until,
+    wait_for, worker, written,
 )
 from characters import cut_anywhere, played, taken_by_newer_workers
 from operators import OnTerminal

@@ -184,6 +184,8 @@ def poison_harms_its_session_alone(url, data):
     bad = {
         "without bytes": lambda s: store.xadd(s.part("bytes"), {"v": keys.version(), "text": "x"}, id="9-0"),
         "a status that is none": lambda s: store.xadd(s.part("bytes"), {"v": keys.version(), "status": "x"}, id="0-2"),
+        "a checkpoint of no format": lambda s: store.hset(s.part("checkpoint"), mapping=keys.checkpoint(0, b"") | {"v": "9"}),
+        "an entry of no format": lambda s: store.xadd(s.part("bytes"), {"v": "9", "bytes": "abc"}, id="3-0"),
         "no version": lambda s: store.xadd(s.part("bytes"), {"bytes": "abc"}, id="3-0"),
         "longer than its position": lambda s: store.xadd(s.part("bytes"), {"v": keys.version(), "bytes": "abcdef"}, id="3-0"),
         "another number": lambda s: store.xadd(s.part("bytes"), {"v": keys.version(), "bytes": "abc"}, id="3-7"),
@@ -200,10 +202,10 @@ def poison_harms_its_session_alone(url, data):
     store.zadd(keys.WAITING, {b"\xff\xfe": 1, "nobody": 1})
     ok = until(lambda: all(source.fault() for source in poisoned), one)
     check(ok, f"each has a fault: {[source.name for source in poisoned if not source.fault()]}")
-    good.send(b"\033[6n").end(0)
-    check(until(good.is_ended, one), "the innocent session lives")
-    good.receive()
-    compare(good)
+    named = [source.fault() for source in poisoned if source.name.endswith(("format", "version"))]
+    check(len(named) == 3 and all(fault.startswith("Version") for fault in named), f"those of no format are named: {named}")
+    good.send(b"\033[6n")
+    good.ends(one)
     check(store.zcard(keys.WAITING) == 0, "nothing is left that a worker could die of")
 
 

@@ -122,16 +122,7 @@ def damaged_checkpoints_are_noticed(url, data):
     source.ends(other)
 
 
-def other_formats_are_named(url, data):
-    for part, name in (("checkpoint", "a checkpoint of no format"), ("bytes", "an entry of no format")):
-        one = worker(url)
-        source = Source(url, name)
-        if part == "checkpoint":
-            source.store.hset(source.part(part), mapping=keys.checkpoint(0, b"") | {"v": "9"})
-        else:
-            source.store.xadd(source.part(part), {"v": "9", "bytes": "abc"}, id="3-0")
-        check(until(source.fault, one), "is a fault")
-        check(source.fault().startswith("Version"), source.fault())
+def what_is_written_has_its_format(url, _):
     source = Source(url, "versions").send(b"\033[c")
     one = worker(url, every=1)
     until(lambda: source.store.exists(source.part("checkpoint")), one)

@@ -47,8 +47,7 @@ def do_worker(words, settings):
     for name in ("every", "lease", "keep", "most", "retain", "metrics"):
         if getattr(words, name) is not None:
             setattr(chosen, name, None if getattr(words, name) == "all" else getattr(words, name))
-    store = settings.connect(waits=True)
-    store.examine(settings.store.unsafe)
+    store = settings.connect(waits=True, is_examined=True)
     worker = Worker(store, chosen)
     if chosen.metrics:
         from .metrics import WorkerMetrics, serve
@@ -93,8 +92,7 @@ def do_daemon(words, settings):
     from .wire import path_of
 
     hide()
-    store = settings.connect(waits=True)
-    store.examine(settings.store.unsafe)
+    store = settings.connect(waits=True, is_examined=True)
     daemon = Daemon(store, settings.host, path_of(settings.host))
     address = words.metrics or settings.host.metrics
     if address:
@@ -118,8 +116,7 @@ def replay(settings, words, language):
     """Sends a file's bytes as a session, at `rate` bytes a second, in twenty parts a second."""
     from .host import Host
 
-    store = settings.connect(waits=True)
-    store.examine(settings.store.unsafe)
+    store = settings.connect(waits=True, is_examined=True)
     host = Host(store, words.name, settings.host.lease, words.input or settings.host.input, words.replay, None, *language)
     host.register()
     with open(words.replay, "rb") as file:
@@ -154,25 +151,17 @@ def do_view(store, incarnation, words):
 
 
 @of_session
-def do_text(store, incarnation, words):
-    from .session import as_it_is
-
-    sys.stdout.write(as_it_is(store, incarnation).terminal.text())
-
-
-@of_session
-def do_repaint(store, incarnation, words):
-    from .session import as_it_is
-
-    sys.stdout.buffer.write(as_it_is(store, incarnation).terminal.repaint("vt220"))
-
-
-@of_session
-def do_picture(store, incarnation, words):
+def do_screen(store, incarnation, words):
+    """Writes the screen as text, as bytes for another terminal, or as a picture."""
     from .export import picture
     from .session import as_it_is
 
-    sys.stdout.buffer.write(picture(as_it_is(store, incarnation).terminal.repaint("vt220")))
+    terminal = as_it_is(store, incarnation).terminal
+    if words.word == "text":
+        sys.stdout.write(terminal.text())
+    else:
+        repaint = terminal.repaint("vt220")
+        sys.stdout.buffer.write(picture(repaint) if words.word == "picture" else repaint)
 
 
 @of_session
@@ -213,40 +202,15 @@ def do_type(store, incarnation, words):
     typist.leave()
 
 
-def do_list(words, settings):
-    from .operate import show_list
+def of_operator(name, *options):
+    """Returns a command that calls a function of operate.py with the store and these options."""
 
-    return show_list(settings.connect(), words.json, words.all)
+    def do(words, settings):
+        from . import operate
 
+        return getattr(operate, name)(settings.connect(), *(getattr(words, each) for each in options))
 
-def do_workers(words, settings):
-    from .operate import workers
-
-    return workers(settings.connect(), words.json)
-
-
-def do_kill(words, settings):
-    from .operate import kill
-
-    return kill(settings.connect(), words.name, words.signal, words.patience)
-
-
-def do_end(words, settings):
-    from .operate import end
-
-    return end(settings.connect(), words.name, words.keep, words.force)
-
-
-def do_retry(words, settings):
-    from .operate import retry
-
-    return retry(settings.connect(), words.name)
-
-
-def do_drain(words, settings):
-    from .operate import drain
-
-    return drain(settings.connect(), words.worker, words.patience)
+    return do
 
 
 def do_check(words, settings):
@@ -259,8 +223,7 @@ def do_check(words, settings):
 
 
 def do_prepare(words, settings):
-    store = settings.connect()
-    store.examine(settings.store.unsafe)
+    store = settings.connect(is_examined=True)
     print(f"the store has the functions of {store.prepare(words.alone)} version(s)")
     return 0
 
@@ -311,13 +274,12 @@ def add_viewers(add):
     each = add("view", do_view, "follows a session on this terminal")
     each.add_argument("--type", action="store_true", help="sends keys to the session; Ctrl-] ends the view")
     each.add_argument("name")
-    named = [
-        ("text", do_text, "prints the screen as text"),
-        ("picture", do_picture, "writes the screen as SVG"),
-        ("repaint", do_repaint, "writes bytes that leave a terminal in the session's state"),
+    for name, do, words in (
+        ("text", do_screen, "prints the screen as text"),
+        ("picture", do_screen, "writes the screen as SVG"),
+        ("repaint", do_screen, "writes bytes that leave a terminal in the session's state"),
         ("log", do_log, "writes the bytes that the session's program wrote"),
-    ]
-    for name, do, words in named:
+    ):
         add(name, do, words).add_argument("name")
     each = add("export", do_export, "writes a recording with its times, as asciicast 2 or ttyrec, or a page that plays it")
     form = each.add_mutually_exclusive_group()
@@ -336,22 +298,22 @@ def add_viewers(add):
 
 
 def add_operators(add):
-    each = add("list", do_list, "lists the sessions")
+    each = add("list", of_operator("show_list", "json", "all"), "lists the sessions")
     each.add_argument("--all", action="store_true", help="also lists ended sessions")
     each.add_argument("--json", action="store_true", help="prints a line of JSON for each")
-    each = add("workers", do_workers, "lists the workers")
+    each = add("workers", of_operator("workers", "json"), "lists the workers")
     each.add_argument("--json", action="store_true", help="prints a line of JSON for each")
-    each = add("kill", do_kill, "sends a signal to a session's program, and waits until it ends")
+    each = add("kill", of_operator("kill", "name", "signal", "patience"), "sends a signal to a session's program, and waits until it ends")
     each.add_argument("--signal", choices=("HUP", "INT", "TERM", "KILL"), default="HUP", help="the signal (HUP)")
     each.add_argument("--patience", type=option(seconds, "patience"), default=10, help="the longest wait, such as 30s (10s)")
     each.add_argument("name")
-    each = add("end", do_end, "ends a session that has no host")
+    each = add("end", of_operator("end", "name", "keep", "force"), "ends a session that has no host")
     each.add_argument("--keep", type=option(seconds, "keep"), help="how long it stays in the store, such as 7d, or 0 (for ever)")
     each.add_argument("--force", action="store_true", help="also if its host is alive")
     each.add_argument("name")
-    each = add("retry", do_retry, "has workers try sessions with a fault again")
+    each = add("retry", of_operator("retry", "name"), "has workers try sessions with a fault again")
     each.add_argument("name", nargs="+")
-    each = add("drain", do_drain, "moves a worker's sessions to other workers, and ends it")
+    each = add("drain", of_operator("drain", "worker", "patience"), "moves a worker's sessions to other workers, and ends it")
     each.add_argument("--patience", type=option(seconds, "patience"), default=10, help="the longest wait, such as 30s (10s)")
     each.add_argument("worker", help="its name, or the beginning of its name")
     each = add("metrics", do_metrics, "serves metrics of the whole fleet for Prometheus, at /metrics, and /healthz")

@@ -139,9 +139,11 @@ class Settings:
                 raise Unclear(f"{path}: [{section}] has no setting {name}; its settings are {', '.join(kinds)}")
             setattr(getattr(self, section), name, value_of(kinds[name], text, f"{path}: [{section}] {name}", name))
 
-    def connect(self, waits=False):
-        """Returns the store. If `waits` is true, its calls wait for ever, otherwise at most give-up seconds. The password is from
-        its file, so that it is on no command line and in no environment. FLEET_USER names its user."""
+    def connect(self, waits=False, is_examined=False):
+        """Returns the store. If `waits` is true, its calls wait for ever, otherwise at most give-up seconds. If `is_examined` is true, it can
+        keep a fleet. The password is from its file, so that it is on no command line and in no environment. FLEET_USER names its user."""
         store = connect(self.store.url, self.store.password_file, os.environ.get("FLEET_USER"), socket_timeout=self.store.timeout)
         store.patience = None if waits else self.store.give_up
+        if is_examined:
+            store.examine(self.store.unsafe)
         return store

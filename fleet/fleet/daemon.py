@@ -228,6 +228,11 @@ class Daemon:
         with self.lock:
             return list(self.sessions.values())
 
+    def totals(self):
+        """Returns how much all sessions gave and were given, those that are over included: each one is counted once."""
+        with self.lock:
+            return sum((collections.Counter(each.counts()) for each in self.sessions.values()), collections.Counter(self.counts))
+
     # The store.
 
     def wake(self):

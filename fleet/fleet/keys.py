@@ -59,16 +59,8 @@ class Language(NamedTuple):
 DEC, UTF8, XTERM = Language(), Language("utf-8"), Language("utf-8", "xterm")
 NEEDED = {DEC: OLDEST, UTF8: 3, XTERM: 4}  # the oldest format in which a session of a language is written
 ALL, LIVE, NAMES, WAITING, SUSPECTS, TRYING, FOREIGN, WORKERS, DRAINING, UNFIT = (
-    "fleet:all",
-    "fleet:live",
-    "fleet:names",
-    "fleet:waiting",
-    "fleet:suspects",
-    "fleet:trying",
-    "fleet:foreign",
-    "fleet:workers",
-    "fleet:draining",
-    "fleet:unfit",
+    "fleet:all", "fleet:live", "fleet:names", "fleet:waiting", "fleet:suspects", "fleet:trying", "fleet:foreign",
+    "fleet:workers", "fleet:draining", "fleet:unfit",
 )
 NEW = "fleet:new"
 NAME_LIMIT = 200

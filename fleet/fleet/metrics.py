@@ -93,12 +93,12 @@ class DaemonMetrics:
         return found
 
     def collect(self):
-        programs, now = self.daemon.all(), time.monotonic()
+        programs, totals, now = self.daemon.all(), self.daemon.totals(), time.monotonic()
         yield gauge("host_unplayed_bytes", "Bytes in the store that no worker has played, as far as this daemon knows", sum(max(0, each.host.stored - each.host.played) for each in programs))
         yield gauge("host_lag_bytes", "Bytes of its programs that the store doesn't have", sum(max(0, each.end - each.host.stored) for each in programs))
         yield gauge("host_lag_seconds", "Seconds for which the same bytes of a program are being sent, at most", max((now - since for each in programs if (since := each.sends_since) is not None), default=0))
-        yield counter("host_bytes", "Bytes of its programs that the store has taken from this daemon", self.daemon.counts["bytes"] + sum(each.counts()["bytes"] for each in programs))
-        yield counter("host_inputs", "Keys and reports that its programs were given", self.daemon.counts["inputs"] + sum(each.counts()["inputs"] for each in programs))
+        yield counter("host_bytes", "Bytes of its programs that the store has taken from this daemon", totals["bytes"])
+        yield counter("host_inputs", "Keys and reports that its programs were given", totals["inputs"])
         yield counted(GaugeMetricFamily, "host_programs", "Its programs by their state", "state", self.states())
         yield from of_store(self.daemon.store)
 

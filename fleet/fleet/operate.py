@@ -131,12 +131,7 @@ def show_list(store, is_json, is_all):
     rows = [COLUMNS]
     for each in listed:
         row = [
-            each["name"],
-            each["state"],
-            each["host"],
-            each["worker"] or "-",
-            str(each["lag"]),
-            str(each["size"]),
+            each["name"], each["state"], each["host"], each["worker"] or "-", str(each["lag"]), str(each["size"]),
             ago(each["seen"]),
         ]
         rows.append(row)

@@ -9,13 +9,7 @@ from urllib.parse import unquote, urlsplit
 
 import redis
 from redis.exceptions import (
-    AuthenticationError,
-    BusyLoadingError,
-    ConnectionError,
-    NoPermissionError,
-    ReadOnlyError,
-    RedisError,
-    ResponseError,
+    AuthenticationError, BusyLoadingError, ConnectionError, NoPermissionError, ReadOnlyError, RedisError, ResponseError,
     TimeoutError,
 )
 from redis.sentinel import Sentinel, SentinelConnectionPool
@@ -37,8 +31,12 @@ UNSAFE = "appendonly is off: what the store acknowledges is lost when it stops"
 
 
 def read_password(path):
-    with open(path) as file:
-        return file.read().strip()
+    """Returns a file's password. If it can't be read, the connection fails, and is tried again as one to a store that is away."""
+    try:
+        with open(path) as file:
+            return file.read().strip()
+    except OSError as error:
+        raise ConnectionError(f"{path}: {error.strerror}") from error
 
 
 class Unfit(Exception):

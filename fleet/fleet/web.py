@@ -195,9 +195,9 @@ class Page:
                 del news["order"]
             order = news.get("order", order)
             if news.get("news") or "order" in news or first:
-                text = json.dumps(news | first)
+                text, first = json.dumps(news | first), {}
+                self.sent += len(text)
                 await socket.send_str(text)
-                self.sent, first = self.sent + len(text), {}
             await asyncio.sleep(PAUSE)
 
     async def receive(self, socket):

@@ -8,28 +8,23 @@ import tempfile
 
 import aiohttp
 
-from harness import PATIENCE, wait_for
+from harness import PATIENCE, started, wait_for
 
 
 class Browser:
     """A page in a browser. All calls wait until they are done."""
 
     def __init__(self, url, width=1500, height=900):
-        self.loop = asyncio.new_event_loop()
+        self.loop, self.client, self.number, self.said = asyncio.new_event_loop(), None, 0, []
         self.folder = tempfile.mkdtemp(prefix="browser-")
         words = [
-            "chromium",
-            "--headless=new",
-            "--no-sandbox",
-            "--disable-gpu",
-            "--disable-dev-shm-usage",
-            "--no-first-run",
+            "chromium", "--headless=new", "--no-sandbox", "--disable-gpu", "--disable-dev-shm-usage", "--no-first-run",
             "--remote-debugging-port=0",
         ]
         words += [f"--user-data-dir={self.folder}", f"--window-size={width},{height}", "about:blank"]
         self.process = subprocess.Popen(words, stdout=subprocess.DEVNULL, stderr=subprocess.DEVNULL, start_new_session=True)
+        started.callback(self.stop)
         wait_for(self.listens)
-        self.number, self.said = 0, []
         self.do(self.open(url))
 
     def listens(self):
@@ -102,7 +97,8 @@ class Browser:
             file.write(base64.b64decode(data))
 
     def stop(self):
-        self.do(self.client.close())
+        if self.client:
+            self.do(self.client.close())
         os.killpg(self.process.pid, 9)
         self.process.wait()
         subprocess.run(["rm", "-rf", self.folder])

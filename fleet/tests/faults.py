@@ -2,23 +2,8 @@
 import signal
 
 from harness import (
-    Processes,
-    Proxy,
-    Source,
-    check,
-    compare,
-    is_buried,
-    key,
-    keys,
-    local,
-    played,
-    program,
-    raises,
-    stores,
-    until,
-    wait_for,
-    with_machine,
-    worker,
+    Processes, Proxy, Source, check, compare, is_buried, key, keys, local, played, playing, program, raises, stores,
+    until, wait_for, worker,
 )
 from fleet.host import Taken
 from fleet.worker import REPORTS
@@ -28,16 +13,14 @@ def owners(store, sources):
     return {source.name: store.hget(source.part("about"), "owner") for source in sources}
 
 
-@with_machine
 def four_hundred_idle_sessions_outlive_their_worker(machine, _):
-    name, url = "400 idle", machine.url
+    url = machine.url
     sources = [Source(url, f"idle-{number}").send(b"Session %d\033[6n" % number) for number in range(400)]
     store, workers = sources[0].store, Processes(machine, 1, "--lease", "1")
     check(
         wait_for(
             lambda: store.scard(keys.of(store.hkeys(keys.WORKERS)[0].decode())) == 400 if store.hlen(keys.WORKERS) else False
         ),
-        name,
         "one has all",
     )
     workers.all[0].send_signal(signal.SIGKILL)
@@ -49,14 +32,13 @@ def four_hundred_idle_sessions_outlive_their_worker(machine, _):
         have = owners(store, sources)
         return all(owner and owner != dead for owner in have.values())
 
-    check(wait_for(are_moved), name, "all are another's")
+    check(wait_for(are_moved), "all are another's")
     for source in sources:
         source.send(b"!\033[6n").end(0)
-    check(wait_for(lambda: all(source.is_ended() for source in sources)), name, "they go on")
+    check(wait_for(lambda: all(source.is_ended() for source in sources)), "they go on")
     for source in sources:
         source.receive(0)
-    check(all(source.reports() == played(source.sent)[1] for source in sources), name, "each report once")
-    workers.stop()
+    check(all(source.reports() == played(source.sent)[1] for source in sources), "each report once")
 
 
 def a_slow_worker_harms_no_session(url, data):
@@ -69,22 +51,18 @@ def a_slow_worker_harms_no_session(url, data):
     source.send(data[3000:])
     until(lambda: any(s.at == len(data) for s in other.kept.values()), other)
     first = source.store.xrange(source.part("bytes"), count=1)[0][0]
-    check(keys.position(first) > 4000, name, "the owner has trimmed past the slow one")
+    check(keys.position(first) > 4000, "the owner has trimmed past the slow one")
     # The slow one wakes in the midst of a turn, where it doesn't look whose the session is.
     kept = slow.kept[source.incarnation]
     slow.read([kept])
     slow.guarded(source.incarnation, slow.play, kept, 65536)
-    check(source.fault() == "" and source.incarnation in other.kept, name, "the session lives, at its owner")
-    check(source.incarnation not in slow.kept, name, "the slow one lets go")
-    source.send(b"\033[c").end(0)
-    check(until(source.is_ended, slow, other), name, "it ends")
-    source.receive()
-    compare(source, name)
+    check(source.fault() == "" and source.incarnation in other.kept, "the session lives, at its owner")
+    check(source.incarnation not in slow.kept, "the slow one lets go")
+    source.send(b"\033[c")
+    source.ends(slow, other)
 
 
-@with_machine
 def stopped_workers_harm_no_session(machine, data):
-    name = "stopped"
     sources = [Source(machine.url, f"stopped-{number}").listen() for number in range(12)]
     workers = Processes(machine, 3, "--lease", "1", "--every", "512", "--keep", "0")
     rounds = 8
@@ -95,45 +73,41 @@ def stopped_workers_harm_no_session(machine, data):
                 source.send(data[number * 300 + begin * 70 :][:70] + b"\033[6n")
             if begin == 0:
                 victim.send_signal(signal.SIGSTOP)
-        check(wait_for(lambda: is_buried(sources[0].store, victim)), name, "others have the sessions of one that is stopped")
+        check(wait_for(lambda: is_buried(sources[0].store, victim)), "others have the sessions of one that is stopped")
         victim.send_signal(signal.SIGCONT)
     for source in sources:
         source.send(b"\030").end(0)
-    check(wait_for(lambda: all(source.is_ended() for source in sources)), name, "all end")
+    check(wait_for(lambda: all(source.is_ended() for source in sources)), "all end")
     for source in sources:
         source.finish()
-        check(source.fault() == "", source.name, source.fault())
-        check(source.reports() == played(source.sent)[1], source.name, "each report once")
+        check(source.fault() == "", f"{source.name}: {source.fault()}")
+        check(source.reports() == played(source.sent)[1], f"{source.name}: each report once")
         ended = source.store.hget(source.part("ended"), "text")
-        check(ended == played(source.sent)[0].text().encode(), source.name, "text")
-    workers.stop()
+        check(ended == played(source.sent)[0].text().encode(), f"{source.name}: text")
 
 
-@with_machine
 def a_worker_behind_a_dead_link_harms_no_session(machine, data):
     """It waits inside a read while others take its sessions and trim their bytes; then its link works again."""
-    name, proxy = "dead link", Proxy(machine)
+    proxy = Proxy(machine)
     cut = Processes(machine, 1, "--lease", "1", "--every", "512", "--keep", "0", url=proxy.url)
     sources = [Source(machine.url, f"link-{number}").send(data[:1000]).listen() for number in range(4)]
     store = sources[0].store
     wait_for(lambda: all(int(store.hget(s.part("about"), "played")) == 1000 for s in sources))
     proxy.signal(signal.SIGUSR2)
     other = Processes(machine, 1, "--lease", "1", "--every", "512", "--keep", "0")
-    check(wait_for(lambda: is_buried(store, cut.all[0])), name, "others take what it had")
+    check(wait_for(lambda: is_buried(store, cut.all[0])), "others take what it had")
     for source in sources:
         source.send(data[1000:] * 4 + b"\033[c")
-    check(wait_for(lambda: all(source.reports() == played(source.sent)[1] for source in sources)), name, "another answers")
+    check(wait_for(lambda: all(source.reports() == played(source.sent)[1] for source in sources)), "another answers")
     proxy.signal(signal.SIGUSR2)
-    check(wait_for(lambda: not is_buried(store, cut.all[0])), name, "it begins anew")
+    check(wait_for(lambda: not is_buried(store, cut.all[0])), "it begins anew")
     for source in sources:
         source.send(b"\033[6n").end(0)
-    check(wait_for(lambda: all(source.is_ended() for source in sources)), name, "all end")
+    check(wait_for(lambda: all(source.is_ended() for source in sources)), "all end")
     for source in sources:
         source.finish()
-        check(source.fault() == "", name, source.fault())
-        compare(source, name)
-    for each in (cut, other, proxy):
-        each.stop()
+        check(source.fault() == "", source.fault())
+        compare(source)
 
 
 def a_name_is_used_again_after_an_end(url, data):
@@ -141,44 +115,34 @@ def a_name_is_used_again_after_an_end(url, data):
     first = Source(url, name).send(data + b"\033[c").end(0)
     until(first.is_ended, one)
     second = Source(url, name).send(b"new\033[6n")
-    check(until(lambda: second.receive(0.01).got, one), name, "the second host's question is answered")
-    check(second.got == [("report", b"\033[1;4R")], name, f"by that alone, and by nothing of the past: {second.got}")
-    check(not second.is_ended(), name, "the second session runs")
+    check(until(lambda: second.receive(0.01).got, one), "the second host's question is answered")
+    check(second.got == [("report", b"\033[1;4R")], f"by that alone, and by nothing of the past: {second.got}")
+    check(not second.is_ended(), "the second session runs")
     second.send(b"\033[c").end(5)
     until(second.is_ended, one)
     first.receive()
     second.receive()
-    compare(first, name)
-    compare(second, name, status=b"5")
+    compare(first)
+    compare(second, status=b"5")
 
 
 def a_name_whose_host_died_is_used_again(url, data):
-    name, one = "died", worker(url)
-    first = Source(url, name).send(data + b"\033[c")
-    until(lambda: one.kept and not one.due, one)
-    check(raises(Taken, Source, url, name), name, "not while the lease lasts")
-    check(0 < first.store.ttl(keys.lease(name)) <= first.host.lease, name, "which ends by itself")
-    first.store.pexpire(keys.lease(name), 1)
-    check(until(lambda: not first.store.exists(keys.lease(name)), one), name, "the lease ends")
-    second = Source(url, name).send(b"x\033[6n")
-    check(until(first.is_ended, one), name, "the first session is closed")
-    check(first.store.hget(first.part("ended"), "status") == b"lost", name, "as lost")
-    check(raises(Taken, first.host.send, b"late"), name, "its host, if it lives after all, is refused")
-    check(until(lambda: second.receive(0.01).got, one), name, "the second one is played")
-    check(second.got == [("report", b"\033[1;2R")], name, f"from its own start: {second.got}")
-
-
-def two_hosts_never_mix(url, _):
-    name, one = "two hosts", worker(url)
-    first = Source(url, name)
+    name = "died"
+    first, one = playing(url, name, data + b"\033[c")
     try:
         Source(url, name)
-        check(False, name, "the second is refused")
+        check(False, "not while the lease lasts")
     except Taken as refused:
-        check(first.host.about[1] in str(refused) and name in str(refused), name, f"with a clear error: {refused}")
-    first.send(b"aaaaa").send(b"cdefghijklmnop").end(0)
-    until(first.is_ended, one)
-    compare(first, name)
+        check(first.host.about[1] in str(refused) and name in str(refused), f"with a clear error: {refused}")
+    check(0 < first.store.ttl(keys.lease(name)) <= first.host.lease, "which ends by itself")
+    first.store.pexpire(keys.lease(name), 1)
+    check(until(lambda: not first.store.exists(keys.lease(name)), one), "the lease ends")
+    second = Source(url, name).send(b"x\033[6n")
+    check(until(first.is_ended, one), "the first session is closed")
+    check(first.store.hget(first.part("ended"), "status") == b"lost", "as lost")
+    check(raises(Taken, first.host.send, b"late"), "its host, if it lives after all, is refused")
+    check(until(lambda: second.receive(0.01).got, one), "the second one is played")
+    check(second.got == [("report", b"\033[1;2R")], f"from its own start: {second.got}")
 
 
 def what_an_old_worker_writes_meets_no_new_session(url, data):
@@ -194,9 +158,9 @@ def what_an_old_worker_writes_meets_no_new_session(url, data):
     kept.reports, kept.at = [(753, b"\033[9;9R")], 753
     old.tell([kept])
     second.send(b"abc\033[6n")
-    check(until(lambda: len(second.receive(0.01).got) == 2, new), name, "the new session's reports all come")
-    check(second.reports() == b"\033[1;1R\033[1;4R", name, second.reports())
-    check(not second.store.exists(first.part("answers")), name, "and nothing of the old one is there")
+    check(until(lambda: len(second.receive(0.01).got) == 2, new), "the new session's reports all come")
+    check(second.reports() == b"\033[1;1R\033[1;4R", second.reports())
+    check(not second.store.exists(first.part("answers")), "and nothing of the old one is there")
 
 
 def register_sent_twice_makes_one_session(url, _):
@@ -206,14 +170,12 @@ def register_sent_twice_makes_one_session(url, _):
         source.host.register()
     source.send(b"\033[c")
     until(lambda: one.kept or other.kept, one, other)
-    check(len(one.kept) + len(other.kept) == 1, name, "one worker has it")
-    check(source.store.zcard(keys.ALL) == 1 and source.store.zcard(keys.WAITING) == 0, name, "it is there once")
+    check(len(one.kept) + len(other.kept) == 1, "one worker has it")
+    check(source.store.zcard(keys.ALL) == 1 and source.store.zcard(keys.WAITING) == 0, "it is there once")
     until(lambda: not one.due and not other.due, one, other)
     source.host.register()
-    source.send(b"abc\033[6n").end(0)
-    check(until(source.is_ended, one, other), name, "and goes on after one more")
-    source.receive()
-    compare(source, name)
+    source.send(b"abc\033[6n")
+    source.ends(one, other)
 
 
 def poison_harms_its_session_alone(url, data):
@@ -222,6 +184,8 @@ def poison_harms_its_session_alone(url, data):
     bad = {
         "without bytes": lambda s: store.xadd(s.part("bytes"), {"v": keys.version(), "text": "x"}, id="9-0"),
         "a status that is none": lambda s: store.xadd(s.part("bytes"), {"v": keys.version(), "status": "x"}, id="0-2"),
+        "a checkpoint of no format": lambda s: store.hset(s.part("checkpoint"), mapping=keys.checkpoint(0, b"") | {"v": "9"}),
+        "an entry of no format": lambda s: store.xadd(s.part("bytes"), {"v": "9", "bytes": "abc"}, id="3-0"),
         "no version": lambda s: store.xadd(s.part("bytes"), {"bytes": "abc"}, id="3-0"),
         "longer than its position": lambda s: store.xadd(s.part("bytes"), {"v": keys.version(), "bytes": "abcdef"}, id="3-0"),
         "another number": lambda s: store.xadd(s.part("bytes"), {"v": keys.version(), "bytes": "abc"}, id="3-7"),
@@ -237,33 +201,12 @@ def poison_harms_its_session_alone(url, data):
         poisoned.append(source)
     store.zadd(keys.WAITING, {b"\xff\xfe": 1, "nobody": 1})
     ok = until(lambda: all(source.fault() for source in poisoned), one)
-    check(ok, "poison", f"each has a fault: {[source.name for source in poisoned if not source.fault()]}")
-    good.send(b"\033[6n").end(0)
-    check(until(good.is_ended, one), "poison", "the innocent session lives")
-    good.receive()
-    compare(good, "poison")
-    check(store.zcard(keys.WAITING) == 0, "poison", "nothing is left that a worker could die of")
-
-
-def a_session_that_workers_die_of_is_given_up(url, _):
-    name, source = "deadly", Source(url, "deadly").send(b"x")
-    idle = Source(url, "idle").send(b"y")
-    store = source.store
-    calm = worker(url, most=1)
-    store.zrem(keys.WAITING, source.incarnation)
-    until(lambda: idle.incarnation in calm.kept and not calm.due, calm)
-    for _ in range(11):
-        store.zadd(keys.WAITING, {source.incarnation: 0})
-        doomed = worker(url)
-        doomed.claims.take(10)  # and it dies
-        store.hdel(keys.WORKERS, doomed.claims.me)
-        store.delete(keys.of(doomed.claims.me))
-    check(source.fault().startswith("Poison"), name, "after ten workers")
-    for _ in range(12):  # an idle session may see any number of workers die
-        store.zadd(keys.WAITING, {idle.incarnation: 0})
-        each = worker(url)
-        until(lambda: idle.incarnation in each.kept and not each.due, each)
-    check(idle.fault() == "", name, "an idle session isn't taken for one")
+    check(ok, f"each has a fault: {[source.name for source in poisoned if not source.fault()]}")
+    named = [source.fault() for source in poisoned if source.name.endswith(("format", "version"))]
+    check(len(named) == 3 and all(fault.startswith("Version") for fault in named), f"those of no format are named: {named}")
+    good.send(b"\033[6n")
+    good.ends(one)
+    check(store.zcard(keys.WAITING) == 0, "nothing is left that a worker could die of")
 
 
 FLOOD = """
@@ -277,10 +220,8 @@ sys.exit(0 if got == b"\\033[?62;1;6c" * count else 1)
 """
 
 
-@with_machine
 def a_hostile_session_harms_no_other(machine, _):
     """A program asks 200,000 questions as fast as it can, and counts the answers."""
-    name = "hostile"
     workers = Processes(machine, 1, "--lease", "1")
     calm = [Source(machine.url, f"calm-{number}").listen() for number in range(4)]
     wait_for(lambda: all(owners(calm[0].store, calm).values()))
@@ -291,20 +232,18 @@ def a_hostile_session_harms_no_other(machine, _):
             had = len(source.got)
             source.send(b"\033[6n")
             are_answered = are_answered and wait_for(lambda: len(source.got) > had)
-    check(are_answered, name, "its neighbours get their reports meanwhile")
-    check(flood.poll() == 0, name, f"the hostile program has all its answers, once: {flood.poll()}")
-    check(owners(calm[0].store, calm) == before, name, "no session changes its worker")
+    check(are_answered, "its neighbours get their reports meanwhile")
+    check(flood.poll() == 0, f"the hostile program has all its answers, once: {flood.poll()}")
+    check(owners(calm[0].store, calm) == before, "no session changes its worker")
     incarnation = calm[0].store.hget(keys.NAMES, "flood").decode()
-    check(calm[0].store.xlen(key(incarnation, "answers")) < 6000, name, "and they don't stay in the store")
+    check(calm[0].store.xlen(key(incarnation, "answers")) < 6000, "and they don't stay in the store")
     for source in calm:
         source.stop()
-    flood.kill()
-    workers.stop()
 
 
 def a_hostile_session_delays_no_other(url, _):
     """Many questions wait. A turn of the worker answers the neighbours' and some of these. The turns are the test's."""
-    name, one, count = "share", worker(url, lease=3600), 20000
+    one, count = worker(url, lease=3600), 20000
     flood = Source(url, "many").send(b"\033[c" * count, piece=4096).listen()
     calm = [Source(url, f"few-{number}") for number in range(4)]
     until(lambda: len(one.kept) == 5, one)
@@ -315,54 +254,18 @@ def a_hostile_session_delays_no_other(url, _):
         before = hostile.at
         one.due.update(one.kept)  # whether or not the messages are here
         one.turn(0.0)
-        check(hostile.at - before <= REPORTS * len(b"\033[c"), name, f"its share of a turn: {hostile.at - before} bytes")
-        check(all(len(source.receive().got) == number + 1 for source in calm), name, "all others have their report after it")
-    check(hostile.at < flood.host.at, name, "while questions wait")
-    check(until(lambda: len(flood.got) == count, one), name, f"which are answered, too: {len(flood.got)}")
-    flood.stop()
+        check(hostile.at - before <= REPORTS * len(b"\033[c"), f"its share of a turn: {hostile.at - before} bytes")
+        check(all(len(source.receive().got) == number + 1 for source in calm), "all others have their report after it")
+    check(hostile.at < flood.host.at, "while questions wait")
+    check(until(lambda: len(flood.got) == count, one), f"which are answered, too: {len(flood.got)}")
 
 
 def a_host_that_reads_no_reports_is_waited_for(url, _):
     name, one = "unread", worker(url)
     source = Source(url, name).send(b"\033[c" * 20000, piece=4096)
-    check(until(lambda: source.incarnation in one.choked, one), name, "its session is no longer played")
+    check(until(lambda: source.incarnation in one.choked, one), "its session is no longer played")
     for _ in range(20):
         one.turn(0.01)
-    check(source.store.xlen(source.part("answers")) < 6000, name, "no more than a bound of reports waits")
+    check(source.store.xlen(source.part("answers")) < 6000, "no more than a bound of reports waits")
     source.listen()
-    check(until(lambda: len(source.got) == 20000, one), name, f"all come when they are read: {len(source.got)}")
-    source.stop()
-
-
-def a_worker_hands_over_and_leaves_nothing(url, data):
-    name, one, other = "hand over", worker(url), worker(url)
-    sources = [Source(url, f"hand-{number}").send(data[:500] + b"\030") for number in range(40)]
-    until(lambda: len(one.kept) == 40, one)
-    one.is_leaving = True
-    one.turn(0.01)
-    check(until(lambda: len(other.kept) == 40, other), name, "another has all")
-    check(one.is_gone and sources[0].store.hlen(keys.WORKERS) == 1, name, "and no trace of it is left")
-    check(
-        all(s.at == 501 for s in other.kept.values()) or until(lambda: all(s.at == 501 for s in other.kept.values()), other),
-        name,
-        "where they were",
-    )
-
-
-CASES = [
-    four_hundred_idle_sessions_outlive_their_worker,
-    a_slow_worker_harms_no_session,
-    stopped_workers_harm_no_session,
-    a_worker_behind_a_dead_link_harms_no_session,
-    a_name_is_used_again_after_an_end,
-    a_name_whose_host_died_is_used_again,
-    two_hosts_never_mix,
-    what_an_old_worker_writes_meets_no_new_session,
-    register_sent_twice_makes_one_session,
-    poison_harms_its_session_alone,
-    a_session_that_workers_die_of_is_given_up,
-    a_hostile_session_harms_no_other,
-    a_hostile_session_delays_no_other,
-    a_host_that_reads_no_reports_is_waited_for,
-    a_worker_hands_over_and_leaves_nothing,
-]
+    check(until(lambda: len(source.got) == 20000, one), f"all come when they are read: {len(source.got)}")

@@ -10,8 +10,10 @@ import urllib.error
 
 from prometheus_client import CollectorRegistry, generate_latest
 
-from harness import Clock, HERE, PATIENCE, PATIENT, Processes, Proxy, Source, check, compare, configured, keys, local, program
-from harness import settings, stores, until, wait_for, with_machine
+from harness import (
+    Clock, HERE, PATIENCE, PATIENT, Processes, Proxy, Source, check, configured, keys, local, playing, program, replace,
+    settings, started, stores, until, wait_for,
+)
 from operators import asked, metrics_at, state
 from safety import fleet, free_port
 from fleet import config, metrics
@@ -104,7 +106,7 @@ class Day:
         with open(path, "w") as file:  # JSON is YAML
             json.dump({"rule_files": [os.path.realpath(ALERTS)], "evaluation_interval": "15s", "tests": [made]}, file)
         done = subprocess.run(["promtool", "test", "rules", path], capture_output=True, text=True)
-        check(done.returncode == 0, alert, f"it isn't there, fires, and ends: {done.stdout[-3000:]}{done.stderr}")
+        check(done.returncode == 0, f"{alert}: it isn't there, fires, and ends: {done.stdout[-3000:]}{done.stderr}")
 
 
 def whole_of(machine):
@@ -114,10 +116,9 @@ def whole_of(machine):
     return whole
 
 
-@with_machine
 def no_workers(machine, _):
     """All are killed, and nobody is left to bury them."""
-    name, whole = "no workers", whole_of(machine)
+    whole = whole_of(machine)
     day, workers, source = Day(all=of_collector(whole)), Processes(machine, 2, "--lease", "1"), Source(machine.url, "played").send(b"x")
     wait_for(lambda: state(source.store, "played")["lag"] == 0)
     day.look("fleet_workers{", "2.0")
@@ -126,44 +127,36 @@ def no_workers(machine, _):
         each.wait()
     source.send(b"y")
     day.look("fleet_workers{", "0.0")
-    check(whole.problem() == "no worker lives", name, f"nor is the fleet well: {whole.problem()}")
-    check(state(source.store, "played")["state"] == "waiting", name, "its session waits")
+    check(whole.problem() == "no worker lives", f"nor is the fleet well: {whole.problem()}")
+    check(state(source.store, "played")["state"] == "waiting", "its session waits")
     listed = [line.split() for line in fleet(machine.url, "workers")[1].splitlines()]
-    check(len(listed) == 2 and all(words[3] == "silent" for words in listed), name, f"both are listed as silent: {listed}")
+    check(len(listed) == 2 and all(words[3] == "silent" for words in listed), f"both are listed as silent: {listed}")
     another = Processes(machine, 1, "--lease", "8")  # so it doesn't take itself for stopped on a busy machine
-    check(wait_for(lambda: state(source.store, "played")["lag"] == 0), name, "another one plays the session")
+    check(wait_for(lambda: state(source.store, "played")["lag"] == 0), "another one plays the session")
     day.look("fleet_workers{", "1.0")
     day.judge(machine, "FleetNoWorkers")
-    another.stop()
 
 
-@with_machine
 def a_session_stands_still(machine, _):
     """Its host reads no reports."""
-    name, whole, clock = "stands still", whole_of(machine), Clock()
-    real, metrics.time = metrics.time, clock
-    try:
-        one, day = Worker(stores.connect(machine.url), settings(lease=3600)), Day(all=of_collector(whole))
-        source = Source(machine.url, name).send(b"x")
-        until(lambda: one.kept and not one.due, one)
-        one.tell(list(one.kept.values()))
-        day.look()
-        source.send(b"\033[c" * 20000, piece=3000)
-        until(lambda: source.incarnation in one.choked, one)
-        whole.facts_of_store()
-        clock.now += 90
-        day.look()
-        source.listen()
-        check(until(lambda: len(source.got) == 20000 and not one.due, one), name, "a host that reads them goes on")
-        one.tell(list(one.kept.values()))
-        day.look()
-    finally:
-        metrics.time = real
-        source.stop()
+    whole, clock = whole_of(machine), replace(metrics, "time", Clock())
+    one, day = Worker(stores.connect(machine.url), settings(lease=3600)), Day(all=of_collector(whole))
+    source = Source(machine.url, "stands still").send(b"x")
+    until(lambda: one.kept and not one.due, one)
+    one.tell(list(one.kept.values()))
+    day.look()
+    source.send(b"\033[c" * 20000, piece=3000)
+    until(lambda: source.incarnation in one.choked, one)
+    whole.facts_of_store()
+    clock.now += 90
+    day.look()
+    source.listen()
+    check(until(lambda: len(source.got) == 20000 and not one.due, one), "a host that reads them goes on")
+    one.tell(list(one.kept.values()))
+    day.look()
     day.judge(machine, "FleetStandsStill")
 
 
-@with_machine
 def a_format_is_missing(machine, _):
     day, old = Day(all=of_collector(whole_of(machine))), Worker(stores.connect(machine.url), settings(lease=3600), formats=(2,))
     day.look()
@@ -171,26 +164,25 @@ def a_format_is_missing(machine, _):
     until(lambda: source.store.hlen(keys.FOREIGN) == 1, old)
     day.look()
     newer = Worker(stores.connect(machine.url), settings(lease=3600))
-    check(until(lambda: source.incarnation in newer.kept, newer, old), "format", "a worker of the newer version takes it")
+    check(until(lambda: source.incarnation in newer.kept, newer, old), "a worker of the newer version takes it")
     day.look()
     day.judge(machine, "FleetFormatMissing")
 
 
-@with_machine
 def connections_run_out(machine, _):
     whole, store, one = whole_of(machine), stores.connect(machine.url), lives(machine)
     day = Day(all=of_collector(whole))
     day.look()
     others = [stores.connect(machine.url) for _ in range(8)]
-    check(all(each.ping() for each in others), one.me, "others come")
+    check(all(each.ping() for each in others), "others come")
     most = store.info("clients")["connected_clients"] + 2
     store.config_set("maxclients", most)
     status, _, said = fleet(machine.url, "check-store")
-    check(status == 69 and f"of {most} connections" in said, one.me, f"check-store says so: {status} {said}")
+    check(status == 69 and f"of {most} connections" in said, f"check-store says so: {status} {said}")
     day.look()
     run_of("FleetConnections", machine)
     status, _, said = fleet(machine.url, "check-store")
-    check(status == 0, "connections", f"then the store is fit: {said}")
+    check(status == 0, f"then the store is fit: {said}")
     day.look()
     day.judge(machine, "FleetConnections")
 
@@ -202,51 +194,38 @@ def run_of(section, machine):
     commands = "\n".join(line[4:] for line in text.splitlines() if line.startswith("    "))
     commands = commands.replace("redis-cli", f"redis-cli -s {machine.socket}").replace("/var/lib/redis", machine.folder)
     done = subprocess.run(["sh", "-e", "-c", commands], capture_output=True, text=True)
-    check(commands and done.returncode == 0, section, f"its commands run: {done.stdout} {done.stderr}")
+    check(commands and done.returncode == 0, f"{section}: its commands run: {done.stdout} {done.stderr}")
 
 
-@with_machine
 def a_backup_is_restored(machine, data):
     """Hosts live on meanwhile, and the backup lacks what they sent after it."""
-    name, one = "backup", Worker(stores.connect(machine.url), settings(lease=3600))
-    source = Source(machine.url, name).send(data[:2000])
-    until(lambda: source.incarnation in one.kept and not one.due, one)
+    source, one = playing(machine.url, "backup", data[:2000], lease=3600)
     run_of("Backup of the store", machine)
     source.send(data[2000:] + b"\033[6n")
     run_of("Restore of the store", machine)
     machine.server.wait()
     machine.start()
-    source.host.renewed = -1e9
-    source.host.renew_if_due()
-    source.end(0)
-    check(until(source.is_ended, one), name, "the session goes on to its end")
-    source.receive()
-    compare(source, name)
+    source.renew()
+    source.ends(one)
 
 
-@with_machine
 def a_store_is_upgraded(machine, data):
     """Debian has one version of Redis, which is also the oldest that has functions. So it writes the file in the form that all versions read, and
     is started again over this file alone."""
-    name, one = "upgrade", Worker(stores.connect(machine.url), settings(lease=3600))
-    source = Source(machine.url, name).send(data[:2000])
-    until(lambda: source.incarnation in one.kept and not one.due, one)
+    source, one = playing(machine.url, "upgrade", data[:2000], lease=3600)
     run_of("Upgrade of the store", machine)
     machine.server.wait()
     place = os.path.join(machine.folder, "appendonlydir")
     files = [file for file in os.listdir(place) if ".base." in file]
     with open(os.path.join(place, files[0]), "rb") as base:
         text = base.read()
-    check(len(files) == 1 and text.startswith(b"*") and b"FUNCTION" in text, name, f"the file has plain commands, and the functions: {files} {text[:20]}")
+    check(len(files) == 1 and text.startswith(b"*") and b"FUNCTION" in text, f"the file has plain commands, and the functions: {files} {text[:20]}")
     machine.start()
-    check(fleet(machine.url, "check-store")[0] == 0, name, "the store is fit")
-    source.send(data[2000:] + b"\033[6n").end(0)
-    check(until(source.is_ended, one), name, "the session goes on to its end")
-    source.receive()
-    compare(source, name)
+    check(fleet(machine.url, "check-store")[0] == 0, "the store is fit")
+    source.send(data[2000:] + b"\033[6n")
+    source.ends(one)
 
 
-@with_machine
 def a_target_is_down(machine, _):
     """`fleet metrics` ends, and that of another fleet doesn't."""
     port, one = free_port(), lives(machine)
@@ -255,7 +234,8 @@ def a_target_is_down(machine, _):
     def served():
         words = [local.PYTHON, local.COMMAND, "metrics", f"127.0.0.1:{port}"]
         made = subprocess.Popen(words, env=os.environ | {"FLEET_REDIS": machine.url})
-        check(wait_for(of_port(port)), one.me, "it serves")
+        started.callback(made.kill)
+        check(wait_for(of_port(port)), "it serves")
         day.look()
         return made
 
@@ -265,7 +245,6 @@ def a_target_is_down(machine, _):
     day.look()
     serves = served()
     day.judge(machine, "FleetTargetDown", instance="one")
-    serves.kill()
 
 
 class Faulty(Worker):
@@ -277,10 +256,9 @@ class Faulty(Worker):
         super().play(session, budget)
 
 
-@with_machine
 def an_upgrade_fails(machine, _):
     """A faulty worker fails on its first sessions, and the others go on with these. It is the last one, and then the earlier version is back."""
-    name, chosen = "upgrade", settings(lease=3600)
+    chosen = settings(lease=3600)
     day, url = Day(all=of_collector(whole_of(machine))), machine.url
     old = Worker(stores.connect(url), chosen)
     sources = [Source(url, f"upgraded-{number}").send(b"x") for number in range(20)]
@@ -292,48 +270,46 @@ def an_upgrade_fails(machine, _):
     old.read_anew()
     for source in sources:
         source.send(b"y\033[6n")
-    check(until(lambda: new.is_unfit, new), name, "it takes no more")
-    check(until(lambda: all(source.receive(0).reports() for source in sources), old, new), name, "the earlier version goes on with all")
-    check([source.fault() for source in sources] == [""] * 20, name, "none has a fault")
+    check(until(lambda: new.is_unfit, new), "it takes no more")
+    check(until(lambda: all(source.receive(0).reports() for source in sources), old, new), "the earlier version goes on with all")
+    check([source.fault() for source in sources] == [""] * 20, "none has a fault")
     day.look()
     listed = fleet(url, "workers")[1].splitlines()
-    check([line.split()[0] for line in listed if line.endswith("unfit")] == [new.claims.me], name, f"it is listed: {listed}")
+    check([line.split()[0] for line in listed if line.endswith("unfit")] == [new.claims.me], f"it is listed: {listed}")
     old.leave()
     for source in sources:
         source.send(b"z")
     new.turn(0.01)
-    check(not new.kept and [source.fault() for source in sources] == [""] * 20, name, "if it is the last one, they wait")
+    check(not new.kept and [source.fault() for source in sources] == [""] * 20, "if it is the last one, they wait")
     new.leave()
     back = Worker(stores.connect(url), chosen)
-    check(until(lambda: len(back.kept) == 20 and not back.due, back), name, "the earlier version takes them")
+    check(until(lambda: len(back.kept) == 20 and not back.due, back), "the earlier version takes them")
     day.look()
     day.judge(machine, "FleetUpgradeFails")
 
 
 def an_error_is_taken_back(url, _):
     """All workers that there are meet it, so it is the session's fault. `fleet retry` has a sound one go on."""
-    name, chosen = "error", settings(lease=3600)
+    chosen = settings(lease=3600)
     faulty = [Faulty(stores.connect(url), chosen) for _ in range(2)]
     source, sound = Source(url, "taken-back"), Source(url, "sound")
     source.send(b"x\033[6n")
-    check(until(source.fault, *faulty), name, "it is a fault")
-    check(source.fault() == "TypeError: a bug of this version", name, source.fault())
-    check(sum(each.failures for each in faulty) == 1 and source.store.scard(source.part("failed")) == 2, name, "both tried it")
-    source.host.renewed = -1e9
-    source.host.renew_if_due()
-    check(source.host.said_fault == source.fault(), name, "its host knows")
+    check(until(source.fault, *faulty), "it is a fault")
+    check(source.fault() == "TypeError: a bug of this version", source.fault())
+    check(sum(each.failures for each in faulty) == 1 and source.store.scard(source.part("failed")) == 2, "both tried it")
+    source.renew()
+    check(source.host.said_fault == source.fault(), "its host knows")
     for each in faulty:
         each.leave()
     one = Worker(stores.connect(url), chosen)
-    check(fleet(url, "retry", "sound")[0] == 6 and fleet(url, "retry", "nosuch")[0] == 3, name, "one without a fault, and none")
-    check(fleet(url, "retry", "taken-back")[0] == 0, name, "it is tried again")
-    check(until(lambda: source.receive(0).reports() and sound.incarnation in one.kept, one), name, "and goes on")
-    source.host.renewed = -1e9
-    source.host.renew_if_due()
-    check(source.host.said_fault is None, name, "which its host learns")
+    check(fleet(url, "retry", "sound")[0] == 6 and fleet(url, "retry", "nosuch")[0] == 3, "one without a fault, and none")
+    check(fleet(url, "retry", "taken-back")[0] == 0, "it is tried again")
+    check(until(lambda: source.receive(0).reports() and sound.incarnation in one.kept, one), "and goes on")
+    source.renew()
+    check(source.host.said_fault is None, "which its host learns")
     source.host.fault = None
     source.store.run("fail", source.name, source.incarnation, "WentBack: so")
-    check(fleet(url, "retry", "taken-back")[0] == 6, name, "one that its host gave up can't")
+    check(fleet(url, "retry", "taken-back")[0] == 6, "one that its host gave up can't")
 
 
 def lives(machine):
@@ -341,7 +317,6 @@ def lives(machine):
     return Claims(stores.connect(machine.url), 3600)
 
 
-@with_machine
 def the_store_is_away(machine, _):
     day = Day(all=of_collector(whole_of(machine)))
     lives(machine)
@@ -353,25 +328,19 @@ def the_store_is_away(machine, _):
     day.judge(machine, "FleetStoreAway")
 
 
-@with_machine
 def the_store_is_slow(machine, _):
     """Each ping takes longer than it should, by the clock of the metrics."""
-    whole, clock = whole_of(machine), Clock()
-    day, ping, real = Day(all=of_collector(whole)), whole.store.ping, metrics.time
-    metrics.time = clock
-    try:
-        lives(machine)
-        day.look()
-        whole.store.ping = lambda: setattr(clock, "now", clock.now + 0.7)
-        day.look()
-        whole.store.ping = ping
-        day.look()
-    finally:
-        metrics.time = real
+    whole, clock = whole_of(machine), replace(metrics, "time", Clock())
+    day, ping = Day(all=of_collector(whole)), whole.store.ping
+    lives(machine)
+    day.look()
+    whole.store.ping = lambda: setattr(clock, "now", clock.now + 0.7)
+    day.look()
+    whole.store.ping = ping
+    day.look()
     day.judge(machine, "FleetReportsSlow")
 
 
-@with_machine
 def sessions_wait(machine, _):
     """The only worker is full."""
     day = Day(all=of_collector(whole_of(machine)))
@@ -381,12 +350,11 @@ def sessions_wait(machine, _):
     source.store.zincrby(keys.WAITING, -60000, source.incarnation)
     day.look()
     more = Worker(stores.connect(machine.url), settings(lease=3600))
-    check(until(lambda: source.incarnation in more.kept, more), "waits", "one more worker takes it")
+    check(until(lambda: source.incarnation in more.kept, more), "one more worker takes it")
     day.look()
     day.judge(machine, "FleetSessionsWait")
 
 
-@with_machine
 def hosts_are_silent(machine, _):
     """A host daemon is killed, and the next one goes on with its programs."""
     name, store, day = "silent", stores.connect(machine.url), Day(all=of_collector(whole_of(machine)))
@@ -400,10 +368,10 @@ def hosts_are_silent(machine, _):
     machine.kill_daemon()
     day.look(silent, "1.0")
     machine.start_daemon()
-    check(wait_for(lambda: state(store, name)["state"] == "running"), name, "it has a host again")
+    check(wait_for(lambda: state(store, name)["state"] == "running"), "it has a host again")
     day.look(silent, "0.0")
     Typist(store, state(store, name)["incarnation"]).type(b"\r")
-    check(host.wait(PATIENCE) == 3, name, f"and its program lives: {host.returncode}")
+    check(host.wait(PATIENCE) == 3, f"and its program lives: {host.returncode}")
     day.judge(machine, "FleetHostsSilent")
 
 
@@ -416,7 +384,6 @@ FAULTS = {
 }
 
 
-@with_machine
 def sessions_have_faults(machine, _):
     """Of each kind, made in the store. An operator ends these sessions."""
     one, day = Worker(stores.connect(machine.url), settings(lease=3600)), Day(all=of_collector(whole_of(machine)))
@@ -424,16 +391,15 @@ def sessions_have_faults(machine, _):
     made = {fault: Source(machine.url, fault) for fault in FAULTS}
     for fault, harm in FAULTS.items():
         harm(made[fault])
-    check(until(lambda: all(source.fault().startswith(fault) for fault, source in made.items()), one), "faults", "each has its own")
+    check(until(lambda: all(source.fault().startswith(fault) for fault, source in made.items()), one), "each has its own")
     day.look()
     for fault in FAULTS:
-        check(fleet(machine.url, "end", "--force", "--keep", "0", fault)[0] == 0, "faults", f"{fault}: it is removed")
+        check(fleet(machine.url, "end", "--force", "--keep", "0", fault)[0] == 0, f"{fault}: it is removed")
     day.look()
     for fault in FAULTS:
         day.judge(machine, "FleetFaults", fault=fault)
 
 
-@with_machine
 def a_worker_is_cut_off(machine, _):
     """Its link ends, and is back."""
     port, proxy = free_port(), Proxy(machine)
@@ -451,40 +417,32 @@ def a_worker_is_cut_off(machine, _):
     day.look()
     os.unlink(proxy.socket)
     proxy.process = subprocess.Popen(proxy.process.args, stdout=subprocess.PIPE)
-    check(wait_for(lambda: not is_away()), "cut off", "it reaches the store again")
+    check(wait_for(lambda: not is_away()), "it reaches the store again")
     day.look()
     day.judge(machine, "FleetCutOff", instance="one")
-    cut.stop()
-    proxy.stop()
 
 
-@with_machine
 def a_host_is_behind(machine, _):
     """No worker plays a session, and its program writes more than may wait. The daemon is in this process."""
-    name, clock, real = "behind", Clock(), metrics.time
-    daemon = machine.daemon = Daemon(stores.connect(machine.url), config.Host(lease=3600), machine.where()["FLEET_DAEMON"])
+    name, clock = "behind", replace(metrics, "time", Clock())
+    daemon = replace(machine, "daemon", Daemon(stores.connect(machine.url), config.Host(lease=3600), machine.where()["FLEET_DAEMON"]))
     threading.Thread(target=daemon.serve, daemon=True).start()
     day = Day(one=of_collector(DaemonMetrics(daemon)), all=of_collector(whole_of(machine)))
-    metrics.time = clock
-    try:
-        lives(machine)
-        host = program(machine, name, ["sh", "-c", "read x; head -c 3000000 /dev/zero"], "--input")
-        wait_for(lambda: daemon.all() and daemon.all()[0].is_named)
-        [ran], clock.now = daemon.all(), time.monotonic()
-        day.look()
-        Typist(daemon.store, ran.host.incarnation).type(b"\r")
-        wait_for(lambda: ran.host.is_waiting)
-        clock.now = ran.sends_since + 60
-        day.look()
-        one = Worker(stores.connect(machine.url), settings(lease=3600))
-        check(until(lambda: host.poll() is not None, one) and host.returncode == 0, name, "a worker plays it, so the program goes on")
-        day.look()
-    finally:
-        metrics.time, machine.daemon = real, None
+    lives(machine)
+    host = program(machine, name, ["sh", "-c", "read x; head -c 3000000 /dev/zero"], "--input")
+    wait_for(lambda: daemon.all() and daemon.all()[0].is_named)
+    [ran], clock.now = daemon.all(), time.monotonic()
+    day.look()
+    Typist(daemon.store, ran.host.incarnation).type(b"\r")
+    wait_for(lambda: ran.host.is_waiting)
+    clock.now = ran.sends_since + 60
+    day.look()
+    one = Worker(stores.connect(machine.url), settings(lease=3600))
+    check(until(lambda: host.poll() is not None, one) and host.returncode == 0, "a worker plays it, so the program goes on")
+    day.look()
     day.judge(machine, "FleetHostBehind")
 
 
-@with_machine
 def a_page_is_asked_without_its_token(machine, _):
     store = stores.connect(machine.url)
 
@@ -496,12 +454,8 @@ def a_page_is_asked_without_its_token(machine, _):
     lives(machine)
     day.look()
     for _ in range(30):
-        check(not page.admits('{"token": "a guess"}'), "page", "it is refused")
+        check(not page.admits('{"token": "a guess"}'), "it is refused")
     day.look()
     page = served()  # with another token
     day.look()
     day.judge(machine, "FleetPageRefuses", instance="one")
-
-
-CASES = [the_store_is_away, the_store_is_slow, sessions_wait, hosts_are_silent, sessions_have_faults, a_worker_is_cut_off, a_host_is_behind]
-CASES += [a_page_is_asked_without_its_token, an_upgrade_fails, an_error_is_taken_back, no_workers, a_session_stands_still, a_format_is_missing, connections_run_out, a_backup_is_restored, a_store_is_upgraded, a_target_is_down]

@@ -31,14 +31,35 @@ stores.TIMEOUT = 60.0
 frames.WATCHED = frames.FORGET = 3600
 HOLDER = next(filter(os.path.exists, programs.HOLDERS), programs.HOLDERS[0])
 
-counts = {"passed": 0, "failed": 0}
+counts = {"case": "", "passed": 0, "failed": 0}  # of the cases that ran, with the name of the one that runs
+started = contextlib.ExitStack()  # what a case has started, which ends with it
 
 
-def check(is_so, name, what):
+def check(is_so, what):
     counts["passed" if is_so else "failed"] += 1
     if not is_so:
-        print(f"failed: {name}: {what}", file=sys.stderr, flush=True)
+        print(f"failed: {counts['case']}: {what}", file=sys.stderr, flush=True)
     return bool(is_so)
+
+
+def children_of(pid):
+    with open(f"/proc/{pid}/task/{pid}/children") as children:
+        return [int(each) for each in children.read().split()]
+
+
+def outlast(process, progress):
+    """Waits until a process ends, for as long as something goes on. Returns its exit status; None if it hangs."""
+    before = -1
+    while process.poll() is None and progress() > before:
+        before = progress()
+        wait_for(lambda: progress() > before or process.poll() is not None)
+    return process.poll()
+
+
+def incarnation_of(store, name):
+    """Returns the incarnation of a name, once it has one."""
+    wait_for(lambda: store.hexists(keys.NAMES, name))
+    return store.hget(keys.NAMES, name).decode()
 
 
 def recordings():
@@ -71,13 +92,13 @@ def wait_for(is_so, pause=0.02):
 
 def until(is_so, *workers):
     """Turns of workers in this process until something is so. Returns whether it is."""
-    end = time.monotonic() + PATIENCE
-    while not is_so():
-        if time.monotonic() > end:
-            return False
+
+    def is_so_after_a_turn():
         for each in workers:
             each.turn(patience=0.01)
-    return True
+        return is_so()
+
+    return bool(is_so()) or wait_for(is_so_after_a_turn, 0 if workers else 0.02)
 
 
 def settings(**chosen):
@@ -89,6 +110,13 @@ def settings(**chosen):
 
 def worker(url, **chosen):
     return Worker(stores.connect(url), settings(**chosen))
+
+
+def replace(thing, name, value):
+    """Gives something another attribute until the case ends. Returns it."""
+    started.callback(setattr, thing, name, getattr(thing, name))
+    setattr(thing, name, value)
+    return value
 
 
 class Clock:
@@ -127,6 +155,7 @@ class Source:
         self.is_over = threading.Event()
         self.thread = threading.Thread(target=self.receive_on, daemon=True)
         self.thread.start()
+        started.callback(self.stop)
         return self
 
     def receive_on(self):
@@ -153,7 +182,26 @@ class Source:
         return self.receive()
 
     def reports(self):
-        return b"".join(what for kind, what in self.got if kind == "report")
+        return self.all_of("report")
+
+    def keys(self):
+        return self.all_of("keys")
+
+    def all_of(self, wanted):
+        return b"".join(what for kind, what in self.got if kind == wanted)
+
+    def renew(self):
+        """Renews the lease, whether or not that is due."""
+        self.host.renewed = -1e9
+        self.host.renew_if_due()
+
+    def ends(self, *workers, status=0):
+        """Ends the session, if it hasn't been, and compares it with the program once it is played: by workers of this process or by others."""
+        if not self.host.is_ended:
+            self.end(status)
+        check(until(self.is_ended, *workers), f"it ends: {self.fault()}")
+        self.finish()
+        compare(self, status=b"%d" % status)
 
     def part(self, name):
         return key(self.incarnation, name)
@@ -163,6 +211,13 @@ class Source:
 
     def fault(self):
         return (self.store.get(self.part("fault")) or b"").decode()
+
+
+def playing(url, name, data, **chosen):
+    """Returns a session and a worker of this process that has played its bytes."""
+    one, source = worker(url, **chosen), Source(url, name).send(data)
+    until(lambda: source.incarnation in one.kept and not one.due, one)
+    return source, one
 
 
 def made_up(chance, pieces):
@@ -181,22 +236,27 @@ def wanted(word, data):
     return done.returncode, done.stdout
 
 
-def compare(source, name, data=None, status=b"0"):
+def compare(source, status=b"0"):
     """Holds an ended session against the program: its text, the reports that reached its program, and its repaint."""
-    data = source.sent if data is None else data
+    data, (at, said) = source.sent, source.store.hmget(source.part("ended"), "at", "status")
+    check((at, said) == (b"%d" % len(data), status), f"place and status: {at} {said}")
+    check(source.reports() == wanted("reports", data)[1], f"reports at the program: {len(source.reports())} bytes")
+    check(source.incarnation.encode() not in source.store.smembers(keys.LIVE), "it no longer lives")
+    compare_screen(source, data)
+
+
+def compare_screen(source, data):
+    """Holds an ended session's text and its repaint against the program, which plays these bytes."""
     text = wanted("text", data)[1]
-    ended = source.store.hgetall(source.part("ended"))
-    check(ended.get(b"text") == text, name, "text at the end")
-    check((ended.get(b"at"), ended.get(b"status")) == (b"%d" % len(data), status), name, f"place and status: {ended.get(b'at')}")
-    check(source.reports() == wanted("reports", data)[1], name, "reports at the program")
+    check(source.store.hget(source.part("ended"), "text") == text, "text at the end")
     now = session.as_it_is(source.store, source.incarnation)
-    check(now.at == len(data), name, "bytes")
-    check(now.terminal.text().encode() == text, name, "text from the checkpoint")
+    check(now.at == len(data), "bytes")
+    check(now.terminal.text().encode() == text, "text from the checkpoint")
     code, repaint = wanted("repaint", data)
     if code == 3:
-        check(raises(vt220.Partial, now.terminal.repaint), name, "the repaint is refused")
+        check(raises(vt220.Partial, now.terminal.repaint), "the repaint is refused")
     else:
-        check(now.terminal.repaint() == repaint, name, "repaint")
+        check(now.terminal.repaint() == repaint, "repaint")
 
 
 class Processes:
@@ -206,6 +266,7 @@ class Processes:
         self.machine = machine
         self.group = local.Workers(0, machine.folder, url or machine.url, *words)
         self.group.all = [self.group.another() for _ in range(count)]
+        started.callback(self.group.stop)
 
     def __getattr__(self, name):
         return getattr(self.group, name)
@@ -277,6 +338,7 @@ class Proxy:
         self.url = f"unix://{self.socket}"
         words = ["/usr/bin/python3", os.path.join(HERE, "proxy.py"), self.socket, machine.socket, str(share)]
         self.process = subprocess.Popen(words, stdout=subprocess.PIPE)
+        started.callback(self.stop)
         wait_for(lambda: os.path.exists(self.socket))
 
     def signal(self, number):
@@ -286,10 +348,5 @@ class Proxy:
 
     def stop(self):
         self.process.kill()
-        self.process.communicate()
+        self.process.wait()
 
-
-def with_machine(case):
-    """Marks a case that gets the machine, not only its store's address."""
-    case.wants_machine = True
-    return case

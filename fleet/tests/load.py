@@ -1,8 +1,9 @@
 """Loads a worker with many sessions, for `measure`: what an entry, an idle session and a report cost."""
 import os
+import subprocess
 import time
 
-from harness import key, keys, stores, wait_for
+from harness import HOLDER, key, keys, stores, wait_for
 
 TICKS = os.sysconf("SC_CLK_TCK")
 
@@ -12,6 +13,23 @@ def processor(pid):
     with open(f"/proc/{pid}/stat") as stat:
         fields = stat.read().rsplit(")", 1)[1].split()
     return (int(fields[11]) + int(fields[12])) / TICKS
+
+
+def proportional(pid):
+    """Returns the bytes of a process; what it shares with others is divided among them."""
+    with open(f"/proc/{pid}/smaps_rollup") as rollup:
+        return next(int(line.split()[1]) * 1024 for line in rollup if line.startswith("Pss:"))
+
+
+def commands(store):
+    """Returns how often each command was called, also inside functions, without the call that asks."""
+    return {name: each["calls"] for name, each in store.info("commandstats").items() if name != "cmdstat_info"}
+
+
+def idle_holders(machine, count):
+    """Starts sessions whose programs are idle. Returns the processes of their holders."""
+    words = [HOLDER, machine.where()["FLEET_DAEMON"], "-1", "0", "1", "dec", "vt220"]
+    return [subprocess.Popen([*words, f"idle-{number}", "sleep", "infinity"], stderr=subprocess.DEVNULL) for number in range(count)]
 
 
 class Sessions:

@@ -1,5 +1,6 @@
 """What an operator does: list, kill, end, drain, type, look, export; exit statuses, configuration, metrics, logs."""
 import base64
+import glob
 import gzip
 import json
 import os
@@ -16,39 +17,16 @@ import urllib.error
 import urllib.request
 
 from harness import (
-    HERE,
-    PATIENCE,
-    PATIENT,
-    PROGRAM,
-    Processes,
-    Source,
-    check,
-    configured,
-    key,
-    keys,
-    local,
-    program,
-    raises,
-    stores,
-    until,
-    wait_for,
-    wanted,
-    with_machine,
-    worker,
-    written,
+    HERE, PATIENCE, PATIENT, PROGRAM, Processes, Source, check, children_of, configured, incarnation_of, key, keys,
+    local, program, raises, stores, until, wait_for, wanted, worker, written,
 )
 from fleet import claims, config, host, metrics
 from fleet.config import Settings, Unclear
 from fleet.metrics import DaemonMetrics, PageMetrics, WholeFleet, WorkerMetrics, server
 from fleet.web import Page
-from safety import conf, fleet, free_port
+from safety import UNITS, conf, fleet, fleet_bytes, free_port
 
 SHELL = ["sh", "-c", "while read x; do echo got $x; done; exit 9"]
-
-
-def children_of(pid):
-    with open(f"/proc/{pid}/task/{pid}/children") as children:
-        return [int(each) for each in children.read().split()]
 
 
 def is_there(pid):
@@ -60,24 +38,22 @@ def is_there(pid):
         return False
 
 
-@with_machine
 def run_leaves_nothing_when_it_is_killed(machine, _):
     """By a signal that it can't handle."""
-    name, words = "run", [local.PYTHON, local.COMMAND, "run", "--workers", "2"]
+    words = [local.PYTHON, local.COMMAND, "run", "--workers", "2"]
     runs = subprocess.Popen(words, env=os.environ | {"TMPDIR": machine.folder}, stderr=subprocess.PIPE, text=True)
     url = next(found[1] for found in map(re.compile(r"export FLEET_REDIS=(\S+)").match, runs.stderr) if found)
-    check(wait_for(lambda: stores.connect(url).hlen(keys.WORKERS) == 2), name, "its workers live")
+    check(wait_for(lambda: stores.connect(url).hlen(keys.WORKERS) == 2), "its workers live")
     started = children_of(runs.pid)
-    check(len(started) == 4 and all(map(is_there, started)), name, f"a store, a host daemon and two workers: {started}")
+    check(len(started) == 4 and all(map(is_there, started)), f"a store, a host daemon and two workers: {started}")
     runs.kill()
     runs.wait()
-    check(wait_for(lambda: not any(map(is_there, started))), name, "they end with it")
+    check(wait_for(lambda: not any(map(is_there, started))), "they end with it")
 
 
-@with_machine
 def a_list_asks_little_of_sessions_that_ended(machine, _):
     """A store may have thousands of them."""
-    name, store, one = "ended", stores.connect(machine.url), worker(machine.url)
+    store, one = stores.connect(machine.url), worker(machine.url)
     ended = [Source(machine.url, f"job-{number}").end(0) for number in range(60)]
     until(lambda: all(source.is_ended() for source in ended), one)
     lives, bad = Source(machine.url, "lives"), Source(machine.url, "bad")
@@ -90,11 +66,11 @@ def a_list_asks_little_of_sessions_that_ended(machine, _):
     before = asked()
     status, out, _ = fleet(machine.url, "list")
     shown = sorted(line.split()[0] for line in out.splitlines())  # two that begin in one millisecond are in any order
-    check(status == 0 and shown == ["NAME", "bad", "lives"], name, f"they aren't listed: {out}")
-    check(asked() - before == 2, name, f"nor read: {asked() - before}")
-    check(len(fleet(machine.url, "list", "--all")[1].splitlines()) == 63, name, "but with --all")
+    check(status == 0 and shown == ["NAME", "bad", "lives"], f"they aren't listed: {out}")
+    check(asked() - before == 2, f"nor read: {asked() - before}")
+    check(len(fleet(machine.url, "list", "--all")[1].splitlines()) == 63, "but with --all")
     facts = WholeFleet(stores.connect(machine.url)).look()
-    check((facts["ended"], len(facts["listed"])) == (60, 2), name, "the metrics count them")
+    check((facts["ended"], len(facts["listed"])) == (60, 2), "the metrics count them")
 
 
 def state(store, name):
@@ -103,82 +79,73 @@ def state(store, name):
     return next((each for each in everything(store) if each["name"] == name), None)
 
 
-@with_machine
 def list_tells_how_sessions_are(machine, data):
-    name, url = "list", machine.url
+    url = machine.url
     store = stores.connect(url)
     waiting = Source(url, "waits").send(b"abc")
-    check(state(store, "waits")["state"] == "waiting", name, "one that no worker has")
+    check(state(store, "waits")["state"] == "waiting", "one that no worker has")
     workers = Processes(machine, 1, "--lease", "1")
-    check(wait_for(lambda: state(store, "waits")["state"] == "running"), name, "one that runs")
-    check(state(store, "waits")["size"] == 3, name, "its size")
-    check(wait_for(lambda: state(store, "waits")["lag"] == 0), name, "its lag")
+    check(wait_for(lambda: state(store, "waits")["state"] == "running"), "one that runs")
+    check(state(store, "waits")["size"] == 3, "its size")
+    check(wait_for(lambda: state(store, "waits")["lag"] == 0), "its lag")
     gone = Source(url, "gone", lease=0.3).send(b"x")
-    check(wait_for(lambda: state(store, "gone")["state"] == "no host"), name, "one whose host is silent")
+    check(wait_for(lambda: state(store, "gone")["state"] == "no host"), "one whose host is silent")
     Source(url, "over").end(3)
-    check(wait_for(lambda: state(store, "over")["state"] == "ended 3"), name, "one that ended")
+    check(wait_for(lambda: state(store, "over")["state"] == "ended 3"), "one that ended")
     bad = Source(url, "bad\u00e4 <b>&")
     store.xadd(bad.part("bytes"), {"v": "9"}, id="5-0")
     wait_for(lambda: store.hget(bad.part("about"), "owner") or bad.fault())
     owner = store.hget(bad.part("about"), "owner")
     store.publish(keys.wake(owner.decode() if owner else "nobody"), bad.incarnation)
-    check(wait_for(lambda: state(store, "bad\u00e4 <b>&")["state"] == "fault"), name, "one with a fault")
+    check(wait_for(lambda: state(store, "bad\u00e4 <b>&")["state"] == "fault"), "one with a fault")
     status, out, said = fleet(url, "list", "--all")
     lines = out.splitlines()
-    check(status == 0 and lines[0].split() == "NAME STATE HOST WORKER LAG SIZE LAST OUTPUT".split(), name, "a table")
-    check(len(lines) == 5 and "Version: " in said, name, f"a line for each, and the fault: {len(lines)} {said}")
-    check("over" not in fleet(url, "list")[1], name, "ended ones only with --all")
+    check(status == 0 and lines[0].split() == "NAME STATE HOST WORKER LAG SIZE LAST OUTPUT".split(), "a table")
+    check(len(lines) == 5 and "Version: " in said, f"a line for each, and the fault: {len(lines)} {said}")
+    check("over" not in fleet(url, "list")[1], "ended ones only with --all")
     listed = [json.loads(line) for line in fleet(url, "list", "--all", "--json")[1].splitlines()]
-    check({each["name"] for each in listed} == {"waits", "gone", "over", "bad\u00e4 <b>&"}, name, "JSON")
-    check(fleet(url, "workers")[1].split()[1:3] == ["2", "sessions"], name, fleet(url, "workers")[1])
-    workers.stop()
+    check({each["name"] for each in listed} == {"waits", "gone", "over", "bad\u00e4 <b>&"}, "JSON")
+    check(fleet(url, "workers")[1].split()[1:3] == ["2", "sessions"], fleet(url, "workers")[1])
 
 
-@with_machine
 def kill_end_and_their_statuses(machine, data):
-    name, url = "kill and end", machine.url
+    url = machine.url
     store = stores.connect(url)
     workers = Processes(machine, 1, "--lease", "1")
     host = program(machine, "runs", ["sh", "-c", "echo on; " + SHELL[2]])
     wait_for(lambda: b"on" in written(store, "runs"))
-    check(fleet(url, "host", "runs", "true")[0] == 5, name, "a second host of the name: 5")
-    check(fleet(url, "end", "runs")[0] == 6, name, "a session whose host lives isn't ended: 6")
+    check(fleet(url, "host", "runs", "true")[0] == 5, "a second host of the name: 5")
+    check(fleet(url, "end", "runs")[0] == 6, "a session whose host lives isn't ended: 6")
     patiently = ("--patience", str(PATIENCE))
-    check(fleet(url, "kill", *patiently, "runs")[0] == 0 and host.wait(PATIENCE) == 129, name, f"kill hangs up: {host.returncode}")
-    check(wait_for(lambda: state(store, "runs")["state"] == "ended 129"), name, "the session has the program's status")
+    check(fleet(url, "kill", *patiently, "runs")[0] == 0 and host.wait(PATIENCE) == 129, f"kill hangs up: {host.returncode}")
+    check(wait_for(lambda: state(store, "runs")["state"] == "ended 129"), "the session has the program's status")
     host = program(machine, "stubborn", ["sh", "-c", "trap '' HUP TERM; echo on; while :; do sleep 0.1; done"])
     wait_for(lambda: b"on" in written(store, "stubborn"))
-    check(fleet(url, "kill", "--signal", "TERM", "--patience", "1", "stubborn")[0] == 6, name, "one that minds no signal: 6")
-    check(fleet(url, "kill", "--signal", "KILL", *patiently, "stubborn")[0] == 0, name, "but KILL")
-    check(host.wait(PATIENCE) == 137, name, f"which its host's status shows: {host.returncode}")
+    check(fleet(url, "kill", "--signal", "TERM", "--patience", "1", "stubborn")[0] == 6, "one that minds no signal: 6")
+    check(fleet(url, "kill", "--signal", "KILL", *patiently, "stubborn")[0] == 0, "but KILL")
+    check(host.wait(PATIENCE) == 137, f"which its host's status shows: {host.returncode}")
     machine.kill_daemon()
     with configured(machine, *PATIENT, "[host]", "lease = 1"):
         machine.start_daemon()
         program(machine, "lost", ["sleep", "infinity"])
     wait_for(lambda: state(store, "lost"))
     machine.kill_daemon()
-    check(wait_for(lambda: state(store, "lost")["state"] == "no host", 0.2), name, "a daemon that was killed")
-    check(fleet(url, "kill", "lost")[0] == 6, name, "nobody is there to pass a signal on: 6")
+    check(wait_for(lambda: state(store, "lost")["state"] == "no host", 0.2), "a daemon that was killed")
+    check(fleet(url, "kill", "lost")[0] == 6, "nobody is there to pass a signal on: 6")
     incarnation = state(store, "lost")["incarnation"]
-    check(fleet(url, "end", "--keep", "2h", "lost")[0] == 0, name, "it is ended")
-    check(wait_for(lambda: (state(store, "lost") or {}).get("state") == "ended ended"), name, "as ended by an operator")
-    check(
-        all(0 < store.ttl(key(incarnation, part)) <= 7200 for part in ("about", "bytes", "ended")),
-        name,
-        "its keys stay two hours",
-    )
-    check(fleet(url, "end", "--keep", "0", "lost")[0] == 0, name, "or go at once")
-    check(store.keys(f"fleet:{incarnation}:*") == [key(incarnation, "about").encode()], name, "but for a note that it was ended")
-    check(fleet(url, "text", "lost")[0] == 3 and fleet(url, "view", "nosuch")[0] == 3, name, "no such session: 3")
+    check(fleet(url, "end", "--keep", "2h", "lost")[0] == 0, "it is ended")
+    check(wait_for(lambda: (state(store, "lost") or {}).get("state") == "ended ended"), "as ended by an operator")
+    check(all(0 < store.ttl(key(incarnation, part)) <= 7200 for part in ("about", "bytes", "ended")), "its keys stay two hours")
+    check(fleet(url, "end", "--keep", "0", "lost")[0] == 0, "or go at once")
+    check(store.keys(f"fleet:{incarnation}:*") == [key(incarnation, "about").encode()], "but for a note that it was ended")
+    check(fleet(url, "text", "lost")[0] == 3 and fleet(url, "view", "nosuch")[0] == 3, "no such session: 3")
     bad = Source(url, "bad")
     store.set(bad.part("fault"), "Trimmed: so")
-    check(fleet(url, "view", "bad")[0] == 4, name, "a viewer of a session with a fault: 4")
+    check(fleet(url, "view", "bad")[0] == 4, "a viewer of a session with a fault: 4")
     store.xtrim(Source(url, "cut").send(b"a").send(b"b").part("bytes"), maxlen=0)
-    check(fleet(url, "text", "cut")[0] == 4, name, "text of one that has lost its bytes: 4")
-    workers.stop()
+    check(fleet(url, "text", "cut")[0] == 4, "text of one that has lost its bytes: 4")
 
 
-@with_machine
 def a_host_ends_also_without_a_store(machine, _):
     name, words = "no store", ["sh", "-c", "echo on; exec sleep infinity"]
     with configured(machine, "[store]", "timeout = 60", "give-up = 1"):
@@ -188,14 +155,13 @@ def a_host_ends_also_without_a_store(machine, _):
     machine.kill()
     host.terminate()
     said = host.communicate(timeout=PATIENCE)[1]
-    check(host.returncode == 69, name, f"it gives up: {host.returncode}")
-    check("Traceback" not in said and said.splitlines()[-1].startswith("fleet: "), name, f"and says why in a line: {said}")
+    check(host.returncode == 69, f"it gives up: {host.returncode}")
+    check("Traceback" not in said and said.splitlines()[-1].startswith("fleet: "), f"and says why in a line: {said}")
     machine.start()
 
 
-@with_machine
 def drain_hands_over(machine, data):
-    name, url = "drain", machine.url
+    url = machine.url
     sources = [Source(url, f"drain-{number}").send(b"abc") for number in range(100)]
     store = sources[0].store
     workers = Processes(machine, 1)
@@ -203,27 +169,22 @@ def drain_hands_over(machine, data):
     [first] = store.hkeys(keys.WORKERS)
     workers.all.append(workers.another())
     wait_for(lambda: store.hlen(keys.WORKERS) == 2)
-    check(fleet(url, "drain", "--patience", str(PATIENCE), first.decode()[:-2])[0] == 0, name, "it is done")
-    check(
-        wait_for(lambda: all(store.hget(s.part("about"), "owner") not in (None, first) for s in sources)), name, "another has all"
-    )
-    check(workers.all[0].wait(PATIENCE) == 0, name, "the worker has ended with 0")
+    check(fleet(url, "drain", "--patience", str(PATIENCE), first.decode()[:-2])[0] == 0, "it is done")
+    check(wait_for(lambda: all(store.hget(s.part("about"), "owner") not in (None, first) for s in sources)), "another has all")
+    check(workers.all[0].wait(PATIENCE) == 0, "the worker has ended with 0")
+    check(wait_for(lambda: all(store.hget(s.part("about"), "played") == b"3" for s in sources)), "which goes on with each")
     [second] = store.hkeys(keys.WORKERS)
     workers.all.append(workers.another())
     wait_for(lambda: store.hlen(keys.WORKERS) == 2)
     workers.all[1].terminate()
-    check(workers.all[1].wait(PATIENCE) == 0, name, "SIGTERM does the same")
-    check(
-        wait_for(lambda: all(store.hget(s.part("about"), "owner") not in (None, second) for s in sources)), name, "another has all"
-    )
-    check(fleet(url, "drain", "nosuch")[0] == 3, name, "no such worker: 3")
+    check(workers.all[1].wait(PATIENCE) == 0, "SIGTERM does the same")
+    check(wait_for(lambda: all(store.hget(s.part("about"), "owner") not in (None, second) for s in sources)), "another has all")
+    check(fleet(url, "drain", "nosuch")[0] == 3, "no such worker: 3")
     [last] = [each for each in store.hkeys(keys.WORKERS) if each != second]
     status, _, said = fleet(url, "drain", "--patience", str(PATIENCE), last.decode())
-    check(status == 0 and "100 sessions wait" in said, name, f"without another worker, they wait: {status} {said}")
-    workers.stop()
+    check(status == 0 and "100 sessions wait" in said, f"without another worker, they wait: {status} {said}")
 
 
-@with_machine
 def viewers_type_in_order_and_once(machine, _):
     """Through a link that swallows answers: what is typed is there once, in order."""
     from harness import Proxy
@@ -234,7 +195,7 @@ def viewers_type_in_order_and_once(machine, _):
     host = program(machine, name, ["sh", "-c", 'stty -echo; echo on; while read x; do echo "$x"; done'], "--input")
     store = stores.connect(machine.url)
     wait_for(lambda: b"on" in written(store, name))
-    incarnation = store.hget(keys.NAMES, name).decode()
+    incarnation = incarnation_of(store, name)
     typists = [Typist(stores.connect(proxy.url), incarnation) for _ in range(2)]
     for number in range(60):
         typists[number % 2].type(b"line %d\r" % number)
@@ -243,19 +204,14 @@ def viewers_type_in_order_and_once(machine, _):
     def lines():
         return written(store, name).replace(b"\r", b"").split(b"\n")[1:-1]
 
-    check(wait_for(lambda: len(lines()) >= 60), name, f"all arrives: {len(lines())}")
-    check(lines() == wanted_lines, name, "once, and in order")
-    check(wait_for(lambda: store.xlen(key(incarnation, "keys")) == 0), name, "and doesn't stay in the store")
-    check(fleet(machine.url, "type", "--enter", name, "\u00e4 by the command")[0] == 0, name, "the command types")
-    check(wait_for(lambda: b"\xe4 by the command" in lines()), name, "with the byte of the Supplemental set")
+    check(wait_for(lambda: len(lines()) >= 60), f"all arrives: {len(lines())}")
+    check(lines() == wanted_lines, "once, and in order")
+    check(wait_for(lambda: store.xlen(key(incarnation, "keys")) == 0), "and doesn't stay in the store")
+    check(fleet(machine.url, "type", "--enter", name, "\u00e4 by the command")[0] == 0, "the command types")
+    check(wait_for(lambda: b"\xe4 by the command" in lines()), "with the byte of the Supplemental set")
     other = program(machine, "read-only", ["cat"])
     wait_for(lambda: store.hexists(keys.NAMES, "read-only"))
-    check(fleet(machine.url, "type", "read-only", "x")[0] == 6, name, "a host without --input takes none: 6")
-    for each in (host, other):
-        each.kill()
-        each.wait()
-    workers.stop()
-    proxy.stop()
+    check(fleet(machine.url, "type", "read-only", "x")[0] == 6, "a host without --input takes none: 6")
 
 
 class OnTerminal:
@@ -280,53 +236,49 @@ class OnTerminal:
         return os.waitstatus_to_exitcode(os.waitpid(self.child, 0)[1])
 
 
-@with_machine
 def keys_have_the_form_that_the_program_asked_for(machine, _):
     """By the command and in a viewer, under LNM, DECCKM, DECKPAM and S8C1T. The bytes are those of the VT220's manual, chapter 3."""
     name, url, workers = "modes", machine.url, Processes(machine, 1)
     source = Source(url, name, takes_input=True).listen().send(b"\033[20h\033[?1h\033=\033 Gready")
-    got, wanted = (lambda: b"".join(what for kind, what in source.got if kind == "keys")), b""
+    wanted = b""
     for words, sent in (
         (["--enter", name, "œÿŒ¤é"], b"\xf7\xfd\xd7\xa8\xe9\r\n"),
         ([name, "ls\r\x7f"], b"ls\r\n\x7f"),
         ([name, "\033[A\033OP\033Ou\033[3~\033[29~"], b"\x8fA\x8fP\x8fu\x9b3~\x9b29~"),
     ):
-        check(fleet(url, "type", *words)[0] == 0, name, f"type {words}")
+        check(fleet(url, "type", *words)[0] == 0, f"type {words}")
         wanted += sent
-        check(wait_for(lambda: got() == wanted), name, f"{words} arrive: {got()}")
+        check(wait_for(lambda: source.keys() == wanted), f"{words} arrive: {source.keys()}")
     status, _, said = fleet(url, "type", name, "3÷4")
-    check(status == 2 and "no key of a VT220 sends '÷'" in said, name, f"a character without a key: {status}, {said}")
+    check(status == 2 and "no key of a VT220 sends '÷'" in said, f"a character without a key: {status}, {said}")
     types = OnTerminal(url, "view", "--type", name)
-    check(wait_for(lambda: types.has(b"ready")), name, "a viewer")
+    check(wait_for(lambda: types.has(b"ready")), "a viewer")
     for typed, sent in (("œÿé\r".encode(), b"\xf7\xfd\xe9\r\n"), (b"\033[A\033[H\033[3~\x7f", b"\x8fA\x9b1~\x9b3~\x7f"), ("3÷".encode(), b"3")):
         os.write(types.master, typed)
         wanted += sent
-        check(wait_for(lambda: got() == wanted), name, f"{typed} arrives: {got()}")
-    check(wait_for(lambda: types.has(b"\a")), name, "a character without a key rings")
+        check(wait_for(lambda: source.keys() == wanted), f"{typed} arrives: {source.keys()}")
+    check(wait_for(lambda: types.has(b"\a")), "a character without a key rings")
     os.write(types.master, b"\x1d")
-    check(types.status() == 0 and got() == wanted, name, "and nothing else was sent")
-    source.stop()
-    workers.stop()
+    check(types.status() == 0 and source.keys() == wanted, "and nothing else was sent")
 
 
-@with_machine
 def a_viewer_follows_and_types_on_a_terminal(machine, _):
     name, workers = "view", Processes(machine, 1, "--lease", "1")
     host = program(machine, name, ["sh", "-c", "printf '\\033[1mhello\\033[m'; while read x; do echo \"got $x\"; done; exit 3"], "--input")
     store = stores.connect(machine.url)
     wait_for(lambda: store.hexists(keys.NAMES, name))
     types, looks = OnTerminal(machine.url, "view", "--type", name), OnTerminal(machine.url, "view", name)
-    check(wait_for(lambda: types.has(b"\033[0;1mhello")), name, "it draws the session")
+    check(wait_for(lambda: types.has(b"\033[0;1mhello")), "it draws the session")
     os.write(types.master, b"by \xc3\xa4 viewer\r")
-    check(wait_for(lambda: looks.has(b"got by ")), name, "what one viewer types, the other sees")
+    check(wait_for(lambda: looks.has(b"got by ")), "what one viewer types, the other sees")
     workers.kill(0)
     os.write(types.master, b"after a kill\r")
-    check(wait_for(lambda: looks.has(b"got after a kill")), name, "over the death of a worker, too")
+    check(wait_for(lambda: looks.has(b"got after a kill")), "over the death of a worker, too")
     os.write(types.master, b"\x1d")
-    check(types.status() == 0, name, "Ctrl-] leaves")
+    check(types.status() == 0, "Ctrl-] leaves")
     typed = fleet(machine.url, "type", name, "\x04")
-    check(typed[0] == 0 and host.wait(PATIENCE) == 3, name, "an end of file ends the program")
-    check(looks.status() == 0, name, "and the viewer, at the session's end")
+    check(typed[0] == 0 and host.wait(PATIENCE) == 3, "an end of file ends the program")
+    check(looks.status() == 0, "and the viewer, at the session's end")
     workers.stop()
 
 
@@ -342,7 +294,6 @@ def send_at_their_moments(source, *parts):
     keys.now = before
 
 
-@with_machine
 def sessions_are_looked_at_and_exported(machine, data):
     name, url = "export", machine.url
     one = worker(url)
@@ -353,26 +304,22 @@ def sessions_are_looked_at_and_exported(machine, data):
             source.end(0)
             until(source.is_ended, one)
         sent = source.sent
-        check(fleet(url, "text", name)[1].encode() == wanted("text", sent)[1], name, f"text, {when}")
+        check(fleet(url, "text", name)[1].encode() == wanted("text", sent)[1], f"text, {when}")
         picture = subprocess.run([PROGRAM, "picture"], input=wanted("repaint", sent)[1], stdout=subprocess.PIPE).stdout
-        check(fleet(url, "picture", name)[1].encode() == picture, name, f"picture, {when}")
-        raw = subprocess.run([local.COMMAND, "log", name], env=os.environ | {"FLEET_REDIS": url}, stdout=subprocess.PIPE).stdout
-        check(raw == sent, name, f"log, {when}")
-    check_asciicast(name, fleet(url, "export", name)[1], source.sent)
-    ttyrec = subprocess.run(
-        [local.COMMAND, "export", "--ttyrec", name], env=os.environ | {"FLEET_REDIS": url}, stdout=subprocess.PIPE
-    ).stdout
-    check_ttyrec(name, ttyrec, source.sent)
+        check(fleet(url, "picture", name)[1].encode() == picture, f"picture, {when}")
+        check(fleet_bytes(url, "log", name)[1] == sent, f"log, {when}")
+    check_asciicast(fleet(url, "export", name)[1], source.sent)
+    check_ttyrec(fleet_bytes(url, "export", "--ttyrec", name)[1], source.sent)
     check_page(name, url, source.sent)
 
 
-def check_asciicast(name, text, sent):
+def check_asciicast(text, sent):
     head, *events = map(json.loads, text.splitlines())
-    check(head["version"] == 2 and (head["width"], head["height"]) == (80, 24), name, "an asciicast's head")
-    check(head["timestamp"] == BEGUN / 1000, name, "with its moment")
-    check("".join(event[2] for event in events).encode("latin-1") == sent, name, "all bytes")
+    check(head["version"] == 2 and (head["width"], head["height"]) == (80, 24), "an asciicast's head")
+    check(head["timestamp"] == BEGUN / 1000, "with its moment")
+    check("".join(event[2] for event in events).encode("latin-1") == sent, "all bytes")
     times = [event[0] for event in events]
-    check(times == sorted(times) and set(times) == {0, 0.15, 0.3}, name, f"at their pace: {set(times)}")
+    check(times == sorted(times) and set(times) == {0, 0.15, 0.3}, f"at their pace: {set(times)}")
 
 
 def check_page(name, url, sent):
@@ -380,30 +327,28 @@ def check_page(name, url, sent):
     with tempfile.NamedTemporaryFile("w") as template:
         template.write("@TITLE@|@PLAYERS@")
         template.flush()
-        environment = os.environ | {"FLEET_REDIS": url, "VT220_PAGE": template.name}
-        made = subprocess.run([local.COMMAND, "export", "--page", name], env=environment, stdout=subprocess.PIPE, text=True).stdout
-        none = subprocess.run([local.COMMAND, "export", "--page", name], env=environment | {"VT220_PAGE": ""}, capture_output=True, text=True)
+        made = fleet(url, "export", "--page", name, VT220_PAGE=template.name)[1]
+    status, out, said = fleet(url, "export", "--page", name, VT220_PAGE="")
     title, players = made.split("|", 1)
     recording = json.loads(re.search(r'<script type="application/json">(.*?)</script>', players, re.S)[1])
     data, chunks = (gzip.decompress(base64.b64decode(recording[part])) for part in ("bytes", "chunks"))
     lines = [tuple(map(int, line.split())) for line in chunks.splitlines()]
-    check(title == name and data == sent and sum(size for _, size in lines) == len(sent), name, "a page has the title and all bytes")
-    check({micros for micros, _ in lines} == {0, 150000, 300000}, name, "and its pace")
-    check(none.returncode == 1 and "make js" in none.stderr and none.stdout == "", name, "without a template there is no page")
+    check(title == name and data == sent and sum(size for _, size in lines) == len(sent), "a page has the title and all bytes")
+    check({micros for micros, _ in lines} == {0, 150000, 300000}, "and its pace")
+    check(status == 1 and "make js" in said and out == "", "without a template there is no page")
 
 
-def check_ttyrec(name, data, sent):
+def check_ttyrec(data, sent):
     at, bytes_, moments = 0, b"", []
     while at < len(data):
         seconds, micros, length = struct.unpack_from("<III", data, at)
         bytes_ += data[at + 12 : at + 12 + length]
         moments.append(seconds * 1000 + micros / 1000 - BEGUN)
         at += 12 + length
-    check(bytes_ == sent, name, "a ttyrec")
-    check(moments == sorted(moments) and set(moments) == {0, 150, 300}, name, f"at its pace: {set(moments)}")
+    check(bytes_ == sent, "a ttyrec")
+    check(moments == sorted(moments) and set(moments) == {0, 150, 300}, f"at its pace: {set(moments)}")
 
 
-@with_machine
 def metrics_and_logs(machine, data):
     name, port = "metrics", free_port()
     workers = Processes(machine, 1, "--metrics", f"127.0.0.1:{port}")
@@ -412,18 +357,16 @@ def metrics_and_logs(machine, data):
     # A worker counts the bytes that it plays, and the reports once the store has them.
     reports, entries = wanted("reports", data)[1].count(b"\033["), 1 + -(-len(data) // 700)
     sums = {"fleet_bytes_total": len(data), "fleet_reports_total": reports, "fleet_entries_total": entries}
-    check(wait_for(lambda: sums.items() <= metrics_at(port).items()), name, f"{sums}: {metrics_at(port)}")
+    check(wait_for(lambda: sums.items() <= metrics_at(port).items()), f"{sums}: {metrics_at(port)}")
     wait_for(lambda: metrics_at(port)["fleet_report_seconds_count"] > 0)
     found = metrics_at(port)
-    check(found["fleet_sessions"] == 1 and found["fleet_faults_total"] == 0 < found["fleet_store_connections_total"], name, str(found))
-    check(found["fleet_report_seconds_count"] > 0 == found['fleet_report_seconds_bucket{le="+Inf"}'] - found["fleet_report_seconds_count"], name, "latencies")
-    check(wait_for(lambda: asked(port, "healthz") == (200, "ok\n")), name, "it is well")
+    check(found["fleet_sessions"] == 1 and found["fleet_faults_total"] == 0 < found["fleet_store_connections_total"], str(found))
+    check(found["fleet_report_seconds_count"] > 0 == found['fleet_report_seconds_bucket{le="+Inf"}'] - found["fleet_report_seconds_count"], "latencies")
+    check(wait_for(lambda: asked(port, "healthz") == (200, "ok\n")), "it is well")
     check(
         all(re.match(r"\d{4}-\d\d-\d\d \d\d:\d\d:\d\d,\d{3} (INFO|WARNING|ERROR) ", line) for line in workers.said()),
-        name,
         "logs have times",
     )
-    workers.stop()
 
 
 def asked(port, what):
@@ -441,7 +384,6 @@ def metrics_at(port):
     return {name: float(value) for name, value in lines}
 
 
-@with_machine
 def a_daemon_has_metrics(machine, _):
     name, port, steps = "host metrics", free_port(), [os.path.join(machine.folder, each) for each in ("first", "second")]
     waits = ["while [ ! -e %s ]; do sleep 0.05; done" % step for step in steps]
@@ -450,33 +392,33 @@ def a_daemon_has_metrics(machine, _):
     host = program(machine, name, ["sh", "-c", script])
     store, now = stores.connect(machine.url), lambda: metrics_at(port)
     wait_for(lambda: written(store, name) == b"begins")
-    check(wait_for(lambda: now()["fleet_host_bytes_total"] == 6), name, f"bytes: {now()}")
+    check(wait_for(lambda: now()["fleet_host_bytes_total"] == 6), f"bytes: {now()}")
     before = now()
     wanted = {'fleet_host_programs{state="running"}': 1, 'fleet_host_programs{state="slowed"}': 0, 'fleet_host_programs{state="ended"}': 0}
     wanted |= {"fleet_host_lag_bytes": 0, "fleet_host_unplayed_bytes": 6, "fleet_store_is_away": 0, "fleet_store_outages_total": 0}
-    check(wanted.items() <= before.items() and before["fleet_store_connections_total"] > 0, name, str(before))
-    check(asked(port, "healthz") == (200, "ok\n"), name, "it is well")
+    check(wanted.items() <= before.items() and before["fleet_store_connections_total"] > 0, str(before))
+    check(asked(port, "healthz") == (200, "ok\n"), "it is well")
     machine.kill()
     open(steps[0], "w").close()
     wanted = {'fleet_host_programs{state="slowed"}': 1, "fleet_host_lag_bytes": 7, "fleet_host_bytes_total": 6, "fleet_store_is_away": 1}
-    check(wait_for(lambda: wanted.items() <= now().items()), name, f"without a store: {now()}")
+    check(wait_for(lambda: wanted.items() <= now().items()), f"without a store: {now()}")
     # The host begins to send these bytes a moment after it has them.
-    check(wait_for(lambda: now()["fleet_host_lag_seconds"] > 0), name, f"it is behind: {now()}")
-    check(asked(port, "healthz") == (503, "the store is away\n"), name, "and not well")
+    check(wait_for(lambda: now()["fleet_host_lag_seconds"] > 0), f"it is behind: {now()}")
+    check(asked(port, "healthz") == (503, "the store is away\n"), "and not well")
     machine.start()
     wanted = {'fleet_host_programs{state="running"}': 1, "fleet_host_lag_bytes": 0, "fleet_host_lag_seconds": 0, "fleet_host_bytes_total": 13}
-    check(wait_for(lambda: wanted.items() <= now().items()), name, f"it goes on: {now()}")
+    check(wait_for(lambda: wanted.items() <= now().items()), f"it goes on: {now()}")
     after = now()
-    check(all(after[each] > before[each] for each in ("fleet_store_outages_total", "fleet_store_connections_total")), name, f"over a new connection: {after}")
+    check(all(after[each] > before[each] for each in ("fleet_store_outages_total", "fleet_store_connections_total")), f"over a new connection: {after}")
     machine.kill()
     open(steps[1], "w").close()
-    check(wait_for(lambda: now()['fleet_host_programs{state="ended"}'] == 1), name, f"its program has ended: {now()}")
+    check(wait_for(lambda: now()['fleet_host_programs{state="ended"}'] == 1), f"its program has ended: {now()}")
     machine.start()
-    check(host.wait(PATIENCE) == 3, name, f"and so does its holder: {host.returncode}")
-    check(wait_for(lambda: now()['fleet_host_programs{state="ended"}'] == 0) and now()["fleet_host_bytes_total"] == 13, name, f"the counts stay: {now()}")
+    check(host.wait(PATIENCE) == 3, f"and so does its holder: {host.returncode}")
+    check(wait_for(lambda: now()['fleet_host_programs{state="ended"}'] == 0) and now()["fleet_host_bytes_total"] == 13, f"the counts stay: {now()}")
     machine.kill_daemon()
     machine.start_daemon("--metrics", "127.0.0.1:99999")
-    check(machine.daemon.wait(PATIENCE) == 2, name, "if there is no such address, the daemon ends")
+    check(machine.daemon.wait(PATIENCE) == 2, "if there is no such address, the daemon ends")
 
 
 def names_of(collector):
@@ -486,62 +428,59 @@ def names_of(collector):
 
 
 def alerts_and_documents_name_the_metrics_that_there_are(url, _):
-    name, store, source = "alerts", stores.connect(url), Source(url, "one")
-    of_daemon = DaemonMetrics(types.SimpleNamespace(store=store, all=list, counts=dict.fromkeys(("bytes", "inputs"), 0)))
+    store, source = stores.connect(url), Source(url, "one")
+    of_daemon = DaemonMetrics(types.SimpleNamespace(store=store, all=list, totals=lambda: {"bytes": 0, "inputs": 0}))
     known = set().union(*map(names_of, (WorkerMetrics(worker(url)), of_daemon, PageMetrics(Page(store, store, config.Web())), WholeFleet(store))))
     texts = {}
     for file in ("alerts.yml", "README.md", "RUNBOOK.md"):
         with open(os.path.join(HERE, "..", file)) as read:
             texts[file] = read.read()
     used = {re.sub(r"_bucket$", "", each) for each in re.findall(r"\bfleet_\w+", texts["alerts.yml"])}
-    check(len(used) > 8 and used <= known, name, f"the alerts are of metrics that there are: {used - known}")
+    check(len(used) > 8 and used <= known, f"the alerts are of metrics that there are: {used - known}")
     listed = set(re.findall(r"`(fleet_\w+)`", texts["README.md"]))
-    check(listed == known, name, f"README lists each metric: {listed ^ known}")
+    check(listed == known, f"README lists each metric: {listed ^ known}")
     alerts = re.findall(r"- alert: (\w+)", texts["alerts.yml"])
-    check(len(alerts) == len(set(alerts)) == texts["alerts.yml"].count("summary:"), name, f"each alert has a summary: {alerts}")
+    check(len(alerts) == len(set(alerts)) == texts["alerts.yml"].count("summary:"), f"each alert has a summary: {alerts}")
     pages = set(re.findall(r"^## (\w+)", texts["RUNBOOK.md"], re.MULTILINE))
     faults = {each.__name__ for each in keys.Fault.__subclasses__()} | {host.Taken.__name__, "Poison", *alerts}
     with open(os.path.join(HERE, "gameday.py")) as read:
         judged = set(re.findall(r'judge\(machine, "(\w+)"', read.read()))
-    check(judged == set(alerts), name, f"the game day has each alert: {judged ^ set(alerts)}")
-    check(faults <= pages, name, f"the runbook has a page for each fault and each alert: {faults - pages}")
+    check(judged == set(alerts), f"the game day has each alert: {judged ^ set(alerts)}")
+    check(faults <= pages, f"the runbook has a page for each fault and each alert: {faults - pages}")
 
 
-@with_machine
 def metrics_of_the_whole_fleet(machine, _):
-    name = "fleet metrics"
     whole, metrics.SILENT = WholeFleet(stores.connect(machine.url, socket_timeout=2)), 0.2
     served = server(whole, "127.0.0.1:0")
     metrics.SILENT = 10.0
     threading.Thread(target=served.serve_forever, daemon=True).start()
     port = served.server_address[1]
     with socket.create_connection(("127.0.0.1", port), PATIENCE) as silent:
-        check(silent.recv(1) == b"", name, "a connection that asks nothing is closed")
-    check(asked(port, "healthz") == (503, "no worker lives\n"), name, "without a worker it isn't well")
+        check(silent.recv(1) == b"", "a connection that asks nothing is closed")
+    check(asked(port, "healthz") == (503, "no worker lives\n"), "without a worker it isn't well")
     Source(machine.url, "waits").send(b"abc")
     bad, gone = Source(machine.url, "bad"), Source(machine.url, "gone")
     bad.store.set(bad.part("fault"), "Poison: so")
     gone.store.delete(keys.lease("gone"))
     claims.Claims(stores.connect(machine.url), 60)
     whole.read = -1e9
-    check(asked(port, "healthz") == (200, "ok\n"), name, "with one it is")
+    check(asked(port, "healthz") == (200, "ok\n"), "with one it is")
     found = metrics_at(port)
     wanted = {'fleet_states{state="waiting"}': 1, 'fleet_states{state="no host"}': 1, 'fleet_states{state="fault"}': 1, "fleet_workers": 1}
     wanted |= {'fleet_session_faults{fault="Poison"}': 1, "fleet_lag_bytes": 3, "fleet_lag_most_bytes": 3, "fleet_store_up": 1}
-    check(wanted.items() <= found.items(), name, str(found))
-    check(found["fleet_waiting_seconds"] >= 0 < found["fleet_store_round_trip_seconds"], name, str(found))
+    check(wanted.items() <= found.items(), str(found))
+    check(found["fleet_waiting_seconds"] >= 0 < found["fleet_store_round_trip_seconds"], str(found))
     machine.kill()
     whole.read, whole.store.patience = -1e9, 0.1
-    check(asked(port, "healthz")[0] == 503 and "fleet_store_up 0.0" in asked(port, "metrics")[1], name, "without a store")
+    check(asked(port, "healthz")[0] == 503 and "fleet_store_up 0.0" in asked(port, "metrics")[1], "without a store")
     machine.start()
     served.shutdown()
 
 
-@with_machine
 def the_configuration_is_read_and_checked(machine, _):
-    name, example = "configuration", os.path.join(HERE, "..", "fleet.conf.example")
+    example = os.path.join(HERE, "..", "fleet.conf.example")
     url = machine.url
-    check(not raises(Unclear, Settings, example), name, "the example is read")
+    check(not raises(Unclear, Settings, example), "the example is read")
     wrong = {
         "[stroe]\n": "section",
         "[store]\nurn = x\n": "urn",
@@ -555,45 +494,24 @@ def the_configuration_is_read_and_checked(machine, _):
     }
     for number, (text, word) in enumerate(wrong.items()):
         status, _, said = fleet(url, "list", config=conf(machine, f"wrong-{number}", text))
-        check(status == 78 and word in said, name, f"{text!r}: {status} {said}")
-    check(fleet(url, "list", config="/nonexistent")[0] == 78, name, "a file that isn't there")
+        check(status == 78 and word in said, f"{text!r}: {status} {said}")
+    check(fleet(url, "list", config="/nonexistent")[0] == 78, "a file that isn't there")
     check(
         fleet(f"unix://{machine.folder}/none", "list", config=conf(machine, "quick", "[store]", "give-up = 1"))[0] == 69,
-        name,
         "no store: 69",
     )
     for words in ("worker --lease 0", "worker --every x", "worker --keep -5", "worker --lease nan", "host --rate 0 x y", "web --port 99999", "end --keep -1 x"):
         status, _, said = fleet(url, *words.split())
-        check(status == 2 and words.split()[1] in said, name, f"a number that cannot be: {words}: {status} {said}")
-    check(fleet(url, "nosuch")[0] == 2 and fleet(url, "host", "x")[0] == 78, name, "a wrong command line")
+        check(status == 2 and words.split()[1] in said, f"a number that cannot be: {words}: {status} {said}")
+    check(fleet(url, "nosuch")[0] == 2 and fleet(url, "host", "x")[0] == 78, "a wrong command line")
     for bad in ("", "a\nb", "x" * 201, "a\x1b[31m"):
-        check(fleet(url, "host", bad, "true")[0] == 2, name, f"a name that cannot be: {bad!r}")
-    units = os.path.join(HERE, "..", "systemd")
-    for unit in os.listdir(units):
-        text = open(os.path.join(units, unit)).read()
-        check("ExecStart=" in text and "[Service]" in text, name, unit)
-        check("StartLimitIntervalSec=0" in text and "Restart=" in text, name, f"{unit} is started again for ever")
-        check(all(f"{word}=" in text for word in ("SystemCallFilter", "UMask", "NoNewPrivileges", "ProtectSystem")), name, f"{unit} is hardened")
-        if "-host@" in unit:
-            check("\nOOMPolicy=continue\n" in text and "\nMemoryMax=" not in text, name, f"{unit} bounds no program, and outlives one that the kernel ends")
-        else:
-            check("\nMemoryMax=" in text, name, f"{unit} has a bound of memory")
-
-
-CASES = [
-    run_leaves_nothing_when_it_is_killed,
-    a_list_asks_little_of_sessions_that_ended,
-    list_tells_how_sessions_are,
-    kill_end_and_their_statuses,
-    a_host_ends_also_without_a_store,
-    drain_hands_over,
-    viewers_type_in_order_and_once,
-    keys_have_the_form_that_the_program_asked_for,
-    a_viewer_follows_and_types_on_a_terminal,
-    sessions_are_looked_at_and_exported,
-    metrics_and_logs,
-    a_daemon_has_metrics,
-    alerts_and_documents_name_the_metrics_that_there_are,
-    metrics_of_the_whole_fleet,
-    the_configuration_is_read_and_checked,
-]
+        check(fleet(url, "host", bad, "true")[0] == 2, f"a name that cannot be: {bad!r}")
+    with open(os.path.join(UNITS, "vt220-fleet-.service.d", "all.conf")) as file:
+        common = file.read()
+    for path in glob.glob(os.path.join(UNITS, "*.service")):
+        with open(path) as file:
+            text, is_session = common + file.read(), "-host@" in path
+        words = ("ExecStart", "StartLimitIntervalSec", "Restart", "SystemCallFilter", "UMask", "NoNewPrivileges", "ProtectSystem")
+        check(all(f"\n{word}=" in text for word in words), f"{path} is started again for ever, and is hardened")
+        check(("\nMemoryMax=" not in text) == is_session, f"{path} has a bound of memory, but no session")
+        check(("\nOOMPolicy=continue\n" in text) == is_session, f"{path} outlives a program that the kernel ends")

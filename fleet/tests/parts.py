@@ -1,13 +1,14 @@
 """Each part of the fleet by itself."""
-import re
 import socket
-import subprocess
 import sys
 import tempfile
 
 import redis
 
-from harness import HOLDER, PATIENCE, Source, check, compare, key, keys, played, program, raises, session, stores, until, wait_for, with_machine, worker
+from harness import (
+    PATIENCE, Source, check, children_of, compare, incarnation_of, key, keys, played, playing, program, raises, replace,
+    session, stores, until, wait_for, worker,
+)
 import load
 from fleet import frames
 from fleet.host import Taken
@@ -16,272 +17,7 @@ from fleet.store import has_come, packed
 from fleet.view import Viewer
 
 
-def a_worker_ends_a_session(url, data):
-    name, one = "ends", worker(url)
-    source = Source(url, name).send(data).end(7)
-    check(until(source.is_ended, one), name, "it ends")
-    source.receive()
-    compare(source, name, status=b"7")
-    check(not one.kept and not source.store.smembers(keys.LIVE), name, "nobody has it any more")
-
-
-def reports_are_at_what_they_answer(url, _):
-    name, one = "positions", worker(url)
-    source = Source(url, name).send(b"ab\033[ccd\033[6n", piece=3).end(0)
-    until(source.is_ended, one)
-    told = [(entry_id, fields[b"report"]) for entry_id, fields in source.store.xrange(source.part("answers"))]
-    check(told == [(b"5-0", b"\033[?62;1;6c"), (b"11-0", b"\033[1;5R")], name, "positions")
-
-
-def another_worker_goes_on(url, data):
-    name, one, other = "goes on", worker(url), worker(url)
-    half = len(data) // 2
-    source = Source(url, name).send(data[:half], piece=64)
-    one.turn()
-    check(until(lambda: any(s.at == half for s in one.kept.values()), one), name, "the one has it")
-    at = int(source.store.hget(source.part("checkpoint"), "at"))
-    check(half - 2000 <= at <= half, name, "there is a checkpoint")
-    check(until(lambda: other.kept, other), name, "another takes it when the one is silent")
-    source.send(data[half:]).end(0)
-    # The one wasn't dead, only slow. It learns that the session isn't its own, and harms nothing.
-    check(until(source.is_ended, one, other), name, "it ends")
-    check(until(lambda: not one.kept, one), name, "the one lets go")
-    source.receive()
-    compare(source, name)
-
-
-def bytes_sent_twice_are_there_once(url, _):
-    name = "twice"
-    source = Source(url, name).send(b"abc")
-    source.host.append(3, 1, b"abc")
-    source.send(b"def")
-    now = session.as_it_is(source.store, source.incarnation)
-    check(now.at == 6 and now.terminal.text().startswith("abcdef\n"), name, "bytes")
-    check(raises(keys.Differs, source.host.append, 6, 1, b"deX"), name, "other bytes at the same place are a fault")
-    check(source.fault().startswith("Differs"), name, "which the store keeps")
-
-
-def damaged_checkpoints_are_noticed(url, data):
-    name, one = "damaged", worker(url)
-    source = Source(url, name).send(data)
-    until(lambda: any(s.at == len(data) for s in one.kept.values()), one)
-    whole = source.store.hgetall(source.part("checkpoint"))
-    kept, damaged = session.restored("x", whole)
-    check(kept.at > 0 and not damaged, name, "a whole one is taken")
-    repaint, at = whole[b"repaint"], int(whole[b"at"])
-    harms = {
-        "cut short": {b"repaint": repaint[:-1]},
-        "empty": {b"repaint": b""},
-        "a byte changed": {b"repaint": repaint[:40] + bytes([repaint[40] ^ 1]) + repaint[41:]},
-        "another position": {b"at": b"%d" % (at - 1)},
-        "a position that is none": {b"at": b"x"},
-        "no checksum": {b"sha256": b""},
-    }
-    for what, harm in harms.items():
-        source.store.delete(source.part("checkpoint"))
-        source.store.hset(source.part("checkpoint"), mapping=whole | harm)
-        _, damaged = session.restored("x", source.store.hgetall(source.part("checkpoint")))
-        check(damaged, name, what)
-        now = session.as_it_is(source.store, source.incarnation)
-        check(now.terminal.same_state(played(data)[0]), name, what + ": played from the start")
-    other = worker(url)
-    one.claims.leave()
-    check(until(lambda: other.kept, other), name, "another takes it with the damaged checkpoint")
-    source.send(b"x" * 2000).end(0)
-    check(until(source.is_ended, other), name, "and ends it")
-    source.receive()
-    compare(source, name)
-
-
-def other_formats_are_named(url, data):
-    for part, name in (("checkpoint", "a checkpoint of no format"), ("bytes", "an entry of no format")):
-        one = worker(url)
-        source = Source(url, name)
-        if part == "checkpoint":
-            source.store.hset(source.part(part), mapping=keys.checkpoint(0, b"") | {"v": "9"})
-        else:
-            source.store.xadd(source.part(part), {"v": "9", "bytes": "abc"}, id="3-0")
-        check(until(source.fault, one), name, "is a fault")
-        check(source.fault().startswith("Version"), name, source.fault())
-    source = Source(url, "versions").send(b"\033[c")
-    one = worker(url, every=1)
-    until(lambda: source.store.exists(source.part("checkpoint")), one)
-    check(source.store.hget(source.part("checkpoint"), "v") == keys.version().encode(), "versions", "a checkpoint has them")
-    for part in ("bytes", "answers"):
-        written = [f[b"v"].decode() for _, f in source.store.xrange(source.part(part)) if b"begin" not in f]
-        check(set(written) == {keys.version()}, "versions", part)
-    [(_, begin)] = source.store.xrange(source.part("bytes"), count=1)
-    check(begin[b"v"] == keys.version(keys.OLDEST).encode(), "versions", "its first entry can be read by an older worker, too")
-
-
-def trimmed_streams_are_named(url, data):
-    name, one = "trimmed", worker(url)
-    source = Source(url, name).send(data)
-    until(lambda: any(s.at == len(data) for s in one.kept.values()), one)
-    at = int(source.store.hget(source.part("checkpoint"), "at"))
-    source.store.xtrim(source.part("bytes"), minid=f"{at}-0", approximate=False)
-    check(session.as_it_is(source.store, source.incarnation).at == len(data), name, "up to the checkpoint nothing is missing")
-    source.store.delete(source.part("checkpoint"))
-    check(raises(keys.Trimmed, session.as_it_is, source.store, source.incarnation), name, "without it the beginning is")
-    one.claims.leave()
-    one = worker(url)
-    check(until(source.fault, one), name, "a worker says so")
-    check(source.fault().startswith("Trimmed: ") and not one.kept, name, source.fault())
-    check(not source.store.smembers(keys.LIVE), name, "and lets it go")
-    one = worker(url, keep=500)
-    source = Source(url, "kept short").send(data).end(0)
-    check(until(source.is_ended, one), "kept short", "it ends")
-    check(0 < source.store.xlen(source.part("bytes")) <= 4, "kept short", "old bytes are dropped")
-
-
-def viewers_join_late(url, data):
-    name, one = "viewed", worker(url)
-    third = len(data) // 3
-    source = Source(url, name).send(data[: third - 1] + b"\030")  # which ends between sequences
-    until(lambda: any(s.at == third for s in one.kept.values()), one)
-    viewer, slow = Viewer(source.store, source.incarnation), Viewer(source.store, source.incarnation)
-
-    def is_there(each):
-        each.ask()
-        each.follow(0.001)
-        kept = one.kept.get(source.incarnation)
-        return kept and kept.at == source.host.at and each.terminal.same_state(kept.terminal)
-
-    check(until(lambda: is_there(viewer), one), name, "a repaint")
-    is_there(slow)
-    steps = 0
-    for at in range(third, len(data), 50):
-        source.send(data[at : at + 50])
-        one.frames.shown = 0.0
-        one.turn(0.01)
-        viewer.follow(0.001)
-        steps = max(steps, viewer.step)
-    source.send(b"\030")
-    check(until(lambda: is_there(viewer), one), name, "updates")
-    check(steps > 0, name, "updates, not repaints")
-    while viewer.step in (0, frames.STEPS):  # the last frame and the next one are updates
-        source.send(b"y")
-        check(until(lambda: is_there(viewer), one), name, "one more")
-    source.store.xtrim(source.part("view"), maxlen=1, approximate=False)
-    source.send(b"x")
-    check(until(lambda: is_there(viewer), one), name, "an update after it")
-    slow.follow(0.001)
-    check(not slow.terminal.same_state(viewer.terminal), name, "who missed an update plays none on the wrong state")
-    one.kept[source.incarnation].shown = None
-    check(until(lambda: is_there(slow), one), name, "and goes on at the next repaint")
-    now = session.as_it_is(source.store, source.incarnation)
-    check(now.terminal.same_state(viewer.terminal), name, "without a worker")
-
-
-def a_session_that_stands_still_is_shown_also_later(url, _):
-    """Frames are dropped some time after the last one. So one is sent again while somebody looks, for whoever comes then."""
-    name, one, before = "still", worker(url), frames.FORGET
-    source = Source(url, name).send(b"stands still")
-    first, late = (Viewer(source.store, source.incarnation) for _ in range(2))
-    shows = lambda viewer: viewer.ask() or viewer.follow(0) or viewer.terminal.text().startswith("stands still")
-    frames.FORGET = 2
-    try:
-        check(until(lambda: shows(first), one), name, "it is shown")
-        last = first.last
-        check(until(lambda: shows(first) and first.last != last, one), name, "and once more, though nothing changed")
-        check(until(lambda: shows(late), one), name, "and to one who comes late")
-    finally:
-        frames.FORGET = before
-
-
-@with_machine
-def a_program_gets_its_answers(machine, _):
-    """Through a pseudo-terminal: a shell asks where the cursor is, and prints what it was told."""
-    name, one, store = "program", worker(machine.url), stores.connect(machine.url)
-    asks = (
-        r"""stty -echo raw; printf 'ab\033[6n'; a=$(dd bs=1 count=6 2>/dev/null); stty sane; printf %s "$a" | od -An -c; exit 3"""
-    )
-    host = program(machine, name, ["sh", "-c", asks])
-    wait_for(lambda: store.hexists(keys.NAMES, name))
-    incarnation = store.hget(keys.NAMES, name).decode()
-    check(until(lambda: store.exists(key(incarnation, "ended")), one), name, "it ends")
-    check(host.wait(PATIENCE) == 3, name, "and so does its holder, with its status")
-    ended = store.hgetall(key(incarnation, "ended"))
-    check(ended[b"status"] == b"3", name, "its status")
-    check(" ".join(ended[b"text"].decode().split()) == "ab 033 [ 1 ; 3 R", name, "the answer")
-
-
-@with_machine
-def a_program_that_is_killed_or_can_t_be_run_has_a_shell_s_status(machine, _):
-    name, store = "status", stores.connect(machine.url)
-    for number, (command, status) in enumerate(((["sh", "-c", "kill -9 $$"], 137), (["no-such-program"], 127), (["/etc/passwd"], 126))):
-        check(program(machine, f"{name}-{number}", command).wait(PATIENCE) == status, name, f"{command}: {status}")
-    check(store.scard(keys.LIVE) == 3 and not store.exists(keys.lease(f"{name}-0")), name, "each has its end in the store, for a worker")
-
-
-def a_store_that_resets_a_connection_is_away(_url, _):
-    """A Unix socket that is closed with unread bytes in it is reset."""
-    name = "reset"
-    with tempfile.TemporaryDirectory() as place:
-        listener = socket.socket(socket.AF_UNIX)
-        listener.bind(f"{place}/store")
-        listener.listen()
-        connection = redis.UnixDomainSocketConnection(path=f"{place}/store")
-        connection.connect()
-        served, _ = listener.accept()
-        connection.send_packed_command([packed([b"PING"])])
-        served.close()
-        check(raises(redis.ConnectionError, has_come, connection, PATIENCE), name, "it is an error of the store, as one that is away has")
-        listener.close()
-
-
 MOST_CALLS, MOST_CALLS_TOLD = 50, 120  # for an entry, and for a session that the store is told of
-
-
-def commands(store):
-    """Returns how often each command was called, also inside functions, without the call that asks."""
-    return {name[8:]: each["calls"] for name, each in store.info("commandstats").items() if name != "cmdstat_info"}
-
-
-def a_lease_brings_back_what_the_store_lost(url, _):
-    name, one = "renewal", worker(url)
-    source = Source(url, name, takes_input=True).send(b"x")
-    until(lambda: source.incarnation in one.kept and not one.due, one)
-
-    def renew():
-        source.host.renewed = -1e9
-        source.host.renew_if_due()
-
-    renew()
-    for part in (keys.lease(name), keys.NAMES, keys.ALL, keys.LIVE):
-        source.store.delete(part)
-        renew()
-        check(source.store.exists(part), name, f"{part} comes back")
-    source.store.run("end", source.incarnation, 1, keys.version(), 0)
-    check(raises(Taken, renew), name, "an end by force is noticed")
-
-
-SESSIONS = 100
-
-
-@with_machine
-def the_sessions_of_a_machine_cost_the_store_one_call_a_beat(machine, _):
-    name, store = "machine", stores.connect(machine.url)
-    known = {each["id"] for each in store.client_list()}
-    machine.start_daemon()
-    words = [HOLDER, machine.where()["FLEET_DAEMON"], "-1", "0", "1", "dec", "vt220"]
-    holders = [subprocess.Popen([*words, f"idle-{number}", "sleep", "infinity"]) for number in range(SESSIONS)]
-    check(wait_for(lambda: store.hlen(keys.NAMES) == SESSIONS), name, "all have begun")
-    others = [each for each in store.client_list() if each["id"] not in known]
-    check(len(others) <= 2, name, f"{SESSIONS} sessions have two connections: {[(each['cmd'], each['age']) for each in others]}")
-    store.config_resetstat()
-    check(wait_for(lambda: commands(store).get("set", 0) >= 2 * SESSIONS), name, "leases are renewed")
-    calls = commands(store)
-    check(calls["set"] == SESSIONS * calls["fcall"], name, f"a call renews those of {SESSIONS} sessions: {calls}")
-    sizes = [int(re.search(r"Pss:\s+(\d+)", open(f"/proc/{each.pid}/smaps_rollup").read())[1]) for each in holders]
-    check(max(sizes) < 1000, name, f"a holder takes less than a megabyte: {max(sizes)} KB")
-    incarnation = store.hget(keys.NAMES, "idle-0").decode()
-    Typist(store, incarnation).signal(9)
-    check(holders[0].wait(PATIENCE) == 137, name, "each is reached by itself")
-    machine.kill_daemon()
-    for each in holders:
-        each.kill()
-        each.wait()
 
 
 def calls_of(work):
@@ -302,7 +38,7 @@ def calls_of(work):
 
 def an_entry_costs_a_worker_few_calls(url, _):
     """A turn with an entry of each of many typists, and what the store is told of them. Calls are counted, and no time."""
-    name, count, one = "calls", 100, worker(url, lease=3600, every=10**6)
+    count, one = 100, worker(url, lease=3600, every=10**6)
     sessions = load.Sessions(url, count)
     until(lambda: len(one.kept) == count and not one.due, one)
     one.noted = one.swept = float("inf")  # nothing but these entries is due
@@ -317,25 +53,229 @@ def an_entry_costs_a_worker_few_calls(url, _):
 
     # The first time other things happen, too, and messages may come in parts.
     made = min(calls_of_a_play() for _ in range(4)) / count
-    check(made <= MOST_CALLS, name, f"an entry: {made}")
+    check(made <= MOST_CALLS, f"an entry: {made}")
     told = min(calls_of(lambda: one.tell(list(one.kept.values()))) for _ in range(3)) / count
-    check(told <= MOST_CALLS_TOLD, name, f"what the store is told: {told}")
+    check(told <= MOST_CALLS_TOLD, f"what the store is told: {told}")
 
 
-CASES = [
-    an_entry_costs_a_worker_few_calls,
-    a_lease_brings_back_what_the_store_lost,
-    the_sessions_of_a_machine_cost_the_store_one_call_a_beat,
-    a_worker_ends_a_session,
-    reports_are_at_what_they_answer,
-    another_worker_goes_on,
-    bytes_sent_twice_are_there_once,
-    damaged_checkpoints_are_noticed,
-    other_formats_are_named,
-    trimmed_streams_are_named,
-    viewers_join_late,
-    a_session_that_stands_still_is_shown_also_later,
-    a_program_gets_its_answers,
-    a_program_that_is_killed_or_can_t_be_run_has_a_shell_s_status,
-    a_store_that_resets_a_connection_is_away,
-]
+def reports_are_at_what_they_answer(url, _):
+    name, one = "positions", worker(url)
+    source = Source(url, name).send(b"ab\033[ccd\033[6n", piece=3).end(0)
+    until(source.is_ended, one)
+    check(not one.kept, "its worker has it no more")
+    told = [(entry_id, fields[b"report"]) for entry_id, fields in source.store.xrange(source.part("answers"))]
+    check(told == [(b"5-0", b"\033[?62;1;6c"), (b"11-0", b"\033[1;5R")], "positions")
+
+
+def another_worker_goes_on(url, data):
+    name, one, other = "goes on", worker(url), worker(url)
+    half = len(data) // 2
+    source = Source(url, name).send(data[:half], piece=64)
+    one.turn()
+    check(until(lambda: any(s.at == half for s in one.kept.values()), one), "the one has it")
+    at = int(source.store.hget(source.part("checkpoint"), "at"))
+    check(half - 2000 <= at <= half, "there is a checkpoint")
+    check(until(lambda: other.kept, other), "another takes it when the one is silent")
+    source.send(data[half:]).end(0)
+    # The one wasn't dead, only slow. It learns that the session isn't its own, and harms nothing.
+    check(until(source.is_ended, one, other), "it ends")
+    check(until(lambda: not one.kept, one), "the one lets go")
+    source.receive()
+    compare(source)
+
+
+def bytes_sent_twice_are_there_once(url, _):
+    source = Source(url, "twice").send(b"abc")
+    source.host.append(3, 1, b"abc")
+    source.send(b"def")
+    now = session.as_it_is(source.store, source.incarnation)
+    check(now.at == 6 and now.terminal.text().startswith("abcdef\n"), "bytes")
+    check(raises(keys.Differs, source.host.append, 6, 1, b"deX"), "other bytes at the same place are a fault")
+    check(source.fault().startswith("Differs"), "which the store keeps")
+
+
+def damaged_checkpoints_are_noticed(url, data):
+    source, one = playing(url, "damaged", data)
+    whole = source.store.hgetall(source.part("checkpoint"))
+    kept, damaged = session.restored("x", whole)
+    check(kept.at > 0 and not damaged, "a whole one is taken")
+    repaint, at = whole[b"repaint"], int(whole[b"at"])
+    harms = {
+        "cut short": {b"repaint": repaint[:-1]},
+        "empty": {b"repaint": b""},
+        "a byte changed": {b"repaint": repaint[:40] + bytes([repaint[40] ^ 1]) + repaint[41:]},
+        "another position": {b"at": b"%d" % (at - 1)},
+        "a position that is none": {b"at": b"x"},
+        "no checksum": {b"sha256": b""},
+    }
+    for what, harm in harms.items():
+        source.store.delete(source.part("checkpoint"))
+        source.store.hset(source.part("checkpoint"), mapping=whole | harm)
+        _, damaged = session.restored("x", source.store.hgetall(source.part("checkpoint")))
+        check(damaged, what)
+        now = session.as_it_is(source.store, source.incarnation)
+        check(now.terminal.same_state(played(data)[0]), what + ": played from the start")
+    other = worker(url)
+    one.claims.leave()
+    check(until(lambda: other.kept, other), "another takes it with the damaged checkpoint")
+    source.send(b"x" * 2000)
+    source.ends(other)
+
+
+def what_is_written_has_its_format(url, _):
+    source = Source(url, "versions").send(b"\033[c")
+    one = worker(url, every=1)
+    until(lambda: source.store.exists(source.part("checkpoint")), one)
+    check(source.store.hget(source.part("checkpoint"), "v") == keys.version().encode(), "a checkpoint has them")
+    for part in ("bytes", "answers"):
+        written = [f[b"v"].decode() for _, f in source.store.xrange(source.part(part)) if b"begin" not in f]
+        check(set(written) == {keys.version()}, part)
+    [(_, begin)] = source.store.xrange(source.part("bytes"), count=1)
+    check(begin[b"v"] == keys.version(keys.OLDEST).encode(), "its first entry can be read by an older worker, too")
+
+
+def trimmed_streams_are_named(url, data):
+    source, one = playing(url, "trimmed", data)
+    at = int(source.store.hget(source.part("checkpoint"), "at"))
+    source.store.xtrim(source.part("bytes"), minid=f"{at}-0", approximate=False)
+    check(session.as_it_is(source.store, source.incarnation).at == len(data), "up to the checkpoint nothing is missing")
+    source.store.delete(source.part("checkpoint"))
+    check(raises(keys.Trimmed, session.as_it_is, source.store, source.incarnation), "without it the beginning is")
+    one.claims.leave()
+    one = worker(url)
+    check(until(source.fault, one), "a worker says so")
+    check(source.fault().startswith("Trimmed: ") and not one.kept, source.fault())
+    check(not source.store.smembers(keys.LIVE), "and lets it go")
+    one = worker(url, keep=500)
+    source = Source(url, "kept short").send(data).end(0)
+    check(until(source.is_ended, one), "it ends")
+    check(0 < source.store.xlen(source.part("bytes")) <= 4, "old bytes are dropped")
+
+
+def viewers_join_late(url, data):
+    name, one = "viewed", worker(url)
+    third = len(data) // 3
+    source = Source(url, name).send(data[: third - 1] + b"\030")  # which ends between sequences
+    until(lambda: any(s.at == third for s in one.kept.values()), one)
+    viewer, slow = Viewer(source.store, source.incarnation), Viewer(source.store, source.incarnation)
+
+    def is_there(each):
+        each.ask()
+        each.follow(0.001)
+        kept = one.kept.get(source.incarnation)
+        return kept and kept.at == source.host.at and each.terminal.same_state(kept.terminal)
+
+    check(until(lambda: is_there(viewer), one), "a repaint")
+    is_there(slow)
+    steps = 0
+    for at in range(third, len(data), 50):
+        source.send(data[at : at + 50])
+        one.frames.shown = 0.0
+        one.turn(0.01)
+        viewer.follow(0.001)
+        steps = max(steps, viewer.step)
+    source.send(b"\030")
+    check(until(lambda: is_there(viewer), one), "updates")
+    check(steps > 0, "updates, not repaints")
+    while viewer.step in (0, frames.STEPS):  # the last frame and the next one are updates
+        source.send(b"y")
+        check(until(lambda: is_there(viewer), one), "one more")
+    source.store.xtrim(source.part("view"), maxlen=1, approximate=False)
+    source.send(b"x")
+    check(until(lambda: is_there(viewer), one), "an update after it")
+    slow.follow(0.001)
+    check(not slow.terminal.same_state(viewer.terminal), "who missed an update plays none on the wrong state")
+    one.kept[source.incarnation].shown = None
+    check(until(lambda: is_there(slow), one), "and goes on at the next repaint")
+    now = session.as_it_is(source.store, source.incarnation)
+    check(now.terminal.same_state(viewer.terminal), "without a worker")
+
+
+def a_session_that_stands_still_is_shown_also_later(url, _):
+    """Frames are dropped some time after the last one. So one is sent again while somebody looks, for whoever comes then."""
+    name, one = "still", worker(url)
+    source = Source(url, name).send(b"stands still")
+    first, late = (Viewer(source.store, source.incarnation) for _ in range(2))
+    shows = lambda viewer: viewer.ask() or viewer.follow(0) or viewer.terminal.text().startswith("stands still")
+    replace(frames, "FORGET", 2)
+    check(until(lambda: shows(first), one), "it is shown")
+    last = first.last
+    check(until(lambda: shows(first) and first.last != last, one), "and once more, though nothing changed")
+    check(until(lambda: shows(late), one), "and to one who comes late")
+
+
+def a_program_gets_its_answers(machine, _):
+    """Through a pseudo-terminal: a shell asks where the cursor is, and prints what it was told."""
+    name, one, store = "program", worker(machine.url), stores.connect(machine.url)
+    asks = (
+        r"""stty -echo raw; printf 'ab\033[6n'; a=$(dd bs=1 count=6 2>/dev/null); stty sane; printf %s "$a" | od -An -c; exit 3"""
+    )
+    host = program(machine, name, ["sh", "-c", asks])
+    incarnation = incarnation_of(store, name)
+    check(until(lambda: store.exists(key(incarnation, "ended")), one), "it ends")
+    check(host.wait(PATIENCE) == 3, "and so does its holder, with its status")
+    ended = store.hgetall(key(incarnation, "ended"))
+    check(ended[b"status"] == b"3", "its status")
+    check(" ".join(ended[b"text"].decode().split()) == "ab 033 [ 1 ; 3 R", "the answer")
+
+
+def a_program_that_is_killed_or_can_t_be_run_has_a_shell_s_status(machine, _):
+    name, store = "status", stores.connect(machine.url)
+    for number, (command, status) in enumerate(((["sh", "-c", "kill -9 $$"], 137), (["no-such-program"], 127), (["/etc/passwd"], 126))):
+        check(program(machine, f"{name}-{number}", command).wait(PATIENCE) == status, f"{command}: {status}")
+    check(store.scard(keys.LIVE) == 3 and not store.exists(keys.lease(f"{name}-0")), "each has its end in the store, for a worker")
+
+
+def a_store_that_resets_a_connection_is_away(_url, _):
+    """A Unix socket that is closed with unread bytes in it is reset."""
+    with tempfile.TemporaryDirectory() as place:
+        listener = socket.socket(socket.AF_UNIX)
+        listener.bind(f"{place}/store")
+        listener.listen()
+        connection = redis.UnixDomainSocketConnection(path=f"{place}/store")
+        connection.connect()
+        served, _ = listener.accept()
+        connection.send_packed_command([packed([b"PING"])])
+        served.close()
+        check(raises(redis.ConnectionError, has_come, connection, PATIENCE), "it is an error of the store, as one that is away has")
+        listener.close()
+
+
+def a_lease_brings_back_what_the_store_lost(url, _):
+    name, one = "renewal", worker(url)
+    source = Source(url, name, takes_input=True).send(b"x")
+    until(lambda: source.incarnation in one.kept and not one.due, one)
+
+    def renew():
+        source.renew()
+
+    renew()
+    for part in (keys.lease(name), keys.NAMES, keys.ALL, keys.LIVE):
+        source.store.delete(part)
+        renew()
+        check(source.store.exists(part), f"{part} comes back")
+    source.store.run("end", source.incarnation, 1, keys.version(), 0)
+    check(raises(Taken, renew), "an end by force is noticed")
+
+
+SESSIONS = 100
+
+
+def the_sessions_of_a_machine_cost_the_store_one_call_a_beat(machine, _):
+    store = stores.connect(machine.url)
+    known = {each["id"] for each in store.client_list()}
+    machine.start_daemon()
+    holders = load.idle_holders(machine, SESSIONS)
+    check(wait_for(lambda: all(children_of(each.pid) for each in holders)), "all have begun")
+    others = [each for each in store.client_list() if each["id"] not in known]
+    check(len(others) <= 2, f"{SESSIONS} sessions have two connections: {[(each['cmd'], each['age']) for each in others]}")
+    store.config_resetstat()
+    check(wait_for(lambda: load.commands(store).get("cmdstat_set", 0) >= 2 * SESSIONS), "leases are renewed")
+    calls = load.commands(store)
+    check(calls["cmdstat_set"] == SESSIONS * calls["cmdstat_fcall"], f"a call renews those of {SESSIONS} sessions: {calls}")
+    most = max(load.proportional(each.pid) for each in holders)
+    check(most < 1_000_000, f"a holder takes less than a megabyte: {most}")
+    incarnation = incarnation_of(store, "idle-0")
+    Typist(store, incarnation).signal(9)
+    check(holders[0].wait(PATIENCE) == 137, "each is reached by itself")
+    machine.kill_daemon()

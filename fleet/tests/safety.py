@@ -10,25 +10,8 @@ import tempfile
 import types
 
 from harness import (
-    HERE,
-    HOLDER,
-    PATIENCE,
-    PATIENT,
-    Processes,
-    Source,
-    check,
-    key,
-    keys,
-    local,
-    played,
-    program,
-    raises,
-    stores,
-    until,
-    wait_for,
-    with_machine,
-    worker,
-    written,
+    HERE, HOLDER, PATIENCE, PATIENT, Processes, Source, check, incarnation_of, key, keys, local, played, program,
+    raises, stores, until, wait_for, worker, written,
 )
 from fleet import wire
 from fleet.host import REPORT, REPORT_LIMIT
@@ -38,24 +21,25 @@ from fleet.view import Viewer
 held = []  # sockets that hold ports as long as this process lives
 
 
-def fleet(url, *words, config=None, data=None):
-    """Runs the command. Returns its exit status, and what it wrote."""
-    where = {"FLEET_REDIS": url} | ({"FLEET_CONFIG": config} if config else {})
-    done = subprocess.run(
-        [local.PYTHON, local.COMMAND, *words], env=os.environ | where, input=data, capture_output=True, timeout=PATIENCE
-    )
-    return done.returncode, done.stdout.decode(), done.stderr.decode()
+def fleet(url, *words, config=None, **where):
+    """Runs the command. Returns its exit status, and what it wrote as text."""
+    status, out, said = fleet_bytes(url, *words, **({"FLEET_CONFIG": config} if config else {}), **where)
+    return status, out.decode(), said.decode()
 
 
-@with_machine
+def fleet_bytes(url, *words, **where):
+    """Runs the command, with more variables in its environment. Returns its exit status, and the bytes that it wrote."""
+    words, where = [local.PYTHON, local.COMMAND, *words], os.environ | {"FLEET_REDIS": url} | where
+    done = subprocess.run(words, env=where, stdin=subprocess.DEVNULL, capture_output=True, timeout=PATIENCE)
+    return done.returncode, done.stdout, done.stderr
+
+
 def the_store_of_run_is_this_users_alone(machine, _):
-    name = "socket"
-    check(stat.S_IMODE(os.stat(machine.folder).st_mode) == 0o700, name, "its directory is this user's alone")
-    check(stat.S_IMODE(os.stat(machine.socket).st_mode) == 0o700, name, "and so is the socket")
-    check(stores.connect(machine.url).config_get("port")["port"] == "0", name, "no port is open")
+    check(stat.S_IMODE(os.stat(machine.folder).st_mode) == 0o700, "its directory is this user's alone")
+    check(stat.S_IMODE(os.stat(machine.socket).st_mode) == 0o700, "and so is the socket")
+    check(stores.connect(machine.url).config_get("port")["port"] == "0", "no port is open")
 
 
-@with_machine
 def the_program_learns_no_address(machine, _):
     name = "environment"
     workers = Processes(machine, 1)
@@ -65,40 +49,23 @@ def the_program_learns_no_address(machine, _):
     reads = "env; cat /proc/$PPID/cmdline /proc/$PPID/environ | tr '\\0' '\\n'"
     status, _, _ = fleet(machine.url, "host", name, "sh", "-c", reads, config=config)
     store = stores.connect(machine.url)
-    incarnation = store.hget(keys.NAMES, name).decode()
+    incarnation = incarnation_of(store, name)
     wait_for(lambda: store.exists(key(incarnation, "ended")))
     said = b"".join(f[b"bytes"] for _, f in store.xrange(key(incarnation, "bytes")) if b"bytes" in f).decode()
-    check(status == 0 and "TERM=vt220" in said, name, "the program ran")
-    check("FLEET" not in said and "redis" not in said.lower(), name, "no variable and no argument has the address")
-    check(said.count("TERM=vt220") == 2, name, "neither of its own nor of its holder's")
-    workers.stop()
+    check(status == 0 and "TERM=vt220" in said, "the program ran")
+    check("FLEET" not in said and "redis" not in said.lower(), "no variable and no argument has the address")
+    check(said.count("TERM=vt220") == 2, "neither of its own nor of its holder's")
 
 
 def only_reports_reach_the_program(url, _):
     name, one = "reports", worker(url)
     true = [
-        b"\033[?62;1;6c",
-        b"\033[>1;10;0c",
-        b"\033[0n",
-        b"\033[24;132R",
-        b"\033[?13n",
-        b"\033[?27;1n",
-        b"\x9b?62;1;6c",
+        b"\033[?62;1;6c", b"\033[>1;10;0c", b"\033[0n", b"\033[24;132R", b"\033[?13n", b"\033[?27;1n", b"\x9b?62;1;6c",
         b"\x9b1;1R",
     ]
-    check(
-        all(REPORT.fullmatch(each) and len(each) <= REPORT_LIMIT for each in true),
-        name,
-        "all reports of the profile have the form",
-    )
+    check(all(REPORT.fullmatch(each) and len(each) <= REPORT_LIMIT for each in true), "all reports of the profile have the form")
     false = [
-        b"id -u > file\n",
-        b"\033[1;1R\n",
-        b"\033[1;1Rx",
-        b"",
-        b"\033[A",
-        b"\033[11111;1R",
-        b"\033[?62;1;6c\033[0n",
+        b"id -u > file\n", b"\033[1;1R\n", b"\033[1;1Rx", b"", b"\033[A", b"\033[11111;1R", b"\033[?62;1;6c\033[0n",
         b"\n\033[0n",
     ]
     source = Source(url, name).send(b"abc")
@@ -107,10 +74,10 @@ def only_reports_reach_the_program(url, _):
     source.store.xadd(source.part("answers"), {"v": keys.version(), "report": b"\033[9;9R"}, id="2-5")
     source.store.xadd(source.part("answers"), {"v": keys.version(), "report": b"\033[9;9R"}, id="99999999-0")
     source.receive()
-    check(source.got == [], name, f"nothing else is passed on: {source.got}")
+    check(source.got == [], f"nothing else is passed on: {source.got}")
     source.send(b"\033[6n")
-    check(until(source.fault, one), name, "the worker finds a report that nothing asked for")
-    check(source.fault().startswith("Forged: a report at 99999999-0"), name, source.fault())
+    check(until(source.fault, one), "the worker finds a report that nothing asked for")
+    check(source.fault().startswith("Forged: a report at 99999999-0"), source.fault())
 
 
 def every_report_of_the_terminal_has_the_form(_, __):
@@ -118,21 +85,8 @@ def every_report_of_the_terminal_has_the_form(_, __):
 
     terminal, chance, made = vt220.Terminal(), random.Random(3), set()
     asks = [
-        b"\033[c",
-        b"\033Z",
-        b"\033[>c",
-        b"\033[5n",
-        b"\033[6n",
-        b"\033[?15n",
-        b"\033[?26n",
-        b"\x9a",
-        b"\033 G",
-        b"\033 F",
-        b"\033[?6h",
-        b"\033[?3h",
-        b"\033[?5n",
-        b"\033[?25n",
-        b"\033[0c",
+        b"\033[c", b"\033Z", b"\033[>c", b"\033[5n", b"\033[6n", b"\033[?15n", b"\033[?26n", b"\x9a", b"\033 G",
+        b"\033 F", b"\033[?6h", b"\033[?3h", b"\033[?5n", b"\033[?25n", b"\033[0c",
     ]
     for _ in range(20000):
         data = b"\033[%d;%dH" % (chance.randrange(30), chance.randrange(140)) + chance.choice(asks) + chance.choice(asks)
@@ -141,7 +95,7 @@ def every_report_of_the_terminal_has_the_form(_, __):
             made |= {report} - {b""}
             data = data[count:]
     wrong = [each for each in made if not REPORT.fullmatch(each) or len(each) > REPORT_LIMIT]
-    check(len(made) > 1000 and not wrong, "form", f"{len(made)} reports: {wrong[:5]}")
+    check(len(made) > 1000 and not wrong, f"{len(made)} reports: {wrong[:5]}")
 
 
 def free_port():
@@ -162,16 +116,17 @@ def conf(machine, name, *lines):
     return path
 
 
-@with_machine
 def a_password_is_needed_and_read_from_a_file(machine, _):
-    name, password = "password", conf(machine, "password", "secret")
+    password = conf(machine, "password", "secret")
     stores.connect(machine.url).config_set("requirepass", "secret")
     config = conf(machine, "conf", *PATIENT, f"password-file = {password}")
     status, _, said = fleet(machine.url, "list")
-    check(status == 77 and "Authentication" in said, name, f"without it: {status} {said}")
-    check(fleet(machine.url, "list", config=config)[0] == 0, name, "with it")
+    check(status == 77 and "Authentication" in said, f"without it: {status} {said}")
+    check(fleet(machine.url, "list", config=config)[0] == 0, "with it")
     status, _, said = fleet(machine.url, "list", config=conf(machine, "wrong", *PATIENT, f"password-file = {config}"))
-    check(status == 77, name, f"with another: {status} {said}")
+    check(status == 77, f"with another: {status} {said}")
+    status, _, said = fleet(machine.url, "list", config=conf(machine, "none", "[store]", "give-up = 0.1", "password-file = /nowhere"))
+    check(status == 69 and said.splitlines()[-1].startswith("fleet: /nowhere: "), f"with one that can't be read: {status} {said}")
 
 
 USERS = ("host", "worker", "viewer", "typist", "operator")
@@ -180,7 +135,6 @@ PROGRAM_THAT_ASKS = r"""stty -echo raw; printf 'a\033[6n'; dd bs=1 count=6 2>/de
 while read x; do echo got $x; done"""
 
 
-@with_machine
 def users_have_the_rights_that_they_need(machine, _):
     """users.acl, as it is: host, worker, viewer, typist and operator do their work, and no other's."""
     acl = conf(machine, "users.acl", open(os.path.join(HERE, "..", "users.acl")).read())
@@ -188,30 +142,29 @@ def users_have_the_rights_that_they_need(machine, _):
     urls = {user: f"unix://{user}:{user.upper()}-PASSWORD@{machine.socket}" for user in USERS}
     machine.url = urls["operator"]
     machine.start("--aclfile", acl)
-    check(fleet(urls["viewer"], "prepare-store")[0] == 69, "users", "only an operator loads the functions")
+    check(fleet(urls["viewer"], "prepare-store")[0] == 69, "only an operator loads the functions")
     status, _, said = fleet(urls["worker"], "worker")
-    check(status == 69 and "prepare-store" in said, "users", f"without them a worker ends: {status} {said}")
-    check(fleet(urls["operator"], "prepare-store")[0] == 0, "users", "an operator loads them")
+    check(status == 69 and "prepare-store" in said, f"without them a worker ends: {status} {said}")
+    check(fleet(urls["operator"], "prepare-store")[0] == 0, "an operator loads them")
     workers = Processes(machine, 1, "--lease", "1", "--retain", "1h", url=urls["worker"])
     machine.start_daemon(url=urls["host"])
     host = program(machine, "roles", ["sh", "-c", PROGRAM_THAT_ASKS], "--input")
-    check(wait_for(lambda: fleet(urls["viewer"], "text", "roles")[1].startswith("answered")), "users", "host, worker and viewer")
+    check(wait_for(lambda: fleet(urls["viewer"], "text", "roles")[1].startswith("answered")), "host, worker and viewer")
     rights_of_commands(urls)
     machine.kill_daemon()
     machine.start_daemon(url=urls["viewer"])
-    check(program(machine, "other", ["true"]).wait(PATIENCE) == 77, "users", "a viewer is no host")
+    check(program(machine, "other", ["true"]).wait(PATIENCE) == 77, "a viewer is no host")
     machine.kill_daemon()
     machine.start_daemon(url=urls["host"])
     rights_of_calls(urls)
     store = stores.connect(urls["operator"])
-    incarnation = store.hget(keys.NAMES, "roles").decode()
+    incarnation = incarnation_of(store, "roles")
     viewer = Viewer(stores.connect(urls["viewer"]), incarnation)
-    check(wait_for(lambda: "got hello" in seen(viewer)), "users", "a viewer follows")
-    check(fleet(urls["operator"], "kill", "--patience", str(PATIENCE), "roles")[0] == 0, "users", "an operator kills")
-    check(host.wait(PATIENCE) == 129, "users", f"and the host ends with it: {host.returncode}")
-    check(wait_for(lambda: store.exists(key(incarnation, "ended"))), "users", "with an end")
-    check(0 < store.ttl(key(incarnation, "bytes")) <= 3600, "users", "whose keys stay for an hour")
-    workers.stop()
+    check(wait_for(lambda: "got hello" in seen(viewer)), "a viewer follows")
+    check(fleet(urls["operator"], "kill", "--patience", str(PATIENCE), "roles")[0] == 0, "an operator kills")
+    check(host.wait(PATIENCE) == 129, f"and the host ends with it: {host.returncode}")
+    check(wait_for(lambda: store.exists(key(incarnation, "ended"))), "with an end")
+    check(0 < store.ttl(key(incarnation, "bytes")) <= 3600, "whose keys stay for an hour")
 
 
 def seen(viewer):
@@ -221,11 +174,11 @@ def seen(viewer):
 
 
 def rights_of_commands(urls):
-    check(fleet(urls["viewer"], "type", "--enter", "roles", "hello")[0] == 77, "users", "a viewer cannot type")
-    check(fleet(urls["typist"], "type", "--enter", "roles", "hello")[0] == 0, "users", "a typist can")
-    check(wait_for(lambda: "got hello" in fleet(urls["viewer"], "text", "roles")[1]), "users", "and the program reads it")
-    check(fleet(urls["typist"], "kill", "roles")[0] == 77, "users", "but sends no signal")
-    check(fleet(urls["viewer"], "end", "--force", "roles")[0] == 77, "users", "a viewer ends nothing")
+    check(fleet(urls["viewer"], "type", "--enter", "roles", "hello")[0] == 77, "a viewer cannot type")
+    check(fleet(urls["typist"], "type", "--enter", "roles", "hello")[0] == 0, "a typist can")
+    check(wait_for(lambda: "got hello" in fleet(urls["viewer"], "text", "roles")[1]), "and the program reads it")
+    check(fleet(urls["typist"], "kill", "roles")[0] == 77, "but sends no signal")
+    check(fleet(urls["viewer"], "end", "--force", "roles")[0] == 77, "a viewer ends nothing")
 
 
 def rights_of_calls(urls):
@@ -243,19 +196,18 @@ def rights_of_calls(urls):
     for user, calls in denied.items():
         for words in calls:
             call = stores.connect(urls[user]).execute_command
-            check(raises(stores.NoPermissionError, call, *words), "users", f"{user}: no {words[0]}")
+            check(raises(stores.NoPermissionError, call, *words), f"{user}: no {words[0]}")
 
 
 def state_of_holder(name="other", version=wire.VERSION, encoding="dec", numbers="0"):
     return wire.framed(wire.STATE, "".join(f"{word}\0" for word in (version, name, "", "1", encoding, "vt220", *[numbers] * 8, "true")).encode("utf-8", "surrogateescape"))
 
 
-@with_machine
 def what_is_no_holder_harms_no_session(machine, _):
     """It is refused or left, and the daemon goes on."""
-    name, store = "no holder", stores.connect(machine.url)
+    store = stores.connect(machine.url)
     host = program(machine, "good", ["sh", "-c", "stty -echo; echo on; while read x; do echo got $x; done"], "--input")
-    check(wait_for(lambda: b"on" in written(store, "good")), name, "a session runs")
+    check(wait_for(lambda: b"on" in written(store, "good")), "a session runs")
 
     def connected():
         made = socket.socket(socket.AF_UNIX)
@@ -273,14 +225,14 @@ def what_is_no_holder_harms_no_session(machine, _):
             answer = b""  # in one part or more: what was taken before is told apart
             while wire.REFUSED not in answer and (part := made.recv(4096)):
                 answer += part
-            check(wire.REFUSED in answer, name, f"{number} is refused: {data[:40]}")
+            check(wire.REFUSED in answer, f"{number} is refused: {data[:40]}")
     chance = random.Random(1)
     for _ in range(200):
         with connected() as made:
             made.sendall((state_of_holder() if chance.random() < 0.5 else b"") + chance.randbytes(chance.randrange(200)))
-    Typist(store, store.hget(keys.NAMES, "good").decode()).type(b"hello\r")
-    check(wait_for(lambda: b"got hello" in written(store, "good")), name, "the session goes on")
-    check(machine.daemon.poll() is None and host.poll() is None, name, "and so does the daemon")
+    Typist(store, incarnation_of(store, "good")).type(b"hello\r")
+    check(wait_for(lambda: b"got hello" in written(store, "good")), "the session goes on")
+    check(machine.daemon.poll() is None and host.poll() is None, "and so does the daemon")
     for each in silent:
         each.close()
 
@@ -290,8 +242,8 @@ ATTACK = r"""cat %s/*/password /proc/*/environ; %s %s -1 0 1 dec vt220 victim tr
 
 
 class Units:
-    """Commands under the users that their units have: a user of the same name is the same one, and a dynamic one is each unit's own. systemd doesn't
-    run here. Each unit has its password as LoadCredential gives it."""
+    """Commands under the users that their units have: a user of the same name is the same one. That of a dynamic user is the unit's, without its
+    instance, if the unit names none. systemd doesn't run here. Each unit has its password as LoadCredential gives it."""
 
     def __init__(self, machine):
         self.machine, self.users, self.first = machine, {}, 10**6 + 100 * random.randrange(10**6)
@@ -302,7 +254,8 @@ class Units:
         with open(os.path.join(UNITS, f"vt220-fleet-{unit}.service")) as file:
             said = dict(line.split("=", 1) for line in file.read().splitlines() if "=" in line and line[0] != "#")
         mine = os.path.join(self.place, f"{unit}{instance}")
-        user = self.users.setdefault(mine if said.get("DynamicUser") == "yes" else said["User"], self.first + len(self.users))
+        named = said.get("User", f"vt220-fleet-{unit.rstrip('@')}").replace("%i", instance)
+        user = self.users.setdefault(named, self.first + len(self.users))
         where = {"FLEET_REDIS": self.machine.url, "FLEET_DAEMON": os.path.join(self.place, "daemon", "socket")}
         os.makedirs(mine)
         if "LoadCredential" in said:
@@ -314,7 +267,6 @@ class Units:
         return subprocess.Popen(words, env=os.environ | where, stdout=subprocess.DEVNULL, stderr=subprocess.DEVNULL)
 
 
-@with_machine
 def a_session_reaches_no_other_and_no_password(machine, _):
     """A program reads what it may, takes another session's name, and kills all that it may."""
     name = "apart"
@@ -330,22 +282,22 @@ def a_session_reaches_no_other_and_no_password(machine, _):
     store = stores.connect(machine.url, conf(machine, "password", "secret"))
     served = [units.start("daemon", "daemon"), units.start("worker@", "worker")]
     socket_of_daemon = os.path.join(units.place, "daemon", "socket")
-    check(wait_for(lambda: os.path.exists(socket_of_daemon)), name, "the daemon listens")
+    check(wait_for(lambda: local.is_listening(socket_of_daemon)), "the daemon listens")
     victim = units.start("host@", "host", "--input", "victim", "sh", "-c", "stty -echo; echo on; while read x; do echo got $x; done", instance="victim")
-    check(wait_for(lambda: b"on" in written(store, "victim")), name, "a session runs")
+    check(wait_for(lambda: b"on" in written(store, "victim")), "a session runs")
     attack = ATTACK % (units.place, os.path.realpath(HOLDER), socket_of_daemon, units.place)
     attacker = units.start("host@", "host", "attacker", "sh", "-c", attack, instance="attacker")
-    check(wait_for(lambda: b"status 5" in written(store, "attacker")), name, "it doesn't get another user's name")
+    check(wait_for(lambda: b"status 5" in written(store, "attacker")), "it doesn't get another user's name")
     with open(os.path.join(units.place, "go"), "w"):
         pass
-    check(attacker.wait(PATIENCE) == -9, name, f"its holder ends with it: {attacker.returncode}")
-    check(wait_for(lambda: store.hget(key(store.hget(keys.NAMES, "attacker").decode(), "about"), "closed") == b"lost"), name, "so its session is lost")
+    check(attacker.wait(PATIENCE) == -9, f"its holder ends with it: {attacker.returncode}")
+    check(wait_for(lambda: store.hget(key(store.hget(keys.NAMES, "attacker").decode(), "about"), "closed") == b"lost"), "so its session is lost")
     said = written(store, "attacker")
-    check(b"secret" not in said and b"denied" in said and b"survived" not in said, name, f"it reads no password: {said}")
-    check(all(each.poll() is None for each in (*served, victim)), name, "daemon, worker and the other session live")
-    typist = Typist(store, store.hget(keys.NAMES, "victim").decode())
+    check(b"secret" not in said and b"denied" in said and b"survived" not in said, f"it reads no password: {said}")
+    check(all(each.poll() is None for each in (*served, victim)), "daemon, worker and the other session live")
+    typist = Typist(store, incarnation_of(store, "victim"))
     typist.type(b"hello\r")
-    check(wait_for(lambda: b"got hello" in written(store, "victim")), name, "and go on")
+    check(wait_for(lambda: b"got hello" in written(store, "victim")), "and go on")
     for each in (victim, *served):
         each.terminate()
         each.wait()
@@ -358,7 +310,6 @@ def certify(at):
     subprocess.run([*words.split(), "-keyout", f"{at}/key", "-out", f"{at}/cert"], check=True, capture_output=True)
 
 
-@with_machine
 def tls_is_spoken(machine, data):
     name, port, at = "TLS", free_port(), machine.folder
     certify(at)
@@ -369,23 +320,10 @@ def tls_is_spoken(machine, data):
     url = f"rediss://:pw@127.0.0.1:{port}?ssl_ca_certs={at}/cert"
     one = worker(url)
     source = Source(url, name).send(data).end(0)
-    check(until(source.is_ended, one), name, "host and worker")
+    check(until(source.is_ended, one), "host and worker")
     source.receive()
-    check(source.reports() == played(source.sent)[1], name, "reports")
-    check(fleet(url, "text", name)[1] == played(source.sent)[0].text(), name, "the command")
+    check(source.reports() == played(source.sent)[1], "reports")
+    check(fleet(url, "text", name)[1] == played(source.sent)[0].text(), "the command")
     quick = conf(machine, "quick", "[store]", "timeout = 60", "give-up = 1")
     status, _, said = fleet(f"rediss://:pw@127.0.0.1:{port}", "check-store", config=quick)
-    check(status == 69 and "certificate" in said.lower(), name, f"a certificate that nobody vouches for is refused: {said[:200]}")
-
-
-CASES = [
-    the_store_of_run_is_this_users_alone,
-    the_program_learns_no_address,
-    only_reports_reach_the_program,
-    every_report_of_the_terminal_has_the_form,
-    a_password_is_needed_and_read_from_a_file,
-    users_have_the_rights_that_they_need,
-    what_is_no_holder_harms_no_session,
-    a_session_reaches_no_other_and_no_password,
-    tls_is_spoken,
-]
+    check(status == 69 and "certificate" in said.lower(), f"a certificate that nobody vouches for is refused: {said[:200]}")

@@ -7,24 +7,8 @@ import threading
 import time
 
 from harness import (
-    HERE,
-    PATIENCE,
-    Processes,
-    Proxy,
-    Source,
-    check,
-    compare,
-    configured,
-    key,
-    keys,
-    played,
-    program,
-    raises,
-    stores,
-    until,
-    wait_for,
-    with_machine,
-    worker,
+    HERE, PATIENCE, Processes, Proxy, Source, check, compare, configured, incarnation_of, key, keys, outlast, played,
+    playing, program, raises, started, stores, until, wait_for, worker,
 )
 from safety import free_port
 from fleet.host import WAITING, WentBack
@@ -32,50 +16,6 @@ from fleet.session import bytes_of
 from fleet.view import Viewer
 
 
-ASK = r"""stty -echo raw; while [ ! -e "$0" ]; do sleep 0.1; done; printf 'ab\033[6n'; a=$(dd bs=1 count=6 2>/dev/null)
-stty sane; printf %s "$a" | od -An -c; exit 3"""
-
-
-@with_machine
-def an_outage_of_ninety_seconds_is_waited_for(machine, data):
-    """Workers, a host with a program that waits for an answer, a host that sends, and a viewer."""
-    name, asks = "outage", os.path.join(machine.folder, "asks")
-    workers = Processes(machine, 2)
-    source = Source(machine.url, "sends").send(data).listen()
-    host = program(machine, "asks", ["sh", "-c", ASK, asks])
-    store = stores.connect(machine.url)
-    wait_for(lambda: store.hexists(keys.NAMES, "asks"))
-    viewer = Viewer(stores.connect(machine.url), source.incarnation)
-    machine.kill()
-    open(asks, "w").close()
-    sends = threading.Thread(target=lambda: source.send(data + b"\033[6n").end(0), daemon=True)
-    sends.start()
-    looks = threading.Thread(target=lambda: until_over(viewer), daemon=True)
-    looks.start()
-    time.sleep(90)
-    check(host.poll() is None and all(each.poll() is None for each in workers.all), name, "host and workers wait")
-    machine.start()
-    check(host.wait(PATIENCE) == 3, name, "the program got its answer, and its host has its status")
-    incarnation = store.hget(keys.NAMES, "asks").decode()
-    check(wait_for(lambda: store.exists(key(incarnation, "ended"))), name, "it ends")
-    text = (store.hget(key(incarnation, "ended"), "text") or b"").decode()
-    check(" ".join(text.split()) == "ab 033 [ 1 ; 3 R", name, f"the answer: {text.split()}")
-    sends.join(PATIENCE)
-    check(wait_for(source.is_ended), name, "the other host went on")
-    looks.join(PATIENCE)
-    check(not looks.is_alive() and viewer.is_over, name, "and so did the viewer")
-    source.finish()
-    compare(source, name)
-    workers.stop()
-
-
-def until_over(viewer):
-    while not viewer.is_over:
-        viewer.ask()
-        viewer.follow()
-
-
-@with_machine
 def half_open_connections_are_left(machine, data):
     """All connections say nothing any more, in either direction, and stay open. New ones work."""
     name, proxy = "half open", Proxy(machine)
@@ -83,18 +23,14 @@ def half_open_connections_are_left(machine, data):
     with configured(machine, "[store]", "timeout = 2"):
         workers = Processes(machine, 1, "--lease", "1", url=proxy.url)
     source = Source(proxy.url, name, connection={"socket_timeout": 2.0}).send(data).listen()
-    check(wait_for(lambda: source.reports() == played(source.sent)[1]), name, "it runs")
+    check(wait_for(lambda: source.reports() == played(source.sent)[1]), "it runs")
     for _ in range(2):
         proxy.signal(signal.SIGUSR1)
         source.send(b"abc\033[6n")
-        check(wait_for(lambda: source.reports() == played(source.sent)[1]), name, "it goes on")
-    source.send(b"x").end(0)
-    check(wait_for(source.is_ended), name, "it ends")
-    source.finish()
-    compare(source, name)
+        check(wait_for(lambda: source.reports() == played(source.sent)[1]), "it goes on")
+    source.send(b"x")
+    source.ends()
     stores.TIMEOUT = before
-    workers.stop()
-    proxy.stop()
 
 
 def cut_back(machine, is_enough):
@@ -111,10 +47,8 @@ def cut_back(machine, is_enough):
     machine.start()
 
 
-@with_machine
 def a_store_that_went_back_is_noticed(machine, data):
     """The end of its file is gone: bytes, reports and checkpoints that it had acknowledged."""
-    name = "went back"
     workers = Processes(machine, 2, "--every", "300", "--keep", "600")
     sources = [Source(machine.url, f"back-{number}").send(data[:2000], piece=100).listen() for number in range(6)]
     wait_for(lambda: all(source.reports() == played(source.sent)[1] for source in sources))
@@ -127,76 +61,60 @@ def a_store_that_went_back_is_noticed(machine, data):
         cut_back(machine, lambda gone: gone.count(ends) > 40)
         for source in sources:
             source.send(b"abc\033[6n")
-        check(wait_for(lambda: all(source.reports() == played(source.sent)[1] for source in sources)), name, "all reports, once")
-        check(sum(source.host.rebuilt for source in sources) > before, name, "bytes were gone, and were sent again")
+        check(wait_for(lambda: all(source.reports() == played(source.sent)[1] for source in sources)), "all reports, once")
+        check(sum(source.host.rebuilt for source in sources) > before, "bytes were gone, and were sent again")
     for source in sources:
         source.send(b"\030").end(0)
-    check(wait_for(lambda: all(source.is_ended() for source in sources)), name, "all end")
+    check(wait_for(lambda: all(source.is_ended() for source in sources)), "all end")
     for source in sources:
         source.finish()
-        check(source.fault() == "", name, source.fault())
+        check(source.fault() == "", source.fault())
         ended = source.store.hget(source.part("ended"), "text")
-        check(ended == played(source.sent)[0].text().encode(), name, "text")
-        check(source.reports() == played(source.sent)[1], name, "reports")
-    workers.stop()
+        check(ended == played(source.sent)[0].text().encode(), "text")
+        check(source.reports() == played(source.sent)[1], "reports")
 
 
-@with_machine
 def reports_that_the_store_lost_are_made_again(machine, _):
     """The store went back past a report that the host hadn't read. The worker that had sent it lives, and is ahead of the store."""
-    name, one = "lost report", worker(machine.url)
-    source = Source(machine.url, name).send(b"ab")
-    until(lambda: one.kept and not one.due, one)
+    source, one = playing(machine.url, "lost report", b"ab")
     source.send(b"\033[6n")
     until(lambda: source.store.xlen(source.part("answers")) == 1, one)
     cut_back(machine, lambda gone: gone.count(b"bytes\r\n") > 1)
-    check(source.store.xlen(source.part("answers")) == 0, name, "it is gone")
+    check(source.store.xlen(source.part("answers")) == 0, "it is gone")
     source.send(b"cd\033[6n").end(0)
-    check(until(source.is_ended, one), name, "the session ends")
+    check(until(source.is_ended, one), "the session ends")
     source.receive()
-    check(source.host.rebuilt == 1 and source.reports() == b"\033[1;3R\033[1;5R", name, f"both reports come: {source.got}")
-    compare(source, name)
+    check(source.host.rebuilt == 1 and source.reports() == b"\033[1;3R\033[1;5R", f"both reports come: {source.got}")
+    compare(source)
 
 
-@with_machine
 def what_cannot_be_rebuilt_is_a_named_fault(machine, data):
     """The store lost more than the host can send again."""
-    name = "lost"
-    one = worker(machine.url, keep=1000)
-    source = Source(machine.url, name).send(data)
-    until(lambda: one.kept and not one.due, one)
+    source, one = playing(machine.url, "lost", data, keep=1000)
     source.host.held.clear()
     source.host.held_from = source.host.at
     source.store.flushall()
-    check(raises(WentBack, source.send, b"x"), name, "the host says so")
-    check(source.fault().startswith("WentBack: the store lost the bytes from 0"), name, f"and the store: {source.fault()}")
+    check(raises(WentBack, source.send, b"x"), "the host says so")
+    check(source.fault().startswith("WentBack: the store lost the bytes from 0"), f"and the store: {source.fault()}")
     until(lambda: not one.kept, one)
-    check(not one.kept, name, "no worker shows it")
+    check(not one.kept, "no worker shows it")
 
 
-@with_machine
 def a_store_without_persistence_is_refused_and_rebuilt(machine, data):
     """It is started anew, and empty. Whoever allows that gets what hosts can send again."""
-    name = "no persistence"
     machine.kill()
     machine.start("--appendonly", "no")
-    check(raises(stores.Unfit, stores.connect(machine.url).examine), name, "it is refused")
+    check(raises(stores.Unfit, stores.connect(machine.url).examine), "it is refused")
     stores.connect(machine.url).examine(True)
-    one = worker(machine.url)
-    source = Source(machine.url, name).send(data)
-    until(lambda: one.kept and not one.due, one)
+    source, one = playing(machine.url, "no persistence", data)
     source.receive()
     machine.kill()
     machine.start("--appendonly", "no")
-    source.host.renewed = 0.0
-    source.host.renew_if_due()
-    source.send(b"abc\033[6n").end(0)
-    check(until(source.is_ended, one), name, "it goes on, with what the host sent again")
-    source.receive()
-    compare(source, name)
+    source.renew()
+    source.send(b"abc\033[6n")
+    source.ends(one)
 
 
-@with_machine
 def a_store_that_comes_back_without_its_file_is_waited_for(machine, data):
     """It was fit when host and worker began, and is started again by another configuration."""
     name, one = "without its file", worker(machine.url)
@@ -207,14 +125,12 @@ def a_store_that_comes_back_without_its_file_is_waited_for(machine, data):
     machine.kill()
     machine.start("--appendonly", "no")
     source.store.patience = 0.5
-    check(raises(stores.ConnectionError, source.store.ping), name, "it counts as away")
+    check(raises(stores.ConnectionError, source.store.ping), "it counts as away")
     source.store.patience = None
     machine.kill()
     machine.start()
-    source.send(b"abc\033[6n").end(0)
-    check(until(source.is_ended, one), name, "with its file it goes on")
-    source.receive()
-    compare(source, name)
+    source.send(b"abc\033[6n")
+    source.ends(one)
 
 
 def refusals(store):
@@ -227,43 +143,31 @@ def lengths_asked(store):
     return store.info("commandstats").get("cmdstat_hget", {}).get("calls", 0)
 
 
-@with_machine
 def a_full_store_is_waited_for(machine, data):
     """maxmemory, and no eviction: a flood beside a quiet session."""
-    name = "full"
     machine.kill()
     machine.start("--maxmemory", "12mb", "--maxmemory-policy", "noeviction")
     workers = Processes(machine, 2, "--lease", "1")
     quiet = Source(machine.url, "quiet").send(data).listen()
     host = program(machine, "flood", ["sh", "-c", "yes 0123456789012345678901234567890123456789 | head -c 20000000; exit 5"])
     store = stores.connect(machine.url)
-    check(wait_for(lambda: refusals(store) > 20), name, "it is full, and refuses call after call")
-    check(host.poll() is None and all(each.poll() is None for each in workers.all), name, "host and workers wait")
+    check(wait_for(lambda: refusals(store) > 20), "it is full, and refuses call after call")
+    check(host.poll() is None and all(each.poll() is None for each in workers.all), "host and workers wait")
     sends = threading.Thread(target=lambda: quiet.send(b"abc\033[6n"), daemon=True)
     sends.start()
     store.config_set("maxmemory", "200mb")
-    incarnation, before = store.hget(keys.NAMES, "flood").decode(), -1
-    sent = lambda: int(store.hget(key(incarnation, "about"), "end"))
-    while host.poll() is None and sent() > before:
-        before = sent()
-        wait_for(lambda: sent() > before or host.poll() is not None)
-    check(host.poll() == 5, name, "the flood goes on to its end")
+    incarnation = incarnation_of(store, "flood")
+    check(outlast(host, lambda: int(store.hget(key(incarnation, "about"), "end"))) == 5, "the flood goes on to its end")
     sends.join(PATIENCE)
-    check(wait_for(lambda: quiet.reports() == played(quiet.sent)[1]), name, "the quiet session goes on")
-    quiet.end(0)
-    check(wait_for(quiet.is_ended), name, "and ends")
-    quiet.finish()
-    compare(quiet, name)
-    workers.stop()
+    check(wait_for(lambda: quiet.reports() == played(quiet.sent)[1]), "the quiet session goes on")
+    quiet.ends()
 
 
-@with_machine
 def evicted_keys_are_named_or_sent_again(machine, data):
-    name = "evicted"
     one = worker(machine.url)
     machine_store = stores.connect(machine.url)
     machine_store.config_set("maxmemory-policy", "allkeys-lru")
-    check(raises(stores.Unfit, machine_store.examine), name, "such a store is refused")
+    check(raises(stores.Unfit, machine_store.examine), "such a store is refused")
     machine_store.config_set("maxmemory-policy", "noeviction")
     for part in ("bytes", "about", "checkpoint", "answers"):
         source = Source(machine.url, f"evicted {part}").send(data)
@@ -280,60 +184,52 @@ def evicted_keys_are_named_or_sent_again(machine, data):
             pass
         if source.is_ended():
             source.receive()
-            compare(source, name + " " + part)
+            compare(source)
         else:
             check(
                 source.fault().startswith(("Lost", "Trimmed", "Forged", "WentBack")),
-                name,
                 f"{part}: a named fault: {source.fault()}",
             )
     for part in (keys.WAITING, keys.WORKERS, keys.LIVE, keys.NAMES, keys.ALL):
         source = Source(machine.url, f"evicted {part}").send(data)
         until(lambda: source.incarnation in one.kept and not one.due, one)
         machine_store.delete(part)
-        source.host.renewed = 0.0
-        source.host.renew_if_due()
+        source.renew()
         source.send(b"\033[6n").end(0)
-        check(until(source.is_ended, one), name, f"without {part} it goes on")
+        check(until(source.is_ended, one), f"without {part} it goes on")
         source.receive()
-        compare(source, name + " " + part)
+        compare(source)
 
 
-@with_machine
 def without_a_worker_bytes_wait_within_a_bound(machine, _):
     name = "backpressure"
     host = program(machine, name, ["yes"])
     store = stores.connect(machine.url)
-    wait_for(lambda: store.hexists(keys.NAMES, name))
-    incarnation = store.hget(keys.NAMES, name).decode()
+    incarnation = incarnation_of(store, name)
     wait_for(lambda: int(store.hget(key(incarnation, "about"), "end")) >= WAITING)
     asked = lengths_asked(store)
     wait_for(lambda: lengths_asked(store) > asked + 50)  # the host waits, and asks again and again
     there = int(store.hget(key(incarnation, "about"), "end"))
-    check(WAITING <= there <= WAITING + 65536, name, f"a mebibyte waits, and no more: {there}")
+    check(WAITING <= there <= WAITING + 65536, f"a mebibyte waits, and no more: {there}")
     workers = Processes(machine, 1)
-    check(wait_for(lambda: int(store.hget(key(incarnation, "about"), "end")) > 2 * WAITING), name, "with a worker it goes on")
+    check(wait_for(lambda: int(store.hget(key(incarnation, "about"), "end")) > 2 * WAITING), "with a worker it goes on")
     host.terminate()
     host.wait(PATIENCE)
-    workers.stop()
 
 
-@with_machine
 def a_host_ends_a_program_that_floods(machine, _):
     """A worker plays meanwhile."""
     name = "flooding"
     host, store, workers = program(machine, name, ["yes"]), stores.connect(machine.url), Processes(machine, 1)
-    wait_for(lambda: store.hexists(keys.NAMES, name))
-    incarnation = store.hget(keys.NAMES, name).decode()
+    incarnation = incarnation_of(store, name)
     wait_for(lambda: int(store.hget(key(incarnation, "about"), "end")) > 2 * WAITING)
     host.terminate()
-    check(host.wait(PATIENCE) == 128 + signal.SIGHUP, name, f"its host ends it: {host.returncode}")
-    check(wait_for(lambda: store.exists(key(incarnation, "ended"))), name, "with an end")
+    check(host.wait(PATIENCE) == 128 + signal.SIGHUP, f"its host ends it: {host.returncode}")
+    check(wait_for(lambda: store.exists(key(incarnation, "ended"))), "with an end")
     written = b"".join(data for _, _, data in bytes_of(store, incarnation))
-    check(written == (b"y\r\n" * len(written))[: len(written)], name, "what it wrote is there once, and nothing lacks")
+    check(written == (b"y\r\n" * len(written))[: len(written)], "what it wrote is there once, and nothing lacks")
     ended = store.hmget(key(incarnation, "ended"), "at", "status")
-    check(ended == [b"%d" % len(written), b"129"], name, f"up to its end: {ended} of {len(written)}")
-    workers.stop()
+    check(ended == [b"%d" % len(written), b"129"], f"up to its end: {ended} of {len(written)}")
 
 
 def shimmed(machine):
@@ -355,7 +251,6 @@ def shimmed(machine):
     return move
 
 
-@with_machine
 def the_clock_may_jump(machine, data):
     """Back an hour and forward two: workers die, viewers look, hosts hold their names."""
     name, move = "clock", shimmed(machine)
@@ -365,30 +260,25 @@ def the_clock_may_jump(machine, data):
     viewer = Viewer(stores.connect(machine.url), source.incarnation)
     for seconds in (-3600, 3600, -3600, 7200):
         move(seconds)
-        check(wait_for(lambda: abs(store.time()[0] - time.time() - seconds) < 60), name, "the clock jumped")
+        check(wait_for(lambda: abs(store.time()[0] - time.time() - seconds) < 60), "the clock jumped")
         workers.kill(0)
         source.send(b"abc\033[6n")
-        check(wait_for(lambda: source.reports() == played(source.sent)[1]), name, f"{seconds}: another worker goes on")
+        check(wait_for(lambda: source.reports() == played(source.sent)[1]), f"{seconds}: another worker goes on")
 
         def is_there():
             viewer.ask()
             viewer.follow(0)
             return viewer.terminal.text() == played(source.sent)[0].text()
 
-        check(wait_for(is_there), name, f"{seconds}: a viewer sees it")
-    source.host.renewed = 0.0
-    source.host.renew_if_due()
-    source.send(b"\030").end(0)
-    check(wait_for(source.is_ended), name, "it ends")
-    source.finish()
-    compare(source, name)
-    workers.stop()
+        check(wait_for(is_there), f"{seconds}: a viewer sees it")
+    source.renew()
+    source.send(b"\030")
+    source.ends()
 
 
-@with_machine
 def a_failover_is_followed(machine, data):
     """The store's address is that of a sentinel. The master is killed, and the replica takes its place."""
-    name, ports, processes = "failover", [free_port() for _ in range(3)], []
+    ports = [free_port() for _ in range(3)]
     machine.kill()
     machine.start("--port", str(ports[0]), "--repl-diskless-sync-delay", "0")
     replica, conf = os.path.join(machine.folder, "replica"), os.path.join(machine.folder, "sentinel.conf")
@@ -398,30 +288,22 @@ def a_failover_is_followed(machine, data):
         file.write("sentinel down-after-milliseconds fleet 3000\nsentinel failover-timeout fleet 10000\n")
     words = ["--port", str(ports[1]), "--dir", replica, "--replicaof", "127.0.0.1", str(ports[0])]
     for each in (["redis-server", *words, "--appendonly", "yes", "--appendfsync", "always"], ["redis-server", conf, "--sentinel"]):
-        processes.append(subprocess.Popen(each, stdout=subprocess.DEVNULL))
+        started.callback(subprocess.Popen(each, stdout=subprocess.DEVNULL).kill)
     url = f"sentinel://127.0.0.1:{ports[2]}/fleet"
     asked, second = stores.connect(f"redis://127.0.0.1:{ports[2]}"), stores.connect(f"redis://127.0.0.1:{ports[1]}")
-    check(raises(stores.Unfit, asked.examine), name, "a sentinel's own address is refused")
-    check(raises(ValueError, stores.connect, "sentinel://127.0.0.1/fleet"), name, "so is an address that is none")
+    check(raises(stores.Unfit, asked.examine), "a sentinel's own address is refused")
+    check(raises(ValueError, stores.connect, "sentinel://127.0.0.1/fleet"), "so is an address that is none")
     wait_for(lambda: asked.execute_command("SENTINEL", "REPLICAS", "fleet"))
     stores.connect(url).examine()
-    one = worker(url, lease=20)
-    source = Source(url, name).send(data)
-    check(until(lambda: one.kept and not one.due, one), name, "it is played")
+    source, one = playing(url, "failover", data, lease=20)
     wait_for(lambda: second.info("replication").get("master_link_status") == "up")
     source.store.execute_command("WAIT", 1, 0)
     machine.kill()
-    source.send(b"abc\033[6n").end(0)
-    check(until(source.is_ended, one), name, "host and worker go on with the replica")
-    check(source.store.info("replication")["role"] == "master" and second.info("replication")["role"] == "master", name, "as the master")
-    source.receive()
-    compare(source, name)
-    for each in processes:
-        each.kill()
-        each.wait()
+    source.send(b"abc\033[6n")
+    source.ends(one)
+    check(source.store.info("replication")["role"] == "master" and second.info("replication")["role"] == "master", "on the new master")
 
 
-@with_machine
 def a_cluster_is_refused(machine, _):
     machine.kill()
     for path, _, names in os.walk(machine.folder):
@@ -429,21 +311,4 @@ def a_cluster_is_refused(machine, _):
             if each.endswith((".aof", ".rdb", ".manifest")):
                 os.remove(os.path.join(path, each))
     machine.start("--cluster-enabled", "yes", "--cluster-port", str(free_port()))
-    check(raises(stores.Unfit, stores.connect(machine.url).examine), "cluster", "with a clear error")
-
-
-CASES = [
-    half_open_connections_are_left,
-    a_store_that_went_back_is_noticed,
-    reports_that_the_store_lost_are_made_again,
-    what_cannot_be_rebuilt_is_a_named_fault,
-    a_store_without_persistence_is_refused_and_rebuilt,
-    a_store_that_comes_back_without_its_file_is_waited_for,
-    a_full_store_is_waited_for,
-    evicted_keys_are_named_or_sent_again,
-    without_a_worker_bytes_wait_within_a_bound,
-    a_host_ends_a_program_that_floods,
-    the_clock_may_jump,
-    a_failover_is_followed,
-    a_cluster_is_refused,
-]
+    check(raises(stores.Unfit, stores.connect(machine.url).examine), "with a clear error")

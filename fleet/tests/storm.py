@@ -7,28 +7,11 @@ import threading
 import time
 
 from harness import (
-    PATIENCE,
-    QUERIES,
-    Processes,
-    Proxy,
-    Source,
-    check,
-    configured,
-    key,
-    keys,
-    made_up,
-    played,
-    raises,
-    recordings,
-    session,
-    stores,
-    wait_for,
-    wanted,
-    with_machine,
+    PATIENCE, Processes, Proxy, QUERIES, Source, check, compare, compare_screen, configured, keys, made_up, recordings,
+    stores, wait_for, wanted,
 )
 from stores_faults import cut_back, shimmed
 from fleet.host import Taken
-import vt220
 
 seed, rounds = 1, 20
 SESSIONS, SENDERS, TIMES = 48, 6, 2
@@ -165,14 +148,12 @@ class Weather:
             self.jump()
 
 
-@with_machine
 def a_storm(machine, _):
     chance, pieces = random.Random(seed), recordings()
     move = shimmed(machine)
     proxy = Proxy(machine, 0.01)
     with configured(machine, "[store]", "timeout = 2"):
         storm(machine, move, proxy, chance, pieces)
-    proxy.stop()
 
 
 def storm(machine, move, proxy, chance, pieces):
@@ -191,10 +172,9 @@ def storm(machine, move, proxy, chance, pieces):
         time.sleep(max(0.0, begin + (number + 1) * 4.0 - time.monotonic()))
     for thread in threads:
         thread.join(PATIENCE)
-    check(not errors and not any(thread.is_alive() for thread in threads), "storm", f"all hosts send to the end: {errors}")
+    check(not errors and not any(thread.is_alive() for thread in threads), f"all hosts send to the end: {errors}")
     finish(machine, slots)
     report(workers, slots)
-    workers.stop()
 
 
 def finish(machine, slots):
@@ -204,7 +184,7 @@ def finish(machine, slots):
         source.end(0)
     store = stores.connect(machine.url)
     left = [source for slot in slots for source in slot.all]
-    check(len(left) == SESSIONS * TIMES, "storm", f"all sessions began: {len(left)}")
+    check(len(left) == SESSIONS * TIMES, f"all sessions began: {len(left)}")
     wait_for(lambda: all(store.exists(source.part("ended")) or store.exists(source.part("fault")) for source in left), 0.2)
     for source in left:
         source.finish()
@@ -215,33 +195,23 @@ def finish(machine, slots):
 def hold(source):
     """A session's text, reports and repaint are the program's. One whose end the store lost is named so, and its screen is that
     of the bytes that are there."""
-    name, store, data = source.name, source.store, source.sent
-    ended = store.hgetall(source.part("ended"))
-    if not check(ended, name, f"it ended: {source.fault()} {store.hgetall(source.part('about'))}"):
+    ended, reports = source.store.hgetall(source.part("ended")), wanted("reports", source.sent)[1]
+    if not check(ended, f"it ended: {source.fault()} {source.store.hgetall(source.part('about'))}"):
         return
-    reports = wanted("reports", data)[1]
-    if ended[b"status"] == b"lost":
-        # Of the bytes that the store lost after the host's end, only those reports came that were read before.
-        data = data[: int(ended[b"at"])]
-        check(reports.startswith(source.reports()), name, "no other reports at the program")
-        check(source.reports().startswith(wanted("reports", data)[1]), name, "those of the bytes that are there")
-    else:
-        check(source.reports() == reports, name, f"reports at the program: {len(source.reports())} bytes of {len(reports)}")
-        check((ended[b"at"], ended[b"status"]) == (b"%d" % len(data), b"0"), name, "place and status")
-    check(ended[b"text"] == wanted("text", data)[1], name, "text")
-    now = session.as_it_is(store, source.incarnation)
-    code, repaint = wanted("repaint", data)
-    if code == 3:
-        check(raises(vt220.Partial, now.terminal.repaint), name, "the repaint is refused")
-    else:
-        check(now.terminal.repaint() == repaint, name, "repaint")
+    if ended[b"status"] != b"lost":
+        compare(source)
+        return
+    # Of the bytes that the store lost after the host's end, only those reports came that were read before.
+    data = source.sent[: int(ended[b"at"])]
+    check(reports.startswith(source.reports()), "no other reports at the program")
+    check(source.reports().startswith(wanted("reports", data)[1]), "those of the bytes that are there")
+    compare_screen(source, data)
 
 
 def report(workers, slots):
     said = workers.said()
     check(
         not any("Traceback" in line or "gives up" in line for line in said),
-        "storm",
         "no worker has a fault: " + "; ".join(line for line in said if "gives up" in line)[:500],
     )
     everything = [source for slot in slots for source in slot.all]
@@ -256,6 +226,3 @@ def report(workers, slots):
         "ends that the store lost": lost,
     }
     print(", ".join(f"{count} {what}" for what, count in counted.items()), file=sys.stderr)
-
-
-CASES = [a_storm]

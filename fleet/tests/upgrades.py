@@ -6,29 +6,8 @@ import subprocess
 import sys
 
 from harness import (
-    HOLDER,
-    another_daemon,
-    Clock,
-    PATIENCE,
-    PATIENT,
-    Processes,
-    Source,
-    bury,
-    check,
-    compare,
-    configured,
-    key,
-    keys,
-    program,
-    raises,
-    settings,
-    stores,
-    until,
-    wait_for,
-    wanted,
-    with_machine,
-    worker,
-    written,
+    Clock, HOLDER, PATIENCE, PATIENT, Processes, Source, another_daemon, bury, check, configured, incarnation_of, key,
+    keys, outlast, program, raises, replace, settings, stores, until, wait_for, wanted, worker, written,
 )
 from safety import fleet
 from fleet import claims, wire
@@ -57,8 +36,7 @@ def entries_of(source):
 
 
 def renew(source):
-    source.host.renewed = -1e9
-    source.host.renew_if_due()
+    source.renew()
 
 
 def formats_are_rolled_out_and_back(url, data):
@@ -66,80 +44,70 @@ def formats_are_rolled_out_and_back(url, data):
     name, old = "formats", worker(url, every=100)
     source = Source(url, name).send(data[:1000])
     source.host.formats = NEXT
-    check(until(lambda: version_of(source) == NOW, old), name, "the format of all")
+    check(until(lambda: version_of(source) == NOW, old), "the format of all")
     new = newer(url, every=100)
     for part in (data[1000:2000], data[2000:3000]):
         source.send(part + b"\030\033[6n")
         renew(source)
-        check(until(lambda: source.store.hget(source.part("about"), "played") == b"%d" % source.host.at, old, new), name, "both play")
-    check(version_of(source) == NOW and entries_of(source) == {NOW}, name, "while one knows the older format only, it is written")
+        check(until(lambda: source.store.hget(source.part("about"), "played") == b"%d" % source.host.at, old, new), "both play")
+    check(version_of(source) == NOW and entries_of(source) == {NOW}, "while one knows the older format only, it is written")
     old.is_leaving = True
     old.turn(0.01)
-    check(until(lambda: new.claims.format == int(NEW), new), name, "the other one notices that")
+    check(until(lambda: new.claims.format == int(NEW), new), "the other one notices that")
     renew(source)
     source.send(data[3000:4000] + b"\030\033[6n")
-    check(until(lambda: version_of(source) == NEW, new), name, "then the newer one is")
-    check(entries_of(source) == {NOW, NEW}, name, "by hosts, too")
+    check(until(lambda: version_of(source) == NEW, new), "then the newer one is")
+    check(entries_of(source) == {NOW, NEW}, "by hosts, too")
     back = worker(url, every=100, lease=3600)
-    check(until(lambda: version_of(source) == NOW, new), name, "an older worker comes: all checkpoints are of its format again")
+    check(until(lambda: version_of(source) == NOW, new), "an older worker comes: all checkpoints are of its format again")
     renew(source)
     source.send(data[4000:5000] + b"\030\033[6n")
-    check(until(lambda: source.store.hget(source.part("about"), "played") == b"%d" % source.host.at, new, back), name, "it is played")
+    check(until(lambda: source.store.hget(source.part("about"), "played") == b"%d" % source.host.at, new, back), "it is played")
     new.is_leaving = True
     new.turn(0.01)
-    source.send(b"\033[6n").end(0)
-    check(until(source.is_ended, back), name, "and the older one goes on alone")
-    source.receive()
-    check(source.fault() == "", name, source.fault())
-    compare(source, name)
+    source.send(b"\033[6n")
+    source.ends(back)
 
 
 def a_session_of_another_format_waits_for_its_worker(url, data):
     """The last worker of its format was killed. Those of the other one hand it over, and it isn't a fault."""
     name, new = "foreign", newer(url, every=100)
     source = Source(url, name).send(data[:1000] + b"\030")
-    check(until(lambda: version_of(source) == NEW and not new.due, new), name, "it is of the next format")
+    check(until(lambda: version_of(source) == NEW and not new.due, new), "it is of the next format")
     store = source.store
     old = worker(url)
     bury(new)
-    check(until(lambda: store.hget(keys.FOREIGN, source.incarnation) == NEW, old), name, "the other one hands it over")
+    check(until(lambda: store.hget(keys.FOREIGN, source.incarnation) == NEW, old), "the other one hands it over")
     other = Source(url, "other").send(b"x")
-    check(until(lambda: other.incarnation in old.kept, old), name, "and plays others")
+    check(until(lambda: other.incarnation in old.kept, old), "and plays others")
     status, out, said = fleet(url, "list")
-    check("waiting" in out and f"foreign: waits for a worker that knows the format {NEW.decode()}" in said, name, f"list says so: {out} {said}")
+    check("waiting" in out and f"foreign: waits for a worker that knows the format {NEW.decode()}" in said, f"list says so: {out} {said}")
     source.send(data[1000:2000] + b"\033[6n")
-    check(source.fault() == "" and store.hexists(keys.FOREIGN, source.incarnation), name, "it has no fault")
+    check(source.fault() == "" and store.hexists(keys.FOREIGN, source.incarnation), "it has no fault")
     again = newer(url)
-    source.end(0)
-    check(until(source.is_ended, old, again), name, "a worker that knows it goes on")
-    source.receive()
-    compare(source, name)
-    check(store.hlen(keys.FOREIGN) == 0, name, "and nothing is left")
+    source.ends(old, again)
+    check(store.hlen(keys.FOREIGN) == 0, "and nothing is left")
 
 
 def a_worker_is_dead_by_its_own_lease(url, _):
     """Two workers have different leases: that of the silent one counts."""
-    name, clock, before = "leases", Clock(), claims.time
-    claims.time = clock
-    try:
-        long, short = worker(url, lease=60), worker(url, lease=1)
-        source = Source(url, name).send(b"x")
-        check(long.claims.take(10) == [source.incarnation], name, "the one with the long lease has a session")
-        for _ in range(120):
-            clock.now += 0.45
-            short.claims.beat(0)
-        check(source.store.hexists(keys.WORKERS, long.claims.me), name, "after 54 s of silence it lives")
-        for _ in range(30):
-            clock.now += 0.45
-            short.claims.beat(0)
-        check(not source.store.hexists(keys.WORKERS, long.claims.me), name, "after its lease it is dead")
-    finally:
-        claims.time = before
+    clock = replace(claims, "time", Clock())
+    long, short = worker(url, lease=60), worker(url, lease=1)
+    source = Source(url, "leases").send(b"x")
+    check(long.claims.take(10) == [source.incarnation], "the one with the long lease has a session")
+    for _ in range(120):
+        clock.now += 0.45
+        short.claims.beat(0)
+    check(source.store.hexists(keys.WORKERS, long.claims.me), "after 54 s of silence it lives")
+    for _ in range(30):
+        clock.now += 0.45
+        short.claims.beat(0)
+    check(not source.store.hexists(keys.WORKERS, long.claims.me), "after its lease it is dead")
 
 
 def what_nobody_needs_is_removed(url, _):
     """With `retain`: names, sessions with a fault, sessions without a host; and what typists leave."""
-    name, one = "retain", worker(url, retain=0)
+    one = worker(url, retain=0)
     store = stores.connect(url)
     for number in range(30):
         Source(url, f"job-{number}").send(b"x").end(0)
@@ -154,29 +122,25 @@ def what_nobody_needs_is_removed(url, _):
         one.claims.audit()
         return store.hlen(keys.NAMES) == 1 and store.zcard(keys.ALL) == 1
 
-    check(wait_for(look), name, f"the names and the sessions go: {store.hgetall(keys.NAMES)} {store.zcard(keys.ALL)}")
-    check(not store.keys(f"fleet:{bad.incarnation}:*") and not store.keys(f"fleet:{lost.incarnation}:*"), name, "with all keys")
-    check(store.exists(lives.part("fault")), name, "that one stays whose host lives")
+    check(wait_for(look), f"the names and the sessions go: {store.hgetall(keys.NAMES)} {store.zcard(keys.ALL)}")
+    check(not store.keys(f"fleet:{bad.incarnation}:*") and not store.keys(f"fleet:{lost.incarnation}:*"), "with all keys")
+    check(store.exists(lives.part("fault")), "that one stays whose host lives")
     store.delete(lives.part("fault"))
     for number in range(3):
         typist = Typist(store, lives.incarnation)
         typist.type(b"x")
-        check(0 < store.ttl(lives.part(f"typed:{typist.me}")) <= 86400, name, "a typist's number goes after a day")
+        check(0 < store.ttl(lives.part(f"typed:{typist.me}")) <= 86400, "a typist's number goes after a day")
         typist.leave()
-    check(not store.keys(lives.part("typed*")), name, "or when the typist leaves")
+    check(not store.keys(lives.part("typed*")), "or when the typist leaves")
 
 
-# A program that writes a file in parts of so many bytes. Each part ends with a question; what comes up to its answer is written down. If it
-# has gates, it waits before each twentieth part until there is the file of the next one.
+# A program that writes a file in parts of so many bytes. Each part ends with a question; what comes up to its answer is written down.
 ASKER = r"""
-import os, sys, time, tty
+import os, sys, tty
 tty.setraw(0)
-data, size, gate = open(sys.argv[1], "rb").read(), int(sys.argv[3]), sys.argv[4]
+data, size = open(sys.argv[1], "rb").read(), int(sys.argv[3])
 got = open(sys.argv[2], "ab", buffering=0)
 for at in range(0, len(data), size):
-    number, rest = divmod(at // size, 20)
-    while gate and rest == 0 and not os.path.exists(f"{gate}-{number}"):
-        time.sleep(0.01)
     part, came = data[at : at + size], b""
     while part:
         part = part[os.write(1, part):]
@@ -190,19 +154,14 @@ sys.exit(3)
 class Run:
     """A session with a program that writes bytes and writes down the reports."""
 
-    def __init__(self, machine, name, parts, has_gates=False):
+    def __init__(self, machine, name, parts):
         self.machine, self.name, self.data = machine, name, b"".join(parts)
         self.store = stores.connect(machine.url)
         self.file, self.got = os.path.join(machine.folder, f"{name}.data"), os.path.join(machine.folder, f"{name}.got")
         with open(self.file, "wb") as file:
             file.write(self.data)
         self.reports = wanted("reports", self.data)[1]
-        self.gate = os.path.join(machine.folder, f"{name}.gate") if has_gates else ""
-        self.host = program(machine, name, [sys.executable, "-c", ASKER, self.file, self.got, str(len(parts[0])), self.gate])
-
-    def open_gate(self, number):
-        """Lets the program go on up to the gate after this one."""
-        open(f"{self.gate}-{number}", "w").close()
+        self.host = program(machine, name, [sys.executable, "-c", ASKER, self.file, self.got, str(len(parts[0]))])
 
     def incarnation(self):
         found = self.store.hget(keys.NAMES, self.name)
@@ -212,51 +171,22 @@ class Run:
         """Returns how many bytes the store has."""
         return int(self.store.hget(key(self.incarnation() or "", "about"), "end") or 0)
 
-    def wait(self):
-        """Waits until the holder ends, for as long as the session goes on. Returns its exit status; None if the session hangs."""
-        before = -1
-        while self.host.poll() is None and self.end() > before:
-            before = self.end()
-            wait_for(lambda: self.end() > before or self.host.poll() is not None)
-        return self.host.poll()
-
     def hold(self):
         """Compares all with the program vt220."""
         incarnation = self.incarnation()
-        check(wait_for(lambda: self.store.exists(key(incarnation, "ended"))), self.name, "it ends")
+        check(wait_for(lambda: self.store.exists(key(incarnation, "ended"))), f"{self.name}: it ends")
         ended = self.store.hgetall(key(incarnation, "ended"))
-        check((ended[b"at"], ended[b"status"]) == (b"%d" % len(self.data), b"3"), self.name, f"place, status: {ended[b'at']} {ended[b'status']}")
-        check(ended[b"text"] == wanted("text", self.data)[1], self.name, "text")
+        check((ended[b"at"], ended[b"status"]) == (b"%d" % len(self.data), b"3"), f"{self.name}: place, status: {ended[b'at']} {ended[b'status']}")
+        check(ended[b"text"] == wanted("text", self.data)[1], f"{self.name}: text")
         with open(self.got, "rb") as got:
-            check(got.read() == self.reports, self.name, "each report reached the program once")
+            check(got.read() == self.reports, f"{self.name}: each report reached the program once")
         kept = written(self.store, self.name)
-        check(kept and self.data.endswith(kept), self.name, f"each byte of the program, once: {len(kept)}")
+        check(kept and self.data.endswith(kept), f"{self.name}: each byte of the program, once: {len(kept)}")
 
 
 def asking(data, times, size=100):
     """Returns parts of the same length, each with a question at its end."""
     return [data[at : at + size].ljust(size) + b"\030\033[5n" for at in range(0, size * times, size)]
-
-
-@with_machine
-def a_program_outlives_its_host(machine, data):
-    """The host daemon is killed again and again, at no moment in particular, and started again. However late a kill comes, the program goes
-    on after it."""
-    name, workers, gates = "outlives", Processes(machine, 1), 10
-    run, kills = Run(machine, name, asking(data * 20, 20 * gates), has_gates=True), gates - 2
-    run.open_gate(0)
-    wait_for(run.end, 0)
-    first = run.incarnation()
-    for number in range(1, kills + 1):
-        before = run.end()
-        run.open_gate(number)
-        wait_for(lambda: run.end() > before, 0)
-        another_daemon(machine)
-    run.open_gate(gates - 1)
-    check(run.host.wait(PATIENCE) == 3, name, f"the holder has the program's status: {run.host.returncode}")
-    check(run.incarnation() == first, name, f"it is one session over {kills + 1} daemons")
-    run.hold()
-    workers.stop()
 
 
 class Said:
@@ -292,10 +222,9 @@ class Said:
         self.listener.close()
 
 
-@with_machine
 def keys_of_a_daemon_that_is_killed_are_not_lost(machine, _):
     """The holder meets the daemon's end when it has something to send, before it has read what the daemon said last."""
-    name, got = "last keys", os.path.join(machine.folder, "got")
+    got = os.path.join(machine.folder, "got")
     said = Said(machine, ["sh", "-c", f"stty raw -echo; printf ready; head -c 6 >{got}; printf read; exec sleep infinity"])
     said.say(wire.NAMED, b"0123456789abcdef")
     said.next(wire.BYTES)
@@ -306,35 +235,33 @@ def keys_of_a_daemon_that_is_killed_are_not_lost(machine, _):
     said.link.close()
     said.holder.send_signal(signal.SIGCONT)
     said.meet()
-    check(said.state.last == {"answers": "0-0", "keys": "2-0", "signals": "1-0"}, name, f"the next daemon learns what was taken: {said.state.last}")
-    check((said.state.incarnation, said.state.base) == ("0123456789abcdef", 0), name, "of the same session, with all bytes")
+    check(said.state.last == {"answers": "0-0", "keys": "2-0", "signals": "1-0"}, f"the next daemon learns what was taken: {said.state.last}")
+    check((said.state.incarnation, said.state.base) == ("0123456789abcdef", 0), "of the same session, with all bytes")
     written = b""
     while not written.endswith(b"readyread"):
         written += said.next(wire.BYTES)[wire.NUMBER.size :]
-    check(open(got, "rb").read() == b"abcdef", name, "and the program has each key once")
+    check(open(got, "rb").read() == b"abcdef", "and the program has each key once")
     said.say(wire.STOP, wire.NUMBER.pack(1))
-    check(wire.NUMBER.unpack(said.next(wire.ENDED)) == (129,), name, "it ends when it is told to")
+    check(wire.NUMBER.unpack(said.next(wire.ENDED)) == (129,), "it ends when it is told to")
     said.stop()
 
 
-@with_machine
 def keys_stay_in_the_store_until_the_program_has_them(machine, _):
     name, store = "kept keys", stores.connect(machine.url)
     host = program(machine, name, ["sh", "-c", "stty raw -echo; printf ready; exec sleep infinity"], "--input")
     wait_for(lambda: written(store, name) == b"ready")
-    incarnation = store.hget(keys.NAMES, name).decode()
+    incarnation = incarnation_of(store, name)
     host.send_signal(signal.SIGSTOP)
     Typist(store, incarnation).type(b"abc")
     marker = program(machine, "marker", ["true"])  # once it ended, the daemon has had the keys for long
-    check(marker.wait(PATIENCE) == 0 and store.xlen(key(incarnation, "keys")) == 1, name, "a holder that stands still hasn't taken them")
+    check(marker.wait(PATIENCE) == 0 and store.xlen(key(incarnation, "keys")) == 1, "a holder that stands still hasn't taken them")
     another_daemon(machine)
     host.send_signal(signal.SIGCONT)
-    check(wait_for(lambda: store.xlen(key(incarnation, "keys")) == 0), name, "once it has, they are removed")
+    check(wait_for(lambda: store.xlen(key(incarnation, "keys")) == 0), "once it has, they are removed")
     host.terminate()
-    check(host.wait(PATIENCE) == 129, name, "it ends")
+    check(host.wait(PATIENCE) == 129, "it ends")
 
 
-@with_machine
 def a_session_begins_anew_after_daemon_and_program_died(machine, _):
     """As when the kernel ends them both. The unit starts the session again, which waits for the end of the dead one's lease."""
     name, store = "both", stores.connect(machine.url)
@@ -348,19 +275,18 @@ def a_session_begins_anew_after_daemon_and_program_died(machine, _):
     store.config_resetstat()
     second = program(machine, name, ["sh", "-c", "exit 3"])
     wait_for(lambda: second.poll() is not None or store.info("commandstats").get("cmdstat_fcall", {}).get("calls", 0) > 3)
-    check(second.poll() is None, name, f"it waits while the lease lasts: {second.returncode}")
+    check(second.poll() is None, f"it waits while the lease lasts: {second.returncode}")
     store.pexpire(keys.lease(name), 1)
-    check(second.wait(PATIENCE) == 3 and store.hget(keys.NAMES, name) != before, name, f"then it begins: {second.returncode}")
+    check(second.wait(PATIENCE) == 3 and store.hget(keys.NAMES, name) != before, f"then it begins: {second.returncode}")
 
 
 VICTIMS = ("host", "worker", "host", "host", "store", "worker", "host", "store", "host", "worker", "host")
 
 
-@with_machine
 def a_storm_with_hosts_among_the_victims(machine, data):
     """Hosts, workers and the store are killed in turn, each time once a session has gone on. No clock decides. More rounds are more kills
     of longer sessions."""
-    name, chance, times = "host storm", random.Random(seed), max(1, rounds // 20)
+    chance, times = random.Random(seed), max(1, rounds // 20)
     with configured(machine, *PATIENT, "[worker]", "lease = 1", "every = 300", "keep = 2000", "[host]", "lease = 3600"):
         workers = Processes(machine, 3)
         runs = [Run(machine, f"victim-{number}", asking(data[number * 500 :] + data * 9 * times, 250 * times)) for number in range(4)]
@@ -383,47 +309,43 @@ def a_storm_with_hosts_among_the_victims(machine, data):
                 another_daemon(machine)
             kills[victim] += 1
         for each, first in zip(runs, firsts):
-            check(each.wait() == 3, each.name, f"its holder has the program's status: {each.host.returncode}")
-            check(each.incarnation() == first, each.name, "it is one session")
+            check(outlast(each.host, each.end) == 3, f"{each.name}: its holder has the program's status: {each.host.returncode}")
+            check(each.incarnation() == first, f"{each.name}: it is one session")
             each.hold()
-    check(min(kills.values()) > 0, name, f"all kinds were killed: {kills}")
+    check(min(kills.values()) > 0, f"all kinds were killed: {kills}")
     said = workers.said()
-    check(not any("Traceback" in line or "gives up" in line for line in said), name, "no worker has a fault")
+    check(not any("Traceback" in line or "gives up" in line for line in said), "no worker has a fault")
     counted = {"sessions": len(runs), "bytes": sum(map(len, (each.data for each in runs))), "reports": sum(each.data.count(b"\033[5n") for each in runs)}
     counted |= {f"{victim}s killed": count for victim, count in kills.items()} | {"takings": sum(" took " in line for line in said)}
     print(", ".join(f"{count} {what}" for what, count in counted.items()), file=sys.stderr)
-    workers.stop()
 
 
-@with_machine
 def a_daemon_is_replaced_by_a_newer_one(machine, _):
     name, workers = "replaced", Processes(machine, 1)
     command = ["sh", "-c", 'stty -echo; echo on; while read x; do echo "got $x"; done; exit 4']
     host = program(machine, name, command, "--input")
     store = stores.connect(machine.url)
     wait_for(lambda: b"on" in written(store, name))
-    incarnation = store.hget(keys.NAMES, name).decode()
+    incarnation = incarnation_of(store, name)
 
     def held_by():
         return store.hget(key(incarnation, "about"), "host")
 
-    check(program(machine, name, command).wait(PATIENCE) == 5, name, "another session of the name is refused while the first one lives")
-    check(fleet(machine.url, "daemon")[0] == 1, name, "and so is another daemon")
+    check(program(machine, name, command).wait(PATIENCE) == 5, "another session of the name is refused while the first one lives")
+    check(fleet(machine.url, "daemon")[0] == 1, "and so is another daemon")
     before = held_by()
     for number in range(3):
         machine.daemon.terminate()
-        check(machine.daemon.wait(PATIENCE) == 0, name, "a daemon ends when it is told to")
+        check(machine.daemon.wait(PATIENCE) == 0, "a daemon ends when it is told to")
         machine.start_daemon()
-        check(wait_for(lambda: held_by() != before) and host.poll() is None, name, f"the next one goes on: {host.poll()}")
+        check(wait_for(lambda: held_by() != before) and host.poll() is None, f"the next one goes on: {host.poll()}")
         before = held_by()
-        check(fleet(machine.url, "type", "--enter", name, f"line {number}")[0] == 0, name, "which takes keys")
-        check(wait_for(lambda: b"got line %d" % number in written(store, name)), name, "for the same program")
-    check(written(store, name).count(b"got") == 3, name, "each once")
-    check(fleet(machine.url, "kill", "--patience", str(PATIENCE), name)[0] == 0 and host.wait(PATIENCE) == 129, name, "signals reach it")
-    workers.stop()
+        check(fleet(machine.url, "type", "--enter", name, f"line {number}")[0] == 0, "which takes keys")
+        check(wait_for(lambda: b"got line %d" % number in written(store, name)), "for the same program")
+    check(written(store, name).count(b"got") == 3, "each once")
+    check(fleet(machine.url, "kill", "--patience", str(PATIENCE), name)[0] == 0 and host.wait(PATIENCE) == 129, "signals reach it")
 
 
-@with_machine
 def an_old_host_writes_nothing_once_there_is_a_new_one(machine, _):
     """What the old one had sent arrives late."""
     name = "fenced"
@@ -434,21 +356,20 @@ def an_old_host_writes_nothing_once_there_is_a_new_one(machine, _):
 
     new.host = Host(new.store, name, 600, incarnation=old.incarnation)
     new.host.resume()
-    check(new.host.at == 3, name, f"the new one goes on where the old one stopped: {new.host.at}")
-    check(raises(Taken, old.send, b"late"), name, "the old one writes nothing more")
+    check(new.host.at == 3, f"the new one goes on where the old one stopped: {new.host.at}")
+    check(raises(Taken, old.send, b"late"), "the old one writes nothing more")
     new.host.adopt(0, 6, {})
-    check(not new.host.is_whole(), name, "the new one first takes in what the store has")
+    check(not new.host.is_whole(), "the new one first takes in what the store has")
     new.host.send_up_to(2, b"ab")
     new.host.send_up_to(6, b"cdef")
-    check(new.host.is_whole() and new.host.at == 6, name, "and then sends the rest")
-    check(b"".join(fields.get(b"bytes", b"") for _, fields in new.store.xrange(old.part("bytes"))) == b"abcdef", name, "once")
+    check(new.host.is_whole() and new.host.at == 6, "and then sends the rest")
+    check(b"".join(fields.get(b"bytes", b"") for _, fields in new.store.xrange(old.part("bytes"))) == b"abcdef", "once")
     new.store.delete(old.part("bytes"), old.part("about"))
     new.host.renewed = -1e9
     new.host.renew_if_due()
-    check(b"".join(fields.get(b"bytes", b"") for _, fields in new.store.xrange(old.part("bytes"))) == b"abcdef", name, "it can send all again")
+    check(b"".join(fields.get(b"bytes", b"") for _, fields in new.store.xrange(old.part("bytes"))) == b"abcdef", "it can send all again")
 
 
-@with_machine
 def a_program_without_a_daemon_is_ended_in_time(machine, _):
     name, marker = "orphan", os.path.join(machine.folder, "hung-up")
     with configured(machine, *PATIENT, "[host]", "orphan = 0.1"):
@@ -457,20 +378,4 @@ def a_program_without_a_daemon_is_ended_in_time(machine, _):
         wait_for(lambda: b"on" in written(store, name))
         machine.kill_daemon()
         host.wait(PATIENCE)
-        check(os.path.exists(marker), name, "its holder hangs up on it, and ends")
-
-
-CASES = [
-    formats_are_rolled_out_and_back,
-    a_session_of_another_format_waits_for_its_worker,
-    a_worker_is_dead_by_its_own_lease,
-    what_nobody_needs_is_removed,
-    a_program_outlives_its_host,
-    keys_of_a_daemon_that_is_killed_are_not_lost,
-    keys_stay_in_the_store_until_the_program_has_them,
-    a_session_begins_anew_after_daemon_and_program_died,
-    a_storm_with_hosts_among_the_victims,
-    a_daemon_is_replaced_by_a_newer_one,
-    an_old_host_writes_nothing_once_there_is_a_new_one,
-    a_program_without_a_daemon_is_ended_in_time,
-]
+        check(os.path.exists(marker), "its holder hangs up on it, and ends")

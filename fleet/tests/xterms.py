@@ -3,7 +3,10 @@ import json
 import os
 import random
 
-from harness import PATIENCE, Processes, Source, another_daemon, check, keys, program, raises, session, settings, stores, until, wait_for, with_machine, worker, written
+from harness import (
+    PATIENCE, Processes, Source, another_daemon, check, keys, program, raises, session, settings, stores, until,
+    wait_for, worker, written,
+)
 from characters import cut_anywhere, played, taken_by_newer_workers
 from operators import OnTerminal
 from safety import fleet
@@ -41,48 +44,48 @@ def some(chance, most=60):
 
 def bytes_rebuild_a_terminal(url, _):
     """On any terminal they leave the same state: both pages, in each width."""
-    name, chance = "rebuilt", random.Random(seed)
+    chance = random.Random(seed)
     for number in range(400):
         one = terminal(some(chance) + b"\030" * chance.randint(0, 1))
         if not one.is_between():
-            check(raises(vt220.Partial, one.repaint), name, f"{number}: none inside a sequence")
+            check(raises(vt220.Partial, one.repaint), f"{number}: none inside a sequence")
             continue
         before, two = (one.repaint(), one.alternate(), one.pending()), terminal(some(chance))
         two.feed(one.repaint())
         two.feed(one.pending())
-        check((one.repaint(), one.alternate(), one.pending()) == before, name, f"{number}: the terminal stays")
-        check(two.pending() == one.pending() and is_same(one, two), name, f"{number}: it is rebuilt")
+        check((one.repaint(), one.alternate(), one.pending()) == before, f"{number}: the terminal stays")
+        check(two.pending() == one.pending() and is_same(one, two), f"{number}: it is rebuilt")
         more = some(chance) + b"\030"
         for way in (more, MAIN, ALTERNATE, b"\033[?40h\033[?3h" + MAIN, ALTERNATE, b"\033[?3l" + MAIN, ALTERNATE):
-            check(one.feed(way) == two.feed(way) and one.same_state(two) and one.alternate() == two.alternate(), name, f"{number}: and goes on alike: {way[:20]}")
+            check(one.feed(way) == two.feed(way) and one.same_state(two) and one.alternate() == two.alternate(), f"{number}: and goes on alike: {way[:20]}")
 
 
 def a_terminal_that_is_rebuilt_wrongly_is_found(url, _):
     """The comparison finds each part of the state that differs."""
-    name, one = "compared", terminal(b"main\033[?47halt\0337\033[?47l")
+    one = terminal(b"main\033[?47halt\0337\033[?47l")
     others = [b"main\033[?47hal\0337\033[?47l", b"main\033[?47halt\033[?47l", b"main\033[?47halt\0337", b"main\033[?47halt\0337\033[?47l\033[?40h", b"\033[?40h\033[?3h\033[?47hx\033[?47l\033[?3l\033[?40l"]
-    check(is_same(one, one.copy()), name, "a copy is the same")
+    check(is_same(one, one.copy()), "a copy is the same")
     for other in others:
-        check(not is_same(one, terminal(other)), name, f"{other} isn't")
-    check(not is_same(terminal(others[-1]), terminal()), name, "nor is a page of another width")
+        check(not is_same(one, terminal(other)), f"{other} isn't")
+    check(not is_same(terminal(others[-1]), terminal()), "nor is a page of another width")
 
 
 def each_byte_is_another_workers(url, _):
     """Each begins at the checkpoint of the one before."""
-    name, source = "pages", Source(url, "pages", **XTERM)
+    source = Source(url, "pages", **XTERM)
     for number, byte in enumerate(DATA):
         one = worker(url, every=1, keep=0)
         source.send(bytes([byte]))
-        check(until(lambda: played(source) == number + 1 and not one.due, one), name, f"byte {number} is played")
+        check(until(lambda: played(source) == number + 1 and not one.due, one), f"byte {number} is played")
         source.receive()
         now = session.as_it_is(source.store, source.incarnation).terminal
-        check(now.text() == terminal(DATA[: number + 1]).text() and now.terminal == "xterm", name, f"a reader sees the screen after {number + 1} bytes")
+        check(now.text() == terminal(DATA[: number + 1]).text() and now.terminal == "xterm", f"a reader sees the screen after {number + 1} bytes")
         one.leave()
     one = worker(url, every=1, keep=0)
     source.end(0)
-    check(until(source.is_ended, one), name, f"it ends: {source.fault()}")
-    check(source.store.hget(source.part("ended"), "text").decode().splitlines()[:2] == [SHOWN, ""], name, "the text")
-    check(source.receive().reports() == terminal().feed(DATA), name, f"and the reports: {source.reports()}")
+    check(until(source.is_ended, one), f"it ends: {source.fault()}")
+    check(source.store.hget(source.part("ended"), "text").decode().splitlines()[:2] == [SHOWN, ""], "the text")
+    check(source.receive().reports() == terminal().feed(DATA), f"and the reports: {source.reports()}")
 
 
 def pieces_are_cut_anywhere(url, _):
@@ -91,77 +94,56 @@ def pieces_are_cut_anywhere(url, _):
 
 
 def an_older_worker_takes_no_such_session(url, _):
-    name, old = "older worker", Worker(stores.connect(url), settings(every=1), formats=(keys.OLDEST, keys.NEEDED[keys.UTF8]))
+    old = Worker(stores.connect(url), settings(every=1), formats=(keys.OLDEST, keys.NEEDED[keys.UTF8]))
     source, other = Source(url, "xterm", **XTERM).send(DATA), Source(url, "utf-8", encoding="utf-8").send(b"x")
     new = taken_by_newer_workers(url, source, other, old)
     source.end(0)
-    check(until(source.is_ended, old, new), name, "and ends it")
-    check(source.store.hget(source.part("ended"), "text").decode().splitlines()[0] == SHOWN, name, "the text")
+    check(until(source.is_ended, old, new), "and ends it")
+    check(source.store.hget(source.part("ended"), "text").decode().splitlines()[0] == SHOWN, "the text")
 
 
-def a_wrong_terminal_is_a_fault(url, _):
-    for terminal_name, encoding in (("xterm-256color", "utf-8"), ("xterm", "dec")):
+def a_wrong_language_is_a_fault(url, _):
+    for terminal_name, encoding in (("xterm-256color", "utf-8"), ("xterm", "dec"), ("vt220", "utf-7")):
         name, one = f"wrong terminal {terminal_name} {encoding}", worker(url)
         source = Source(url, name).send(b"x")
         source.store.hset(source.part("about"), mapping={"terminal": terminal_name, "encoding": encoding})
-        check(until(source.fault, one) and source.fault().startswith("Wrong"), name, source.fault())
-        check(raises(keys.Wrong, session.as_it_is, source.store, source.incarnation), name, "for readers, too")
+        check(until(source.fault, one) and source.fault().startswith("Wrong"), source.fault())
+        check(raises(keys.Wrong, session.as_it_is, source.store, source.incarnation), "for readers, too")
 
 
-@with_machine
 def a_program_has_its_terminal(machine, _):
     name, url, workers = "program", machine.url, Processes(machine, 1)
     command = ["sh", "-c", "echo $TERM $LC_ALL; stty -a | grep -o ' iutf8'; stty raw -echo; printf '\\033[?1049hready'; head -c 1 | od -An -tx1; printf '\\033[?1049l\\033[9`back'; cat"]
     host = program(machine, name, command, "--input", "--terminal", "xterm")
     store = stores.connect(url)
     wait_for(lambda: b"ready" in written(store, name))
-    check(written(store, name).split()[:3] == [b"xterm-256color", b"C.UTF-8", b"iutf8"], name, f"its environment and its line: {written(store, name)}")
-    check(fleet(url, "text", name)[1].split() == ["ready"], name, "the alternate page is shown")
+    check(written(store, name).split()[:3] == [b"xterm-256color", b"C.UTF-8", b"iutf8"], f"its environment and its line: {written(store, name)}")
+    check(fleet(url, "text", name)[1].split() == ["ready"], "the alternate page is shown")
     another_daemon(machine)
-    check(fleet(url, "type", name, "x")[0] == 0, name, "another daemon goes on with it")
-    check(wait_for(lambda: b"back" in written(store, name)), name, "the program goes on")
-    check(fleet(url, "text", name)[1].splitlines()[0] == "xterm-256color C.UTF-8" and "        back" in fleet(url, "text", name)[1], name, "the main page is back")
+    check(fleet(url, "type", name, "x")[0] == 0, "another daemon goes on with it")
+    check(wait_for(lambda: b"back" in written(store, name)), "the program goes on")
+    check(fleet(url, "text", name)[1].splitlines()[0] == "xterm-256color C.UTF-8" and "        back" in fleet(url, "text", name)[1], "the main page is back")
     recording = [json.loads(line) for line in fleet(url, "export", name)[1].splitlines()]
-    check(recording[0]["env"] == {"TERM": "xterm-256color"}, name, "the recording names its terminal")
+    check(recording[0]["env"] == {"TERM": "xterm-256color"}, "the recording names its terminal")
     listed = json.loads(fleet(url, "list", "--json")[1])
-    check((listed["encoding"], listed["terminal"]) == ("utf-8", "xterm"), name, "the list names it")
+    check((listed["encoding"], listed["terminal"]) == ("utf-8", "xterm"), "the list names it")
     status, page, said = fleet(url, "export", "--page", name)
-    check(status == 0 and '"terminal": "xterm"' in page, name, f"and the page plays it: {said}")
-    check(fleet(url, "kill", "--signal", "KILL", "--patience", str(PATIENCE), name)[0] == 0 and host.wait(PATIENCE) == 137, name, "it ends")
+    check(status == 0 and '"terminal": "xterm"' in page, f"and the page plays it: {said}")
+    check(fleet(url, "kill", "--signal", "KILL", "--patience", str(PATIENCE), name)[0] == 0 and host.wait(PATIENCE) == 137, "it ends")
     status, _, said = fleet(url, "host", "--terminal", "xterm", "--encoding", "dec", "other", "true")
-    check(status == 78 and "doesn't go with --encoding dec" in said, name, f"dec is refused: {status} {said}")
-    workers.stop()
+    check(status == 78 and "doesn't go with --encoding dec" in said, f"dec is refused: {status} {said}")
 
 
-@with_machine
 def keys_are_those_of_an_xterm(machine, _):
     name, workers = "typed", Processes(machine, 1)
     source = Source(machine.url, name, takes_input=True, lease=600, **XTERM).send(b"here").listen()
     view = OnTerminal(machine.url, "view", "--type", name)
-    check(wait_for(lambda: view.has(b"here")), name, "it is shown")
-
-    def got():
-        return b"".join(what for kind, what in source.got if kind == "keys")
-
+    check(wait_for(lambda: view.has(b"here")), "it is shown")
     os.write(view.master, b"\033[1~\033[25~\033[A")
     wanted = b"\033[H\033[1;2P\033[A"
-    check(wait_for(lambda: got() == wanted), name, f"in a viewer: {got()}")
+    check(wait_for(lambda: source.keys() == wanted), f"in a viewer: {source.keys()}")
     source.send(b"\033[?1h")
-    check(fleet(machine.url, "type", name, "\033[1~")[0] == 0, name, "type")
-    check(wait_for(lambda: got() == wanted + b"\033OH"), name, f"by type: {got()}")
+    check(fleet(machine.url, "type", name, "\033[1~")[0] == 0, "type")
+    check(wait_for(lambda: source.keys() == wanted + b"\033OH"), f"by type: {source.keys()}")
     os.write(view.master, b"\x1d")
-    check(view.status() == 0, name, "the viewer leaves")
-    source.stop()
-    workers.stop()
-
-
-CASES = [
-    bytes_rebuild_a_terminal,
-    a_terminal_that_is_rebuilt_wrongly_is_found,
-    each_byte_is_another_workers,
-    pieces_are_cut_anywhere,
-    an_older_worker_takes_no_such_session,
-    a_wrong_terminal_is_a_fault,
-    a_program_has_its_terminal,
-    keys_are_those_of_an_xterm,
-]
+    check(view.status() == 0, "the viewer leaves")

@@ -14,7 +14,7 @@ import pathlib
 import re
 from typing import Iterable, Mapping, Optional, Sequence, Tuple
 
-__all__ = ["FIELDS", "NoTemplate", "page", "recording", "side_by_side", "template"]
+__all__ = ["FIELDS", "NoTemplate", "live", "page", "recording", "side_by_side", "template"]
 
 # The fields that a template leaves open.
 FIELDS = ("TITLE", "PLAYERS")
@@ -79,6 +79,18 @@ def _filled(title: str, players: str) -> str:
 def page(content: bytes, chunks: Iterable[Tuple[int, int]], title: str, notes: Sequence[str] = (), **options: object) -> str:
     """Returns the page of a recording, whose arguments are those of recording(). Raises NoTemplate if there is no template."""
     return _filled(title, _player(recording(content, chunks, title, notes, **options), " links"))
+
+
+def live(title: str, address: str) -> str:
+    """Returns a page that shows a live terminal: one whose bytes come from an address, as the attribute `live` of <vt220-player> describes it.
+
+    The page may connect to its own server, and to no other one. Raises NoTemplate if there is no template.
+    """
+    text = _filled(title, f'<vt220-player live="{html.escape(address)}">Loading</vt220-player>')
+    allowed, count = re.subn(r"default-src 'none';", "default-src 'none'; connect-src 'self';", text, count=1)
+    if count != 1:
+        raise NoTemplate("the template has no policy that allows nothing")
+    return allowed
 
 
 def side_by_side(title: str, recordings: Sequence[Tuple[str, str]]) -> str:

@@ -1,3 +1,5 @@
 mod Trimming
 mod Ranges
 mod Cutting
+mod Numbers
+mod Looked

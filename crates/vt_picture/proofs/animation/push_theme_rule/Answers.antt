@@ -1,0 +1,16 @@
+use Rattle.std.proofs.Common.{append_assoc}
+use Rattle.vt_picture.proofs.animation.push_theme_rule.Goals as goal
+
+pub returns-clause-items : goal.returns-clause-items
+returns-clause-items c =
+    rw (
+      c.push_bytes-7.ensures.items,
+      c.push_bytes-6.ensures.items,
+      c.push_bytes-5.ensures.items,
+      c.push_bytes-4.ensures.items,
+      c.push_bytes-3.ensures.items,
+      c.push_bytes-2.ensures.items,
+      c.theme_name.ensures.name,
+      c.push_bytes.ensures.items,
+    )
+    (simp append_assoc)

@@ -3,3 +3,4 @@ mod Ranges
 mod Cutting
 mod Numbers
 mod Looked
+mod Alike

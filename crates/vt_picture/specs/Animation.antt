@@ -313,3 +313,13 @@ animation_head theme shape title duration columns first last =
 
 abbrev pub animation_end : List ℕ
 animation_end = group_end ++ codes "</svg>" ++ line_feed
+
+-- ---- what is shown
+
+-- what is shown of a row without the cursor: its paper and its cells
+abbrev pub cells_shown : Display → (row : ℕ) → List ℕ
+cells_shown s row = row_paper (is_reversed s) s.grid.width ++ spans (is_reversed s) 1 true (trimmed (row_of s.grid row))
+
+-- the same with the cursor
+abbrev pub row_shown : CursorShape → Display → (row : ℕ) → List ℕ
+row_shown shape s row = cells_shown s row ++ marked shape row (cursor_column shape row s)

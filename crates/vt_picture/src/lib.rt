@@ -4,6 +4,7 @@
 mod animation;
 mod bytes;
 mod document;
+pub mod laws;
 mod looks;
 mod rows;
 mod runs;

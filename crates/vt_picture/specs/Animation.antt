@@ -66,7 +66,7 @@ row_paper reversed width =
 -- the picture is part of it
 unfoldable pub definition_start : (duration number : ℕ) → List ℕ
 definition_start duration number =
-    codes "<defs><g id='v" ++ decimal duration ++ codes "-" ++ decimal number ++ codes "'>" ++ line_feed
+    codes "<defs><g class='vt220-r' id='v" ++ decimal duration ++ codes "-" ++ decimal number ++ codes "'>" ++ line_feed
 
 abbrev pub definition_end : List ℕ
 definition_end = codes "</g></defs>" ++ line_feed
@@ -250,22 +250,17 @@ animation_start columns =
     ++ codes "' height='452' role='img' xml:space='preserve'>" ++ line_feed
     ++ codes "<title>"
 
--- what hides a frame until its time, again and again, unless the reader wants no motion. The times are properties, so
--- an HTML page may hold several pictures
+-- what hides a frame until its time, again and again, unless the reader wants no motion, and the colours of the theme in
+-- place of the light and the dark one. The times and the colours are properties, so an HTML page may hold several
+-- pictures. No selector reaches from the group of all into a row that is used, so the row has its class, too
 unfoldable pub moving_style : List ℕ
 moving_style =
     codes "<style>@media (prefers-reduced-motion:no-preference){.vt220-f{animation:vt220-f infinite;" ++ line_feed
     ++ codes "animation-duration:calc(var(--vt220-d)*.001ms);animation-timing-function:linear(0,0 calc(100%*var(--vt220-t)/var(--vt220-d)),"
     ++ line_feed
     ++ codes "1 calc(100%*var(--vt220-t)/var(--vt220-d)),1)}}" ++ line_feed
-    ++ codes "@keyframes vt220-f{from{visibility:hidden}to{visibility:visible}}</style>" ++ line_feed
-
--- the name of a theme, and the rules that give its colours in place of the light and the dark one
-abbrev pub theme_name : Theme → List ℕ
-theme_name Dark = codes "dark"
-theme_name Light = codes "light"
-theme_name Green = codes "green"
-theme_name Amber = codes "amber"
+    ++ codes "@keyframes vt220-f{from{visibility:hidden}to{visibility:visible}}.vt220-r text{white-space:pre}" ++ line_feed
+    ++ codes ".vt220-r [fill='#d0d0d0']{fill:var(--vt220-light)}.vt220-r [fill='#101010']{fill:var(--vt220-dark)}</style>" ++ line_feed
 
 abbrev pub light_colour : Theme → List ℕ
 light_colour Dark = codes "#d0d0d0"
@@ -279,20 +274,11 @@ dark_colour Light = codes "#ffffff"
 dark_colour Green = codes "#061207"
 dark_colour Amber = codes "#140c00"
 
--- an element whose fill is one of the two colours of pictures has the theme's
-abbrev pub theme_rule : Theme → (colour instead : List ℕ) → List ℕ
-theme_rule theme colour instead =
-    codes ".vt220-" ++ theme_name theme ++ codes " [fill='" ++ colour ++ codes "']{fill:" ++ instead ++ codes "}"
-
-unfoldable pub theme_style : Theme → List ℕ
-theme_style theme =
-    codes "<style>" ++ theme_rule theme (codes "#d0d0d0") (light_colour theme)
-    ++ theme_rule theme (codes "#101010") (dark_colour theme) ++ codes "</style>" ++ line_feed
-
--- the group of all that is drawn: its theme, its duration, and what it doesn't inherit from a page
+-- the group of all that is drawn: its duration, its theme, and what it doesn't inherit from a page
 unfoldable pub moving_start : Theme → (duration : ℕ) → List ℕ
 moving_start theme duration =
-    codes "<g class='vt220-text vt220-" ++ theme_name theme ++ codes "' style='--vt220-d:" ++ decimal duration
+    codes "<g class='vt220-text vt220-r' style='--vt220-d:" ++ decimal duration
+    ++ codes ";--vt220-light:" ++ light_colour theme ++ codes ";--vt220-dark:" ++ dark_colour theme
     ++ codes "' direction='ltr' font-style='normal' font-weight='normal' letter-spacing='0' word-spacing='0'>" ++ line_feed
 
 -- the start of the screen at the beginning
@@ -308,7 +294,7 @@ first_screen shape duration columns s =
 unfoldable pub animation_head : Theme → CursorShape → (title : List ℕ) → (duration columns : ℕ) → Display → Display → List ℕ
 animation_head theme shape title duration columns first last =
     animation_start columns ++ flat_map title_byte title ++ codes "</title>" ++ line_feed ++ codes "<desc>"
-    ++ alternative last_row last.grid ++ style ++ moving_style ++ theme_style theme ++ moving_start theme duration
+    ++ alternative last_row last.grid ++ style ++ moving_style ++ moving_start theme duration
     ++ first_screen shape duration columns first
 
 abbrev pub animation_end : List ℕ

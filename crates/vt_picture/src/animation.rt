@@ -3,10 +3,9 @@ ghost use Rattle.std.specs.Prelude.{◌≡◌, ◌+◌, ◌*◌, ◌≤◌, ◌+
 ghost use Rattle.vt_screen.specs.Grid.{last_row};
 ghost use Rattle.vt_picture.specs.Animation.{rows_drawn, screen_drawn, rows_changed, same_paper, changes_drawn, AreNumbered};
 ghost use Rattle.vt_picture.specs.Animation.{whole_paper, squeezed, frame_start, frame, number_on_screen, number_after};
-ghost use Rattle.vt_picture.specs.Animation.{title_byte, animation_start, moving_style, theme_name, theme_rule};
-ghost use Rattle.vt_picture.specs.Animation.{light_colour, dark_colour, theme_style, moving_start, first_start, first_screen};
+ghost use Rattle.vt_picture.specs.Animation.{title_byte, animation_start, moving_style};
+ghost use Rattle.vt_picture.specs.Animation.{light_colour, dark_colour, moving_start, first_start, first_screen};
 ghost use Rattle.vt_picture.specs.Animation.{animation_head, animation_end};
-ghost use Rattle.vt_picture.specs.Picture.{style};
 
 use crate::document::{push_alternative, push_style};
 use crate::looks::{CursorShape, Theme};
@@ -18,16 +17,16 @@ use std::alloc::AllocError;
 use vt_controls::{push_bytes, push_number};
 use vt_term::{ROWS, STOPS, Terminal};
 
-/// The limit of a frame in bytes: for each row 203 for each of 132 cells and 340 more, and 500 for everything else.
-pub const FRAME_LIMIT: usize = ROWS * (203 * STOPS + 340) + 500;
+/// The limit of a frame in bytes: for each row 203 for each of 132 cells and 360 more, and 500 for everything else.
+pub const FRAME_LIMIT: usize = ROWS * (203 * STOPS + 360) + 500;
 
 /// The limit in bytes of what is before the frames, without the title: the text alternative, the first screen, and 2000
 /// for everything else.
 pub const ANIMATION_LIMIT: usize = ROWS * (5 * STOPS + 1) + FRAME_LIMIT + 2000;
 
-const _: () = prove!(FRAME_LIMIT == 651764);
+const _: () = prove!(FRAME_LIMIT == 652244);
 
-const _: () = prove!(ANIMATION_LIMIT == 669628);
+const _: () = prove!(ANIMATION_LIMIT == 670108);
 
 /// The width of the narrow screen.
 const NARROW: usize = 80;
@@ -51,10 +50,10 @@ fn push_rows(
     t: &Terminal,
     out: &mut Vec<u8>,
 ) -> [u64; ROWS]
-    requires { vec_len out.old + ROWS * (203 * STOPS + 340) ≤ vec_capacity out.old }
+    requires { vec_len out.old + ROWS * (203 * STOPS + 360) ≤ vec_capacity out.old }
     ensures items { out.new.items ≡ out.old.items ++ rows_drawn shape duration frame last_row t.now.display }
     ensures numbers { (i : ℕ) → i < last_row → slice_index_or result i 0 ≡ number_on_screen frame t.now.display (i + 1) }
-    ensures bounded { vec_len out.new ≤ vec_len out.old + ROWS * (203 * STOPS + 340) }
+    ensures bounded { vec_len out.new ≤ vec_len out.old + ROWS * (203 * STOPS + 360) }
     ensures capacity { vec_capacity out.old ≤ vec_capacity out.new }
 {
     let mut numbers = [0; ROWS];
@@ -89,10 +88,10 @@ fn push_screen(
     t: &Terminal,
     out: &mut Vec<u8>,
 ) -> [u64; ROWS]
-    requires { vec_len out.old + (ROWS * (203 * STOPS + 340) + 300) ≤ vec_capacity out.old }
+    requires { vec_len out.old + (ROWS * (203 * STOPS + 360) + 300) ≤ vec_capacity out.old }
     ensures items { out.new.items ≡ out.old.items ++ screen_drawn shape duration frame t.now.display }
     ensures numbers { (i : ℕ) → i < last_row → slice_index_or result i 0 ≡ number_on_screen frame t.now.display (i + 1) }
-    ensures bounded { vec_len out.new ≤ vec_len out.old + (ROWS * (203 * STOPS + 340) + 300) }
+    ensures bounded { vec_len out.new ≤ vec_len out.old + (ROWS * (203 * STOPS + 360) + 300) }
     ensures capacity { vec_capacity out.old ≤ vec_capacity out.new }
 {
     push_whole_paper(duration, frame, t.modes().decscnm, t.row(1).len(), out);
@@ -109,11 +108,11 @@ fn push_changed_rows(
     t: &Terminal,
     out: &mut Vec<u8>,
 ) -> [u64; ROWS]
-    requires { vec_len out.old + ROWS * (203 * STOPS + 340) ≤ vec_capacity out.old }
+    requires { vec_len out.old + ROWS * (203 * STOPS + 360) ≤ vec_capacity out.old }
     ensures items { out.new.items ≡ out.old.items ++ rows_changed shape duration frame last_row numbers.now before.now.display t.now.display }
     ensures numbers { (i : ℕ) → i < last_row
         → slice_index_or result i 0 ≡ number_after frame numbers.now before.now.display t.now.display (i + 1) }
-    ensures bounded { vec_len out.new ≤ vec_len out.old + ROWS * (203 * STOPS + 340) }
+    ensures bounded { vec_len out.new ≤ vec_len out.old + ROWS * (203 * STOPS + 360) }
     ensures capacity { vec_capacity out.old ≤ vec_capacity out.new }
 {
     let mut after = [0; ROWS];
@@ -142,10 +141,10 @@ fn push_changes(
     t: &Terminal,
     out: &mut Vec<u8>,
 ) -> [u64; ROWS]
-    requires { vec_len out.old + (ROWS * (203 * STOPS + 340) + 300) ≤ vec_capacity out.old }
+    requires { vec_len out.old + (ROWS * (203 * STOPS + 360) + 300) ≤ vec_capacity out.old }
     ensures items { out.new.items ≡ out.old.items ++ changes_drawn shape duration frame numbers.now before.now.display t.now.display }
     ensures numbers { AreNumbered frame numbers.now before.now.display t.now.display result }
-    ensures bounded { vec_len out.new ≤ vec_len out.old + (ROWS * (203 * STOPS + 340) + 300) }
+    ensures bounded { vec_len out.new ≤ vec_len out.old + (ROWS * (203 * STOPS + 360) + 300) }
     ensures capacity { vec_capacity out.old ≤ vec_capacity out.new }
 {
     if same_paper(before, t) {
@@ -287,12 +286,12 @@ fn push_title(title: &[u8], out: &mut Vec<u8>)
     }
 }
 
-/// Appends the style that hides a frame until its time.
+/// Appends the style that hides a frame until its time, and gives the colours of the theme.
 #[tactic(auto, unfolding(crate::specs::Animation::moving_style))]
 fn push_moving_style(out: &mut Vec<u8>)
-    requires { vec_len out.old + 450 ≤ vec_capacity out.old }
+    requires { vec_len out.old + 700 ≤ vec_capacity out.old }
     ensures items { out.new.items ≡ out.old.items ++ moving_style }
-    ensures bounded { vec_len out.new ≤ vec_len out.old + 450 }
+    ensures bounded { vec_len out.new ≤ vec_len out.old + 700 }
     ensures capacity { vec_capacity out.old ≤ vec_capacity out.new }
 {
     push_bytes(
@@ -305,22 +304,13 @@ fn push_moving_style(out: &mut Vec<u8>)
     );
     push_bytes(b"1 calc(100%*var(--vt220-t)/var(--vt220-d)),1)}}\n", out);
     push_bytes(
-        b"@keyframes vt220-f{from{visibility:hidden}to{visibility:visible}}</style>\n",
+        b"@keyframes vt220-f{from{visibility:hidden}to{visibility:visible}}.vt220-r text{white-space:pre}\n",
         out,
     );
-}
-
-/// Returns the name of a theme.
-fn theme_name(theme: Theme) -> &'static [u8]
-    ensures name { result.now ≡ theme_name theme }
-    ensures short { length result.now ≤ 5 }
-{
-    match theme {
-        Theme::Dark => b"dark",
-        Theme::Light => b"light",
-        Theme::Green => b"green",
-        Theme::Amber => b"amber",
-    }
+    push_bytes(
+        b".vt220-r [fill='#d0d0d0']{fill:var(--vt220-light)}.vt220-r [fill='#101010']{fill:var(--vt220-dark)}</style>\n",
+        out,
+    );
 }
 
 /// Returns the light colour of a theme: that of the ink, unless the screen is reversed.
@@ -349,48 +339,20 @@ fn dark_colour(theme: Theme) -> &'static [u8]
     }
 }
 
-/// Appends the rule that gives a colour of a theme in place of another one.
-fn push_theme_rule(theme: Theme, colour: &[u8], instead: &[u8], out: &mut Vec<u8>)
-    requires { vec_len out.old + (40 + length colour.now + length instead.now) ≤ vec_capacity out.old }
-    ensures items { out.new.items ≡ out.old.items ++ theme_rule theme colour.now instead.now }
-    ensures bounded { vec_len out.new ≤ vec_len out.old + (40 + length colour.now + length instead.now) }
-    ensures capacity { vec_capacity out.old ≤ vec_capacity out.new }
-{
-    push_bytes(b".vt220-", out);
-    push_bytes(theme_name(theme), out);
-    push_bytes(b" [fill='", out);
-    push_bytes(colour, out);
-    push_bytes(b"']{fill:", out);
-    push_bytes(instead, out);
-    push_bytes(b"}", out);
-}
-
-/// Appends the style of a theme.
-#[tactic(auto, unfolding(crate::specs::Animation::theme_style))]
-fn push_theme_style(theme: Theme, out: &mut Vec<u8>)
-    requires { vec_len out.old + 150 ≤ vec_capacity out.old }
-    ensures items { out.new.items ≡ out.old.items ++ theme_style theme }
-    ensures bounded { vec_len out.new ≤ vec_len out.old + 150 }
-    ensures capacity { vec_capacity out.old ≤ vec_capacity out.new }
-{
-    push_bytes(b"<style>", out);
-    push_theme_rule(theme, b"#d0d0d0", light_colour(theme), out);
-    push_theme_rule(theme, b"#101010", dark_colour(theme), out);
-    push_bytes(b"</style>\n", out);
-}
-
 /// Appends the start of the group of all that is drawn.
 #[tactic(auto, unfolding(crate::specs::Animation::moving_start))]
 fn push_moving_start(theme: Theme, duration: u64, out: &mut Vec<u8>)
-    requires { vec_len out.old + 200 ≤ vec_capacity out.old }
+    requires { vec_len out.old + 250 ≤ vec_capacity out.old }
     ensures items { out.new.items ≡ out.old.items ++ moving_start theme duration }
-    ensures bounded { vec_len out.new ≤ vec_len out.old + 200 }
+    ensures bounded { vec_len out.new ≤ vec_len out.old + 250 }
     ensures capacity { vec_capacity out.old ≤ vec_capacity out.new }
 {
-    push_bytes(b"<g class='vt220-text vt220-", out);
-    push_bytes(theme_name(theme), out);
-    push_bytes(b"' style='--vt220-d:", out);
+    push_bytes(b"<g class='vt220-text vt220-r' style='--vt220-d:", out);
     push_number(duration, out);
+    push_bytes(b";--vt220-light:", out);
+    push_bytes(light_colour(theme), out);
+    push_bytes(b";--vt220-dark:", out);
+    push_bytes(dark_colour(theme), out);
     push_bytes(
         b"' direction='ltr' font-style='normal' font-weight='normal' letter-spacing='0' word-spacing='0'>\n",
         out,
@@ -432,18 +394,6 @@ fn push_first_screen(
     numbers
 }
 
-/// Appends the styles of a picture that moves.
-fn push_styles(theme: Theme, out: &mut Vec<u8>)
-    requires { vec_len out.old + 950 ≤ vec_capacity out.old }
-    ensures items { out.new.items ≡ out.old.items ++ (style ++ (moving_style ++ theme_style theme)) }
-    ensures bounded { vec_len out.new ≤ vec_len out.old + 950 }
-    ensures capacity { vec_capacity out.old ≤ vec_capacity out.new }
-{
-    push_style(out);
-    push_moving_style(out);
-    push_theme_style(theme, out);
-}
-
 /// Appends everything of a picture that moves up to its first frame: the screen at the beginning, `first`. The title is
 /// UTF-8. The text of `last`, the screen at the end, is the text alternative. `moving.columns` is its width. Returns the numbers
 /// of the rows, for the first frame.
@@ -476,7 +426,8 @@ pub fn animation_start(
     push_title(title, out);
     push_bytes(b"</title>\n<desc>", out);
     push_alternative(last, out);
-    push_styles(theme, out);
+    push_style(out);
+    push_moving_style(out);
     push_moving_start(theme, moving.duration, out);
     let numbers = push_first_screen(moving.cursor, moving.duration, moving.columns, first, out);
     Ok(numbers)

@@ -142,12 +142,12 @@ fn push_row_paper(reversed: bool, width: usize, out: &mut Vec<u8>)
 /// Appends the start of the definition of a row.
 #[tactic(auto, unfolding(crate::specs::Animation::definition_start))]
 fn push_definition_start(duration: u64, number: u64, out: &mut Vec<u8>)
-    requires { vec_len out.old + 70 ≤ vec_capacity out.old }
+    requires { vec_len out.old + 90 ≤ vec_capacity out.old }
     ensures items { out.new.items ≡ out.old.items ++ definition_start duration number }
-    ensures bounded { vec_len out.new ≤ vec_len out.old + 70 }
+    ensures bounded { vec_len out.new ≤ vec_len out.old + 90 }
     ensures capacity { vec_capacity out.old ≤ vec_capacity out.new }
 {
-    push_bytes(b"<defs><g id='v", out);
+    push_bytes(b"<defs><g class='vt220-r' id='v", out);
     push_number(duration, out);
     push_bytes(b"-", out);
     push_number(number, out);
@@ -166,9 +166,9 @@ pub(crate) fn push_row_definition(
 )
     requires width { width ≤ COLUMNS }
     requires len { length cells.now ≤ COLUMNS }
-    requires room { vec_len out.old + (203 * length cells.now + 140) ≤ vec_capacity out.old }
+    requires room { vec_len out.old + (203 * length cells.now + 160) ≤ vec_capacity out.old }
     ensures items { out.new.items ≡ out.old.items ++ row_definition duration number reversed width cells.now }
-    ensures bounded { vec_len out.new ≤ vec_len out.old + (203 * length cells.now + 140) }
+    ensures bounded { vec_len out.new ≤ vec_len out.old + (203 * length cells.now + 160) }
     ensures capacity { vec_capacity out.old ≤ vec_capacity out.new }
 {
     push_definition_start(duration, number, out);
@@ -344,9 +344,9 @@ pub(crate) fn push_drawn_row(
     out: &mut Vec<u8>,
 )
     requires row { (1 ≤ row) × (row ≤ last_row) }
-    requires room { vec_len out.old + (203 * COLUMNS + 340) ≤ vec_capacity out.old }
+    requires room { vec_len out.old + (203 * COLUMNS + 360) ≤ vec_capacity out.old }
     ensures items { out.new.items ≡ out.old.items ++ row_drawn shape duration frame t.now.display row }
-    ensures bounded { vec_len out.new ≤ vec_len out.old + (203 * COLUMNS + 340) }
+    ensures bounded { vec_len out.new ≤ vec_len out.old + (203 * COLUMNS + 360) }
     ensures capacity { vec_capacity out.old ≤ vec_capacity out.new }
 {
     let is_blank = row_is_blank(t, row);
@@ -367,10 +367,10 @@ fn push_if_new(
     out: &mut Vec<u8>,
 )
     requires row { (1 ≤ row) × (row ≤ last_row) }
-    requires room { vec_len out.old + (203 * COLUMNS + 140) ≤ vec_capacity out.old }
+    requires room { vec_len out.old + (203 * COLUMNS + 160) ≤ vec_capacity out.old }
     ensures items { out.new.items ≡ out.old.items ++ when is_new (row_definition duration number (is_reversed t.now.display)
         t.now.display.grid.width (row_of t.now.display.grid row)) }
-    ensures bounded { vec_len out.new ≤ vec_len out.old + (203 * COLUMNS + 140) }
+    ensures bounded { vec_len out.new ≤ vec_len out.old + (203 * COLUMNS + 160) }
     ensures capacity { vec_capacity out.old ≤ vec_capacity out.new }
 {
     if is_new {
@@ -441,10 +441,10 @@ pub(crate) fn push_changed_row(
     out: &mut Vec<u8>,
 )
     requires row { (1 ≤ row) × (row ≤ last_row) }
-    requires room { vec_len out.old + (203 * COLUMNS + 340) ≤ vec_capacity out.old }
+    requires room { vec_len out.old + (203 * COLUMNS + 360) ≤ vec_capacity out.old }
     ensures items { (frame : ℕ) → (numbers : List ℕ) → number ≡ number_after frame numbers before.now.display t.now.display row
         → out.new.items ≡ out.old.items ++ row_changed shape duration frame numbers before.now.display t.now.display row }
-    ensures bounded { vec_len out.new ≤ vec_len out.old + (203 * COLUMNS + 340) }
+    ensures bounded { vec_len out.new ≤ vec_len out.old + (203 * COLUMNS + 360) }
     ensures capacity { vec_capacity out.old ≤ vec_capacity out.new }
 {
     if !same_row(shape, before, t, row) {

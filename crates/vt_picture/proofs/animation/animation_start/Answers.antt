@@ -8,7 +8,8 @@ returns-clause-ok c =
     rw (
       c.push_first_screen-numbers.ensures.items,
       c.push_moving_start.ensures.items,
-      c.push_styles.ensures.items,
+      c.push_moving_style.ensures.items,
+      c.push_style.ensures.items,
       c.push_alternative.ensures.items,
       c.push_bytes.ensures.items,
       c.push_title.ensures.items,

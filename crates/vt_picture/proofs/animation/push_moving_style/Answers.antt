@@ -6,6 +6,7 @@ pub returns-clause-items : goal.returns-clause-items
 unfolding moving_style
 returns-clause-items c =
     rw (
+      c.push_bytes-5.ensures.items,
       c.push_bytes-4.ensures.items,
       c.push_bytes-3.ensures.items,
       c.push_bytes-2.ensures.items,

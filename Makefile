@@ -11,7 +11,7 @@
 #                     and the fleet's page need
 #   make install      installs these under PREFIX with their manual pages and completions, and prints each file
 #   make install-lib  installs the library alone, with its headers and its manual page
-#   make install-page installs the command vt220-page under PREFIX, over `make js`
+#   make install-page installs the command vt220-page under PREFIX, and what `vt220-keep serve` runs, over `make js`
 #   make uninstall    removes it, and the directories that are then empty
 #   make crates OF=.. prints the crates of this repository that some crates depend on, and themselves, lowest first
 #   make version      prints the version
@@ -129,9 +129,10 @@ FILES = $(PROGRAM):$(PREFIX)/bin/vt220:755 $(OUT)/vt220-keep:$(PREFIX)/bin/vt220
   $(foreach header,$(HEADERS),$(header):$(PREFIX)/include/$(notdir $(header)):644) $(OUT)/libvt220.a:$(LIBDIR)/libvt220.a:644 \
   $(OUT)/libvt220.so.$(VERSION):$(LIBDIR)/libvt220.so.$(VERSION):755 /dev/stdin:$(LIBDIR)/pkgconfig/vt220.pc:644
 LINKS = libvt220.so.$(VERSION):$(LIBDIR)/$(SONAME) $(SONAME):$(LIBDIR)/libvt220.so
-# The command vt220-page has what it needs next to it: the program that reads recordings, the module that writes a page, and the template.
+# The command vt220-page has what it needs next to it: the program that reads recordings, the module that writes a page, and the template. So has
+# vt220-keep-serve, which `vt220-keep serve` runs.
 PAGE = $(PREFIX)/lib/vt220
-PAGE_FILES = js/vt220-page:$(PAGE)/vt220-page:755 $(CHUNKS):$(PAGE)/chunks:755 /dev/null:$(PAGE)/vt220/__init__.py:644 \
+PAGE_FILES = js/vt220-page:$(PAGE)/vt220-page:755 keep/serve:$(PAGE)/vt220-keep-serve:755 $(CHUNKS):$(PAGE)/chunks:755 /dev/null:$(PAGE)/vt220/__init__.py:644 \
   bindings/python/vt220/page.py:$(PAGE)/vt220/page.py:644 out/js/page.html:$(PAGE)/vt220/page.html:644 man/vt220-page.1:$(SHARE)/man/man1/vt220-page.1:644
 PAGE_LINKS = ../lib/vt220/vt220-page:$(PREFIX)/bin/vt220-page
 INSTALLED = $(foreach file,$(LINKS) $(FILES) $(PAGE_LINKS) $(PAGE_FILES),$(word 2,$(subst :, ,$(file))))

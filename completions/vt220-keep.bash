@@ -5,7 +5,7 @@ _vt220_keep_sessions() {
 _vt220_keep() {
   local word=${COMP_WORDS[COMP_CWORD]} command=${COMP_WORDS[1]} index=1 options='-h --help' words=
   if [ "$COMP_CWORD" -eq 1 ]; then
-    mapfile -t COMPREPLY < <(compgen -W 'new attach detach list text log repaint send kill rename upgrade help version -h --help --version' -- "$word")
+    mapfile -t COMPREPLY < <(compgen -W 'new attach detach list text log repaint send kill rename upgrade serve help version -h --help --version' -- "$word")
     return
   fi
   # How many words after the command aren't options: the first of them is the session.
@@ -18,9 +18,10 @@ _vt220_keep() {
     attach) options="$options -r" ;;
     list) options="$options --tsv" ;;
     send) options="$options -l" ;;
+    serve) options="$options --socket= --port=" ;;
   esac
   if [ "$index" -eq 1 ]; then
-    case $command in attach | detach | text | log | repaint | send | kill | rename | upgrade) words=$(_vt220_keep_sessions) ;; esac
+    case $command in attach | detach | text | log | repaint | send | kill | rename | upgrade | serve) words=$(_vt220_keep_sessions) ;; esac
     if [[ $word == -* ]]; then words=$options; fi
     mapfile -t COMPREPLY < <(compgen -W "$words" -- "$word")
     return

@@ -28,6 +28,8 @@ static const char usage[] =
     "       vt220-keep send [-l] NAME [KEY ...]\n"
     "                                       send keys by name (Enter, Up, PF1, ^C ..), other words as text, or standard\n"
     "                                       input if there is no KEY; -l: each KEY is text\n"
+    "       vt220-keep serve [--socket=PATH | --port=N] NAME\n"
+    "                                       show a session in browsers; prints the page's address\n"
     "       vt220-keep kill NAME            end the command; if it has ended, remove its screen and its log\n"
     "       vt220-keep rename NAME NEW      rename a session\n"
     "       vt220-keep upgrade NAME         keep a session with this program from now on, in place of the one that started it\n"
@@ -220,6 +222,23 @@ static int do_resume(char **words, const struct options *options) {
     resume_session(atoi(words[0]), words[1] != NULL ? atoi(words[1]) : -1);
 }
 
+/* Becomes the program that serves a session to browsers. It is installed with vt220-page; in the repository it is in keep/. */
+static int do_serve(char **words, const struct options *options) {
+    static const char *const places[] = {"../lib/vt220/vt220-keep-serve", "../keep/serve"};
+    char path[PATH_MAX];
+    (void)options;
+    ssize_t len = readlink("/proc/self/exe", path, sizeof path - 64);
+    if (len < 0) fail(1, "/proc/self/exe: %s", strerror(errno));
+    path[len] = 0;
+    char *name = strrchr(path, '/') + 1;
+    for (size_t i = 0; i < sizeof places / sizeof *places; i++) {
+        strcpy(name, places[i]);
+        words[-1] = path;
+        execv(path, words - 1);
+    }
+    fail(1, "serve: vt220-keep-serve: %s; it is installed with vt220-page", strerror(errno));
+}
+
 static int do_help(char **words, const struct options *options) {
     (void)words, (void)options;
     fputs(usage, stdout);
@@ -240,6 +259,7 @@ static const struct command {
                 {"list", "+h", 0, 0, do_list},        {"text", "+h", 1, 1, do_text},      {"log", "+h", 1, 1, do_log},
                 {"repaint", "+h", 1, 1, do_repaint},  {"upgrade", "+h", 1, 1, do_upgrade}, {RESUME, "+h", 1, 2, do_resume},
                 {"send", "+hl", 1, INT_MAX, do_send}, {"kill", "+h", 1, 1, do_kill},      {"rename", "+h", 2, 2, do_rename},
+                {"serve", "", 0, INT_MAX, do_serve},
                 {"help", "+h", 0, 1, do_help},        {"--help", "+h", 0, 0, do_help},    {"-h", "+h", 0, 0, do_help},
                 {"version", "+h", 0, 0, do_version},  {"--version", "+h", 0, 0, do_version}};
 
@@ -289,7 +309,8 @@ int main(int argc, char **argv) {
         return 2;
     }
     const struct command *command = command_of(argv[1]);
-    int at = read_options(command, argc, argv, &options);
+    /* `serve` passes its options on. */
+    int at = command->run == do_serve ? 2 : read_options(command, argc, argv, &options);
     if (argc - at < command->least) fail(2, "%s: an argument is missing; vt220-keep --help shows which", command->word);
     if (argc - at > command->most) fail(2, "%s: unexpected argument '%s'", command->word, argv[at + command->most]);
     set_patience();

@@ -1,5 +1,5 @@
 // packed.js: a recording as vt220-page writes it: JSON with the bytes and the list of chunks, both by gzip in base64.
-import { objectIn, valueIn } from "./reading.js";
+import { arranged, at9600Baud, objectIn, preceded, valueIn } from "./reading.js";
 
 const SLICE = 1 << 20; // characters of base64, a multiple of four
 const LF = 10, SPACE = 32, ZERO = 48;
@@ -51,12 +51,17 @@ function listed(list) {
   return { times, ends };
 }
 
-/** Returns a promise of a recording whose bytes are all zero so far, and of the call that fills them. It tells `arrived` how many have come. */
-export async function opened({ bytes: packed, chunks }) {
-  const { times, ends } = listed(await unpacked(chunks)), bytes = new Uint8Array(ends[ends.length - 1] ?? 0);
+/**
+ * Returns a promise of a recording whose bytes are all zero so far, of how it is played, and of the call that fills it. This tells `arrived` how
+ * many bytes have come. `asked` is that of arranged().
+ */
+export async function opened({ bytes: packed, chunks, length, read, asked: wanted, options, notes }, asked) {
+  const how = read ? arranged(read, { ...wanted, ...asked }) : { options: {}, front: new Uint8Array(0), notes: [] };
+  const { times, ends } = chunks === null ? at9600Baud(length) : listed(await unpacked(chunks));
+  const recording = preceded(how.front, { bytes: new Uint8Array(ends[ends.length - 1] ?? 0), times, ends }), { bytes } = recording;
   const fill = async (arrived) => {
     const reader = unpacking(packed).getReader();
-    for (let at = 0; ; ) {
+    for (let at = how.front.length; ; ) {
       const { done, value } = await reader.read();
       if (done && at !== bytes.length) throw new RangeError("the bytes are cut short");
       if (done) return;
@@ -65,7 +70,7 @@ export async function opened({ bytes: packed, chunks }) {
       await arrived(at);
     }
   };
-  return { recording: { bytes, times, ends }, fill };
+  return { recording, fill, options: { ...options, ...how.options }, notes: [...how.notes, ...(notes ?? [])] };
 }
 
 /** Returns a promise of the bytes that a source is or leads to: an address, a file, or bytes. */
@@ -86,6 +91,6 @@ export async function source(wanted, timing) {
   if (wanted?.bytes instanceof Uint8Array) return { recording: wanted };
   const isText = typeof wanted === "string" && /^\s*\{/.test(wanted), file = isText ? null : await fileOf(wanted);
   const packed = isText ? valueIn(wanted) : objectIn(file);
-  if (typeof packed?.bytes === "string" && typeof packed.chunks === "string") return { packed };
+  if (typeof packed?.bytes === "string" && packed.chunks !== undefined) return { packed };
   return { file: file ?? new TextEncoder().encode(wanted), timing: timing === null ? null : await fileOf(timing) };
 }

@@ -3,7 +3,7 @@ import { Live, connected } from "./live.js";
 import { MARKUP, STYLE } from "./look.js";
 import { lacking } from "./notes.js";
 import { opened, source } from "./packed.js";
-import { played } from "./reading.js";
+import { noteOnBytes, played } from "./reading.js";
 import { Reader } from "./recordings.js";
 import { Searcher } from "./searcher.js";
 import { Timeline } from "./timeline.js";
@@ -188,7 +188,7 @@ export class Vt220Player extends Base {
     because("The recording can't be fetched.");
     const { packed, recording, file, timing } = await source(wanted, this.timing);
     because(file ? "The recording can't be read." : "The recording is damaged.");
-    const made = packed ? { ...packed, ...(await opened(packed)) } : file ? await played(Vt220Player.#recordings, file, timing, this.#asked()) : { recording };
+    const made = packed ? await opened(packed, this.#asked()) : file ? await played(Vt220Player.#recordings, file, timing, this.#asked()) : { recording };
     if (isOver()) return;
     const options = this.#options(made.options), notes = made.notes ?? [];
     const { encoding, terminal } = options, line = new Timeline(core, made.recording, { encoding, terminal });
@@ -199,11 +199,11 @@ export class Vt220Player extends Base {
     if (!isOver()) this.noted = this.#note(core, line, made.recording.bytes, isOver);
   }
 
-  /** Adds a note on characters that a VT220 lacks, after the first frame. */
+  /** Adds a note on the characters of the bytes, after the first frame. */
   async #note(core, line, bytes, isOver) {
-    if (line.terminal.encoding !== "utf-8") return;
+    const { encoding } = line.terminal;
     await turn();
-    const note = await lacking(core, bytes);
+    const note = encoding === "utf-8" ? await lacking(core, bytes) : noteOnBytes(bytes, encoding);
     if (!isOver()) this.#view.addNotes([note]);
   }
 

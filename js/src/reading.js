@@ -1,4 +1,5 @@
-// reading.js: what is played of a file: a recording by asciinema, ttyrec or script, or the bytes of a program. vt220-page does the same.
+// reading.js: how a recording by asciinema, ttyrec or script, or the bytes of a program are played. A page of vt220-page has what was read of its
+// recording. Otherwise the reader reads the file.
 import { INPUT, MARKER, OUTPUT } from "./reader.js";
 
 const CHUNK = 48, PACE = 0.05; // a line of 9600 baud carries 960 bytes a second: a chunk every 50 ms
@@ -37,8 +38,8 @@ function inLines(file, cast) {
   return utf8.from([{ ...header, version: 3, term }, ...events].map((line) => `${JSON.stringify(line)}\n`).join(""));
 }
 
-/** Returns the times and the ends of chunks of bytes that have no times. */
-function at9600Baud(length) {
+/** Returns the times and the ends of chunks of so many bytes that have no times. */
+export function at9600Baud(length) {
   const count = Math.ceil(length / CHUNK);
   return { times: Float64Array.from({ length: count }, (_, i) => PACE * (i + 1)), ends: Float64Array.from({ length: count }, (_, i) => Math.min(length, CHUNK * (i + 1))) };
 }
@@ -72,14 +73,15 @@ function textsOf({ events: { times, lengths, kinds }, text }, wanted) {
 }
 
 /** Returns the terminal and the encoding for which a recording is played: those that are asked for, otherwise those of its first line. */
-function language(read, isCast, { terminal: asked, encoding }) {
-  const terminal = asked ?? (encoding === "dec" ? "vt220" : read.terminal ?? "vt220");
+function language({ terminal: named, isCast }, { terminal: asked, encoding }) {
+  const terminal = asked ?? (encoding === "dec" ? "vt220" : named ?? "vt220");
   return { terminal, encoding: terminal === "xterm" || isCast ? "utf-8" : encoding ?? "dec" };
 }
 
-/** Puts the bytes that make the screen 132 columns wide before a recording. */
-function widened({ bytes, times, ends }, terminal) {
-  const front = utf8.from(TO_WIDE[terminal]), all = new Uint8Array(front.length + bytes.length);
+/** Puts bytes before a recording. */
+export function preceded(front, { bytes, times, ends }) {
+  if (front.length === 0) return { bytes, times, ends };
+  const all = new Uint8Array(front.length + bytes.length);
   all.set(front);
   all.set(bytes, front.length);
   const made = { bytes: all, times: new Float64Array(times.length + 1), ends: new Float64Array(ends.length + 1) };
@@ -100,32 +102,43 @@ function looksUtf8(bytes) {
   }
 }
 
+/** Returns a sentence on the bytes of a recording that is played in such an encoding, or "". */
+export function noteOnBytes(bytes, encoding) {
+  return encoding === "dec" && looksUtf8(bytes) ? "Its bytes look like UTF-8, which a VT220 doesn't read." : "";
+}
+
 /** Returns what a VT220 can't show of a recording, a sentence each. */
-function notesOn(read, isTimed, bytes, { terminal, encoding }) {
-  const [columns, rows] = read.size ?? [SIZES[0], HEIGHT], notes = [];
+function notesOn({ size, terminal: named, isTimed, broken }, terminal) {
+  const [columns, rows] = size ?? [SIZES[0], HEIGHT], notes = [];
   if (!SIZES.includes(columns) || rows !== HEIGHT) notes.push(`It was recorded in a window of ${columns} columns and ${rows} rows. A VT220 has 80 or 132 columns and 24 rows, so lines may be in other places.`);
-  if (read.terminal === "xterm" && terminal === "vt220") notes.push("It was recorded for an xterm. A VT220 ignores what it doesn't know of it, such as colours.");
+  if (named === "xterm" && terminal === "vt220") notes.push("It was recorded for an xterm. A VT220 ignores what it doesn't know of it, such as colours.");
   if (terminal === "xterm") notes.push("Colours aren't shown.");
-  if (encoding === "dec" && looksUtf8(bytes)) notes.push("Its bytes look like UTF-8, which a VT220 doesn't read.");
   if (!isTimed) notes.push("It has no times, and is played as over a line of 9600 baud.");
-  if (read.broken !== null) notes.push(`${read.broken.part === "timing" ? "Its timing file" : "It"} breaks its format at byte ${read.broken.at}. What follows isn't shown.`);
+  if (broken) notes.push(`${broken.part === "timing" ? "Its timing file" : "It"} breaks its format at byte ${broken.at}. What follows isn't shown.`);
   return notes;
 }
 
 /**
- * Returns a promise of what is played of a file: the recording, the options that it has, and notes. `timing` is the timing file of script, or
- * null. `asked` has the terminal and the encoding that are asked for, if any.
+ * Returns how a recording is played: options, the bytes before its own, and notes. `read` has whether it is by asciinema (`isCast`), whether it
+ * has times (`isTimed`), the terminal and the size that its first line names, the place at which it breaks its format, and the longest pause that
+ * it wants. `asked` has the terminal, the encoding and the longest pause that are asked for, if any.
  */
+export function arranged(read, asked) {
+  const chosen = language(read, asked), pause = asked.pause ?? read.pause;
+  return {
+    options: { ...chosen, ...(typeof pause === "number" && pause >= 0 && { pause }) },
+    front: utf8.from(read.size?.[0] === WIDE ? TO_WIDE[chosen.terminal] : ""),
+    notes: notesOn(read, chosen.terminal),
+  };
+}
+
+/** Returns a promise of what is played of a file: the recording, and how. `timing` is the timing file of script, or null. `asked` is that of arranged(). */
 export async function played(reader, file, timing, asked) {
   const header = objectIn(file), read = await reader.read(inLines(file, header), timing), isCast = read.format === "asciicast";
   if (read.format === "compressed") throw new TypeError("it is compressed: decompress it first");
   if (!isCast && Number.isInteger(header?.version)) throw new TypeError(`it is by asciinema, of version ${header.version}, which isn't known`);
-  const isTimed = isCast || read.format === "ttyrec" || timing !== null, chosen = language(read, isCast, asked);
+  const isTimed = isCast || read.format === "ttyrec" || timing !== null, how = arranged({ ...read, isCast, isTimed, pause: header?.idle_time_limit }, asked);
   const markers = textsOf(read, MARKER), inputs = textsOf(read, INPUT), output = outputOf(read);
-  const timed = isTimed ? output : { bytes: output.bytes, ...at9600Baud(output.bytes.length) }, limit = header?.idle_time_limit;
-  return {
-    recording: read.size?.[0] === WIDE ? widened(timed, chosen.terminal) : timed,
-    options: { ...chosen, markers, inputs, ...(limit >= 0 && { pause: limit }) },
-    notes: notesOn(read, isTimed, output.bytes, chosen),
-  };
+  const timed = isTimed ? output : { bytes: output.bytes, ...at9600Baud(output.bytes.length) };
+  return { recording: preceded(how.front, timed), options: { ...how.options, markers, inputs }, notes: how.notes };
 }

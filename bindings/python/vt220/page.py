@@ -12,9 +12,9 @@ import json
 import os
 import pathlib
 import re
-from typing import Iterable, Mapping, Optional, Sequence, Tuple
+from typing import Any, Iterable, Mapping, Optional, Sequence, Tuple
 
-__all__ = ["FIELDS", "NoTemplate", "page", "recording", "side_by_side", "template"]
+__all__ = ["FIELDS", "NoTemplate", "live", "page", "recording", "side_by_side", "template"]
 
 # The fields that a template leaves open.
 FIELDS = ("TITLE", "PLAYERS")
@@ -49,16 +49,22 @@ def hashed(text: str) -> str:
     return f"'sha256-{base64.b64encode(hashlib.sha256(text.encode()).digest()).decode()}'"
 
 
-def recording(content: bytes, chunks: Iterable[Tuple[int, int]], title: str, notes: Sequence[str] = (), **options: object) -> str:
+def recording(
+    content: bytes, chunks: Optional[Iterable[Tuple[int, int]]], title: str, notes: Sequence[str] = (), read: Optional[Mapping[str, object]] = None,
+    asked: Mapping[str, object] = {}, **options: object,
+) -> str:
     """Returns a recording as the element <vt220-player> takes it: JSON with its bytes, and for each chunk its microseconds and its number of bytes.
 
-    `notes` are sentences on what can't be shown. The options are those of OPTIONS, as js/vt220-page describes them.
+    Without chunks it is played as over a line of 9600 baud. `notes` are sentences on what can't be shown. The options are those of OPTIONS, as
+    js/vt220-page describes them. `read` is what was read of the recording, and `asked` what is asked for: js/src/reading.js describes them, and
+    decides by them how it is played.
     """
     unknown = options.keys() - OPTIONS.keys()
     if unknown:
         raise TypeError(f"a page has no option {', '.join(sorted(unknown))}")
-    listed = "\n".join(f"{micros} {size}" for micros, size in chunks).encode()
-    return json.dumps({"title": title, "notes": list(notes), "options": {**OPTIONS, **options}, "bytes": packed(content), "chunks": packed(listed)})
+    listed = None if chunks is None else packed("\n".join(f"{micros} {size}" for micros, size in chunks).encode())
+    made = {"title": title, "notes": list(notes), "options": {**OPTIONS, **options}, "bytes": packed(content), "chunks": listed, "length": len(content)}
+    return json.dumps({**made, **({} if read is None else {"read": read, "asked": asked})})
 
 
 def _player(recorded: str, attributes: str = "") -> str:
@@ -76,9 +82,21 @@ def _filled(title: str, players: str) -> str:
     return re.sub(f"@({'|'.join(FIELDS)})@", lambda match: values[match[1]], path.read_text(encoding="utf-8"))
 
 
-def page(content: bytes, chunks: Iterable[Tuple[int, int]], title: str, notes: Sequence[str] = (), **options: object) -> str:
+def page(content: bytes, chunks: Optional[Iterable[Tuple[int, int]]], title: str, notes: Sequence[str] = (), **options: Any) -> str:
     """Returns the page of a recording, whose arguments are those of recording(). Raises NoTemplate if there is no template."""
     return _filled(title, _player(recording(content, chunks, title, notes, **options), " links"))
+
+
+def live(title: str, address: str) -> str:
+    """Returns a page that shows a live terminal: one whose bytes come from an address, as the attribute `live` of <vt220-player> describes it.
+
+    The page may connect to its own server, and to no other one. Raises NoTemplate if there is no template.
+    """
+    text = _filled(title, f'<vt220-player live="{html.escape(address)}">Loading</vt220-player>')
+    allowed, count = re.subn(r"default-src 'none';", "default-src 'none'; connect-src 'self';", text, count=1)
+    if count != 1:
+        raise NoTemplate("the template has no policy that allows nothing")
+    return allowed
 
 
 def side_by_side(title: str, recordings: Sequence[Tuple[str, str]]) -> str:

@@ -1,3 +1,6 @@
 mod Trimming
 mod Ranges
 mod Cutting
+mod Numbers
+mod Looked
+mod Alike

@@ -24,6 +24,16 @@ rows-more f n m e =
     ∙ flat_map-append f (range_with_len 1 n) (m ∷ [])
     ∙ ap (λ (t : List ℕ). flat_map f (range_with_len 1 n) ++ t) (append-nil (f m))
 
+-- after what a function gives for those before a row, what it gives for that row
+pub part_written : (f : ℕ → List ℕ) (row : ℕ) (before held after : List ℕ) → 1 ≤ row
+    → held ≡ before ++ flat_map f (range_with_len 1 (row - 1)) → after ≡ held ++ f row
+    → after ≡ before ++ flat_map f (range_with_len 1 (row + 1 - 1))
+part_written f row before held after from_1 was is =
+    let next : row - 1 + 1 ≡ row + 1 - 1 = omega arith in
+    is ∙ ap (λ (t : List ℕ). t ++ f row) was ∙ append_assoc before (flat_map f (range_with_len 1 (row - 1))) (f row)
+    ∙ ap (λ (t : List ℕ). before ++ t)
+    (sym (rows-more f (row - 1) row (omega arith)) ∙ ap (λ n. flat_map f (range_with_len 1 n)) next)
+
 -- what is written of the first rows of a grid, each by its number and its cells
 abbrev of_rows : (ℕ → List Cell → List ℕ) → ℕ → Grid → List ℕ
 of_rows f count g = flat_map (λ r. f r (row_of g r)) (range_with_len 1 count)
@@ -33,8 +43,4 @@ pub row_written : (f : ℕ → List Cell → List ℕ) (g : Grid) (row : ℕ) (b
     → 1 ≤ row → cells ≡ row_of g row → held ≡ before ++ of_rows f (row - 1) g → after ≡ held ++ f row cells
     → after ≡ before ++ of_rows f (row + 1 - 1) g
 row_written f g row before held after cells from_1 are was is =
-    let next : row - 1 + 1 ≡ row + 1 - 1 = omega arith in
-    is ∙ ap (λ (t : List ℕ). t ++ f row cells) was ∙ append_assoc before (of_rows f (row - 1) g) (f row cells)
-    ∙ ap (λ (t : List ℕ). before ++ t)
-    (ap (λ c. of_rows f (row - 1) g ++ f row c) are
-    ∙ sym (rows-more (λ r. f r (row_of g r)) (row - 1) row (omega arith)) ∙ ap (λ n. of_rows f n g) next)
+    part_written (λ r. f r (row_of g r)) row before held after from_1 was (is ∙ ap (λ c. held ++ f row c) are)

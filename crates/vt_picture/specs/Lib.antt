@@ -1,3 +1,4 @@
 pub mod Looks
 pub mod Show
 pub mod Picture
+pub mod Animation

@@ -57,7 +57,7 @@ fn push_alternative_line(cells: &[Cell], out: &mut Vec<u8>)
 }
 
 /// Appends the text alternative.
-fn push_alternative(t: &Terminal, out: &mut Vec<u8>)
+pub(crate) fn push_alternative(t: &Terminal, out: &mut Vec<u8>)
     requires { vec_len out.old + ROWS * (5 * STOPS + 1) ≤ vec_capacity out.old }
     ensures items { out.new.items ≡ out.old.items ++ alternative ROWS t.now.display.grid }
     ensures bounded { vec_len out.new ≤ vec_len out.old + ROWS * (5 * STOPS + 1) }
@@ -70,7 +70,7 @@ fn push_alternative(t: &Terminal, out: &mut Vec<u8>)
 
 /// Appends the style, which is the same in every picture.
 #[tactic(auto, unfolding(crate::specs::Picture::style))]
-fn push_style(out: &mut Vec<u8>)
+pub(crate) fn push_style(out: &mut Vec<u8>)
     requires { vec_len out.old + 350 ≤ vec_capacity out.old }
     ensures items { out.new.items ≡ out.old.items ++ style }
     ensures bounded { vec_len out.new ≤ vec_len out.old + 350 }

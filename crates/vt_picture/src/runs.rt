@@ -12,7 +12,7 @@ use vt_controls::{push_bytes, push_number, push_when};
 use vt_screen::{COLUMNS, Cell, Rendition};
 
 /// Returns the left edge of a column, in units.
-fn left_of(col: usize) -> u16
+pub(crate) fn left_of(col: usize) -> u16
     requires { (1 ≤ col) × (col ≤ COLUMNS) }
     ensures { result ≡ left_of col }
 {
@@ -28,7 +28,7 @@ pub(crate) fn width_of(columns: usize) -> u16
 }
 
 /// Returns the top edge of a row, in units.
-fn top_of(row: usize) -> u16
+pub(crate) fn top_of(row: usize) -> u16
     requires { (1 ≤ row) × (row ≤ last_row) }
     ensures { result ≡ top_of row }
 {
@@ -113,7 +113,7 @@ pub(crate) fn fill(light: bool) -> &'static [u8]
 }
 
 /// Appends the attributes of a run's element.
-fn push_run_attributes(reversed: bool, look: Rendition, out: &mut Vec<u8>)
+pub(crate) fn push_run_attributes(reversed: bool, look: Rendition, out: &mut Vec<u8>)
     requires { vec_len out.old + 58 ≤ vec_capacity out.old }
     ensures items { out.new.items ≡ out.old.items ++ run_attributes reversed look }
     ensures bounded { vec_len out.new ≤ vec_len out.old + 58 }
@@ -128,7 +128,7 @@ fn push_run_attributes(reversed: bool, look: Rendition, out: &mut Vec<u8>)
 }
 
 /// Appends the rectangle under a run that is reversed.
-fn push_ground(reverse: bool, row: usize, col: usize, count: usize, out: &mut Vec<u8>)
+pub(crate) fn push_ground(reverse: bool, row: usize, col: usize, count: usize, out: &mut Vec<u8>)
     requires row { (1 ≤ row) × (row ≤ last_row) }
     requires col { (1 ≤ col) × (col ≤ COLUMNS) }
     requires count { count ≤ COLUMNS }

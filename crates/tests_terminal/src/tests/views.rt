@@ -1,8 +1,11 @@
-//! The screen for the eye, against what was written by hand: as text with its attributes, and as a picture.
+//! The screen for the eye, against what was written by hand: as text with its attributes, as a picture, and as a picture that moves.
 use super::common::{Failed, Played, holds, is_replayed};
 use std::alloc::{AllocError, Global};
-use vt_picture::{picture, show};
+use vt_picture::{
+    CursorShape, Moving, Theme, animation_end, animation_start, frame, picture, show,
+};
 use vt_replay::What;
+use vt_term::Terminal;
 
 /// Appends so many LF.
 fn push_line_feeds(count: usize, out: &mut Vec<u8>) -> Result<(), AllocError> {
@@ -218,4 +221,75 @@ fn pictures_are_those_written_by_hand(rt: HostRuntime) {
     for (i, row) in DRAWN.iter().enumerate() {
         holds(&rt, i, is_drawn_by_hand(rt.alloc(), row));
     }
+}
+
+/// The beginning of a picture that moves, up to the styles.
+const MOVING: &str =
+    "<svg xmlns='http://www.w3.org/2000/svg' viewBox='-10 -10 820 452' width='820' height='452' role='img' xml:space='preserve'>\n<title>a &lt; b</title>\n<desc>y\nx\n\n\n\n\n\n\n\n\n\n\n\n\n\n\n\n\n\n\n\n\n\n\n";
+
+/// What hides a frame until its time, and gives the theme's colours.
+const TIMES: &str =
+    "<style>@media (prefers-reduced-motion:no-preference){.vt220-f{animation:vt220-f infinite;\nanimation-duration:calc(var(--vt220-d)*.001ms);animation-timing-function:linear(0,0 calc(100%*var(--vt220-t)/var(--vt220-d)),\n1 calc(100%*var(--vt220-t)/var(--vt220-d)),1)}}\n@keyframes vt220-f{from{visibility:hidden}to{visibility:visible}}.vt220-r text{white-space:pre}\n.vt220-r [fill='#d0d0d0']{fill:var(--vt220-light)}.vt220-r [fill='#101010']{fill:var(--vt220-dark)}</style>\n";
+
+/// The group of all with its theme, and the blank screen with its cursor.
+const FIRST: &str =
+    "<g class='vt220-text vt220-r' style='--vt220-d:3000000;--vt220-light:#41ff6a;--vt220-dark:#061207' direction='ltr' font-style='normal' font-weight='normal' letter-spacing='0' word-spacing='0'>\n<g fill='#d0d0d0'>\n<rect fill='#101010' x='-20' y='-10' width='200%' height='100%'/>\n<defs><g class='vt220-r' id='v3000000-0'>\n<rect fill='#101010' width='800' height='18'/>\n</g></defs>\n<rect fill='#e80' width='10' height='3' x='0' y='15'/>\n</g>\n";
+
+/// Two frames: a text, and a line that comes in above it. Its row is used again, and the cursor is gone from the row where it was.
+const FRAMES: &str =
+    "<g class='vt220-f' style='--vt220-t:500000' fill='#d0d0d0'>\n<defs><g class='vt220-r' id='v3000000-33'>\n<rect fill='#101010' width='800' height='18'/>\n<text x='0' y='13' textLength='10' lengthAdjust='spacingAndGlyphs'>x</text>\n</g></defs>\n<use href='#v3000000-33' y='0'/>\n<rect fill='#e80' width='10' height='3' x='10' y='15'/>\n</g>\n<g class='vt220-f' style='--vt220-t:2000000' fill='#d0d0d0'>\n<defs><g class='vt220-r' id='v3000000-65'>\n<rect fill='#101010' width='800' height='18'/>\n<text class='vt220-text vt220-b' x='0' y='13' textLength='10' lengthAdjust='spacingAndGlyphs'>y</text>\n</g></defs>\n<use href='#v3000000-65' y='0'/>\n<rect fill='#e80' width='10' height='3' x='10' y='15'/>\n<use href='#v3000000-33' y='18'/>\n</g>\n</g>\n</svg>\n";
+
+/// Returns the picture that moves of two inputs, at half a second and at two.
+fn moved(alloc: Global, first: &[u8], second: &[u8]) -> Result<Vec<u8>, Failed> {
+    let moving = Moving {
+        cursor: CursorShape::Underline,
+        duration: 3_000_000,
+        columns: 80,
+    };
+    let blank = Terminal::new(alloc)?;
+    let before = Played::of(alloc, &[first])?;
+    let last = Played::of(alloc, &[first, second])?;
+    let mut out = Vec::new(alloc);
+    let mut numbers = animation_start(
+        Theme::Green,
+        moving,
+        b"a < b",
+        &blank,
+        &last.terminal,
+        &mut out,
+    )?;
+    frame(
+        moving,
+        1,
+        500_000,
+        &mut numbers,
+        &blank,
+        &before.terminal,
+        &mut out,
+    )?;
+    frame(
+        moving,
+        2,
+        2_000_000,
+        &mut numbers,
+        &before.terminal,
+        &last.terminal,
+        &mut out,
+    )?;
+    animation_end(&mut out)?;
+    Ok(out)
+}
+
+/// Returns whether a picture that moves is the one that was written by hand.
+fn is_moved_by_hand(alloc: Global) -> Result<bool, Failed> {
+    let mut expected = Vec::new(alloc);
+    for part in [MOVING, STYLE, TIMES, FIRST, FRAMES] {
+        expected.extend_from_slice(part.as_bytes())?;
+    }
+    Ok(moved(alloc, b"x", b"\r\x1b[L\x1b[1my")?.as_slice() == expected.as_slice())
+}
+
+#[test]
+fn a_picture_that_moves_is_the_one_written_by_hand(rt: HostRuntime) {
+    holds(&rt, 0, is_moved_by_hand(rt.alloc()));
 }

@@ -1,0 +1,15 @@
+use Rattle.std.proofs.Common.{append_assoc}
+use Rattle.vt_picture.specs.Animation.{definition_start}
+use Rattle.vt_picture.proofs.rows.push_definition_start.Goals as goal
+
+pub returns-clause-items : goal.returns-clause-items
+unfolding definition_start
+returns-clause-items c =
+    rw (
+      c.push_bytes-3.ensures.items,
+      c.push_number-2.ensures.items,
+      c.push_bytes-2.ensures.items,
+      c.push_number.ensures.items,
+      c.push_bytes.ensures.items,
+    )
+    (simp append_assoc)

@@ -1,0 +1,17 @@
+use Rattle.std.proofs.Common.{append_assoc}
+use Rattle.vt_picture.specs.Animation.{row_paper}
+use Rattle.vt_picture.proofs.rows.push_row_paper.Goals as goal
+
+pub returns-clause-items : goal.returns-clause-items
+unfolding row_paper
+returns-clause-items c =
+    rw (
+      c.push_bytes-4.ensures.items,
+      c.push_number.ensures.items,
+      c.width_of.ensures,
+      c.push_bytes-3.ensures.items,
+      c.push_bytes-2.ensures.items,
+      c.fill.ensures.fill,
+      c.push_bytes.ensures.items,
+    )
+    (simp append_assoc)

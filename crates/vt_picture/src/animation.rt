@@ -1,0 +1,442 @@
+//! The screen as a picture that moves: an SVG document without a script.
+ghost use Rattle.std.specs.Prelude.{◌≡◌, ◌+◌, ◌*◌, ◌≤◌, ◌++◌, ◌∷◌, [], if◌then◌else◌, nat_lt, ℕ, ◌<◌, List, length, flat_map, vec_len, vec_capacity, OnOk, OnErr, IfOk, slice_index_or};
+ghost use Rattle.vt_screen.specs.Grid.{last_row};
+ghost use Rattle.vt_picture.specs.Animation.{rows_drawn, screen_drawn, rows_changed, same_paper, changes_drawn, AreNumbered};
+ghost use Rattle.vt_picture.specs.Animation.{whole_paper, squeezed, frame_start, frame, number_on_screen, number_after};
+ghost use Rattle.vt_picture.specs.Animation.{title_byte, animation_start, moving_style};
+ghost use Rattle.vt_picture.specs.Animation.{light_colour, dark_colour, moving_start, first_start, first_screen};
+ghost use Rattle.vt_picture.specs.Animation.{animation_head, animation_end};
+
+use crate::document::{push_alternative, push_style};
+use crate::looks::{CursorShape, Theme};
+use crate::rows::{
+    number_after, number_on_screen, push_changed_row, push_drawn_row, push_row_definition,
+};
+use crate::runs::{fill, width_of};
+use std::alloc::AllocError;
+use vt_controls::{push_bytes, push_number};
+use vt_term::{ROWS, STOPS, Terminal};
+
+/// The limit of a frame in bytes: for each row 203 for each of 132 cells and 360 more, and 500 for everything else.
+pub const FRAME_LIMIT: usize = ROWS * (203 * STOPS + 360) + 500;
+
+/// The limit in bytes of what is before the frames, without the title: the text alternative, the first screen, and 2000
+/// for everything else.
+pub const ANIMATION_LIMIT: usize = ROWS * (5 * STOPS + 1) + FRAME_LIMIT + 2000;
+
+const _: () = prove!(FRAME_LIMIT == 652244);
+
+const _: () = prove!(ANIMATION_LIMIT == 670108);
+
+/// The width of the narrow screen.
+const NARROW: usize = 80;
+
+/// What all frames of a picture that moves have in common.
+#[derive(Clone, Copy, Debug, PartialEq, Eq)]
+pub struct Moving {
+    /// The shape of its cursor.
+    pub cursor: CursorShape,
+    /// The microseconds after which it begins again: more than the time of the last frame.
+    pub duration: u64,
+    /// The columns of its last screen: it is as wide as that.
+    pub columns: usize,
+}
+
+/// Appends the rows of a whole screen, and returns their numbers.
+fn push_rows(
+    shape: CursorShape,
+    duration: u64,
+    frame: u32,
+    t: &Terminal,
+    out: &mut Vec<u8>,
+) -> [u64; ROWS]
+    requires { vec_len out.old + ROWS * (203 * STOPS + 360) ≤ vec_capacity out.old }
+    ensures items { out.new.items ≡ out.old.items ++ rows_drawn shape duration frame last_row t.now.display }
+    ensures numbers { (i : ℕ) → i < last_row → slice_index_or result i 0 ≡ number_on_screen frame t.now.display (i + 1) }
+    ensures bounded { vec_len out.new ≤ vec_len out.old + ROWS * (203 * STOPS + 360) }
+    ensures capacity { vec_capacity out.old ≤ vec_capacity out.new }
+{
+    let mut numbers = [0; ROWS];
+    for row in 1..ROWS + 1 {
+        push_drawn_row(shape, duration, frame, t, row, out);
+        numbers[row - 1] = number_on_screen(frame, t, row);
+    }
+    numbers
+}
+
+/// Appends the paper under a whole screen, and the definition of a blank row.
+#[tactic(auto, unfolding(crate::specs::Animation::whole_paper))]
+fn push_whole_paper(duration: u64, frame: u32, reversed: bool, width: usize, out: &mut Vec<u8>)
+    requires width { width ≤ STOPS }
+    requires room { vec_len out.old + 300 ≤ vec_capacity out.old }
+    ensures items { out.new.items ≡ out.old.items ++ whole_paper duration frame reversed width }
+    ensures bounded { vec_len out.new ≤ vec_len out.old + 300 }
+    ensures capacity { vec_capacity out.old ≤ vec_capacity out.new }
+{
+    push_bytes(b"<rect", out);
+    push_bytes(fill(reversed), out);
+    push_bytes(b" x='-20' y='-10' width='200%' height='100%'/>\n", out);
+    push_row_definition(duration, 32 * frame as u64, reversed, width, &[], out);
+}
+
+/// Appends a whole screen with its paper, and returns the numbers of its rows.
+#[tactic(auto, unfolding(crate::specs::Animation::screen_drawn))]
+fn push_screen(
+    shape: CursorShape,
+    duration: u64,
+    frame: u32,
+    t: &Terminal,
+    out: &mut Vec<u8>,
+) -> [u64; ROWS]
+    requires { vec_len out.old + (ROWS * (203 * STOPS + 360) + 300) ≤ vec_capacity out.old }
+    ensures items { out.new.items ≡ out.old.items ++ screen_drawn shape duration frame t.now.display }
+    ensures numbers { (i : ℕ) → i < last_row → slice_index_or result i 0 ≡ number_on_screen frame t.now.display (i + 1) }
+    ensures bounded { vec_len out.new ≤ vec_len out.old + (ROWS * (203 * STOPS + 360) + 300) }
+    ensures capacity { vec_capacity out.old ≤ vec_capacity out.new }
+{
+    push_whole_paper(duration, frame, t.modes().decscnm, t.row(1).len(), out);
+    push_rows(shape, duration, frame, t, out)
+}
+
+/// Appends the rows that look different from those of the screen before, and returns the numbers of all rows.
+fn push_changed_rows(
+    shape: CursorShape,
+    duration: u64,
+    frame: u32,
+    numbers: &[u64; ROWS],
+    before: &Terminal,
+    t: &Terminal,
+    out: &mut Vec<u8>,
+) -> [u64; ROWS]
+    requires { vec_len out.old + ROWS * (203 * STOPS + 360) ≤ vec_capacity out.old }
+    ensures items { out.new.items ≡ out.old.items ++ rows_changed shape duration frame last_row numbers.now before.now.display t.now.display }
+    ensures numbers { (i : ℕ) → i < last_row
+        → slice_index_or result i 0 ≡ number_after frame numbers.now before.now.display t.now.display (i + 1) }
+    ensures bounded { vec_len out.new ≤ vec_len out.old + ROWS * (203 * STOPS + 360) }
+    ensures capacity { vec_capacity out.old ≤ vec_capacity out.new }
+{
+    let mut after = [0; ROWS];
+    for row in 1..ROWS + 1 {
+        let number = number_after(frame, numbers, before, t, row);
+        push_changed_row(shape, duration, number, before, t, row, out);
+        after[row - 1] = number;
+    }
+    after
+}
+
+/// Returns whether two screens have the same width and the same paper.
+fn same_paper(before: &Terminal, t: &Terminal) -> bool
+    ensures { result ≡ same_paper before.now.display t.now.display }
+{
+    before.modes().decscnm == t.modes().decscnm && before.width() == t.width()
+}
+
+/// Appends what changed since the screen before, and returns the numbers of all rows.
+fn push_changes(
+    shape: CursorShape,
+    duration: u64,
+    frame: u32,
+    numbers: &[u64; ROWS],
+    before: &Terminal,
+    t: &Terminal,
+    out: &mut Vec<u8>,
+) -> [u64; ROWS]
+    requires { vec_len out.old + (ROWS * (203 * STOPS + 360) + 300) ≤ vec_capacity out.old }
+    ensures items { out.new.items ≡ out.old.items ++ changes_drawn shape duration frame numbers.now before.now.display t.now.display }
+    ensures numbers { AreNumbered frame numbers.now before.now.display t.now.display result }
+    ensures bounded { vec_len out.new ≤ vec_len out.old + (ROWS * (203 * STOPS + 360) + 300) }
+    ensures capacity { vec_capacity out.old ≤ vec_capacity out.new }
+{
+    if same_paper(before, t) {
+        push_changed_rows(shape, duration, frame, numbers, before, t, out)
+    } else {
+        push_screen(shape, duration, frame, t, out)
+    }
+}
+
+/// Returns the attribute of a group that draws a screen as wide as a picture of `columns` columns.
+fn squeezed(columns: usize, width: usize) -> &'static [u8]
+    ensures value { result.now ≡ squeezed columns width }
+    ensures short { length result.now ≤ 30 }
+{
+    if width == columns {
+        b""
+    } else if width == NARROW {
+        b" transform='scale(1.65 1)'"
+    } else {
+        b" transform='scale(.60606 1)'"
+    }
+}
+
+/// Appends the start of a frame's group.
+#[tactic(auto, unfolding(crate::specs::Animation::frame_start))]
+fn push_frame_start(columns: usize, micros: u64, reversed: bool, width: usize, out: &mut Vec<u8>)
+    requires { vec_len out.old + 120 ≤ vec_capacity out.old }
+    ensures items { out.new.items ≡ out.old.items ++ frame_start columns micros reversed width }
+    ensures bounded { vec_len out.new ≤ vec_len out.old + 120 }
+    ensures capacity { vec_capacity out.old ≤ vec_capacity out.new }
+{
+    push_bytes(b"<g class='vt220-f' style='--vt220-t:", out);
+    push_number(micros, out);
+    push_bytes(b"'", out);
+    push_bytes(fill(!reversed), out);
+    push_bytes(squeezed(columns, width), out);
+    push_bytes(b">\n", out);
+}
+
+/// Appends a frame of a picture that moves: what a screen looks like after so many microseconds, drawn over the screen
+/// before. It has the rows that look different. The frames are numbered from 1. `numbers` has a number for each row, as
+/// `animation_start` or the frame before left it.
+///
+/// It first reserves `FRAME_LIMIT` bytes of capacity. Returns `Err` if that fails. Then the contents of `out` and the
+/// numbers are unchanged.
+#[tactic(auto, unfolding(crate::specs::Animation::frame))]
+pub fn frame(
+    moving: Moving,
+    number: u32,
+    micros: u64,
+    numbers: &mut [u64; ROWS],
+    before: &Terminal,
+    t: &Terminal,
+    out: &mut Vec<u8>,
+) -> Result<(), AllocError>
+    ensures ok { OnOk result (out.new.items ≡ out.old.items
+        ++ frame moving.cursor moving.duration moving.columns number micros numbers.old before.now.display t.now.display) }
+    ensures numbers { OnOk result (AreNumbered number numbers.old before.now.display t.now.display numbers.new) }
+    ensures err { OnErr result (out.new.items ≡ out.old.items) }
+    ensures kept { OnErr result (numbers.new ≡ numbers.old) }
+{
+    out.reserve(FRAME_LIMIT)?;
+    let (reversed, width) = (t.modes().decscnm, t.row(1).len());
+    push_frame_start(moving.columns, micros, reversed, width, out);
+    *numbers = push_changes(
+        moving.cursor,
+        moving.duration,
+        number,
+        numbers,
+        before,
+        t,
+        out,
+    );
+    push_bytes(b"</g>\n", out);
+    Ok(())
+}
+
+/// Appends the start of the document, up to the title.
+#[tactic(auto, unfolding(crate::specs::Animation::animation_start))]
+fn push_document_start(columns: usize, out: &mut Vec<u8>)
+    requires columns { columns ≤ STOPS }
+    requires room { vec_len out.old + 200 ≤ vec_capacity out.old }
+    ensures items { out.new.items ≡ out.old.items ++ animation_start columns }
+    ensures bounded { vec_len out.new ≤ vec_len out.old + 200 }
+    ensures capacity { vec_capacity out.old ≤ vec_capacity out.new }
+{
+    let width = width_of(columns + 2);
+    push_bytes(
+        b"<svg xmlns='http://www.w3.org/2000/svg' viewBox='-10 -10 ",
+        out,
+    );
+    push_number(width, out);
+    push_bytes(b" 452' width='", out);
+    push_number(width, out);
+    push_bytes(
+        b"' height='452' role='img' xml:space='preserve'>\n<title>",
+        out,
+    );
+}
+
+/// Appends a byte of the title that isn't &, < or >. A control character is a space.
+fn push_plain_byte(b: u8, out: &mut Vec<u8>)
+    requires { vec_len out.old + 5 ≤ vec_capacity out.old }
+    ensures items { out.new.items ≡ out.old.items ++ (if nat_lt b 0x20 then 0x20 ∷ [] else b ∷ []) }
+    ensures bounded { vec_len out.new ≤ vec_len out.old + 5 }
+    ensures capacity { vec_capacity out.old ≤ vec_capacity out.new }
+{
+    if b < b' ' {
+        push_bytes(b" ", out);
+    } else {
+        push_bytes(&[b], out);
+    }
+}
+
+/// Appends a byte of the title.
+fn push_title_byte(b: u8, out: &mut Vec<u8>)
+    requires { vec_len out.old + 5 ≤ vec_capacity out.old }
+    ensures items { out.new.items ≡ out.old.items ++ title_byte b }
+    ensures bounded { vec_len out.new ≤ vec_len out.old + 5 }
+    ensures capacity { vec_capacity out.old ≤ vec_capacity out.new }
+{
+    match b {
+        b'&' => push_bytes(b"&amp;", out),
+        b'<' => push_bytes(b"&lt;", out),
+        b'>' => push_bytes(b"&gt;", out),
+        _ => push_plain_byte(b, out),
+    }
+}
+
+/// Appends the title.
+fn push_title(title: &[u8], out: &mut Vec<u8>)
+    requires { vec_len out.old + 5 * length title.now ≤ vec_capacity out.old }
+    ensures items { out.new.items ≡ out.old.items ++ flat_map title_byte title.now }
+    ensures bounded { vec_len out.new ≤ vec_len out.old + 5 * length title.now }
+    ensures capacity { vec_capacity out.old ≤ vec_capacity out.new }
+{
+    for b in title {
+        push_title_byte(*b, out);
+    }
+}
+
+/// Appends the style that hides a frame until its time, and gives the colours of the theme.
+#[tactic(auto, unfolding(crate::specs::Animation::moving_style))]
+fn push_moving_style(out: &mut Vec<u8>)
+    requires { vec_len out.old + 700 ≤ vec_capacity out.old }
+    ensures items { out.new.items ≡ out.old.items ++ moving_style }
+    ensures bounded { vec_len out.new ≤ vec_len out.old + 700 }
+    ensures capacity { vec_capacity out.old ≤ vec_capacity out.new }
+{
+    push_bytes(
+        b"<style>@media (prefers-reduced-motion:no-preference){.vt220-f{animation:vt220-f infinite;\n",
+        out,
+    );
+    push_bytes(
+        b"animation-duration:calc(var(--vt220-d)*.001ms);animation-timing-function:linear(0,0 calc(100%*var(--vt220-t)/var(--vt220-d)),\n",
+        out,
+    );
+    push_bytes(b"1 calc(100%*var(--vt220-t)/var(--vt220-d)),1)}}\n", out);
+    push_bytes(
+        b"@keyframes vt220-f{from{visibility:hidden}to{visibility:visible}}.vt220-r text{white-space:pre}\n",
+        out,
+    );
+    push_bytes(
+        b".vt220-r [fill='#d0d0d0']{fill:var(--vt220-light)}.vt220-r [fill='#101010']{fill:var(--vt220-dark)}</style>\n",
+        out,
+    );
+}
+
+/// Returns the light colour of a theme: that of the ink, unless the screen is reversed.
+fn light_colour(theme: Theme) -> &'static [u8]
+    ensures colour { result.now ≡ light_colour theme }
+    ensures short { length result.now ≤ 7 }
+{
+    match theme {
+        Theme::Dark => b"#d0d0d0",
+        Theme::Light => b"#101010",
+        Theme::Green => b"#41ff6a",
+        Theme::Amber => b"#ffb000",
+    }
+}
+
+/// Returns the dark colour of a theme: that of the paper, unless the screen is reversed.
+fn dark_colour(theme: Theme) -> &'static [u8]
+    ensures colour { result.now ≡ dark_colour theme }
+    ensures short { length result.now ≤ 7 }
+{
+    match theme {
+        Theme::Dark => b"#101010",
+        Theme::Light => b"#ffffff",
+        Theme::Green => b"#061207",
+        Theme::Amber => b"#140c00",
+    }
+}
+
+/// Appends the start of the group of all that is drawn.
+#[tactic(auto, unfolding(crate::specs::Animation::moving_start))]
+fn push_moving_start(theme: Theme, duration: u64, out: &mut Vec<u8>)
+    requires { vec_len out.old + 250 ≤ vec_capacity out.old }
+    ensures items { out.new.items ≡ out.old.items ++ moving_start theme duration }
+    ensures bounded { vec_len out.new ≤ vec_len out.old + 250 }
+    ensures capacity { vec_capacity out.old ≤ vec_capacity out.new }
+{
+    push_bytes(b"<g class='vt220-text vt220-r' style='--vt220-d:", out);
+    push_number(duration, out);
+    push_bytes(b";--vt220-light:", out);
+    push_bytes(light_colour(theme), out);
+    push_bytes(b";--vt220-dark:", out);
+    push_bytes(dark_colour(theme), out);
+    push_bytes(
+        b"' direction='ltr' font-style='normal' font-weight='normal' letter-spacing='0' word-spacing='0'>\n",
+        out,
+    );
+}
+
+/// Appends the start of the screen at the beginning.
+#[tactic(auto, unfolding(crate::specs::Animation::first_start))]
+fn push_first_start(columns: usize, reversed: bool, width: usize, out: &mut Vec<u8>)
+    requires { vec_len out.old + 60 ≤ vec_capacity out.old }
+    ensures items { out.new.items ≡ out.old.items ++ first_start columns reversed width }
+    ensures bounded { vec_len out.new ≤ vec_len out.old + 60 }
+    ensures capacity { vec_capacity out.old ≤ vec_capacity out.new }
+{
+    push_bytes(b"<g", out);
+    push_bytes(fill(!reversed), out);
+    push_bytes(squeezed(columns, width), out);
+    push_bytes(b">\n", out);
+}
+
+/// Appends the screen at the beginning, and returns the numbers of its rows.
+#[tactic(auto, unfolding(crate::specs::Animation::first_screen))]
+fn push_first_screen(
+    shape: CursorShape,
+    duration: u64,
+    columns: usize,
+    t: &Terminal,
+    out: &mut Vec<u8>,
+) -> [u64; ROWS]
+    requires { vec_len out.old + FRAME_LIMIT ≤ vec_capacity out.old }
+    ensures items { out.new.items ≡ out.old.items ++ first_screen shape duration columns t.now.display }
+    ensures numbers { (i : ℕ) → i < last_row → slice_index_or result i 0 ≡ number_on_screen 0 t.now.display (i + 1) }
+    ensures bounded { vec_len out.new ≤ vec_len out.old + FRAME_LIMIT }
+    ensures capacity { vec_capacity out.old ≤ vec_capacity out.new }
+{
+    push_first_start(columns, t.modes().decscnm, t.row(1).len(), out);
+    let numbers = push_screen(shape, duration, 0, t, out);
+    push_bytes(b"</g>\n", out);
+    numbers
+}
+
+/// Appends everything of a picture that moves up to its first frame: the screen at the beginning, `first`. The title is
+/// UTF-8. The text of `last`, the screen at the end, is the text alternative. `moving.columns` is its width. Returns the numbers
+/// of the rows, for the first frame.
+///
+/// It first reserves `ANIMATION_LIMIT` bytes of capacity, and 5 for each byte of the title. Returns `Err` if that fails. Then
+/// the contents of `out` are unchanged.
+#[tactic(auto, unfolding(crate::specs::Animation::animation_head))]
+pub fn animation_start(
+    theme: Theme,
+    moving: Moving,
+    title: &[u8],
+    first: &Terminal,
+    last: &Terminal,
+    out: &mut Vec<u8>,
+) -> Result<[u64; ROWS], AllocError>
+    requires { moving.columns ≤ STOPS }
+    ensures ok { OnOk result (out.new.items ≡ out.old.items
+        ++ animation_head theme moving.cursor title.now moving.duration moving.columns first.now.display last.now.display) }
+    ensures numbers { IfOk result (λ numbers. (i : ℕ) → i < last_row
+        → slice_index_or numbers i 0 ≡ number_on_screen 0 first.now.display (i + 1)) }
+    ensures err { OnErr result (out.new.items ≡ out.old.items) }
+{
+    out.reserve(
+        title
+            .len()
+            .saturating_mul(5)
+            .saturating_add(ANIMATION_LIMIT),
+    )?;
+    push_document_start(moving.columns, out);
+    push_title(title, out);
+    push_bytes(b"</title>\n<desc>", out);
+    push_alternative(last, out);
+    push_style(out);
+    push_moving_style(out);
+    push_moving_start(theme, moving.duration, out);
+    let numbers = push_first_screen(moving.cursor, moving.duration, moving.columns, first, out);
+    Ok(numbers)
+}
+
+/// Appends the end of a picture that moves. Returns `Err` if allocation fails. Then the contents of `out` are unchanged.
+pub fn animation_end(out: &mut Vec<u8>) -> Result<(), AllocError>
+    ensures ok { OnOk result (out.new.items ≡ out.old.items ++ animation_end) }
+    ensures err { OnErr result (out.new.items ≡ out.old.items) }
+{
+    out.extend_from_slice(b"</g>\n</svg>\n")
+}

@@ -155,6 +155,54 @@ static void shown_and_drawn(void) {
     CHECK(vt220_show(&t, &s, out, sizeof out, &written) == VT220_CLOSED && written == 0 && vt220_picture(&t, &s, out, sizeof out, &written) == VT220_CLOSED && written == 0);
 }
 
+static const char ERASE[] = "\033[0m\033[1;1H\033[J\033[?25h";
+
+/* What a terminal of today is sent, given what it shows: by ECMA-48 and xterm's control sequences. */
+static void drawn_from(void) {
+    static const struct { const char *shown, *to, *sent; } rows[] = {
+        {"x", "x", ""},
+        {"", "x", "x"},
+        {"ab", "cd", "\033[1;1Hcd"},
+        {"abc\033[5;10Hx", "aBc\033[5;10H\033[1mx", "\033[1;2HB\033[5;10H\033[0;1mx\033[0m"},
+        {"", "\033[4;5mx\033[mz", "\033[0;4;5mx\033[0mz"},
+        {"", "\033[3;7H", "\033[3;7H"},
+        {"", "\033[24;80Hx", "\033[24;80Hx\033[24;80H"},
+        {"", "\033[?25l", "\033[?25l"},
+        {"\033[?25l", "x", "x\033[?25h"},
+        {"", "\344", "\303\244"},
+        {"", "\033(0q", "\342\224\200"},
+        {"a", "\033[1\"qa", ""},
+        {"\033[?5ha", "\033[?5hb", "\033[1;1H\033[0;7mb\033[0m"},
+        {"\033[?5ha", "\033[?5h\033[7ma", "\033[1;1Ha"},
+        {"x", "x\033[", ""},
+    };
+    for (size_t i = 0; i < sizeof rows / sizeof *rows; i++) {
+        vt220 a = opened(rows[i].shown), b = opened(rows[i].to);
+        size_t written, len = strlen(rows[i].sent);
+        check(vt220_draw(&a, &b, &s, out, sizeof out, &written) == VT220_OK, "is drawn", rows[i].to);
+        check(written == len && memcmp(out, rows[i].sent, len) == 0, "bytes", rows[i].to);
+        check(vt220_draw(&b, &b, &s, out, 0, &written) == VT220_OK && written == 0, "shows itself", rows[i].to);
+        vt220_close(&a);
+        vt220_close(&b);
+    }
+}
+
+static void drawn(void) {
+    static const char bold[] = "\033[0;1mab\033[0m";
+    vt220 t = opened("\033[1mab\033[m"), narrow = opened("ab"), wide = opened("\033[?3h\033[1mab\033[m"), shut = VT220_INIT;
+    size_t len = sizeof ERASE - 1 + sizeof bold - 1, written;
+    CHECK(vt220_draw(NULL, &t, &s, out, len, &written) == VT220_OK && written == len);
+    CHECK(memcmp(out, ERASE, sizeof ERASE - 1) == 0 && memcmp(out + sizeof ERASE - 1, bold, sizeof bold - 1) == 0);
+    CHECK(vt220_draw(&narrow, &wide, &s, other, len, &written) == VT220_OK && written == len && memcmp(out, other, len) == 0);
+    CHECK(vt220_draw(NULL, &t, &s, other, len - 1, &written) == VT220_ROOM && written == len && vt220_draw(NULL, &t, &s, NULL, 0, &written) == VT220_ROOM);
+    CHECK(vt220_draw(&narrow, &t, &s, NULL, 0, &written) == VT220_ROOM && written == 6 + sizeof bold - 1);
+    CHECK(vt220_draw(NULL, &shut, &s, out, len, &written) == VT220_CLOSED && vt220_draw(&t, &shut, &s, out, len, &written) == VT220_CLOSED);
+    CHECK(vt220_draw(&shut, &t, &s, out, len, &written) == VT220_CLOSED && written == 0);
+    vt220_close(&t);
+    vt220_close(&narrow);
+    vt220_close(&wide);
+}
+
 static void changed_cells(void) {
     vt220 a = opened("abc\033[5;10Hx"), b = opened("aBc\033[5;10H\033[1mx"), wide = opened("\033[?3habc");
     vt220_row_marks marks;
@@ -384,6 +432,8 @@ int main(void) {
     parts();
     rows_as_text();
     shown_and_drawn();
+    drawn_from();
+    drawn();
     changed_cells();
     drawn_anew();
     exact_buffers();

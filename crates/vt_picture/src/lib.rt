@@ -7,5 +7,6 @@ mod looks;
 mod runs;
 mod showing;
 
+pub use bytes::push_glyph;
 pub use document::{PICTURE_LIMIT, picture, picture_reserved};
-pub use showing::{SHOW_LIMIT, show, show_reserved};
+pub use showing::{SHOW_LIMIT, push_change, push_rendition, show, show_reserved};

@@ -1,5 +1,5 @@
 -- One more row.
-use Rattle.std.proofs.Common.{◌≡◌, ℕ, zero, suc, List, [], ◌++◌, refl, append_assoc}
+use Rattle.std.proofs.Common.{◌≡◌, ℕ, suc, List, ◌++◌, refl, append_assoc}
 use Rattle.vt_screen.specs.declared.cell.Cell.{Cell}
 use Rattle.vt_draw.specs.declared.pen.Pen.{Pen}
 use Rattle.vt_draw.specs.Draw.{row_bytes, row_pen, rows_bytes, rows_pen}

@@ -1,7 +1,6 @@
 -- Screens that show the same.
 use Rattle.std.proofs.Common.{◌≡◌, ℕ, zero, suc, ◌+◌, List, [], ◌∷◌, ◌++◌, Bool, true, false, ◌==◌, map, refl, sym, ap, ◌∙◌}
 use Rattle.std.proofs.Common.{eq-eqb}
-use Rattle.vt_screen.specs.declared.cell.Rendition.{Rendition}
 use Rattle.vt_screen.specs.declared.cell.Cell.{Cell}
 use Rattle.vt_screen.specs.Cells.{blank}
 use Rattle.vt_screen.specs.Grid.{row_of, last_row}

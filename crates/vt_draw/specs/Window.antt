@@ -1,5 +1,5 @@
 -- What a terminal of today shows after what a drawing sends. (CUP, ED and SGR: ECMA-48; DECTCEM: xterm)
-use Rattle.std.specs.Prelude.{◌≡◌, ◌≤◌, ◌<◌, ℕ, ◌+◌, List, [], ◌∷◌, ◌++◌, Bool, false, ◌==◌, ◌&&◌, ◌||◌, if◌then◌else◌}
+use Rattle.std.specs.Prelude.{◌≡◌, ◌≤◌, ◌<◌, ℕ, ◌+◌, List, [], ◌∷◌, Bool, false, ◌==◌, ◌&&◌, ◌||◌, if◌then◌else◌}
 use Rattle.std.specs.Prelude.{codes, length, nat_lt, encode_utf8, slice_index_or}
 use Rattle.std.specs.List.{flat_map}
 use Rattle.vt_syntax.specs.Spelling.{spell_event}

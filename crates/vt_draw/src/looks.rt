@@ -1,7 +1,7 @@
 //! How the cells of two screens are shown.
 ghost use Rattle.std.specs.Prelude.{◌≡◌};
 ghost use Rattle.vt_draw.specs.Draw.{shown_rendition, shown_cell};
-ghost use Rattle.vt_draw.specs.Private.Looks.{former_cell, latter_cell};
+ghost use Rattle.vt_draw.specs.Private.Looks.{former_cell, keeps, latter_cell};
 
 use vt_screen::{Cell, Rendition};
 
@@ -53,6 +53,13 @@ impl Looks {
         } else {
             shown_cell(self.was_reversed, cell)
         }
+    }
+
+    /// Returns whether equal cells are shown as before.
+    pub(crate) fn keeps(&self) -> bool
+        ensures { result ≡ keeps self.now }
+    {
+        !self.erased && self.was_reversed == self.is_reversed
     }
 
     /// Returns what is shown of a cell of the new screen.

@@ -7,7 +7,7 @@ ghost use Rattle.vt_draw.specs.Private.Looks.{former_cell, former, latter_cell, 
 use crate::looks::Looks;
 use crate::pen::{Pen, push_go};
 use vt_picture::{push_change, push_glyph};
-use vt_screen::{COLUMNS, Cell};
+use vt_screen::{COLUMNS, Cell, same_cells};
 
 /// Appends a place if it shows something else. Returns the pen after it.
 fn push_place(
@@ -43,6 +43,8 @@ fn push_place(
 }
 
 /// Appends the places of a row that show something else. Returns the pen after them.
+///
+/// Speed: equal rows are compared four cells at a time.
 pub(crate) fn push_row(
     looks: Looks,
     row: usize,
@@ -60,6 +62,9 @@ pub(crate) fn push_row(
     ensures bounded { vec_len out.new ≤ vec_len out.old + 25 * length new.now }
     ensures capacity { vec_capacity out.old ≤ vec_capacity out.new }
 {
+    if looks.keeps() && same_cells(old, new) {
+        return pen;
+    }
     let mut pen = pen;
     let mut i = 0;
     while i < new.len() {

@@ -1,7 +1,8 @@
 -- How the cells of two screens are shown.
-use Rattle.std.specs.Prelude.{List, map, if◌then◌else◌}
+use Rattle.std.specs.Prelude.{List, Bool, not, ◌&&◌, map, if◌then◌else◌}
 use Rattle.vt_screen.specs.declared.cell.Cell.{Cell}
 use Rattle.vt_screen.specs.Cells.{blank}
+use Rattle.vt_screen.specs.Same.{same_bool}
 use Rattle.vt_draw.specs.Draw.{shown_cell}
 use Rattle.vt_draw.specs.declared.looks.Looks.{Looks}
 
@@ -11,6 +12,10 @@ former_cell looks cell = if looks.erased then blank else shown_cell looks.was_re
 
 abbrev pub latter_cell : Looks → Cell → Cell
 latter_cell looks cell = shown_cell looks.is_reversed cell
+
+-- equal cells are shown as before
+abbrev pub keeps : Looks → Bool
+keeps looks = not looks.erased && same_bool looks.was_reversed looks.is_reversed
 
 abbrev pub former : Looks → List Cell → List Cell
 former looks cells = map (λ c. former_cell looks c) cells

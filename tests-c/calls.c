@@ -187,6 +187,48 @@ static void drawn_from(void) {
     }
 }
 
+static bool has_look(const vt220_cell *found, const vt220_cell *cell, bool is_reversed) {
+    return found->glyph == cell->glyph && found->bold == cell->bold && found->underline == cell->underline && found->blink == cell->blink && found->reverse == (cell->reverse != is_reversed);
+}
+
+static bool shows(const vt220 *x, const vt220 *t) {
+    vt220_cell found[VT220_COLUMNS], cells[VT220_COLUMNS];
+    vt220_cursor_place at, cursor;
+    vt220_mode_set modes, own;
+    bool is = vt220_cursor(x, &at) && vt220_cursor(t, &cursor) && vt220_modes(x, &own) && vt220_modes(t, &modes);
+    is = is && at.row == cursor.row && at.col == cursor.col && own.dectcem == modes.dectcem && !own.decscnm;
+    for (size_t row = 1; row <= VT220_ROWS; row++) {
+        size_t width = vt220_row(t, row, cells, VT220_COLUMNS);
+        is = is && vt220_row(x, row, found, VT220_COLUMNS) == width;
+        for (size_t i = 0; i < width; i++) is = is && has_look(&found[i], &cells[i], modes.decscnm);
+    }
+    return is;
+}
+
+/* A session under TERM=xterm that is sent drawings one after another shows each terminal, whatever it showed at first. */
+static void drawn_under_xterm(void) {
+    static const char *const texts[] = {
+        "plain\r\n\033[1mbold\033[4m and underlined\033[7;5m\r\nall\033[m", "\033(0_`abcdefghijklmnopqrstuvwxyz{|}~\033(B", "\033[?5hreverse \033[7mplain", "\033#8",
+        "\033#8\033[?25l\033[12;40H\033[K", "\241\242\243\245\247\250\251\252\253\260\261\262\263\265\266\267\271\272\273\274\275\277", "\033)0\016lqk\017\033[24;80Hx\033[1;1H",
+        "\300\301\302\303\304\305\306\307\310\311\312\313\314\315\316\317\321\322\323\324\325\326\327\330\331\332\333\334\335\337\340\341\342\343\344\345\346\347\350", "",
+        "\351\352\353\354\355\356\357\361\362\363\364\365\366\367\370\371\372\373\374\375\032\r\n\033[7m\033[2;1H\033[K", "\033[?5h\033#8\033[5;5H\033[1\"qheld\033[?2J", "\033[1;80Hab",
+    };
+    vt220 x = VT220_INIT, shown = opened("anything");
+    size_t len;
+    CHECK(vt220_open_as(&x, VT220_XTERM) == VT220_OK);
+    feed(&x, "\033[1;7manything\033[7;7H\033[?25l");
+    for (size_t i = 0; i < sizeof texts / sizeof *texts; i++) {
+        vt220 t = opened(texts[i]);
+        CHECK(vt220_draw(i == 0 ? NULL : &shown, &t, &s, out, sizeof out, &len) == VT220_OK);
+        check(vt220_feed(&x, out, len, NULL, 0, NULL) == len, "is played", texts[i]);
+        check(shows(&x, &t), "shows", texts[i]);
+        CHECK(vt220_copy(&shown, &t) == VT220_OK);
+        vt220_close(&t);
+    }
+    vt220_close(&x);
+    vt220_close(&shown);
+}
+
 static void drawn(void) {
     static const char bold[] = "\033[0;1mab\033[0m";
     vt220 t = opened("\033[1mab\033[m"), narrow = opened("ab"), wide = opened("\033[?3h\033[1mab\033[m"), shut = VT220_INIT;
@@ -433,6 +475,7 @@ int main(void) {
     rows_as_text();
     shown_and_drawn();
     drawn_from();
+    drawn_under_xterm();
     drawn();
     changed_cells();
     drawn_anew();

@@ -51,6 +51,8 @@ uint32_t core_text(handle *t, handle *s, uint8_t *out, size_t size, size_t *writ
 uint32_t core_row_text(handle *t, handle *s, size_t row, uint8_t *out, size_t size, size_t *written);
 uint32_t core_show(handle *t, handle *s, uint8_t *out, size_t size, size_t *written);
 uint32_t core_picture(handle *t, handle *s, uint8_t *out, size_t size, size_t *written);
+uint32_t core_draw(handle *t, handle *s, uint8_t *out, size_t size, size_t *written);
+uint32_t core_draw_from(handle *shown, handle *to, handle *s, uint8_t *out, size_t size, size_t *written);
 uint32_t core_repaint(handle *t, handle *s, uint8_t *out, size_t size, size_t *written);
 uint32_t core_update(handle *shown, handle *to, handle *s, uint8_t *out, size_t size, size_t *written);
 uint32_t core_row_changes(handle *shown, handle *to, size_t row, vt220_row_marks *marks);
@@ -499,6 +501,18 @@ uint32_t vt220_update(vt220 *shown, const vt220 *to, vt220_scratch *s, uint8_t *
     if (out == NULL) out = &nothing, size = 0;
     uint32_t status = core_update(&h, &other, &room, out, size, written);
     keep(shown, h);
+    keep_scratch(s, room);
+    return status;
+}
+
+uint32_t vt220_draw(const vt220 *shown, const vt220 *to, vt220_scratch *s, uint8_t *out, size_t size, size_t *written) {
+    if (shown == NULL) return write_by(core_draw, to, s, out, size, written);
+    handle h = own(shown), other = own(to), room = own_scratch(s);
+    *written = 0;
+    if (!h.is_open || !other.is_open || !room.is_open) return VT220_CLOSED;
+    if (is_same(shown, to)) return VT220_OK;
+    if (out == NULL) out = &nothing, size = 0;
+    uint32_t status = core_draw_from(&h, &other, &room, out, size, written);
     keep_scratch(s, room);
     return status;
 }

@@ -105,6 +105,7 @@ extern "C" {
 #define VT220_PAINT_LIMIT 93512    /* the most bytes of a repaint */
 #define VT220_XTERM_PAINT_LIMIT 187060 /* the most bytes of a repaint under TERM=xterm */
 #define VT220_UPDATE_LIMIT 94152   /* the most bytes of an update */
+#define VT220_DRAW_LIMIT 79270     /* the most bytes of a drawing */
 
 /* A terminal. The fields are private. */
 typedef struct vt220 {
@@ -340,6 +341,18 @@ uint32_t vt220_repaint_as(const vt220 *t, uint32_t language, vt220_scratch *s, u
  * DECSC, SM, RM, DECKPAM, DECKPNM, S7C1T, S8C1T, DECSTR and RIS. Doesn't modify the bytes of `out` after it.
  * Returns VT220_OK, VT220_ROOM, VT220_CLOSED, VT220_PARTIAL or VT220_LANGUAGE. */
 uint32_t vt220_update(vt220 *shown, const vt220 *to, vt220_scratch *s, uint8_t *out, size_t size, size_t *written);
+
+/* Writes a drawing: bytes that make a terminal of today, such as xterm, show the screen of `to`. That terminal reads UTF-8, and has at least
+ * 24 rows and the columns of `to`. Its first 24 rows are drawn on.
+ *   shown       what that terminal shows: the terminal that was drawn on it last; NULL if it shows anything else
+ *   out, size   the output buffer; VT220_DRAW_LIMIT bytes are always enough
+ *   written     receives the length, which is 0 if both show the same; 0 also if a handle is closed
+ * With NULL, or another width, that terminal is erased first. Otherwise only the places that show something else are written. The bytes are
+ * characters in UTF-8 and CUP, ED, SGR and DECTCEM. A reverse screen (DECSCNM) is drawn by the attributes of its cells. What is shown, before
+ * and after, decides the bytes. At the end, that terminal's cursor is where that of `to` is, and its attributes are reset. Modifies no
+ * terminal: vt220_copy keeps what is shown now.
+ * Returns VT220_OK, VT220_ROOM or VT220_CLOSED. */
+uint32_t vt220_draw(const vt220 *shown, const vt220 *to, vt220_scratch *s, uint8_t *out, size_t size, size_t *written);
 
 /* Finds the cells of a row of `to`, 1 to 24, for which `shown` has another cell or none. Call it before vt220_update, and redraw
  * these cells alone. If `shown` and `to` differ in their width (vt220_width), redraw the whole screen instead: no mark names the cells

@@ -155,6 +155,96 @@ static void shown_and_drawn(void) {
     CHECK(vt220_show(&t, &s, out, sizeof out, &written) == VT220_CLOSED && written == 0 && vt220_picture(&t, &s, out, sizeof out, &written) == VT220_CLOSED && written == 0);
 }
 
+static const char ERASE[] = "\033[0m\033[1;1H\033[J\033[?25h";
+
+/* What a terminal of today is sent, given what it shows: by ECMA-48 and xterm's control sequences. */
+static void drawn_from(void) {
+    static const struct { const char *shown, *to, *sent; } rows[] = {
+        {"x", "x", ""},
+        {"", "x", "x"},
+        {"ab", "cd", "\033[1;1Hcd"},
+        {"abc\033[5;10Hx", "aBc\033[5;10H\033[1mx", "\033[1;2HB\033[5;10H\033[0;1mx\033[0m"},
+        {"", "\033[4;5mx\033[mz", "\033[0;4;5mx\033[0mz"},
+        {"", "\033[3;7H", "\033[3;7H"},
+        {"", "\033[24;80Hx", "\033[24;80Hx\033[24;80H"},
+        {"", "\033[?25l", "\033[?25l"},
+        {"\033[?25l", "x", "x\033[?25h"},
+        {"", "\344", "\303\244"},
+        {"", "\033(0q", "\342\224\200"},
+        {"a", "\033[1\"qa", ""},
+        {"\033[?5ha", "\033[?5hb", "\033[1;1H\033[0;7mb\033[0m"},
+        {"\033[?5ha", "\033[?5h\033[7ma", "\033[1;1Ha"},
+        {"x", "x\033[", ""},
+    };
+    for (size_t i = 0; i < sizeof rows / sizeof *rows; i++) {
+        vt220 a = opened(rows[i].shown), b = opened(rows[i].to);
+        size_t written, len = strlen(rows[i].sent);
+        check(vt220_draw(&a, &b, &s, out, sizeof out, &written) == VT220_OK, "is drawn", rows[i].to);
+        check(written == len && memcmp(out, rows[i].sent, len) == 0, "bytes", rows[i].to);
+        check(vt220_draw(&b, &b, &s, out, 0, &written) == VT220_OK && written == 0, "shows itself", rows[i].to);
+        vt220_close(&a);
+        vt220_close(&b);
+    }
+}
+
+static bool has_look(const vt220_cell *found, const vt220_cell *cell, bool is_reversed) {
+    return found->glyph == cell->glyph && found->bold == cell->bold && found->underline == cell->underline && found->blink == cell->blink && found->reverse == (cell->reverse != is_reversed);
+}
+
+static bool shows(const vt220 *x, const vt220 *t) {
+    vt220_cell found[VT220_COLUMNS], cells[VT220_COLUMNS];
+    vt220_cursor_place at, cursor;
+    vt220_mode_set modes, own;
+    bool is = vt220_cursor(x, &at) && vt220_cursor(t, &cursor) && vt220_modes(x, &own) && vt220_modes(t, &modes);
+    is = is && at.row == cursor.row && at.col == cursor.col && own.dectcem == modes.dectcem && !own.decscnm;
+    for (size_t row = 1; row <= VT220_ROWS; row++) {
+        size_t width = vt220_row(t, row, cells, VT220_COLUMNS);
+        is = is && vt220_row(x, row, found, VT220_COLUMNS) == width;
+        for (size_t i = 0; i < width; i++) is = is && has_look(&found[i], &cells[i], modes.decscnm);
+    }
+    return is;
+}
+
+/* A session under TERM=xterm that is sent drawings one after another shows each terminal, whatever it showed at first. */
+static void drawn_under_xterm(void) {
+    static const char *const texts[] = {
+        "plain\r\n\033[1mbold\033[4m and underlined\033[7;5m\r\nall\033[m", "\033(0_`abcdefghijklmnopqrstuvwxyz{|}~\033(B", "\033[?5hreverse \033[7mplain", "\033#8",
+        "\033#8\033[?25l\033[12;40H\033[K", "\241\242\243\245\247\250\251\252\253\260\261\262\263\265\266\267\271\272\273\274\275\277", "\033)0\016lqk\017\033[24;80Hx\033[1;1H",
+        "\300\301\302\303\304\305\306\307\310\311\312\313\314\315\316\317\321\322\323\324\325\326\327\330\331\332\333\334\335\337\340\341\342\343\344\345\346\347\350", "",
+        "\351\352\353\354\355\356\357\361\362\363\364\365\366\367\370\371\372\373\374\375\032\r\n\033[7m\033[2;1H\033[K", "\033[?5h\033#8\033[5;5H\033[1\"qheld\033[?2J", "\033[1;80Hab",
+    };
+    vt220 x = VT220_INIT, shown = opened("anything");
+    size_t len;
+    CHECK(vt220_open_as(&x, VT220_XTERM) == VT220_OK);
+    feed(&x, "\033[1;7manything\033[7;7H\033[?25l");
+    for (size_t i = 0; i < sizeof texts / sizeof *texts; i++) {
+        vt220 t = opened(texts[i]);
+        CHECK(vt220_draw(i == 0 ? NULL : &shown, &t, &s, out, sizeof out, &len) == VT220_OK);
+        check(vt220_feed(&x, out, len, NULL, 0, NULL) == len, "is played", texts[i]);
+        check(shows(&x, &t), "shows", texts[i]);
+        CHECK(vt220_copy(&shown, &t) == VT220_OK);
+        vt220_close(&t);
+    }
+    vt220_close(&x);
+    vt220_close(&shown);
+}
+
+static void drawn(void) {
+    static const char bold[] = "\033[0;1mab\033[0m";
+    vt220 t = opened("\033[1mab\033[m"), narrow = opened("ab"), wide = opened("\033[?3h\033[1mab\033[m"), shut = VT220_INIT;
+    size_t len = sizeof ERASE - 1 + sizeof bold - 1, written;
+    CHECK(vt220_draw(NULL, &t, &s, out, len, &written) == VT220_OK && written == len);
+    CHECK(memcmp(out, ERASE, sizeof ERASE - 1) == 0 && memcmp(out + sizeof ERASE - 1, bold, sizeof bold - 1) == 0);
+    CHECK(vt220_draw(&narrow, &wide, &s, other, len, &written) == VT220_OK && written == len && memcmp(out, other, len) == 0);
+    CHECK(vt220_draw(NULL, &t, &s, other, len - 1, &written) == VT220_ROOM && written == len && vt220_draw(NULL, &t, &s, NULL, 0, &written) == VT220_ROOM);
+    CHECK(vt220_draw(&narrow, &t, &s, NULL, 0, &written) == VT220_ROOM && written == 6 + sizeof bold - 1);
+    CHECK(vt220_draw(NULL, &shut, &s, out, len, &written) == VT220_CLOSED && vt220_draw(&t, &shut, &s, out, len, &written) == VT220_CLOSED);
+    CHECK(vt220_draw(&shut, &t, &s, out, len, &written) == VT220_CLOSED && written == 0);
+    vt220_close(&t);
+    vt220_close(&narrow);
+    vt220_close(&wide);
+}
+
 static void changed_cells(void) {
     vt220 a = opened("abc\033[5;10Hx"), b = opened("aBc\033[5;10H\033[1mx"), wide = opened("\033[?3habc");
     vt220_row_marks marks;
@@ -384,6 +474,9 @@ int main(void) {
     parts();
     rows_as_text();
     shown_and_drawn();
+    drawn_from();
+    drawn_under_xterm();
+    drawn();
     changed_cells();
     drawn_anew();
     exact_buffers();

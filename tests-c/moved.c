@@ -122,6 +122,7 @@ uint32_t core_copy(handle *to, handle *from) { return move(to), stay(from), VT22
 WRITES(text)
 WRITES(show)
 WRITES(picture)
+WRITES(draw)
 WRITES(repaint)
 
 uint32_t core_xterm_repaint(handle *t, handle *x, handle *s, uint8_t *out, size_t size, size_t *written) {
@@ -134,6 +135,10 @@ uint32_t core_row_text(handle *t, handle *s, size_t row, uint8_t *out, size_t si
 
 uint32_t core_update(handle *shown, handle *to, handle *s, uint8_t *out, size_t size, size_t *written) {
     return move(shown), stay(to), move(s), VT220_OK;
+}
+
+uint32_t core_draw_from(handle *shown, handle *to, handle *s, uint8_t *out, size_t size, size_t *written) {
+    return stay(shown), stay(to), move(s), VT220_OK;
 }
 
 uint32_t core_row_changes(handle *shown, handle *to, size_t row, vt220_row_marks *marks) { return stay(shown), stay(to), VT220_OK; }
@@ -180,6 +185,7 @@ static void handles_have_the_new_blocks(void) {
         CHECK(vt220_repaint(&x, &s, out, sizeof out, &written) == VT220_OK && vt220_repaint_as(&x, VT220_BYTES, &s, out, sizeof out, &written) == VT220_OK);
         CHECK(vt220_reset(&t) == VT220_OK && vt220_copy(&t, &u) == VT220_OK);
         CHECK(vt220_update(&t, &u, &s, out, sizeof out, &written) == VT220_OK);
+        CHECK(vt220_draw(&t, &u, &s, out, sizeof out, &written) == VT220_OK && vt220_draw(NULL, &u, &s, out, sizeof out, &written) == VT220_OK);
         CHECK(vt220_text(&t, &s, out, sizeof out, &written) == VT220_OK && vt220_row_text(&t, &s, 1, out, sizeof out, &written) == VT220_OK);
         CHECK(vt220_show(&t, &s, out, sizeof out, &written) == VT220_OK && vt220_picture(&t, &s, out, sizeof out, &written) == VT220_OK);
         CHECK(vt220_repaint(&t, &s, out, sizeof out, &written) == VT220_OK && vt220_same_state(&t, &u));

@@ -103,6 +103,7 @@ static void none_taken(void) {
     vt220_row_marks marks;
     CHECK(vt220_brush(&t, &brush) && vt220_sets(&t, &sets) && vt220_stops(&t, &stops) && vt220_saved(&t, &saved) && vt220_bells(&t) == 0);
     CHECK(vt220_show(&t, &s, out, sizeof out, &written) == VT220_OK && vt220_picture(&t, &s, out, sizeof out, &written) == VT220_OK);
+    CHECK(vt220_draw(NULL, &t, &s, out, sizeof out, &written) == VT220_OK && vt220_draw(&to, &t, &s, out, sizeof out, &written) == VT220_OK);
     CHECK(vt220_row_text(&t, &s, 1, out, sizeof out, &written) == VT220_OK && vt220_row_changes(&t, &to, 1, &marks) == VT220_OK);
     CHECK(vt220_feed(&t, BYTES("\033[1;2;3\a"), out, sizeof out, &written) == 8 && vt220_bells(&t) == 1);
     CHECK(vt220_copy(&to, &t) == VT220_OK && vt220_same_state(&to, &t) && vt220_reset(&t) == VT220_OK && vt220_status_text(0) != NULL);

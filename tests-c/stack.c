@@ -79,6 +79,8 @@ static void *writes(void *unused) {
 
 static void *draws(void *unused) {
     vt220_picture(&b, &s, out, sizeof out, &written);
+    vt220_draw(NULL, &b, &s, out, sizeof out, &written);
+    vt220_draw(&a, &b, &s, out, sizeof out, &written);
     return unused;
 }
 

@@ -26,6 +26,8 @@ static void writing(size_t size) {
     STAYS(core_row_text(&t, &s, 25, out, size, &written));
     STAYS(core_show(&t, &s, out, size, &written));
     STAYS(core_picture(&t, &s, out, size, &written));
+    STAYS(core_draw(&t, &s, out, size, &written));
+    STAYS(core_draw_from(&u, &t, &s, out, size, &written));
     STAYS(core_repaint(&t, &s, out, size, &written));
     STAYS(core_xterm_repaint(&t, &x, &s, out, size, &written));
     STAYS(core_update(&u, &t, &s, out, size, &written));

@@ -31,6 +31,7 @@ const (
 	PictureLimit    = 659968
 	PaintLimit      = 93512
 	UpdateLimit     = 94152
+	DrawLimit       = 79270
 	XtermPaintLimit = 187060
 	KeyLimit        = 7
 	TypedLimit      = 16
@@ -432,6 +433,19 @@ func (t *Terminal) RepaintAs(language Language, s *Scratch) ([]byte, error) {
 func (t *Terminal) Update(to *Terminal, s *Scratch) ([]byte, error) {
 	return s.written(func(length *C.size_t) C.uint32_t {
 		return C.vt220_update(&t.handle, &to.handle, &s.handle, &s.out[0], UpdateLimit, length)
+	})
+}
+
+// Draw returns bytes that make a terminal of today, such as xterm, show this screen, given that it shows that of another terminal. nil stands
+// for anything else. The bytes are characters in UTF-8 and CUP, ED, SGR and DECTCEM, and there are none if both show the same. That terminal has
+// at least 24 rows, and the columns of this one. Afterwards it shows this terminal, so keep a copy (CopyFrom).
+func (t *Terminal) Draw(shown *Terminal, s *Scratch) ([]byte, error) {
+	var former *C.vt220
+	if shown != nil {
+		former = &shown.handle
+	}
+	return s.written(func(length *C.size_t) C.uint32_t {
+		return C.vt220_draw(former, &t.handle, &s.handle, &s.out[0], UpdateLimit, length)
 	})
 }
 

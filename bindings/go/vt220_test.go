@@ -89,6 +89,22 @@ func oneWay(t *testing.T, s *Scratch, cut int, fields []string) {
 	expect(err == nil && len(update) == 0, "no update")
 }
 
+func TestDraw(t *testing.T) {
+	terminal, fresh := open(t, "\x1b[1mab"), open(t, "")
+	s, err := NewScratch()
+	if err != nil {
+		t.Fatal(err)
+	}
+	for _, of := range []struct {
+		shown *Terminal
+		sent  string
+	}{{fresh, "\x1b[0;1mab\x1b[0m"}, {nil, "\x1b[0m\x1b[1;1H\x1b[J\x1b[?25h\x1b[0;1mab\x1b[0m"}, {terminal, ""}} {
+		if sent, err := terminal.Draw(of.shown, s); err != nil || string(sent) != of.sent {
+			t.Errorf("%q and not %q: %v", sent, of.sent, err)
+		}
+	}
+}
+
 func TestReaders(t *testing.T) {
 	terminal := open(t, "\x1b[2;3H\x1b[1;4mx\x1b[5;9r\x1b[4h")
 	if cell := terminal.Row(2)[2]; cell != (Cell{'x', true, true, false, false, false}) {

@@ -103,6 +103,9 @@ def parts():
         terminal.reset()
         with vt220.Terminal() as fresh:
             check(terminal.same_state(fresh), "parts", "reset")
+            terminal.feed(b"\033[1mab")
+            check(terminal.draw(fresh) == b"\033[0;1mab\033[0m" and terminal.draw(terminal) == b"", "parts", "drawings")
+            check(terminal.draw() == b"\033[0m\033[1;1H\033[J\033[?25h\033[0;1mab\033[0m", "parts", "a drawing for any terminal")
     check(vt220.status_text(4) == "a terminal is inside a sequence", "parts", "a status")
 
 

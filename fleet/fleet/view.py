@@ -18,41 +18,23 @@ FRAME = 0.05
 LEAVE = b"\x1d"  # Ctrl-], as telnet has it
 
 
-def rendition(cell, is_reversed):
-    words = ["0"]
-    words += ["1"] if cell.bold else []
-    words += ["4"] if cell.underline else []
-    words += ["5"] if cell.blink else []
-    words += ["7"] if cell.reverse != is_reversed else []
-    return f"\033[{';'.join(words)}m"
-
-
 class Drawing:
-    """Draws a terminal's rows on today's terminals: UTF-8, CUP and SGR. Only rows that changed are drawn."""
+    """Draws a terminal on today's terminals. Only what changed is drawn."""
 
     def __init__(self, out):
-        self.out, self.rows = out, [None] * vt220.ROWS
+        self.out, self.shown, self.line = out, None, ""
 
     def draw(self, terminal):
-        modes, cursor, drawn = terminal.modes(), terminal.cursor(), []
-        for row in range(1, vt220.ROWS + 1):
-            line = self.line(terminal.row(row), modes.decscnm)
-            if line != self.rows[row - 1]:
-                self.rows[row - 1] = line
-                drawn.append(f"\033[{row};1H{line}\033[0m\033[K")
-        drawn.append(f"\033[{cursor.row};{cursor.col}H\033[?25{'h' if modes.dectcem else 'l'}")
-        self.say("".join(drawn))
-
-    def line(self, cells, is_reversed):
-        parts, now = [], None
-        for cell in cells:
-            wanted = rendition(cell, is_reversed)
-            parts.append(cell.glyph if wanted == now else wanted + cell.glyph)
-            now = wanted
-        return "".join(parts)
+        is_erased = self.shown is None or self.shown.width() != terminal.width()
+        self.say(terminal.draw(self.shown).decode())
+        if is_erased:
+            self.note(self.line)
+            self.shown = vt220.Terminal()
+        self.shown.copy_from(terminal)
 
     def note(self, line):
         """Writes a line below the screen."""
+        self.line = line
         self.say(f"\0337\033[{vt220.ROWS + 1};1H\033[0m\033[K{line[:80]}\0338")
 
     def say(self, words):

@@ -23,10 +23,10 @@ import pathlib
 import struct
 import sys
 import threading
-from typing import Any, Callable, Dict, List, NamedTuple, Tuple, Type, Union
+from typing import Any, Callable, Dict, List, NamedTuple, Optional, Tuple, Type, Union
 
 __all__ = [
-    "ROWS", "COLUMNS", "REPORT_LIMIT", "TEXT_LIMIT", "ROW_TEXT_LIMIT", "SHOW_LIMIT", "PICTURE_LIMIT", "PAINT_LIMIT", "XTERM_PAINT_LIMIT", "UPDATE_LIMIT",
+    "ROWS", "COLUMNS", "REPORT_LIMIT", "TEXT_LIMIT", "ROW_TEXT_LIMIT", "SHOW_LIMIT", "PICTURE_LIMIT", "PAINT_LIMIT", "XTERM_PAINT_LIMIT", "UPDATE_LIMIT", "DRAW_LIMIT",
     "KEY_LIMIT", "TYPED_LIMIT", "VERSION", "HELD", "ENCODINGS", "TERMINALS", "Error", "Memory", "InUse", "Closed", "Partial", "Room", "Unsupported", "NoRow", "NoKey", "NoCharacter", "OtherLanguage",
     "NoLibrary", "Brush", "Cell", "Cursor", "Margins", "Modes", "Saved", "Sets", "Terminal", "key", "key_length", "shown", "status_text",
     "version",
@@ -42,6 +42,7 @@ PICTURE_LIMIT = 659968
 PAINT_LIMIT = 93512
 XTERM_PAINT_LIMIT = 187060
 UPDATE_LIMIT = 94152
+DRAW_LIMIT = 79270
 KEY_LIMIT = 7
 TYPED_LIMIT = 16
 VERSION = 400
@@ -300,6 +301,7 @@ def _declare(library: ctypes.PyDLL) -> None:
         ("repaint", status, [handle, handle, buffer, size, told]),
         ("repaint_as", status, [handle, status, handle, buffer, size, told]),
         ("update", status, [handle, handle, handle, buffer, size, told]),
+        ("draw", status, [handle, handle, handle, buffer, size, told]),
         ("row_changes", status, [handle, handle, size, ctypes.POINTER(_Marks)]),
         ("copy", status, [handle, handle]),
         ("reset", status, [handle]),
@@ -618,7 +620,7 @@ class Terminal:
             at += played
         return at, ctypes.string_at(room, written.value) if written.value else b""
 
-    def _written(self, function: Callable[..., int], *handles: _Handle) -> bytes:
+    def _written(self, function: Callable[..., int], *handles: Optional[_Handle]) -> bytes:
         written = ctypes.c_size_t()
         work = _work
         _expect(function(*handles, work.scratch.handle, work.out, PICTURE_LIMIT, written))
@@ -660,6 +662,14 @@ class Terminal:
         xterm. The update to itself is empty.
         """
         return self._written(_library.vt220_update, self._opened(), to._opened())
+
+    def draw(self, shown: Optional["Terminal"] = None) -> bytes:
+        """Returns bytes that make a terminal of today, such as xterm, show this screen, given that it shows that of `shown`.
+
+        None stands for anything else. The bytes are characters in UTF-8 and CUP, ED, SGR and DECTCEM, and there are none if both show the same.
+        That terminal has at least 24 rows, and the columns of this one. Afterwards it shows this terminal, so keep a copy().
+        """
+        return self._written(_library.vt220_draw, None if shown is None else shown._opened(), self._opened())
 
     def changed(self, to: "Terminal", row: int) -> List[int]:
         """Returns the columns of a row of `to`, 1 to 24, in which this terminal has another cell or none. Raises as row() does.

@@ -2,6 +2,7 @@
 #![tactic(auto)]
 
 use std::io;
+use vt_draw::DRAW_LIMIT;
 use vt_paint::PAINT_LIMIT;
 use vt_picture::{PICTURE_LIMIT, SHOW_LIMIT};
 use vt_screen::{COLUMNS, ROWS};
@@ -22,6 +23,7 @@ fn main(rt: HostRuntime) -> io::Result<()> {
     println!(rt; "VT220_PAINT_LIMIT {PAINT_LIMIT}")?;
     println!(rt; "VT220_XTERM_PAINT_LIMIT {XTERM_PAINT_LIMIT}")?;
     println!(rt; "VT220_UPDATE_LIMIT {UPDATE_LIMIT}")?;
+    println!(rt; "VT220_DRAW_LIMIT {DRAW_LIMIT}")?;
     println!(rt; "VT220_SHOW_LIMIT {SHOW_LIMIT}")?;
     println!(rt; "VT220_PICTURE_LIMIT {PICTURE_LIMIT}")
 }

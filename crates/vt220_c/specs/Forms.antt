@@ -6,9 +6,10 @@ use Rattle.vt_term.specs.State.{State}
 use Rattle.vt_term.specs.Text.{text, line_text}
 use Rattle.vt_picture.specs.Show.{show}
 use Rattle.vt_picture.specs.Picture.{picture}
+use Rattle.vt_draw.specs.Draw.{draw}
 use Rattle.vt_paint.specs.Repaint.{paint}
 use Rattle.vt220_c.specs.declared.form.Form.{Form}
-use Rattle.vt220_c.specs.declared.form.Form.TheVariants.{Text, RowText, Show, Picture, Repaint}
+use Rattle.vt220_c.specs.declared.form.Form.TheVariants.{Text, RowText, Show, Picture, Draw, Repaint}
 use Rattle.vt220_c.specs.Status.{status_ok, status_partial, status_room, status_no_row}
 
 abbrev pub written_as : Form → State → List ℕ
@@ -16,6 +17,7 @@ written_as Text s = text s
 written_as (RowText row) s = line_text (row_of s.display.grid row)
 written_as Show s = show s
 written_as Picture s = picture s
+written_as Draw s = draw s
 written_as Repaint s = paint s
 
 -- a row is one of the screen's, and a repaint is made between sequences

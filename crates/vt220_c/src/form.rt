@@ -6,13 +6,14 @@ ghost use Rattle.vt220_c.specs.Status.{status_ok};
 use crate::status::{NO_ROW, OK, PARTIAL};
 use vt_term::{ROWS, Terminal};
 
-/// A form: the text of the screen or of a row, the text with its attributes, the picture, or the repaint.
+/// A form: the text of the screen or of a row, the text with its attributes, the picture, the drawing, or the repaint.
 #[derive(Clone, Copy)]
 pub(crate) enum Form {
     Text,
     RowText(usize),
     Show,
     Picture,
+    Draw,
     Repaint,
 }
 
@@ -25,7 +26,12 @@ impl Form {
         match self {
             Form::RowText(row) if row == 0 || row > ROWS => NO_ROW,
             Form::Repaint if !terminal.is_between() => PARTIAL,
-            Form::Text | Form::RowText(_) | Form::Show | Form::Picture | Form::Repaint => OK,
+            Form::Text
+            | Form::RowText(_)
+            | Form::Show
+            | Form::Picture
+            | Form::Draw
+            | Form::Repaint => OK,
         }
     }
 }

@@ -4,6 +4,7 @@ ghost use Rattle.std.specs.Str.{IsAscii};
 ghost use Rattle.vt_syntax.specs.declared.held.Held.TheVariants.{Nothing};
 ghost use Rattle.vt_term.specs.Play.{play};
 ghost use Rattle.vt_term.specs.Scrolling.{log};
+ghost use Rattle.vt_draw.specs.Draw.{draw_from};
 ghost use Rattle.vt_paint.specs.Changes.{differing};
 ghost use Rattle.vt_controls.specs.Spoken.{Speaks};
 ghost use Rattle.vt220_c.specs.Bells.{bells};
@@ -18,6 +19,7 @@ use crate::player::Player;
 use crate::playing::play;
 use std::alloc::{AllocError, Global};
 use std::marker::Model;
+use vt_draw::{draw_from_reserved, draw_reserved};
 use vt_paint::repaint_reserved;
 use vt_picture::{PICTURE_LIMIT, picture_reserved, show_reserved};
 use vt_term::{REPORT_LIMIT, ROW_TEXT_LIMIT, Terminal};
@@ -67,6 +69,7 @@ impl Scratch {
             Form::RowText(row) => terminal.row_text_reserved(row, &mut self.room),
             Form::Show => show_reserved(terminal, &mut self.room),
             Form::Picture => picture_reserved(terminal, &mut self.room),
+            Form::Draw => draw_reserved(terminal, &mut self.room),
             Form::Repaint => repaint_reserved(terminal, &mut self.room),
         }
         copy_out(self.room.as_slice(), out)
@@ -120,6 +123,23 @@ impl Scratch {
             lines,
             &mut self.room,
         )
+    }
+
+    /// Writes what draws a terminal over one that is shown into the front of `out`, if it fits.
+    pub(crate) fn draw_from(
+        &mut self,
+        shown: &Terminal,
+        terminal: &Terminal,
+        out: &mut [u8],
+    ) -> Copied
+        ensures len { result.len ≡ length (draw_from shown.now terminal.now) }
+        ensures fits { IsTrue result.fits ↔ (length (draw_from shown.now terminal.now) ≤ length out.old) }
+        ensures out { result.fits ≡ true → out.new ≡ written_over (draw_from shown.now terminal.now) out.old }
+        ensures unchanged { result.fits ≡ false → out.new ≡ out.old }
+    {
+        self.room.clear();
+        draw_from_reserved(shown, terminal, &mut self.room);
+        copy_out(self.room.as_slice(), out)
     }
 
     /// Writes an update into the front of `out`, if it fits. `shown` is then in the state of `to`, otherwise unchanged.

@@ -7,6 +7,7 @@ ghost use Rattle.vt_screen.specs.Grid.{row_of, last_row};
 ghost use Rattle.vt_term.specs.Text.{text, line_text};
 ghost use Rattle.vt_picture.specs.Show.{show};
 ghost use Rattle.vt_picture.specs.Picture.{picture};
+ghost use Rattle.vt_draw.specs.Draw.{draw, draw_from};
 ghost use Rattle.vt_paint.specs.Repaint.{paint};
 ghost use Rattle.vt_paint.specs.Changes.{differing};
 ghost use Rattle.vt_controls.specs.Spoken.{Speaks};
@@ -129,6 +130,81 @@ pub extern "C" fn core_picture(
     ensures unchanged { (0 < result) → out.new ≡ out.old }
 {
     write(t, s, Form::Picture, out, written, alloc)
+}
+
+/// Writes the bytes that make a terminal of today show the screen, whatever it shows, if they fit into `out`. Writes their
+/// length to `written`. Returns `OK`, `ROOM` or `CLOSED`.
+#[unsafe(no_mangle)]
+pub extern "C" fn core_draw(
+    t: &mut Vt220,
+    s: &mut Vt220Scratch,
+    out: &mut [u8],
+    written: &mut usize,
+    alloc: Global,
+) -> u32
+    ensures same { t.new.kept.inside ≡ t.old.kept.inside }
+    ensures scratch { s.new.kept.inside ≡ s.old.kept.inside }
+    ensures closed { (result ≡ status_closed) ↔ ((t.old.kept.inside ≡ None) ⊎ (s.old.kept.inside ≡ None)) }
+    ensures none { result ≡ status_closed → written.new ≡ 0 }
+    ensures len { result ≢ status_closed → IfSome t.old.kept.inside (λ u. written.new ≡ length (draw u)) }
+    ensures ok { result ≢ status_closed → IfSome t.old.kept.inside (λ u. (result ≡ status_ok) ↔ (length (draw u) ≤ length out.old)) }
+    ensures room { result ≢ status_closed
+        → IfSome t.old.kept.inside (λ u. (result ≡ status_room) ↔ (length out.old < length (draw u))) }
+    ensures out { IfSome t.old.kept.inside (λ u. result ≡ status_ok → out.new ≡ written_over (draw u) out.old) }
+    ensures unchanged { (0 < result) → out.new ≡ out.old }
+{
+    write(t, s, Form::Draw, out, written, alloc)
+}
+
+/// Writes the bytes that make a terminal of today show the screen of `to`, given that it shows that of `shown`, if they fit
+/// into `out`. Writes their length to `written`. `shown` and `to` are different handles. Returns `OK`, `ROOM` or `CLOSED`.
+#[unsafe(no_mangle)]
+pub extern "C" fn core_draw_from(
+    shown: &mut Vt220,
+    to: &mut Vt220,
+    s: &mut Vt220Scratch,
+    out: &mut [u8],
+    written: &mut usize,
+    alloc: Global,
+) -> u32
+    ensures shown { shown.new.kept.inside ≡ shown.old.kept.inside }
+    ensures to { to.new.kept.inside ≡ to.old.kept.inside }
+    ensures scratch { s.new.kept.inside ≡ s.old.kept.inside }
+    ensures closed { (result ≡ status_closed)
+        ↔ ((shown.old.kept.inside ≡ None) ⊎ (to.old.kept.inside ≡ None) ⊎ (s.old.kept.inside ≡ None)) }
+    ensures none { result ≡ status_closed → written.new ≡ 0 }
+    ensures len { result ≢ status_closed
+        → IfSome shown.old.kept.inside
+        (λ a. IfSome to.old.kept.inside (λ b. written.new ≡ length (draw_from a b))) }
+    ensures ok { result ≢ status_closed
+        → IfSome shown.old.kept.inside
+        (λ a. IfSome to.old.kept.inside (λ b. (result ≡ status_ok) ↔ (length (draw_from a b) ≤ length out.old))) }
+    ensures room { result ≢ status_closed
+        → IfSome shown.old.kept.inside
+        (λ a. IfSome to.old.kept.inside (λ b. (result ≡ status_room) ↔ (length out.old < length (draw_from a b)))) }
+    ensures out { IfSome shown.old.kept.inside
+        (λ a. IfSome to.old.kept.inside (λ b. result ≡ status_ok → out.new ≡ written_over (draw_from a b) out.old)) }
+    ensures unchanged { (0 < result) → out.new ≡ out.old }
+{
+    *written = 0;
+    let Some(first) = shown.take(alloc) else {
+        return CLOSED;
+    };
+    let Some(second) = to.take(alloc) else {
+        shown.put(first);
+        return CLOSED;
+    };
+    let Some(mut scratch) = s.take(alloc) else {
+        shown.put(first);
+        to.put(second);
+        return CLOSED;
+    };
+    let copied = scratch.draw_from(first.terminal(), second.terminal(), out);
+    *written = copied.len;
+    shown.put(first);
+    to.put(second);
+    s.put(scratch);
+    if copied.fits { OK } else { ROOM }
 }
 
 /// Writes the text of a row, 1 to 24, if it fits into `out`. Writes its length to `written`. Returns `OK`, `ROOM`,

@@ -6,7 +6,7 @@ use vt_controls::push_bytes;
 use vt_glyph::Glyph;
 
 /// Appends a glyph's character in UTF-8. `out` has capacity for four bytes.
-pub(crate) fn push_glyph(glyph: Glyph, out: &mut Vec<u8>)
+pub fn push_glyph(glyph: Glyph, out: &mut Vec<u8>)
     requires { vec_len out.old + 4 ≤ vec_capacity out.old }
     ensures items { out.new.items ≡ out.old.items ++ encode_utf8 glyph }
     ensures bounded { vec_len out.new ≤ vec_len out.old + 4 }

@@ -16,7 +16,7 @@ pub const SHOW_LIMIT: usize = ROWS * (16 * STOPS + 13);
 const _: () = prove!(SHOW_LIMIT == 51000);
 
 /// Appends SGR with 0 and the attributes that are set.
-fn push_rendition(look: Rendition, out: &mut Vec<u8>)
+pub fn push_rendition(look: Rendition, out: &mut Vec<u8>)
     requires { vec_len out.old + 12 ≤ vec_capacity out.old }
     ensures items { out.new.items ≡ out.old.items ++ rendition_sequence look }
     ensures bounded { vec_len out.new ≤ vec_len out.old + 12 }
@@ -31,7 +31,7 @@ fn push_rendition(look: Rendition, out: &mut Vec<u8>)
 }
 
 /// Appends SGR if the attributes change.
-fn push_change(before: Rendition, after: Rendition, out: &mut Vec<u8>)
+pub fn push_change(before: Rendition, after: Rendition, out: &mut Vec<u8>)
     requires { vec_len out.old + 12 ≤ vec_capacity out.old }
     ensures items { out.new.items ≡ out.old.items ++ change before after }
     ensures bounded { vec_len out.new ≤ vec_len out.old + 12 }

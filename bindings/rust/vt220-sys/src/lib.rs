@@ -34,6 +34,7 @@ pub const VT220_PICTURE_LIMIT: usize = 659968;
 pub const VT220_PAINT_LIMIT: usize = 93512;
 pub const VT220_XTERM_PAINT_LIMIT: usize = 187060;
 pub const VT220_UPDATE_LIMIT: usize = 94152;
+pub const VT220_DRAW_LIMIT: usize = 79270;
 pub const VT220_KEY_LIMIT: usize = 7;
 pub const VT220_TYPED_LIMIT: usize = 16;
 
@@ -225,6 +226,7 @@ extern "C" {
         size: usize,
         written: *mut usize,
     ) -> u32;
+    pub fn vt220_draw(shown: *const vt220, to: *const vt220, s: *mut vt220_scratch, out: *mut u8, size: usize, written: *mut usize) -> u32;
     pub fn vt220_update(shown: *mut vt220, to: *const vt220, s: *mut vt220_scratch, out: *mut u8, size: usize, written: *mut usize) -> u32;
     pub fn vt220_row_changes(shown: *const vt220, to: *const vt220, row: usize, marks: *mut vt220_row_marks) -> u32;
     pub fn vt220_row(t: *const vt220, row: usize, cells: *mut vt220_cell, size: usize) -> usize;

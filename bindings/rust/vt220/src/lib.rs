@@ -13,7 +13,7 @@ use std::slice;
 use vt220_sys as sys;
 
 pub use vt220_sys::{
-    VT220_COLUMNS as COLUMNS, VT220_KEY_LIMIT as KEY_LIMIT, VT220_PAINT_LIMIT as PAINT_LIMIT, VT220_PICTURE_LIMIT as PICTURE_LIMIT,
+    VT220_COLUMNS as COLUMNS, VT220_DRAW_LIMIT as DRAW_LIMIT, VT220_KEY_LIMIT as KEY_LIMIT, VT220_PAINT_LIMIT as PAINT_LIMIT, VT220_PICTURE_LIMIT as PICTURE_LIMIT,
     VT220_REPORT_LIMIT as REPORT_LIMIT, VT220_ROWS as ROWS, VT220_ROW_TEXT_LIMIT as ROW_TEXT_LIMIT,
     VT220_SHOW_LIMIT as SHOW_LIMIT, VT220_TEXT_LIMIT as TEXT_LIMIT, VT220_UPDATE_LIMIT as UPDATE_LIMIT,
     VT220_TYPED_LIMIT as TYPED_LIMIT, VT220_UTF8_LINES_LIMIT as UTF8_LINES_LIMIT, VT220_VERSION as VERSION,
@@ -460,6 +460,14 @@ impl Terminal {
     /// `Partial` if one of the two is inside a sequence; `OtherLanguage` if this one is under TERM=xterm.
     pub fn update(&mut self, to: &Terminal, scratch: &mut Scratch) -> Result<Vec<u8>, Error> {
         scratch.written(|s, out, written| unsafe { sys::vt220_update(&mut self.0, &to.0, s, out, UPDATE_LIMIT, written) })
+    }
+
+    /// Returns bytes that make a terminal of today, such as xterm, show this screen, given that it shows that of `shown`. `None` stands for
+    /// anything else. The bytes are characters in UTF-8 and CUP, ED, SGR and DECTCEM, and there are none if both show the same. That terminal
+    /// has at least 24 rows, and the columns of this one. Afterwards it shows this terminal, so keep a copy (`copy_from`).
+    pub fn draw(&self, shown: Option<&Terminal>, scratch: &mut Scratch) -> Vec<u8> {
+        let shown = shown.map_or(std::ptr::null(), |shown| &raw const shown.0);
+        scratch.written(|s, out, written| unsafe { sys::vt220_draw(shown, &self.0, s, out, DRAW_LIMIT, written) }).expect("a drawing has no error")
     }
 
     /// Returns which cells of a row of `to` this terminal doesn't have: index c - 1 is for column c. If the two differ in `width`,

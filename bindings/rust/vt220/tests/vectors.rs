@@ -101,6 +101,15 @@ fn copies_and_changes() {
     assert_eq!(Error::Partial.to_string(), "a terminal is inside a sequence");
 }
 
+#[test]
+fn a_terminal_of_today_is_drawn_on() {
+    let (mut terminal, fresh, mut scratch) = (Terminal::new().unwrap(), Terminal::new().unwrap(), Scratch::new().unwrap());
+    terminal.feed(b"\x1b[1mab");
+    assert_eq!(terminal.draw(Some(&fresh), &mut scratch), b"\x1b[0;1mab\x1b[0m");
+    assert_eq!(terminal.draw(None, &mut scratch), b"\x1b[0m\x1b[1;1H\x1b[J\x1b[?25h\x1b[0;1mab\x1b[0m");
+    assert!(terminal.draw(Some(&terminal), &mut scratch).is_empty());
+}
+
 // Draws the marked cells alone, or the whole screen after a change of the width: from 80 columns to 132 and back.
 #[test]
 fn a_screen_is_drawn_anew_after_a_change_of_the_width() {

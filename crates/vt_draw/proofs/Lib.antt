@@ -1,0 +1,5 @@
+mod Rows
+mod Same
+mod Kept
+mod Window
+mod Shows

@@ -1,0 +1,16 @@
+use Rattle.std.proofs.Common.{append_assoc}
+use Rattle.vt_draw.specs.Draw.{draw, changes}
+use Rattle.vt_draw.proofs.drawing.draw_reserved.Goals as goal
+
+pub returns-clause-items : goal.returns-clause-items
+unfolding draw changes
+returns-clause-items c =
+    rw (
+      c.push_end.ensures.items,
+      c.push_rows-pen.ensures.items,
+      c.push_rows-pen.ensures.pen,
+      c.push_erase.ensures.items,
+      c.modes.ensures,
+      c.plain.ensures,
+    )
+    (simp append_assoc)

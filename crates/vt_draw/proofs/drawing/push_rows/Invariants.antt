@@ -1,0 +1,18 @@
+use Rattle.std.proofs.Common.{◌≡◌, ◌+◌, ◌-◌, ◌*◌, ◌≤◌, ◌++◌, vec_len, vec_capacity}
+use Rattle.vt_screen.specs.Grid.{row_of}
+use Rattle.vt_draw.specs.Draw.{rows_bytes, rows_pen}
+use Rattle.vt_draw.specs.Private.Looks.{former, latter}
+use Rattle.vt_draw.proofs.drawing.push_rows.Given as goal
+
+abbrev pub invariant-loop-row : goal.invariant-loop-row
+invariant-loop-row l = record {
+  items : l.out.items
+      ≡ l.fn.out.items
+      ++ rows_bytes (λ r. former l.looks (row_of l.shown.display.grid r)) (λ r. latter l.looks (row_of l.t.display.grid r))
+      (l.row - 1) l.fn.pen;
+  pen : l.pen
+      ≡ rows_pen (λ r. former l.looks (row_of l.shown.display.grid r)) (λ r. latter l.looks (row_of l.t.display.grid r))
+      (l.row - 1) l.fn.pen;
+  bounded : vec_len l.out ≤ vec_len l.fn.out + 3300 * (l.row - 1);
+  capacity : vec_capacity l.fn.out ≤ vec_capacity l.out;
+}

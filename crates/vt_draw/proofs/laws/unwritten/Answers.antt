@@ -1,0 +1,8 @@
+use Rattle.vt_draw.proofs.Same.{row-unwritten, draw_from-none}
+use Rattle.vt_draw.proofs.laws.unwritten.Goals as goal
+
+pub returns-clause-row : goal.returns-clause-row
+returns-clause-row c = row-unwritten
+
+pub returns-clause-screen : goal.returns-clause-screen
+returns-clause-screen c = draw_from-none

@@ -1,0 +1,15 @@
+use Rattle.std.proofs.Common.{◌≡◌, sym, arith}
+use Rattle.std.proofs.lemmas.Grind.{common_steps}
+use Rattle.vt_draw.proofs.Kept.{kept-bytes, kept-pen}
+use Rattle.vt_draw.proofs.row.push_row.Goals as goal
+
+pub returns-then-same_cells-clause-items : goal.returns-then-same_cells-clause-items
+returns-then-same_cells-clause-items c =
+    let same : c.args.old.now ≡ c.args.new.now = grind (arith, common_steps, c.same_cells.ensures, c.if-same_cells.true) in
+    kept-bytes c.args.looks c.args.row c.args.old.now c.args.new.now c.args.pen c.args.out.now.items
+    (sym c.if-keeps.ensures) same
+
+pub returns-then-same_cells-clause-pen : goal.returns-then-same_cells-clause-pen
+returns-then-same_cells-clause-pen c =
+    let same : c.args.old.now ≡ c.args.new.now = grind (arith, common_steps, c.same_cells.ensures, c.if-same_cells.true) in
+    kept-pen c.args.looks c.args.row c.args.old.now c.args.new.now c.args.pen (sym c.if-keeps.ensures) same

@@ -1,0 +1,32 @@
+//! The pen: where the next character is shown, and with which attributes.
+ghost use Rattle.std.specs.Prelude.{◌≡◌, ◌+◌, ◌≤◌, ◌++◌, vec_len, vec_capacity};
+ghost use Rattle.vt_draw.specs.Draw.{go};
+
+use vt_controls::Function;
+use vt_screen::{COLUMNS, Rendition};
+use vt_term::ROWS;
+
+/// Where the next character is shown, and with which attributes.
+#[derive(Clone, Copy)]
+pub(crate) struct Pen {
+    /// The row of the terminal's cursor.
+    pub row: usize,
+    /// The column of the terminal's cursor. After the last column it is one more than the width.
+    pub col: usize,
+    /// The attributes of the next character.
+    pub look: Rendition,
+}
+
+/// Appends CUP if the pen is elsewhere.
+pub(crate) fn push_go(pen: Pen, row: usize, col: usize, out: &mut Vec<u8>)
+    requires row { row ≤ ROWS }
+    requires col { col ≤ COLUMNS }
+    requires room { vec_len out.old + 9 ≤ vec_capacity out.old }
+    ensures items { out.new.items ≡ out.old.items ++ go pen row col }
+    ensures bounded { vec_len out.new ≤ vec_len out.old + 9 }
+    ensures capacity { vec_capacity out.old ≤ vec_capacity out.new }
+{
+    if !(pen.row == row && pen.col == col) {
+        Function::cursor_to(row as u8, col as u8).push(out);
+    }
+}

@@ -14,5 +14,5 @@ pub mod SoundPlay
 pub mod Happened
 mod Playing
 mod Forgetting
-mod Passing
+pub mod Passing
 pub mod Scrolled

@@ -39,7 +39,7 @@ use Rattle.vt_term.proofs.Forgetting.{acts-feed, acts-print}
 abbrev pub line_events : List ℕ → List Event
 line_events bytes = flat_map single_function bytes
 
-opens-nothing : (b : ℕ) → IsOfLines b → is_opener b ≡ false
+pub opens-nothing : (b : ℕ) → IsOfLines b → is_opener b ≡ false
 unfolding opens_string
 opens-nothing b (inl h) = grind (arith, nat_tests)
 opens-nothing b (inr (inl h)) = grind (arith, nat_tests)

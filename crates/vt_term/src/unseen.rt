@@ -70,6 +70,7 @@ impl Terminal {
             ≡ play self.old (take result.looked_at piece.now) }
         ensures silent { (play self.old (take result.looked_at piece.now)).reports ≡ [] }
         ensures lines { All IsOfLines (take result.looked_at piece.now) }
+        ensures held { self.new.held ≡ self.old.held }
     {
         self.soundness();
         one_split();
@@ -92,6 +93,7 @@ impl Terminal {
             ≡ play self.old (take result.looked_at piece.now) }
         ensures silent { (play self.old (take result.looked_at piece.now)).reports ≡ [] }
         ensures lines { All IsOfLines (take result.looked_at piece.now) }
+        ensures held { self.new.held ≡ self.old.held }
     {
         self.soundness();
         one_split();

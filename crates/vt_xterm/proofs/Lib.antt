@@ -7,3 +7,4 @@ pub mod SoundScreens
 pub mod Stays
 pub mod Screens
 mod Logged
+mod Unseen

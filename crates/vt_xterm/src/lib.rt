@@ -13,6 +13,7 @@ mod functions;
 pub mod laws;
 mod log;
 mod modes;
+mod playing;
 mod profile;
 mod repeating;
 mod tabs;

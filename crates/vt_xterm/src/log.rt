@@ -13,6 +13,7 @@ ghost use Rattle.vt_xterm.specs.Private.Feeds.{whole_of, FeedsBytes};
 use crate::feeding::{feed_bytes, feed_event};
 use crate::finder::Finder;
 use crate::front::Pages;
+use crate::playing::feed_pages;
 use vt_syntax::EventKind;
 use vt_term::laws::happened;
 use vt_term::{Lines, Nobody, TEXT_LIMIT, Terminal, count};
@@ -86,20 +87,6 @@ impl PageLog for Nobody {
     ) -> usize {
         feed_pages(terminal, pages, piece, out)
     }
-}
-
-/// Plays bytes of the terminal, with the functions of xterm. Returns how many it played: all. Speed: nothing else feeds this
-/// profile without an observer, so there is one copy of the loop, in which all is inline.
-#[inline(never)]
-fn feed_pages(terminal: &mut Terminal, pages: &mut Pages, piece: &[u8], out: &mut Vec<u8>) -> usize
-    requires { vec_len out.old + 10 * length piece.now ≤ vec_capacity out.old }
-    ensures all { result ≡ length piece.now }
-    ensures fed { FeedsBytes (whole_of terminal.old pages.old) (take result piece.now) (whole_of terminal.new pages.new)
-        out.old.items out.new.items }
-    ensures bounded { vec_len out.new ≤ vec_len out.old + 10 * result }
-    ensures capacity { vec_capacity out.old ≤ vec_capacity out.new }
-{
-    terminal.feed_as(pages, piece, &mut Nobody, out)
 }
 
 /// The lines go after others.

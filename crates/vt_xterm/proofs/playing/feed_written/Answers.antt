@@ -1,6 +1,6 @@
 use Rattle.std.proofs.Common.{take}
 use Rattle.vt_xterm.proofs.Fed.{feeds-profile}
-use Rattle.vt_xterm.proofs.log.feed_pages.Goals as goal
+use Rattle.vt_xterm.proofs.playing.feed_written.Goals as goal
 
 pub returns-clause-fed : goal.returns-clause-fed
 returns-clause-fed c =

@@ -1,0 +1,28 @@
+use Rattle.std.proofs.Common.{arith, length-drop}
+use Rattle.vt_term.proofs.Bytes.{rest-of}
+use Rattle.vt_xterm.specs.Private.Feeds.{whole_of}
+use Rattle.vt_xterm.proofs.Fed.{feeds-nothing, feeds-more}
+use Rattle.vt_xterm.proofs.playing.feed_pages.Goals as goal
+
+pub loop-at-init : goal.loop-at-init
+loop-at-init c = record {
+  within = omega arith;
+  fed = feeds-nothing c.one_split.ensures (whole_of c.args.terminal.now c.args.pages.now) c.args.out.now.items
+      c.width.ensures.sound.held;
+  bounded = omega arith;
+  capacity = omega arith;
+}
+
+pub loop-at-preserved : goal.loop-at-preserved
+loop-at-preserved c =
+    let rest = rest-of c.args.piece.now c.loop-at.at in
+    let next = c.feed_block-at in
+    let inside = simp length-drop at (rw rest at next.ensures.within) in record {
+      within = omega (arith, inside);
+      fed = feeds-more c.one_split.ensures (whole_of c.args.terminal.now c.args.pages.now)
+          (whole_of c.loop-at.terminal c.loop-at.pages) (whole_of next.new.terminal next.new.pages) c.args.piece.now c.loop-at.at
+          next.result c.args.out.now.items c.loop-at.out.items next.new.out.items c.loop-at.invariant.fed
+          (rw rest at next.ensures.fed);
+      bounded = omega arith;
+      capacity = omega arith;
+    }

@@ -1,0 +1,16 @@
+-- The bytes before the place are played.
+use Rattle.std.proofs.Common.{◌+◌, ◌-◌, ◌*◌, ◌≤◌, length, take, vec_len, vec_capacity}
+use Rattle.vt_xterm.specs.Private.Feeds.{whole_of, FeedsBytes}
+use Rattle.vt_xterm.proofs.playing.feed_pages.Given as goal
+
+abbrev pub invariant-loop-at : goal.invariant-loop-at
+invariant-loop-at l = record {
+  within : l.at ≤ length l.piece;
+  fed : FeedsBytes (whole_of l.initial.terminal l.initial.pages) (take l.at l.piece) (whole_of l.terminal l.pages)
+      l.initial.out.items l.out.items;
+  bounded : vec_len l.out ≤ vec_len l.initial.out + 10 * l.at;
+  capacity : vec_capacity l.initial.out ≤ vec_capacity l.out;
+}
+
+abbrev pub decreases-loop-at : goal.decreases-loop-at
+decreases-loop-at l = length l.piece - l.at

@@ -6,6 +6,8 @@ import struct
 HERE = pathlib.Path(__file__).resolve().parent
 RECORDINGS = HERE / "recordings"
 XTERM = {"terminal": "xterm"}
+# What is played first of a recording that names 132 columns.
+WIDENING = (0, b"\x1b[?3h")
 
 
 def cast(made, version):
@@ -63,7 +65,7 @@ def version_1(made):
 
 def recordings():
     """Returns the recordings by other programs: the name, the words of the tool, the bytes, the chunks, and the terminal's options."""
-    first, wide = by_asciinema("asciinema.cast"), {"script": [], "script-both": [(0, b"\x1b[?3h")]}
+    first, wide = by_asciinema("asciinema.cast"), {"script": [], "script-both": [WIDENING]}
     rows = [("asciinema", "asciinema.cast", [], first, XTERM), ("asciinema-wide", "asciinema-wide.cast", [], by_asciinema("asciinema-wide.cast"), XTERM),
             ("ttyrec", "ttyrec.ttyrec", [], by_ttyrec("ttyrec.ttyrec"), {}), ("termrec", "termrec.ttyrec", [], by_ttyrec("termrec.ttyrec"), {}),
             *((name, f"{name}.typescript", ["--timing", RECORDINGS / f"{name}.timing"], wide[name] + by_script(name), {}) for name in wide)]

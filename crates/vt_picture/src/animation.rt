@@ -1,5 +1,5 @@
 //! The screen as a picture that moves: an SVG document without a script.
-ghost use Rattle.std.specs.Prelude.{◌≡◌, ◌+◌, ◌*◌, ◌≤◌, ◌++◌, ◌∷◌, [], if◌then◌else◌, nat_lt, ℕ, ◌<◌, List, length, flat_map, vec_len, vec_capacity, OnOk, OnErr, IfOk, slice_index_or};
+ghost use Rattle.std.specs.Prelude.{◌≡◌, ◌+◌, ◌*◌, ◌≤◌, ◌++◌, ◌∷◌, [], if◌then◌else◌, nat_lt, ℕ, ◌<◌, List, length, flat_map, vec_len, vec_capacity, OnOk, OnErr, IfOk, IsOk, slice_index_or};
 ghost use Rattle.vt_screen.specs.Grid.{last_row};
 ghost use Rattle.vt_picture.specs.Animation.{rows_drawn, screen_drawn, rows_changed, same_paper, changes_drawn, AreNumbered};
 ghost use Rattle.vt_picture.specs.Animation.{whole_paper, squeezed, frame_start, frame, number_on_screen, number_after};
@@ -205,6 +205,9 @@ pub fn frame(
     ensures numbers { OnOk result (AreNumbered number numbers.old before.now.display t.now.display numbers.new) }
     ensures err { OnErr result (out.new.items ≡ out.old.items) }
     ensures kept { OnErr result (numbers.new ≡ numbers.old) }
+    ensures has_room { vec_len out.old + FRAME_LIMIT ≤ vec_capacity out.old → IsOk result }
+    ensures bounded { vec_len out.new ≤ vec_len out.old + FRAME_LIMIT }
+    ensures capacity { vec_capacity out.old ≤ vec_capacity out.new }
 {
     out.reserve(FRAME_LIMIT)?;
     let (reversed, width) = (t.modes().decscnm, t.row(1).len());
@@ -415,6 +418,9 @@ pub fn animation_start(
     ensures numbers { IfOk result (λ numbers. (i : ℕ) → i < last_row
         → slice_index_or numbers i 0 ≡ number_on_screen 0 first.now.display (i + 1)) }
     ensures err { OnErr result (out.new.items ≡ out.old.items) }
+    ensures has_room { vec_len out.old + (5 * length title.now + ANIMATION_LIMIT) ≤ vec_capacity out.old → IsOk result }
+    ensures bounded { vec_len out.new ≤ vec_len out.old + (5 * length title.now + ANIMATION_LIMIT) }
+    ensures capacity { vec_capacity out.old ≤ vec_capacity out.new }
 {
     out.reserve(
         title
@@ -437,6 +443,8 @@ pub fn animation_start(
 pub fn animation_end(out: &mut Vec<u8>) -> Result<(), AllocError>
     ensures ok { OnOk result (out.new.items ≡ out.old.items ++ animation_end) }
     ensures err { OnErr result (out.new.items ≡ out.old.items) }
+    ensures has_room { vec_len out.old + 12 ≤ vec_capacity out.old → IsOk result }
+    ensures capacity { vec_capacity out.old ≤ vec_capacity out.new }
 {
     out.extend_from_slice(b"</g>\n</svg>\n")
 }

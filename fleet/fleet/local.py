@@ -38,6 +38,7 @@ def is_listening(path):
 
 class LocalStore:
     before = None  # what each child calls before its program starts
+    under = ()  # a program and its options, under which the store runs
     daemon = None  # the process of the host daemon, if it was started
 
     def __init__(self, *options):
@@ -51,7 +52,7 @@ class LocalStore:
         words = ["--port", "0", "--unixsocket", self.socket, "--unixsocketperm", "700", "--dir", self.folder, "--save", ""]
         words += ["--appendonly", "yes", "--appendfsync", "always", *self.options, *more]
         with open(os.path.join(self.folder, "log"), "ab") as log:
-            self.server = subprocess.Popen(["redis-server", *words], stdout=log, stderr=log, preexec_fn=self.before)
+            self.server = subprocess.Popen([*self.under, "redis-server", *words], stdout=log, stderr=log, preexec_fn=self.before)
         connect(self.url).ping()
 
     def kill(self):

@@ -226,7 +226,7 @@ def a_program_that_is_killed_or_can_t_be_run_has_a_shell_s_status(machine, _):
     check(store.scard(keys.LIVE) == 3 and not store.exists(keys.lease(f"{name}-0")), "each has its end in the store, for a worker")
 
 
-def a_store_that_resets_a_connection_is_away(_url, _):
+def a_store_that_resets_a_connection_is_away(_, __):
     """A Unix socket that is closed with unread bytes in it is reset."""
     with tempfile.TemporaryDirectory() as place:
         listener = socket.socket(socket.AF_UNIX)

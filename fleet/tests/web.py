@@ -19,6 +19,7 @@ from fleet.web import UNKNOWN
 import vt220
 
 HOSTILE = "<b>bold</b><script>alert(1)</script>&amp;\"'"
+MARKUP = "<img src=x onerror=alert(1)>\\033[1mBold \\033[7mreverse\\033[0m &lt; \\033[4munder"
 PICTURES = os.environ.get("FLEET_PICTURES")  # a directory for screenshots, to be looked at
 
 
@@ -94,21 +95,12 @@ def cursor_of(store, name):
 
 def real_sessions_in_the_browser(machine, _):
     store = stores.connect(machine.url)
-    workers, served = Processes(machine, 2), Served(machine, "--typing")
-    hosts = [
-        program(machine, "editor", ["vim", "-u", "NONE", "-i", "NONE", "-n"], "--input"),
-        program(machine, "top", ["top", "-d", "1"]),
-        program(machine, "flood", ["sh", "-c", "while :; do seq 1 100000; done"]),
-        program(
-            machine,
-            HOSTILE,
-            [
-                "sh",
-                "-c",
-                "printf '<img src=x onerror=alert(1)>\\033[1mBold \\033[7mreverse\\033[0m &lt; \\033[4munder'; sleep infinity",
-            ],
-        ),
-    ]
+    served = Served(machine, "--typing")
+    Processes(machine, 2)
+    program(machine, "editor", ["vim", "-u", "NONE", "-i", "NONE", "-n"], "--input")
+    program(machine, "top", ["top", "-d", "1"])
+    program(machine, "flood", ["sh", "-c", "while :; do seq 1 100000; done"])
+    program(machine, HOSTILE, ["sh", "-c", f"printf '{MARKUP}'; sleep infinity"])
     browser = Browser(served.url)
     check(wait_for(lambda: browser.run("document.querySelectorAll('li').length") == 4), "all sessions are there")
     check(browser.run("location.href") == f"http://127.0.0.1:{served.port}/", "the token is no longer in the address")

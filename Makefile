@@ -63,7 +63,6 @@ chain = $(filter $(foreach crate,$(1),$(call below,$(crate))),$(CRATES))
 sources = crates.txt $(shell find $(addprefix crates/,$(call chain,$(1))) -mindepth 1 -name out -prune -o -print)
 
 PROGRAM := crates/vt220/out/vt220
-CHUNKS := crates/chunks/out/chunks
 READER := crates/recording_c/out/librecording_c.a
 SCREEN := crates/screen/out/screen
 
@@ -81,7 +80,7 @@ keeper: $(OUT)/vt220-keep
 holder: $(OUT)/vt220-fleet-holder
 
 # The time of what the toolchain builds is that of the beginning. So a source that changes meanwhile is newer.
-$(PROGRAM) $(SCREEN) $(CHUNKS): $$(call sources,$$(notdir $$@))
+$(PROGRAM) $(SCREEN): $$(call sources,$$(notdir $$@))
 	@begun=$$(mktemp); trap 'rm -f "$$begun"' EXIT; tools/prove $(notdir $@) run -- --help; touch -r "$$begun" $@
 # The crate of a static library, by its archive.
 crate_of = $(patsubst lib%.a,%,$(notdir $(1)))
@@ -115,7 +114,7 @@ $(OUT)/vt220-fleet-holder: fleet/holder/holder.c $(wildcard keep/command.[ch] ke
 	@mkdir -p $(@D)
 	$(CC) -std=c11 $(CFLAGS) $(LDFLAGS) -o $@ $(filter %.c,$^)
 
-js: program lib $(CHUNKS) $(READER)
+js: program lib $(READER)
 	@js/build
 
 # What is installed: FROM:TO:MODE of each file, and TARGET:TO of each link. vt220.pc comes from standard input, since PREFIX may be another than
@@ -129,10 +128,10 @@ FILES = $(PROGRAM):$(PREFIX)/bin/vt220:755 $(OUT)/vt220-keep:$(PREFIX)/bin/vt220
   $(foreach header,$(HEADERS),$(header):$(PREFIX)/include/$(notdir $(header)):644) $(OUT)/libvt220.a:$(LIBDIR)/libvt220.a:644 \
   $(OUT)/libvt220.so.$(VERSION):$(LIBDIR)/libvt220.so.$(VERSION):755 /dev/stdin:$(LIBDIR)/pkgconfig/vt220.pc:644
 LINKS = libvt220.so.$(VERSION):$(LIBDIR)/$(SONAME) $(SONAME):$(LIBDIR)/libvt220.so
-# The command vt220-page has what it needs next to it: the program that reads recordings, the module that writes a page, and the template. So has
+# The command vt220-page needs the program vt220, which reads recordings. The module that writes a page and the template are next to it. So is
 # vt220-keep-serve, which `vt220-keep serve` runs.
 PAGE = $(PREFIX)/lib/vt220
-PAGE_FILES = js/vt220-page:$(PAGE)/vt220-page:755 keep/serve:$(PAGE)/vt220-keep-serve:755 $(CHUNKS):$(PAGE)/chunks:755 /dev/null:$(PAGE)/vt220/__init__.py:644 \
+PAGE_FILES = $(PROGRAM):$(PREFIX)/bin/vt220:755 js/vt220-page:$(PAGE)/vt220-page:755 keep/serve:$(PAGE)/vt220-keep-serve:755 /dev/null:$(PAGE)/vt220/__init__.py:644 \
   bindings/python/vt220/page.py:$(PAGE)/vt220/page.py:644 out/js/page.html:$(PAGE)/vt220/page.html:644 man/vt220-page.1:$(SHARE)/man/man1/vt220-page.1:644
 PAGE_LINKS = ../lib/vt220/vt220-page:$(PREFIX)/bin/vt220-page
 INSTALLED = $(foreach file,$(LINKS) $(FILES) $(PAGE_LINKS) $(PAGE_FILES),$(word 2,$(subst :, ,$(file))))

@@ -19,6 +19,7 @@ use Rattle.laws_program.specs.Plain.{IsOperand}
 -- how the input was recorded and what it is played for
 pub record Options : Type 0 where
   pub format : Option Format
+  pub from : Option Moment
   pub until : Option Moment
   pub encoding : Option Encoding
   pub terminal : Option TerminalType
@@ -33,7 +34,7 @@ pub record Asked : Type 0 where
 abbrev pub options_in : Text → List Row → Option Options
 options_in name matches = elim (source_in name matches) [
   | Ok s ↦
-      Some (record { format = s.format; until = s.until; encoding = s.encoding; terminal = s.terminal; wide = s.wide })
+      Some (record { format = s.format; from = s.from; until = s.until; encoding = s.encoding; terminal = s.terminal; wide = s.wide })
   | Err complaint ↦ None
 ]
 
@@ -45,7 +46,7 @@ asked found = option_map asked_by found
 
 -- raw input, all of it, and nothing else is asked for
 abbrev pub no_options : Options
-no_options = record { format = Some Raw; until = None; encoding = None; terminal = None; wide = None }
+no_options = record { format = Some Raw; from = None; until = None; encoding = None; terminal = None; wide = None }
 
 abbrev pub AsksPlainly : Word → Type 0
 AsksPlainly word = (program : Text) (file : Option Text) → IsOperand file

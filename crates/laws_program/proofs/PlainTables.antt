@@ -1,6 +1,6 @@
 -- What a command without options writes.
 use Rattle.std.proofs.Common.{◌≡◌, ℕ, Bool, true, false, List, Option, Some, None, refl, sym, ap, subst, ◌∙◌}
-use Rattle.std.specs.Prelude.{codes, option_map, string_bytes, if◌then◌else◌}
+use Rattle.std.specs.Prelude.{codes, is_some, ◌||◌, option_map, string_bytes, if◌then◌else◌}
 use Rattle.std.specs.Str.{bytes_eq}
 use Rattle.std.specs.declared.alloc.Global.{Global}
 use Rattle.std.specs.declared.string.String.{String}
@@ -20,7 +20,7 @@ use Rattle.vt_cli.specs.Request.{IsFound, IsRequest}
 use Rattle.vt_replay.specs.declared.requests.Outcome.{Outcome}
 use Rattle.vt_replay.specs.Host.{terminal_for, encoding_for, named_for, plain_host}
 use Rattle.vt_replay.specs.Words.{WordTable}
-use Rattle.vt_replay.specs.Request.{is_streamed, lists_events, format_of, IsStreamed, OutcomeBy, OutcomeTable}
+use Rattle.vt_replay.specs.Request.{is_streamed, lists_events, needs_whole, format_of, IsStreamed, OutcomeBy, OutcomeTable}
 use Rattle.laws_program.specs.Plain.{IsPlainCommand}
 use Rattle.laws_program.proofs.Found.{Options, Asked, options_in, asked_by, asked, no_options, AsksPlainly}
 
@@ -70,7 +70,7 @@ some-options a b h = cc
 
 abbrev options_of : Request → Options
 options_of r =
-    record { format = r.format; until = r.until; encoding = r.encoding; terminal = r.terminal; wide = r.wide }
+    record { format = r.format; from = r.from; until = r.until; encoding = r.encoding; terminal = r.terminal; wide = r.wide }
 
 found-options : (found : Option (Text × List Row)) (r : Request) (is : IsFound found r)
     → options_in (word_name r.word) is.matches ≡ Some (options_of r)
@@ -118,10 +118,10 @@ plain-encoding word file r asks =
     ∙ ap (λ (s : Options). encoding_for Vt220 s.encoding Raw) asks.options_are
 
 is-streamed : (word : Word) (file : Option Text) (r : Request) (beginning : List ℕ) → AsksFor word file r
-    → lists_events word ≡ false → is_streamed (format_of r.format beginning) r.until r.wide (lists_events r.word) ≡ true
+    → lists_events word ≡ false → is_streamed (format_of r.format beginning) r.until r.wide (needs_whole r) ≡ true
 is-streamed word file r beginning asks plays =
-    ap (λ (s : Options). is_streamed (format_of s.format beginning) s.until s.wide (lists_events r.word)) asks.options_are
-    ∙ ap (λ (e : Bool). is_streamed Raw None None e) (ap lists_events asks.word_is ∙ plays)
+    ap (λ (s : Options). is_streamed (format_of s.format beginning) s.until s.wide (lists_events r.word || is_some s.from)) asks.options_are
+    ∙ ap (λ (e : Bool). is_streamed Raw None None (e || false)) (ap lists_events asks.word_is ∙ plays)
 
 pub plain-table : (word : Word) → AsksPlainly word → lists_events word ≡ false → (file : Option Text) (words : List (String Global)) (r : Request) (o : Outcome)
     (beginning : List ℕ) (timing : Option (List ℕ)) (b w : List ℕ) (f : Flags)

@@ -5,6 +5,7 @@ pub mod detection;
 pub mod fault;
 pub mod heading;
 pub mod laws;
+pub mod reached;
 pub mod reading;
 pub mod seconds;
 pub mod taking;

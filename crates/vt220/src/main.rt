@@ -3,7 +3,7 @@
 
 ghost use Rattle.std.specs.Prelude.{◌≡◌, ◌⊎◌, IfErr, MatchResult};
 ghost use Rattle.std.specs.Process.{exit_status};
-ghost use Rattle.vt_recording.specs.Fault.{status_of};
+ghost use Rattle.vt_recording.specs.Fault.{status_of, status_with};
 ghost use Rattle.vt_recording.specs.declared.fault.Fault.TheVariants.{Memory, Write};
 
 mod notes;
@@ -151,13 +151,13 @@ fn carry_out_on<R: Print + AllocGlobal, D: Read + Drop>(
 }
 
 /// Returns why an input that begins so isn't played, if it isn't: its beginning was to decide on its format, and it is
-/// compressed, or it has no times, and the moment is one.
+/// compressed, or it has no times, and a moment is one.
 fn refusal_of(request: &Request, format: Format, timed: bool, beginning: &[u8]) -> Option<Fault> {
     if request.format.is_none() && matches!(detect(beginning), Detected::Compressed(_)) {
         let part = Part::Recording;
         return Some(Fault::Broken(Break { part, at: 0 }));
     }
-    if lacks_times(format, timed, request.until) {
+    if lacks_times(format, timed, request.from) || lacks_times(format, timed, request.until) {
         return Some(Fault::NoTimes);
     }
     None
@@ -243,9 +243,11 @@ fn is_silent(word: Word, fault: Fault, error: Option<io::Error>) -> bool {
 }
 
 /// Prints how many characters became SUB, if any did, and then a fault's lines and the other notes. Ends the program after
-/// a request: with status 0 if all was written, otherwise with the fault's status.
+/// a request: with status 0 if all was written, otherwise with the fault's status. If it is enough what came before the recording
+/// broke its format, that is status 0, too.
 fn ended_after<R: Eprint + AllocGlobal>(rt: &R, request: &Request, ended: Ended) -> ExitCode
-    ensures { MatchResult ended.outcome.ended (λ _. exit_status result ≡ 0) (λ fault. exit_status result ≡ status_of fault) }
+    ensures { MatchResult ended.outcome.ended (λ _. exit_status result ≡ 0)
+        (λ fault. exit_status result ≡ status_with request.now.partial fault) }
 {
     match ended.outcome.ended {
         Ok(()) => {
@@ -254,14 +256,14 @@ fn ended_after<R: Eprint + AllocGlobal>(rt: &R, request: &Request, ended: Ended)
             ExitCode::SUCCESS
         }
         Err(fault) if is_silent(request.word, fault, ended.error) => {
-            ExitCode::from(fault.status())
+            ExitCode::from(fault.status_with(request.partial))
         }
         Err(fault) => {
             print_replaced(rt, request, &ended);
-            let status = ended_by(rt, fault);
+            let _ = eprintln!(rt; "{fault}");
             print_reason(rt, request, fault, seen_of(&ended));
             print_notes(rt, request, ended.format, &ended.beginning);
-            status
+            ExitCode::from(fault.status_with(request.partial))
         }
     }
 }

@@ -78,9 +78,9 @@ rule_for name takes.Nothing = flag_option name
 -- a subcommand: the options with a number, the file, and the options of a recording
 abbrev pub subcommand : Text → App
 subcommand name = fold (λ a rule. with_rule a rule) (new_app name) (piece_option ∷ limit_option ∷ file_argument
-    ∷ text_option (codes "format") ∷ text_option (codes "timing") ∷ text_option (codes "until")
+    ∷ text_option (codes "format") ∷ text_option (codes "timing") ∷ text_option (codes "from") ∷ text_option (codes "until")
     ∷ text_option (codes "encoding") ∷ text_option (codes "terminal") ∷ text_option (codes "columns")
-    ∷ flag_option (codes "quiet") ∷ [])
+    ∷ flag_option (codes "full") ∷ flag_option (codes "partial") ∷ flag_option (codes "quiet") ∷ [])
 
 abbrev pub with_name : App → Text → App
 with_name a name = with_subcommand a (subcommand name).top
@@ -138,9 +138,10 @@ is_set option matches = is_true (first_of option matches)
 abbrev pub is_plain : List Row → Bool
 is_plain matches =
     not (is_some (first_of (codes "format") matches)) && (not (is_some (first_of (codes "timing") matches))
-    && (not (is_some (first_of (codes "until") matches)) && (not (is_some (first_of (codes "encoding") matches))
-    && (not (is_some (first_of (codes "terminal") matches)) && (not (is_some (first_of (codes "columns") matches))
-    && not (is_set (codes "quiet") matches))))))
+    && (not (is_some (first_of (codes "from") matches)) && (not (is_some (first_of (codes "until") matches))
+    && (not (is_some (first_of (codes "encoding") matches)) && (not (is_some (first_of (codes "terminal") matches))
+    && (not (is_some (first_of (codes "columns") matches)) && (not (is_set (codes "full") matches)
+    && (not (is_set (codes "partial") matches) && not (is_set (codes "quiet") matches)))))))))
 
 -- s is what the subcommand that clap found, and its matches, ask for: a replay of bytes that no recorder wrote
 pub record AreSettings (found : Option (Text × List Row)) (s : Settings) : Type 0 where

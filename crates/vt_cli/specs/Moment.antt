@@ -1,9 +1,9 @@
 -- A moment of a recording, as a word. (this profile)
-use Rattle.std.specs.Prelude.{ℕ, ◌+◌, ◌*◌, List, length, take, drop, cond, Option, Some, None, nat_eq}
+use Rattle.std.specs.Prelude.{ℕ, ◌+◌, ◌*◌, List, length, take, drop, codes, cond, Option, Some, None, nat_eq}
 use Rattle.std.specs.Prelude.{nat_lt, option_map, option_and_then}
-use Rattle.std.specs.List.{position}
+use Rattle.std.specs.List.{position, starts_with}
 use Rattle.vt_recording.specs.declared.format.Moment.{Moment}
-use Rattle.vt_recording.specs.declared.format.Moment.TheVariants.{Micros, Bytes}
+use Rattle.vt_recording.specs.declared.format.Moment.TheVariants.{Micros, Bytes, Event, Marker}
 use Rattle.vt_recording.specs.Seconds.{number, scale}
 
 -- the place of the first byte that is this
@@ -53,5 +53,15 @@ moment_at None text = option_map (λ n. Micros n) (micros text)
 moment_at (Some at) text =
     cond (nat_eq (at + 1) (length text)) (option_map (λ n. Bytes n) (number 15 (take at text))) None
 
+abbrev pub plain_moment : List ℕ → Option Moment
+plain_moment text = moment_at (place 0x62 text) text
+
+-- the number of an event or a marker: up to 15 digits, and not 0
+abbrev pub numbered : List ℕ → Option ℕ
+numbered digits = option_and_then (λ n. cond (nat_eq n 0) None (Some n)) (number 15 digits)
+
 abbrev pub moment : List ℕ → Option Moment
-moment text = moment_at (place 0x62 text) text
+moment text =
+    cond (starts_with nat_eq text (codes "event:")) (option_map (λ n. Event n) (numbered (drop 6 text)))
+    (cond (starts_with nat_eq text (codes "marker:")) (option_map (λ n. Marker n) (numbered (drop 7 text)))
+    (plain_moment text))

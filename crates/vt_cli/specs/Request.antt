@@ -27,8 +27,10 @@ pub record IsFound (found : Option (Text × List Row)) (r : Request) : Type 0 wh
   pub matches : List Row
   pub word : found ≡ Some (word_name r.word, matches)
   pub options : AreOptions matches r.piece r.limit r.file
-  pub source : source_in (word_name r.word) matches ≡ Ok (record { format = r.format; until = r.until; encoding = r.encoding; terminal = r.terminal; wide = r.wide })
+  pub source : source_in (word_name r.word) matches ≡ Ok (record { format = r.format; from = r.from; until = r.until; encoding = r.encoding; terminal = r.terminal; wide = r.wide })
   pub timing : option_map (λ f. string_bytes f) r.timing ≡ first_of (codes "timing") matches
+  pub full : r.full ≡ is_set (codes "full") matches
+  pub partial : r.partial ≡ is_set (codes "partial") matches
   pub quiet : r.quiet ≡ is_set (codes "quiet") matches
 
 -- r is the request of the words

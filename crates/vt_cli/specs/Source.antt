@@ -1,5 +1,5 @@
 -- How the input was recorded, as options. (this profile)
-use Rattle.std.specs.Prelude.{ℕ, List, [], ◌∷◌, ◌++◌, codes, Bool, true, false, not, ◌&&◌, cond, Option, Some, None, Result, Ok, Err}
+use Rattle.std.specs.Prelude.{ℕ, List, [], ◌∷◌, ◌++◌, codes, Bool, true, false, not, ◌&&◌, ◌||◌, cond, Option, Some, None, Result, Ok, Err}
 use Rattle.std.specs.Prelude.{bytes_eq, is_some}
 use Rattle.clap.specs.Words.{Row, Text, first_of}
 use Rattle.vt_recording.specs.declared.format.Format.{Format}
@@ -7,12 +7,12 @@ use Rattle.vt_recording.specs.declared.format.Format.TheVariants.{Raw, Script, T
 use Rattle.vt_recording.specs.declared.format.Encoding.{Encoding}
 use Rattle.vt_recording.specs.declared.format.Encoding.TheVariants.{Dec, Utf8}
 use Rattle.vt_recording.specs.declared.format.Moment.{Moment}
-use Rattle.vt_recording.specs.declared.format.Moment.TheVariants.{Micros, Bytes}
+use Rattle.vt_recording.specs.declared.format.Moment.TheVariants.{Micros, Bytes, Event, Marker}
 use Rattle.vt_recording.specs.declared.format.TerminalType.{TerminalType}
 use Rattle.vt_recording.specs.declared.format.TerminalType.TheVariants.{Vt220, Xterm}
 use Rattle.vt_cli.specs.declared.source.Source.{Source}
 use Rattle.vt_cli.specs.declared.source.Complaint.{Complaint}
-use Rattle.vt_cli.specs.declared.source.Complaint.TheVariants.{NoFormat, NoTimingFile, NoMoment, NoTimes, NoEncoding}
+use Rattle.vt_cli.specs.declared.source.Complaint.TheVariants.{NoFormat, NoTimingFile, NoMoment, NoTimes, NoStart, NoEncoding}
 use Rattle.vt_cli.specs.declared.source.Complaint.TheVariants.{NoTerminal, NoColumns, OnlyUtf8, OnlyVt220}
 use Rattle.vt_cli.specs.Moment.{moment}
 
@@ -45,15 +45,26 @@ has_times None timed = true
 abbrev pub has_moment : Option Format → (timed : Bool) → Moment → Bool
 has_moment format timed (Micros n) = has_times format timed
 has_moment format timed (Bytes n) = true
+has_moment format timed (Event n) = true
+has_moment format timed (Marker n) = true
 
--- the moment that `--until` gives
-abbrev pub until_given : Option Format → (timed : Bool) → Option Moment → Result (Option Moment) Complaint
-until_given format timed None = Err NoMoment
-until_given format timed (Some m) = cond (has_moment format timed m) (Ok (Some m)) (Err NoTimes)
+-- the moment that `--from` or `--until` gives
+abbrev pub moment_given : Option Format → (timed : Bool) → Option Moment → Result (Option Moment) Complaint
+moment_given format timed None = Err NoMoment
+moment_given format timed (Some m) = cond (has_moment format timed m) (Ok (Some m)) (Err NoTimes)
 
-abbrev pub until_of : Option Format → (timed : Bool) → Option Text → Result (Option Moment) Complaint
-until_of format timed None = Ok None
-until_of format timed (Some text) = until_given format timed (moment text)
+abbrev pub moment_of : Option Format → (timed : Bool) → Option Text → Result (Option Moment) Complaint
+moment_of format timed None = Ok None
+moment_of format timed (Some text) = moment_given format timed (moment text)
+
+-- the command of this name takes a part of a recording that begins in the middle. For a screen all that comes before counts
+abbrev pub takes_start : Text → Bool
+takes_start command = bytes_eq command (codes "events") || bytes_eq command (codes "content")
+
+abbrev pub from_of : (command : Text) → Option Format → (timed : Bool) → Option Text → Result (Option Moment) Complaint
+from_of command format timed None = Ok None
+from_of command format timed (Some text) =
+    cond (takes_start command) (moment_of format timed (Some text)) (Err NoStart)
 
 -- ---- the encoding
 
@@ -120,24 +131,26 @@ named None = Ok (Some Raw)
 named (Some name) = format_named name
 
 -- by the name of the command, whether there is a timing file, and the texts of the other options
-abbrev pub source_of : (command : Text) → (format : Option Text) → (timed : Bool) → (until encoding terminal columns : Option Text)
+abbrev pub source_of : (command : Text) → (format : Option Text) → (timed : Bool) → (from until encoding terminal columns : Option Text)
     → Result Source Complaint
-source_of command format timed until encoding terminal columns =
+source_of command format timed from until encoding terminal columns =
     and_then (λ format. cond (timed && not (takes_timing format)) (Err NoTimingFile)
-    (and_then (λ until. and_then (λ encoding. and_then (λ terminal. and_then (λ wide. Ok (record {
+    (and_then (λ from. and_then (λ until. and_then (λ encoding. and_then (λ terminal. and_then (λ wide. Ok (record {
       format = format;
+      from = from;
       until = until;
       encoding = encoding;
       terminal = terminal;
       wide = wide;
-    })) (wide_of columns)) (terminal_of command encoding terminal)) (encoding_of encoding)) (until_of format timed until)))
+    })) (wide_of columns)) (terminal_of command encoding terminal)) (encoding_of encoding)) (moment_of format timed until))
+    (from_of command format timed from)))
     (named format)
 
 -- by a subcommand's name and matches
 abbrev pub source_in : (command : Text) → List Row → Result Source Complaint
 source_in command matches =
     source_of command (first_of (codes "format") matches) (is_some (first_of (codes "timing") matches))
-    (first_of (codes "until") matches) (first_of (codes "encoding") matches) (first_of (codes "terminal") matches)
+    (first_of (codes "from") matches) (first_of (codes "until") matches) (first_of (codes "encoding") matches) (first_of (codes "terminal") matches)
     (first_of (codes "columns") matches)
 
 -- what is said of options that don't fit: the fault, and after some of them a line with a way out
@@ -145,9 +158,10 @@ abbrev pub line_of : Complaint → List ℕ
 line_of NoFormat =
     codes "vt220: --format is raw, script, ttyrec or asciicast" ++ 0x0A ∷ codes "vt220: or it is auto: then the beginning of the input decides" ++ 0x0A ∷ []
 line_of NoTimingFile = codes "vt220: --timing goes with --format script alone" ++ 0x0A ∷ []
-line_of NoMoment = codes "vt220: --until is seconds, as 12.5 or 12:31, or bytes, as 4096b" ++ 0x0A ∷ []
+line_of NoMoment = codes "vt220: a moment is seconds, as 12.5 or 12:31, bytes, as 4096b, event:N or marker:N" ++ 0x0A ∷ []
+line_of NoStart = codes "vt220: --from goes with events and content alone" ++ 0x0A ∷ []
 line_of NoTimes =
-    codes "vt220: the input has no times; give --until in bytes, as 4096b, or script its --timing FILE" ++ 0x0A ∷ codes "vt220: a recording by ttyrec or asciinema has times: add --format ttyrec, asciicast or auto" ++ 0x0A ∷ []
+    codes "vt220: the input has no times; give the moment in bytes, as 4096b, or script its --timing FILE" ++ 0x0A ∷ codes "vt220: a recording by ttyrec or asciinema has times: add --format ttyrec, asciicast or auto" ++ 0x0A ∷ []
 line_of NoEncoding = codes "vt220: --encoding is dec, utf-8 or auto" ++ 0x0A ∷ []
 line_of NoTerminal = codes "vt220: --terminal is vt220, xterm or auto" ++ 0x0A ∷ []
 line_of NoColumns = codes "vt220: --columns is 80, 132 or auto" ++ 0x0A ∷ []

@@ -54,8 +54,14 @@ pub struct Request {
     pub wide: Option<bool>,
     /// The file with the times of a recording by script(1), if there is one.
     pub timing: Option<String>,
+    /// The moment from which on the input is wanted, or none for all of it.
+    pub from: Option<Moment>,
     /// The moment up to which the input is wanted, or none for all of it.
     pub until: Option<Moment>,
+    /// Whether the table of events has all that the recording has: its heading, and the bytes of its output.
+    pub full: bool,
+    /// Whether a recording may break its format: what came before is enough.
+    pub partial: bool,
     /// Whether the notes on standard error are left out.
     pub quiet: bool,
     pub ghost piece_in_range: { (1 ≤ piece) × (piece ≤ 65536) },

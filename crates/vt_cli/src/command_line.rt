@@ -132,9 +132,14 @@ const ARGUMENTS: &[(&str, Takes, &str)] = &[
         "The times of a recording by script(1)",
     ),
     (
+        "from",
+        Takes::Text("MOMENT"),
+        "Only what comes from there on, for events and content: as for --until",
+    ),
+    (
         "until",
         Takes::Text("MOMENT"),
-        "Only what came before: seconds, as 12.5 or 12:31, or bytes, as 4096b",
+        "Only what came up to it: seconds, as 12.5 or 12:31, bytes, as 4096b, event:N or marker:N",
     ),
     (
         "encoding",
@@ -152,6 +157,16 @@ const ARGUMENTS: &[(&str, Takes, &str)] = &[
         "The columns of the screen: 80, 132 or auto [default: auto]",
     ),
     (
+        "full",
+        Takes::Nothing,
+        "For events: all that the recording has, with the bytes of its output",
+    ),
+    (
+        "partial",
+        Takes::Nothing,
+        "What came before a recording breaks its format is enough: that is printed, and no fault",
+    ),
+    (
         "quiet",
         Takes::Nothing,
         "No notes on standard error; faults are printed all the same",
@@ -165,10 +180,13 @@ Each command but help takes FILE, or standard input if no file is named, and the
   --limit N        the most bytes of the input, 0 to 1099511627776 [default: 268435456]
   --format FORMAT  how FILE was recorded: raw, script, ttyrec, asciicast or auto [default: raw]
   --timing FILE    the times of a recording by script(1)
-  --until MOMENT   only what came before: seconds, as 12.5 or 12:31, or bytes, as 4096b
+  --from MOMENT    only what comes from there on, for events and content: as for --until
+  --until MOMENT   only what came up to it: 12.5 or 12:31 seconds, 4096b bytes, event:N or marker:N
   --encoding NAME  how the host's bytes are read: dec, utf-8 or auto [default: auto]
   --terminal NAME  the terminal for which the host sends: vt220, xterm or auto [default: auto]
   --columns N      the columns of the screen: 80, 132 or auto [default: auto]
+  --full           for events: all that the recording has, with the bytes of its output
+  --partial        what came before a recording breaks is enough: that is printed, and no fault
   --quiet          no notes on standard error; faults are printed all the same
 
 With auto the first line of a recording decides on the terminal and the columns. By asciinema
@@ -192,7 +210,7 @@ Exit status:
   4  the input can't be opened or read
   5  the output can't be written
   6  the input is longer than the limit
-  7  the recording breaks its format; what came before that was written";
+  7  the recording breaks its format; what came before that was written. With --partial it is 0";
 
 /// Returns an argument of a subcommand.
 fn argument<'a>(alloc: Global, name: &'a str, takes: Takes<'a>, help: &'a str) -> Arg<'a>
@@ -411,10 +429,13 @@ fn is_plain(matches: &ArgMatches<'_>) -> bool
 {
     !is_given(matches, "format")
         && !is_given(matches, "timing")
+        && !is_given(matches, "from")
         && !is_given(matches, "until")
         && !is_given(matches, "encoding")
         && !is_given(matches, "terminal")
         && !is_given(matches, "columns")
+        && !is_set(matches, "full")
+        && !is_set(matches, "partial")
         && !is_set(matches, "quiet")
 }
 

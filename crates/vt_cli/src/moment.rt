@@ -1,6 +1,6 @@
 //! A moment of a recording as text.
 ghost use Rattle.std.specs.Prelude.{◌≡◌, ◌<◌, ◌+◌, ◌*◌, ◌^◌, IfSome, Some, length};
-ghost use Rattle.vt_cli.specs.Moment.{place, sixtieth, with_sixtieth, seconds, micros, moment};
+ghost use Rattle.vt_cli.specs.Moment.{place, sixtieth, with_sixtieth, seconds, micros, numbered, plain_moment, moment};
 
 use vt_recording::{Moment, number, scale};
 
@@ -62,9 +62,33 @@ fn micros(text: &[u8]) -> Option<u64>
     }
 }
 
-/// Returns the moment that a text gives: seconds, as `12.5`, `12:31` or `1:02:03`, or a number of bytes, as `4096b`.
+/// Returns the number of an event or a marker, which counts from 1.
+fn numbered(digits: &[u8]) -> Option<u64>
+    ensures { result ≡ numbered digits.now }
+{
+    match number(15, digits)? {
+        0 => None,
+        n => Some(n),
+    }
+}
+
+/// Returns the moment that a text gives: seconds, as `12.5`, `12:31` or `1:02:03`, a number of bytes, as `4096b`, or the number of an
+/// event or a marker, as `event:12` or `marker:2`.
 pub(crate) fn moment(text: &[u8]) -> Option<Moment>
     ensures { result ≡ moment text.now }
+{
+    if text.starts_with(b"event:") {
+        return Some(Moment::Event(numbered(&text[6..])?));
+    }
+    if text.starts_with(b"marker:") {
+        return Some(Moment::Marker(numbered(&text[7..])?));
+    }
+    plain_moment(text)
+}
+
+/// Returns the moment that a text gives, if that is a time or a number of bytes.
+fn plain_moment(text: &[u8]) -> Option<Moment>
+    ensures { result ≡ plain_moment text.now }
 {
     match place(b'b', text) {
         None => Some(Moment::Micros(micros(text)?)),

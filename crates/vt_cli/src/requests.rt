@@ -57,10 +57,13 @@ fn request_of(
         file: options.file,
         format: source.format,
         timing,
+        from: source.from,
         until: source.until,
         encoding: source.encoding,
         terminal: source.terminal,
         wide: source.wide,
+        full: is_set(matches, "full"),
+        partial: is_set(matches, "partial"),
         quiet: is_set(matches, "quiet"),
     }))
 }
@@ -88,15 +91,17 @@ fn request_among(alloc: Global, matches: &ArgMatches<'_>) -> Result<Request, Ref
 ///
 /// The arguments are those of clap's command `vt220`: one of the twelve subcommands, those of `settings` and `log`, `pages`,
 /// `trace`, `summary`, `events` and `content`. Each takes `--piece N`, `--limit N` and at most one FILE, and the options of a
-/// recording: `--format FORMAT` (raw, script, ttyrec, asciicast or auto, otherwise raw), `--timing FILE`, `--until MOMENT`,
-/// `--encoding NAME` (dec, utf-8 or auto), `--terminal NAME` (vt220, xterm or auto), `--columns N` (80, 132 or auto) and
-/// `--quiet`. With auto the beginning of the input decides on the format. Of encoding, terminal and columns auto is the default:
+/// recording: `--format FORMAT` (raw, script, ttyrec, asciicast or auto, otherwise raw), `--timing FILE`, `--from MOMENT`,
+/// `--until MOMENT`, `--encoding NAME` (dec, utf-8 or auto), `--terminal NAME` (vt220, xterm or auto), `--columns N` (80, 132 or
+/// auto), `--full`, `--partial` and `--quiet`. With auto the beginning of the input decides on the format. Of encoding, terminal and columns auto is the default:
 /// then the request leaves the decision to the recording. A moment is seconds (`12.5`), minutes and seconds (`12:31`), hours,
-/// minutes and seconds (`1:02:03`), or a number of bytes (`4096b`). Seconds have up to six decimals.
+/// minutes and seconds (`1:02:03`), a number of bytes (`4096b`), or the number of an event (`event:12`) or a marker (`marker:2`),
+/// counted from 1. Seconds have up to six decimals.
 ///
 /// `Err` is what to end with if there is no request: the help or the version that was asked for (status 0), a failed
 /// allocation (1), or what is wrong with the arguments (2). Such are also `--timing` with a format other than script, a
-/// moment in seconds with raw, or with script without `--timing`, and xterm with dec, or with `pages`, `trace` or `summary`.
+/// moment in seconds with raw, or with script without `--timing`, `--from` with another subcommand than `events` and `content`, and
+/// xterm with dec, or with `pages`, `trace` or `summary`.
 /// (this profile)
 pub fn request(alloc: Global, words: Vec<String>) -> Result<Request, Refused>
     ensures ok { IfOk result (IsRequest words.items) }

@@ -1,7 +1,7 @@
-//! How the input was recorded: its format, the moment up to which it is wanted, the encoding, the terminal, and its columns.
+//! How the input was recorded: its format, the moments between which it is wanted, the encoding, the terminal, and its columns.
 ghost use Rattle.std.specs.Prelude.{◌≡◌, option_map};
 ghost use Rattle.clap.specs.Words.{found_of, rows_of};
-ghost use Rattle.vt_cli.specs.Source.{format_named, named, takes_timing, has_times, has_moment, until_of, source_of, source_in, line_of};
+ghost use Rattle.vt_cli.specs.Source.{format_named, named, takes_timing, has_times, has_moment, moment_of, takes_start, from_of, source_of, source_in, line_of};
 ghost use Rattle.vt_cli.specs.Source.{encoding_named, encoding_of};
 ghost use Rattle.vt_cli.specs.Source.{plays_xterm, xterm_for, terminal_named, terminal_of, wide_named, wide_of};
 
@@ -9,12 +9,14 @@ use crate::moment::moment;
 use clap::ArgMatches;
 use vt_recording::{Encoding, Format, Moment, TerminalType};
 
-/// How the input was recorded, the moment up to which it is wanted, the encoding, the terminal, and its columns.
+/// How the input was recorded, the moments between which it is wanted, the encoding, the terminal, and its columns.
 #[derive(Clone, Copy)]
 pub(crate) struct Source {
     /// The format, or none if the beginning of the input decides.
     pub(crate) format: Option<Format>,
-    /// The moment, or none for the whole input.
+    /// The moment from which on the input is wanted, or none for its beginning.
+    pub(crate) from: Option<Moment>,
+    /// The moment up to which it is wanted, or none for its end.
     pub(crate) until: Option<Moment>,
     /// The encoding, or none if the terminal and the format decide.
     pub(crate) encoding: Option<Encoding>,
@@ -31,10 +33,12 @@ pub(crate) enum Complaint {
     NoFormat,
     /// `--timing` is given for a format that has no timing file.
     NoTimingFile,
-    /// `--until` gives no moment.
+    /// `--from` or `--until` gives no moment.
     NoMoment,
-    /// `--until` gives seconds, and the recording has no times.
+    /// `--from` or `--until` gives seconds, and the recording has no times.
     NoTimes,
+    /// `--from` is given for a command that needs all that comes before.
+    NoStart,
     /// `--encoding` names no encoding.
     NoEncoding,
     /// `--terminal` names no terminal.
@@ -59,10 +63,11 @@ impl Complaint {
             }
             Complaint::NoTimingFile => "vt220: --timing goes with --format script alone\n",
             Complaint::NoMoment => {
-                "vt220: --until is seconds, as 12.5 or 12:31, or bytes, as 4096b\n"
+                "vt220: a moment is seconds, as 12.5 or 12:31, bytes, as 4096b, event:N or marker:N\n"
             }
+            Complaint::NoStart => "vt220: --from goes with events and content alone\n",
             Complaint::NoTimes => {
-                "vt220: the input has no times; give --until in bytes, as 4096b, or script its --timing FILE\n\
+                "vt220: the input has no times; give the moment in bytes, as 4096b, or script its --timing FILE\n\
                  vt220: a recording by ttyrec or asciinema has times: add --format ttyrec, asciicast or auto\n"
             }
             Complaint::NoEncoding => "vt220: --encoding is dec, utf-8 or auto\n",
@@ -128,25 +133,51 @@ fn has_moment(format: Option<Format>, timed: bool, moment: Moment) -> bool
 {
     match moment {
         Moment::Micros(_) => has_times(format, timed),
-        Moment::Bytes(_) => true,
+        Moment::Bytes(_) | Moment::Event(_) | Moment::Marker(_) => true,
     }
 }
 
-/// Returns the moment up to which a recording is wanted.
-fn until_of(
+/// Returns the moment of a recording that an option gives, if it is there.
+fn moment_of(
     format: Option<Format>,
     timed: bool,
-    until: Option<&str>,
+    option: Option<&str>,
 ) -> Result<Option<Moment>, Complaint>
-    ensures { result ≡ until_of format timed (option_map (λ u. u.now) until.entry) }
+    ensures { result ≡ moment_of format timed (option_map (λ o. o.now) option.entry) }
 {
-    let Some(text) = until else {
+    let Some(text) = option else {
         return Ok(None);
     };
     match moment(text.as_bytes()) {
         None => Err(Complaint::NoMoment),
         Some(moment) if has_moment(format, timed, moment) => Ok(Some(moment)),
         Some(_) => Err(Complaint::NoTimes),
+    }
+}
+
+/// Returns whether the command of this name takes a part of a recording that begins in the middle.
+fn takes_start(command: &str) -> bool
+    ensures { result ≡ takes_start command.now }
+{
+    matches!(command, "events" | "content")
+}
+
+/// Returns the moment from which on a recording is wanted, for a command.
+fn from_of(
+    command: &str,
+    format: Option<Format>,
+    timed: bool,
+    from: Option<&str>,
+) -> Result<Option<Moment>, Complaint>
+    ensures { result ≡ from_of command.now format timed (option_map (λ f. f.now) from.entry) }
+{
+    let Some(text) = from else {
+        return Ok(None);
+    };
+    if takes_start(command) {
+        moment_of(format, timed, Some(text))
+    } else {
+        Err(Complaint::NoStart)
     }
 }
 
@@ -242,19 +273,20 @@ fn wide_of(name: Option<&str>) -> Result<Option<bool>, Complaint>
     }
 }
 
-/// Returns the source that options give for a command: the name of a format, whether there is a timing file, the text of a
-/// moment, the names of an encoding and of a terminal, and a number of columns.
+/// Returns the source that options give for a command: the name of a format, whether there is a timing file, the texts of two
+/// moments, the names of an encoding and of a terminal, and a number of columns.
 fn source_of(
     command: &str,
     format: Option<&str>,
     timed: bool,
+    from: Option<&str>,
     until: Option<&str>,
     encoding: Option<&str>,
     terminal: Option<&str>,
     columns: Option<&str>,
 ) -> Result<Source, Complaint>
     ensures { result ≡ source_of command.now (option_map (λ f. f.now) format.entry) timed
-        (option_map (λ u. u.now) until.entry) (option_map (λ e. e.now) encoding.entry)
+        (option_map (λ f. f.now) from.entry) (option_map (λ u. u.now) until.entry) (option_map (λ e. e.now) encoding.entry)
         (option_map (λ t. t.now) terminal.entry) (option_map (λ n. n.now) columns.entry) }
 {
     let format = match named(format) {
@@ -264,7 +296,11 @@ fn source_of(
     if timed && !takes_timing(format) {
         return Err(Complaint::NoTimingFile);
     }
-    let until = match until_of(format, timed, until) {
+    let from = match from_of(command, format, timed, from) {
+        Ok(from) => from,
+        Err(complaint) => return Err(complaint),
+    };
+    let until = match moment_of(format, timed, until) {
         Ok(until) => until,
         Err(complaint) => return Err(complaint),
     };
@@ -279,6 +315,7 @@ fn source_of(
     match wide_of(columns) {
         Ok(wide) => Ok(Source {
             format,
+            from,
             until,
             encoding,
             terminal,
@@ -296,6 +333,7 @@ pub(crate) fn source_in(command: &str, matches: &ArgMatches<'_>) -> Result<Sourc
         command,
         matches.get_str("format"),
         matches.get_str("timing").is_some(),
+        matches.get_str("from"),
         matches.get_str("until"),
         matches.get_str("encoding"),
         matches.get_str("terminal"),

@@ -6,7 +6,7 @@ use Rattle.std.proofs.lemmas.Bool.Decides.{nat_tests}
 use Rattle.vt_recording.specs.declared.format.Encoding.{Encoding}
 use Rattle.vt_recording.specs.declared.format.Encoding.TheVariants.{Dec, Utf8}
 use Rattle.vt_recording.specs.declared.format.Moment.{Moment}
-use Rattle.vt_recording.specs.declared.format.Moment.TheVariants.{Micros, Bytes}
+use Rattle.vt_recording.specs.declared.format.Moment.TheVariants as moment
 use Rattle.vt_recording.specs.Moment.{cut, micros_of}
 use Rattle.vt_recording.specs.Characters.{AreWritten}
 use Rattle.vt_recording.specs.declared.format.Break.{Break}
@@ -100,8 +100,10 @@ after_both p q cast =
 
 pub cut_nothing : (until : Option Moment) → cut until [] ≡ []
 cut_nothing None = refl
-cut_nothing (Some (Micros n)) = refl
-cut_nothing (Some (Bytes n)) = take_all n [] (omega arith)
+cut_nothing (Some (moment.Micros n)) = refl
+cut_nothing (Some (moment.Event n)) = refl
+cut_nothing (Some (moment.Marker n)) = refl
+cut_nothing (Some (moment.Bytes n)) = take_all n [] (omega arith)
 
 nothing_written : (encoding : Encoding) (until : Option Moment) → AreWritten encoding until [] [] 0
 nothing_written Dec until = rw (cut_nothing until) (record { bytes_are = refl; replaced_are = refl })

@@ -5,6 +5,8 @@ mod Supplemental
 mod Writing
 mod Texts
 mod Lasts
+pub mod Marks
+mod Passing
 mod Casts
 mod Fronts
 mod Heard

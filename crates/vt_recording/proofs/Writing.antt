@@ -8,7 +8,7 @@ use Rattle.std.proofs.lemmas.List.{length-take, take_all, take-append-le, length
 use Rattle.std.proofs.lemmas.List.Elements.{filter-append}
 use Rattle.std.proofs.lemmas.Bool.Decides.{nat_tests}
 use Rattle.vt_recording.specs.declared.format.Moment.{Moment}
-use Rattle.vt_recording.specs.declared.format.Moment.TheVariants.{Micros, Bytes}
+use Rattle.vt_recording.specs.declared.format.Moment.TheVariants.{Micros, Bytes, Event, Marker}
 use Rattle.vt_recording.specs.declared.format.Encoding.TheVariants.{Dec, Utf8}
 use Rattle.vt_recording.specs.Moment.{cut, is_full, wanted_after}
 use Rattle.vt_recording.specs.Characters.{byte_of, AreConverted, AreWritten}
@@ -23,6 +23,8 @@ cut_one : (until : Option Moment) (front : List ℕ) (c : ℕ) → is_full until
     → cut until (front ++ c ∷ []) ≡ cut until front ++ c ∷ []
 cut_one None front c free = refl
 cut_one (Some (Micros n)) front c free = refl
+cut_one (Some (Event n)) front c free = refl
+cut_one (Some (Marker n)) front c free = refl
 cut_one (Some (Bytes n)) front c free =
     let room = room_in n front free in
     let more : length (front ++ c ∷ []) ≤ n = rw length-append (omega (arith, room)) in
@@ -69,6 +71,8 @@ cut_two : (until : Option Moment) (xs ys : List ℕ)
     → cut until (xs ++ ys) ≡ cut until xs ++ wanted_after until (length (cut until xs)) ys
 cut_two None xs ys = refl
 cut_two (Some (Micros n)) xs ys = refl
+cut_two (Some (Event n)) xs ys = refl
+cut_two (Some (Marker n)) xs ys = refl
 cut_two (Some (Bytes n)) xs ys = take_two n xs ys _ refl
 
 pub pushed_utf8 : (until : Option Moment) (front bytes text more : List ℕ) (n m : ℕ) → IsUtf8 text

@@ -1,5 +1,5 @@
 -- The statuses, lines and messages of the faults. (this profile)
-use Rattle.std.specs.Prelude.{ℕ, List, ◌++◌, codes, decimal}
+use Rattle.std.specs.Prelude.{ℕ, List, ◌++◌, ◌&&◌, codes, decimal, Bool, false, cond, nat_lt}
 use Rattle.vt_recording.specs.declared.format.Part.{Part}
 use Rattle.vt_recording.specs.declared.format.Part.TheVariants.{Recording, Timing}
 use Rattle.vt_recording.specs.declared.fault.Fault.{Fault}
@@ -14,6 +14,20 @@ status_of Write = 5
 status_of TooLong = 6
 status_of (Broken place) = 7
 
+-- something came before the recording broke its format
+abbrev pub has_front : Fault → Bool
+has_front Memory = false
+has_front NoTimes = false
+has_front Partial = false
+has_front Read = false
+has_front Write = false
+has_front TooLong = false
+has_front (Broken place) = nat_lt 0 place.at
+
+-- the status, by whether it is enough what came before that
+abbrev pub status_with : (partial : Bool) → Fault → ℕ
+status_with partial fault = cond (partial && has_front fault) 0 (status_of fault)
+
 -- what is broken
 abbrev pub broken_part : Part → List ℕ
 broken_part Recording = codes "vt220: the recording is broken"
@@ -27,7 +41,7 @@ line_of Read = codes "vt220: read failed"
 line_of Write = codes "vt220: write failed"
 line_of TooLong = codes "vt220: input is longer than the limit"
 line_of (Broken place) = broken_part place.part
-line_of NoTimes = codes "vt220: the input has no times; give --until in bytes, as 4096b"
+line_of NoTimes = codes "vt220: the input has no times; give the moment in bytes, as 4096b"
 
 -- the line that is printed: after that of a broken recording comes the place
 abbrev pub message_of : Fault → List ℕ

@@ -8,6 +8,7 @@ pub mod Gathered
 pub mod Heading
 pub mod Lines
 pub mod Moment
+pub mod Reached
 pub mod Reading
 pub mod Script
 pub mod Seconds

@@ -130,7 +130,7 @@ fn is_full(until: Option<Moment>, count: usize) -> bool
 {
     match until {
         Some(Moment::Bytes(most)) => most <= count as u64,
-        Some(Moment::Micros(_)) => false,
+        Some(Moment::Micros(_) | Moment::Event(_) | Moment::Marker(_)) => false,
         None => false,
     }
 }

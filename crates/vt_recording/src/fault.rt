@@ -1,6 +1,6 @@
 //! Why a request ends early.
 ghost use Rattle.std.specs.Prelude.{◌≡◌, Some};
-ghost use Rattle.vt_recording.specs.Fault.{status_of, line_of, message_of};
+ghost use Rattle.vt_recording.specs.Fault.{status_of, has_front, status_with, line_of, message_of};
 
 use crate::format::{Break, Part};
 use std::alloc::AllocError;
@@ -42,6 +42,27 @@ impl Fault {
         }
     }
 
+    /// Returns whether the recording breaks its format, and something came before that.
+    fn has_front(&self) -> bool
+        ensures { result ≡ has_front self.now }
+    {
+        match self {
+            Fault::Broken(place) => place.at > 0,
+            _ => false,
+        }
+    }
+
+    /// Returns the status with which the program ends, by whether it is enough what came before the recording broke its format.
+    pub fn status_with(&self, partial: bool) -> u8
+        ensures { result ≡ status_with partial self.now }
+    {
+        if partial && self.has_front() {
+            0
+        } else {
+            self.status()
+        }
+    }
+
     /// Returns the line of this fault. That of a broken recording doesn't name the place, which the `Display` adds.
     pub fn line(&self) -> &'static str
         ensures { result.now ≡ line_of self.now }
@@ -56,7 +77,7 @@ impl Fault {
                 Part::Recording => "vt220: the recording is broken",
                 Part::Timing => "vt220: the timing file is broken",
             },
-            Fault::NoTimes => "vt220: the input has no times; give --until in bytes, as 4096b",
+            Fault::NoTimes => "vt220: the input has no times; give the moment in bytes, as 4096b",
         }
     }
 }

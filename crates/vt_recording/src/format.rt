@@ -31,13 +31,17 @@ pub enum TerminalType {
     Xterm,
 }
 
-/// The end of what is wanted of a recording.
+/// A moment of a recording.
 #[derive(Clone, Copy, Debug, PartialEq, Eq)]
 pub enum Moment {
-    /// Microseconds after the beginning of the recording. In a format without times, everything is wanted.
+    /// Microseconds after the beginning of the recording. A format without times has no such moment.
     Micros(u64),
     /// A number of bytes of the content.
     Bytes(u64),
+    /// The event of this number, counted from 1.
+    Event(u64),
+    /// The marker of this number, counted from 1.
+    Marker(u64),
 }
 
 /// A file of a recording.

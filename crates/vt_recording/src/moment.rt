@@ -10,7 +10,7 @@ pub(crate) fn micros_of(until: Option<Moment>) -> Option<u64>
 {
     match until {
         Some(Moment::Micros(micros)) => Some(micros),
-        Some(Moment::Bytes(_)) => None,
+        Some(Moment::Bytes(_) | Moment::Event(_) | Moment::Marker(_)) => None,
         None => None,
     }
 }

@@ -16,7 +16,8 @@ use crate::timing::{timed_content, timed_timeline};
 use crate::ttyrec::{HEADER, header_of, is_due, time_of};
 use std::alloc::{AllocError, Global};
 
-/// Returns the content of a recording up to a moment, and the place at which it breaks its format, if it does. The
+/// Returns the content of a recording up to a time or a number of bytes, and the place at which it breaks its format, if it does.
+/// An event or a marker doesn't end it: `take_between` finds these. The
 /// content is what came before that place. Only script(1) has a timing file. Only asciinema keeps characters: the content
 /// has their bytes in the encoding. A recording breaks its format:
 ///

@@ -4,7 +4,7 @@ ghost use Rattle.std.specs.Io.KnownBytes.{IsAtEnd};
 ghost use Rattle.vt_device.specs.Runs.{Moves};
 ghost use Rattle.vt_device.specs.Writing.{Gives};
 ghost use Rattle.vt_replay.specs.Words.{WordTable};
-ghost use Rattle.vt_replay.specs.Request.{asks_wide, is_streamed, lists_events, format_of, lacks_times, ended_of, IsStreamed, IsTakenBy, IsPrepared, IsPlayed, OutcomeTable};
+ghost use Rattle.vt_replay.specs.Request.{asks_wide, is_streamed, lists_events, needs_whole, format_of, lacks_times, ended_of, IsStreamed, IsTakenBy, IsPrepared, IsPlayed, OutcomeTable};
 ghost use Rattle.vt_replay.specs.Host.{host_of, opening};
 
 use crate::converting::Converter;
@@ -20,7 +20,7 @@ use vt_cli::{Encoding, Format, Moment, Request, TerminalType, Word};
 use vt_device::{Source, Watched};
 use vt_output::write_by;
 use vt_recording::{
-    Break, Content, Detected, Fault, Taken, detect, heading_of, read_recording, take_apart,
+    Break, Content, Detected, Fault, Taken, detect, heading_of, read_recording, take_between,
 };
 
 /// Carries out a request's word on the reader's bytes, as a host sent them. Neither device has failed before, and the reader hasn't
@@ -88,11 +88,11 @@ fn asks_wide(wide: Option<bool>) -> bool
 }
 
 /// Returns whether the input is played as it comes.
-fn is_streamed(format: Format, until: Option<Moment>, wide: Option<bool>, events: bool) -> bool
-    ensures { result ≡ is_streamed format until wide events }
+fn is_streamed(format: Format, until: Option<Moment>, wide: Option<bool>, whole: bool) -> bool
+    ensures { result ≡ is_streamed format until wide whole }
 {
     match format {
-        Format::Raw => until.is_none() && !asks_wide(wide) && !events,
+        Format::Raw => until.is_none() && !asks_wide(wide) && !whole,
         Format::Script => false,
         Format::Ttyrec => false,
         Format::Asciicast => false,
@@ -104,6 +104,13 @@ fn lists_events(word: Word) -> bool
     ensures { result ≡ lists_events word }
 {
     matches!(word, Word::Events)
+}
+
+/// Returns whether a request needs the whole input, since its word lists events or begins in the middle.
+fn needs_whole(request: &Request) -> bool
+    ensures { result ≡ needs_whole request.now }
+{
+    lists_events(request.word) || request.from.is_some()
 }
 
 /// Returns how a request ends whose word ended so, on a recording that is broken there.
@@ -173,7 +180,7 @@ pub fn lacks_times(format: Format, timed: bool, until: Option<Moment>) -> bool
 ///
 /// If the format is raw, all of the input is wanted, and 132 columns weren't asked for, the word is carried out on the bytes as they come. Events
 /// are a table of the whole recording, which is written in the place of its content. Otherwise the
-/// input is read whole, and the word is carried out on its content up to the moment. If the recording is broken, that is
+/// input is read whole, and the word is carried out on its content between the moments. If the recording is broken, that is
 /// the fault, after what came before was played and written.
 pub fn carry_out<R: Read, W: Write>(
     alloc: Global,
@@ -191,12 +198,7 @@ pub fn carry_out<R: Read, W: Write>(
         (λ b w. OutcomeTable result request.now format (option_map (λ t. t.now) timing.entry) b w (record { reader_failed = reader.new.failed; reader_ended = reader.new.ended; writer_failed = writer.new.failed })) }
     ensures whole { reader.new.ended ≡ true → IsAtEnd (R.remaining reader.new.device) }
 {
-    if is_streamed(
-        format,
-        request.until,
-        request.wide,
-        lists_events(request.word),
-    ) {
+    if is_streamed(format, request.until, request.wide, needs_whole(request)) {
         return stream(alloc, reader, writer, request);
     }
     match read_recording(alloc, reader, request.limit as usize) {
@@ -235,7 +237,7 @@ fn stream<R: Read, W: Write>(
 struct Prepared {
     /// For what its host sent.
     host: Host,
-    /// The opening, and the content up to the moment.
+    /// The opening, and the content between the moments.
     bytes: Vec<u8>,
     /// The place at which the recording is broken, or none.
     broken: Option<Break>,
@@ -252,12 +254,13 @@ fn taken_for(
     encoding: Encoding,
     request: &Request,
 ) -> Result<Taken, AllocError>
-    ensures { IfOk result (λ t. IsTakenBy (lists_events request.now.word) format encoding request.now.until (option_map (λ b. b.now) timing.entry) bytes.now t.content.items t.broken t.replaced) }
+    ensures { IfOk result (λ t. IsTakenBy (lists_events request.now.word) request.now.full format encoding request.now.from request.now.until (option_map (λ b. b.now) timing.entry) bytes.now t.content.items t.broken t.replaced) }
 {
+    let (from, until) = (request.from, request.until);
     if lists_events(request.word) {
-        events_taken(alloc, bytes, timing, format, request.until)
+        events_taken(alloc, bytes, timing, format, request.full, from, until)
     } else {
-        take_apart(alloc, bytes, timing, format, encoding, request.until)
+        take_between(alloc, bytes, timing, format, encoding, from, until)
     }
 }
 

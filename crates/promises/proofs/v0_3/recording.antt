@@ -11,5 +11,6 @@ pub mod Taken
 pub mod Timing
 pub mod Moment
 pub mod Characters
-pub mod Reading
+pub mod Reached
 pub mod Gathered
+pub mod Reading

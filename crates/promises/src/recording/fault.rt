@@ -1,5 +1,5 @@
 //! The calls of vt_recording/src/fault.
-ghost use Rattle.promises.specs.v0_3.recording.Fault.{line_of, status_of};
+ghost use Rattle.promises.specs.v0_3.recording.Fault.{line_of, status_of, status_with};
 ghost use Rattle.std.specs.Prelude.{◌≡◌};
 
 use vt_recording::Fault;
@@ -9,6 +9,13 @@ pub fn fault_status(fault: &Fault) -> u8
     ensures { result ≡ status_of fault.now }
 {
     fault.status()
+}
+
+/// Promises what `fault.status_with` promises.
+pub fn fault_status_with(fault: &Fault, partial: bool) -> u8
+    ensures { result ≡ status_with partial fault.now }
+{
+    fault.status_with(partial)
 }
 
 /// Promises what `fault.line` promises.

@@ -104,7 +104,10 @@ fn replayed(
         terminal: None,
         wide: None,
         timing: None,
+        from: None,
         until: None,
+        full: false,
+        partial: false,
         quiet: false,
     };
     let outcome = carry_out(alloc, &mut reader, Format::Raw, None, &mut writer, &request);

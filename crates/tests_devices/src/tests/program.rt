@@ -68,7 +68,7 @@ const FAULTS: &[(Fault, u8, &str, &str)] = &[
     (
         Fault::NoTimes,
         2,
-        "vt220: the input has no times; give --until in bytes, as 4096b",
+        "vt220: the input has no times; give the moment in bytes, as 4096b",
         "",
     ),
     (Fault::Partial, 3, "vt220: input ends inside a sequence", ""),

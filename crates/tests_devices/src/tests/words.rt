@@ -16,6 +16,7 @@ struct Asked {
     word: Word,
     format: Format,
     timing: Option<&'static [u8]>,
+    from: Option<Moment>,
     until: Option<Moment>,
     encoding: Option<Encoding>,
     terminal: Option<TerminalType>,
@@ -43,7 +44,10 @@ fn carried_out(
         terminal: asked.terminal,
         wide: asked.wide,
         timing: None,
+        from: asked.from,
         until: asked.until,
+        full: false,
+        partial: false,
         quiet: false,
     };
     let format = asked.format;
@@ -66,6 +70,7 @@ const RAW: Asked = Asked {
     word: Word::Content,
     format: Format::Raw,
     timing: None,
+    from: None,
     until: None,
     encoding: None,
     terminal: None,

@@ -160,16 +160,19 @@ fn words_ask_for_a_log(rt: HostRuntime) {
     }
 }
 
-/// The request that the options of a line make: the format (none for auto), the timing file, the moment, the encoding, the terminal,
-/// and whether the notes are left out.
+/// The request that the options of a line make: the format (none for auto), the timing file, the moments, the encoding, the terminal,
+/// whether a table is full, whether what came before a break is enough, and whether the notes are left out.
 #[derive(Clone, Copy)]
 struct Options {
     format: Option<Format>,
     timing: Option<&'static str>,
+    from: Option<Moment>,
     until: Option<Moment>,
     encoding: Option<Encoding>,
     terminal: Option<TerminalType>,
     wide: Option<bool>,
+    full: bool,
+    partial: bool,
     quiet: bool,
 }
 
@@ -177,10 +180,13 @@ struct Options {
 const NONE: Options = Options {
     format: Some(Format::Raw),
     timing: None,
+    from: None,
     until: None,
     encoding: None,
     terminal: None,
     wide: None,
+    full: false,
+    partial: false,
     quiet: false,
 };
 
@@ -295,6 +301,53 @@ const RECORDED: &[Asked] = &[
             ..SCRIPT
         },
     ),
+    (
+        "vt220 text --until event:12",
+        Word::Replay(What::Text),
+        Options {
+            until: Some(Moment::Event(12)),
+            ..NONE
+        },
+    ),
+    (
+        "vt220 log --format asciicast --until marker:2 a",
+        Word::Log,
+        Options {
+            until: Some(Moment::Marker(2)),
+            ..ASCIICAST
+        },
+    ),
+    (
+        "vt220 events --format ttyrec --from 1.5 --until=event:999999999999999",
+        Word::Events,
+        Options {
+            from: Some(Moment::Micros(1500000)),
+            until: Some(Moment::Event(999999999999999)),
+            ..TTYREC
+        },
+    ),
+    (
+        "vt220 content --from marker:1 --until 7b",
+        Word::Content,
+        Options {
+            from: Some(Moment::Marker(1)),
+            until: Some(Moment::Bytes(7)),
+            ..NONE
+        },
+    ),
+    (
+        "vt220 text --partial a",
+        Word::Replay(What::Text),
+        Options {
+            partial: true,
+            ..NONE
+        },
+    ),
+    (
+        "vt220 events --full",
+        Word::Events,
+        Options { full: true, ..NONE },
+    ),
     ("vt220 log --format auto a", Word::Log, AUTO),
     (
         "vt220 text --until 1:00 --format=auto",
@@ -400,6 +453,7 @@ const FOR_TERMINALS: &[Asked] = &[
 fn is_recorded(found: &Request, options: &Options) -> bool {
     found.format == options.format
         && is_name(&found.timing, &options.timing)
+        && found.from == options.from
         && found.until == options.until
 }
 
@@ -408,6 +462,8 @@ fn is_played(found: &Request, options: &Options) -> bool {
     found.encoding == options.encoding
         && found.terminal == options.terminal
         && found.wide == options.wide
+        && found.full == options.full
+        && found.partial == options.partial
         && found.quiet == options.quiet
 }
 
@@ -464,7 +520,7 @@ fn words_ask_for_columns(rt: HostRuntime) {
 }
 
 /// A line that is refused, and the sentences that say why.
-const MISFITS: [(&str, &str); 25] = [
+const MISFITS: [(&str, &str); 33] = [
     (
         "vt220 text --format cast",
         "vt220: --format is raw, script, ttyrec or asciicast\n\
@@ -486,6 +542,14 @@ const MISFITS: [(&str, &str); 25] = [
     ("vt220 pages --format script --until 0:05", NO_TIMES),
     ("vt220 text --until 5s", NO_MOMENT),
     ("vt220 text --until b", NO_MOMENT),
+    ("vt220 text --until event:0", NO_MOMENT),
+    ("vt220 text --until marker:", NO_MOMENT),
+    ("vt220 text --until marker:two", NO_MOMENT),
+    ("vt220 text --until event:1000000000000000", NO_MOMENT),
+    ("vt220 events --from 5s", NO_MOMENT),
+    ("vt220 events --from 5", NO_TIMES),
+    ("vt220 text --from 5b", NO_START),
+    ("vt220 log --format ttyrec --from 5s", NO_START),
     ("vt220 text --until 1.5b", NO_MOMENT),
     ("vt220 text --format ttyrec --until 1.", NO_MOMENT),
     ("vt220 text --format ttyrec --until 1.0000001", NO_MOMENT),
@@ -517,10 +581,13 @@ const NO_XTERM: &str = "vt220: pages, trace and summary play no xterm\n\
 
 const NO_ENCODING: &str = "vt220: --encoding is dec, utf-8 or auto\n";
 
-const NO_MOMENT: &str = "vt220: --until is seconds, as 12.5 or 12:31, or bytes, as 4096b\n";
+const NO_MOMENT: &str =
+    "vt220: a moment is seconds, as 12.5 or 12:31, bytes, as 4096b, event:N or marker:N\n";
+
+const NO_START: &str = "vt220: --from goes with events and content alone\n";
 
 const NO_TIMES: &str =
-    "vt220: the input has no times; give --until in bytes, as 4096b, or script its --timing FILE\n\
+    "vt220: the input has no times; give the moment in bytes, as 4096b, or script its --timing FILE\n\
      vt220: a recording by ttyrec or asciinema has times: add --format ttyrec, asciicast or auto\n";
 
 #[test]

@@ -30,5 +30,11 @@ micros-same = refl
 pub moment_at-same : frozen.moment_at ≡ today.moment_at
 moment_at-same = refl
 
+pub plain_moment-same : frozen.plain_moment ≡ today.plain_moment
+plain_moment-same = refl
+
+pub numbered-same : frozen.numbered ≡ today.numbered
+numbered-same = refl
+
 pub moment-same : frozen.moment ≡ today.moment
 moment-same = refl

@@ -12,5 +12,8 @@ has_times-same = refl
 pub has_moment-same : frozen.has_moment ≡ today.has_moment
 has_moment-same = refl
 
+pub takes_start-same : frozen.takes_start ≡ today.takes_start
+takes_start-same = refl
+
 pub plays_xterm-same : frozen.plays_xterm ≡ today.plays_xterm
 plays_xterm-same = refl

@@ -1,21 +1,18 @@
 -- 0.3: vt_replay/specs/Request is today's.
 use Rattle.promises.proofs.v0_3.recording.Detection.{detected-same}
-use Rattle.promises.proofs.v0_3.recording.Taken.{IsTaken-same}
 use Rattle.promises.proofs.v0_3.replay.Host.{host_of-same}
 use Rattle.promises.proofs.v0_3.replay.Words.{WordTable-same}
 use Rattle.promises.specs.v0_3.replay.Request as frozen
 use Rattle.std.proofs.Common.{refl, ◌≡◌}
-use Rattle.std.specs.Prelude.{Bool, false, List, None, Option, Some, true, ℕ, ◌≡◌}
+use Rattle.std.specs.Prelude.{Bool, false, List, None, Option, Some, ℕ, ◌≡◌}
 use Rattle.vt_cli.specs.declared.asked.Request.{Request}
 use Rattle.vt_device.specs.Runs.{Flags}
 use Rattle.vt_recording.specs.declared.format.Break.{Break}
-use Rattle.vt_recording.specs.declared.format.Encoding.{Encoding}
+use Rattle.vt_recording.specs.declared.format.Format.TheVariants as format
 use Rattle.vt_recording.specs.declared.format.Format.{Format}
-use Rattle.vt_recording.specs.declared.format.Moment.{Moment}
-use Rattle.vt_replay.specs.EventTable.{IsTableTaken}
 use Rattle.vt_replay.specs.Host.{plain_host}
 use Rattle.vt_replay.specs.Request as today
-use Rattle.vt_replay.specs.Request.{ended_of, IsPlayed, IsPrepared, lists_events, shown_format}
+use Rattle.vt_replay.specs.Request.{shown_format}
 use Rattle.vt_replay.specs.declared.host.Host.{Host}
 use Rattle.vt_replay.specs.declared.requests.Outcome.{Outcome}
 
@@ -27,6 +24,9 @@ is_streamed-same = refl
 
 pub lists_events-same : frozen.lists_events ≡ today.lists_events
 lists_events-same = refl
+
+pub needs_whole-same : frozen.needs_whole ≡ today.needs_whole
+needs_whole-same = refl
 
 pub ended_of-same : frozen.ended_of ≡ today.ended_of
 ended_of-same = refl
@@ -69,20 +69,14 @@ IsPlayed-read o r host content broken replaced w writer_failed ρ = record {
   replaces = ρ.replaces;
 }
 
-pub IsTakenBy-at : (events : Bool) (x1 : Format) (x2 : Encoding) (until : Option Moment) (timing : Option (List ℕ)) (bytes : List ℕ) (content : List ℕ) (broken : Option Break) (replaced : ℕ) → frozen.IsTakenBy events x1 x2 until timing bytes content broken replaced ≡ today.IsTakenBy events x1 x2 until timing bytes content broken replaced
-IsTakenBy-at true format encoding until timing bytes content broken replaced = λ ι.
-    IsTableTaken format until timing bytes content broken replaced
-IsTakenBy-at false format encoding until timing bytes content broken replaced = λ ι.
-    (IsTaken-same ι) format encoding until timing bytes content broken replaced
-
 pub IsTakenBy-same : frozen.IsTakenBy ≡ today.IsTakenBy
-IsTakenBy-same = λ ι events x1 x2 until timing bytes content broken replaced. IsTakenBy-at events x1 x2 until timing bytes content broken replaced ι
+IsTakenBy-same = refl
 
 pub IsPrepared-made : (r : Request) (format : Format) (timing : Option (List ℕ)) (b : List ℕ) (host : Host) (bytes : List ℕ) (broken : Option Break) (replaced : ℕ) → frozen.IsPrepared' r format timing b host bytes broken replaced → today.IsPrepared r format timing b host bytes broken replaced
 IsPrepared-made r format timing b host bytes broken replaced ρ = record {
   host_is = coe 0 1 (ι. host ≡ (host_of-same ι) r format b) ρ.host_is;
   content = ρ.content;
-  taken = coe 0 1 (ι. (IsTakenBy-same ι) (lists_events r.word) format host.encoding r.until timing b ρ.content broken replaced) ρ.taken;
+  taken = ρ.taken;
   joined = ρ.joined;
 }
 
@@ -90,7 +84,7 @@ pub IsPrepared-read : (r : Request) (format : Format) (timing : Option (List ℕ
 IsPrepared-read r format timing b host bytes broken replaced ρ = record {
   host_is = coe 1 0 (ι. host ≡ (host_of-same ι) r format b) ρ.host_is;
   content = ρ.content;
-  taken = coe 1 0 (ι. (IsTakenBy-same ι) (lists_events r.word) format host.encoding r.until timing b ρ.content broken replaced) ρ.taken;
+  taken = ρ.taken;
   joined = ρ.joined;
 }
 

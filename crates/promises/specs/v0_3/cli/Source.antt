@@ -1,9 +1,9 @@
 -- 0.3: vt_cli/specs/Source.
 use Rattle.clap.specs.Words.{Text}
-use Rattle.std.specs.Prelude.{Bool, bytes_eq, codes, false, None, not, Option, Some, true, ◌&&◌}
+use Rattle.std.specs.Prelude.{Bool, bytes_eq, codes, false, None, not, Option, Some, true, ◌&&◌, ◌||◌}
 use Rattle.vt_recording.specs.declared.format.Format.TheVariants.{Asciicast, Raw, Script, Ttyrec}
 use Rattle.vt_recording.specs.declared.format.Format.{Format}
-use Rattle.vt_recording.specs.declared.format.Moment.TheVariants.{Bytes, Micros}
+use Rattle.vt_recording.specs.declared.format.Moment.TheVariants.{Bytes, Event, Marker, Micros}
 use Rattle.vt_recording.specs.declared.format.Moment.{Moment}
 
 -- a timing file goes with a recording of script(1) alone
@@ -26,6 +26,12 @@ has_times None timed = true
 abbrev pub has_moment : Option Format → (timed : Bool) → Moment → Bool
 has_moment format timed (Micros n) = has_times format timed
 has_moment format timed (Bytes n) = true
+has_moment format timed (Event n) = true
+has_moment format timed (Marker n) = true
+
+-- the command of this name takes a part of a recording that begins in the middle. For a screen all that comes before counts
+abbrev pub takes_start : Text → Bool
+takes_start command = bytes_eq command (codes "events") || bytes_eq command (codes "content")
 
 -- the command of this name plays xterm
 abbrev pub plays_xterm : Text → Bool

@@ -1,16 +1,16 @@
 -- 0.3: vt_replay/specs/Request.
 use Rattle.promises.specs.v0_3.recording.Detection.{detected}
 use Rattle.promises.specs.v0_3.recording.Reading.{ReadTable}
-use Rattle.promises.specs.v0_3.recording.Taken.{IsTaken}
 use Rattle.promises.specs.v0_3.replay.EventTable.{IsTableTaken}
 use Rattle.promises.specs.v0_3.replay.Host.{host_of, opening, plain_host}
 use Rattle.promises.specs.v0_3.replay.Words.{WordTable}
-use Rattle.std.specs.Prelude.{[], Bool, Err, false, length, List, None, not, Ok, Option, Result, Some, true, ℕ, ◌&&◌}
-use Rattle.std.specs.Prelude.{◌++◌, ◌≡◌, ◌≤◌, ◌⊎◌}
+use Rattle.std.specs.Prelude.{[], Bool, Err, false, is_some, length, List, None, not, Ok, Option, Result, Some, true}
+use Rattle.std.specs.Prelude.{ℕ, ◌&&◌, ◌++◌, ◌||◌, ◌≡◌, ◌≤◌, ◌⊎◌}
 use Rattle.vt_cli.specs.declared.asked.Request.{Request}
 use Rattle.vt_cli.specs.declared.what.Word.TheVariants.{Content, Events, Log, Pages, Replay, Summary, Trace}
 use Rattle.vt_cli.specs.declared.what.Word.{Word}
 use Rattle.vt_device.specs.Runs.{Flags}
+use Rattle.vt_recording.specs.Reached.{IsTakenBetween}
 use Rattle.vt_recording.specs.declared.detection.Detected.TheVariants.{Compressed, Recording}
 use Rattle.vt_recording.specs.declared.detection.Detected.{Detected}
 use Rattle.vt_recording.specs.declared.fault.Fault.TheVariants as fault
@@ -19,7 +19,7 @@ use Rattle.vt_recording.specs.declared.format.Break.{Break}
 use Rattle.vt_recording.specs.declared.format.Encoding.{Encoding}
 use Rattle.vt_recording.specs.declared.format.Format.TheVariants as format
 use Rattle.vt_recording.specs.declared.format.Format.{Format}
-use Rattle.vt_recording.specs.declared.format.Moment.TheVariants.{Bytes, Micros}
+use Rattle.vt_recording.specs.declared.format.Moment.TheVariants.{Bytes, Event, Marker, Micros}
 use Rattle.vt_recording.specs.declared.format.Moment.{Moment}
 use Rattle.vt_replay.specs.Request.{IsPlayed, IsPrepared, IsStreamed, IsTakenApart, IsUnread}
 use Rattle.vt_replay.specs.declared.host.Host.{Host}
@@ -30,14 +30,14 @@ abbrev pub asks_wide : Option Bool → Bool
 asks_wide (Some wide) = wide
 asks_wide None = false
 
--- the input is played as it comes: it is the host's bytes, all of them are wanted, no others come first, and they aren't
--- listed as events
-abbrev pub is_streamed : Format → Option Moment → (wide : Option Bool) → (events : Bool) → Bool
-is_streamed format.Raw None wide events = not (asks_wide wide) && not events
-is_streamed format.Raw (Some m) wide events = false
-is_streamed format.Script until wide events = false
-is_streamed format.Ttyrec until wide events = false
-is_streamed format.Asciicast until wide events = false
+-- the input is played as it comes: it is the host's bytes, all of them are wanted, no others come first, and nothing else
+-- needs the whole of them
+abbrev pub is_streamed : Format → Option Moment → (wide : Option Bool) → (whole : Bool) → Bool
+is_streamed format.Raw None wide whole = not (asks_wide wide) && not whole
+is_streamed format.Raw (Some m) wide whole = false
+is_streamed format.Script until wide whole = false
+is_streamed format.Ttyrec until wide whole = false
+is_streamed format.Asciicast until wide whole = false
 
 -- the word lists the events of a recording, and plays nothing of it
 abbrev pub lists_events : Word → Bool
@@ -48,6 +48,10 @@ lists_events Trace = false
 lists_events Summary = false
 lists_events Events = true
 lists_events Content = false
+
+-- the word needs the whole input: it lists events, or begins in the middle
+abbrev pub needs_whole : Request → Bool
+needs_whole r = lists_events r.word || is_some r.from
 
 -- how a request ends: a fault of the word comes first, then that the recording is broken
 abbrev pub ended_of : (broken : Option Break) → Result (Unit {0}) Fault → Result (Unit {0}) Fault
@@ -75,19 +79,19 @@ pub record IsPlayed' (o : Outcome) (r : Request) (host : Host) (content : List �
   pub replaces : o.replaced ≡ replaced
 
 -- what is taken out of a recording for a word: the table of its events, or its content
-abbrev pub IsTakenBy : (events : Bool) → Format → Encoding → (until : Option Moment) → (timing : Option (List ℕ)) → (bytes content : List ℕ)
+abbrev pub IsTakenBy : (events full : Bool) → Format → Encoding → (from until : Option Moment) → (timing : Option (List ℕ)) → (bytes content : List ℕ)
     → (broken : Option Break) → (replaced : ℕ) → Type 0
-IsTakenBy true format encoding until timing bytes content broken replaced =
-    IsTableTaken format until timing bytes content broken replaced
-IsTakenBy false format encoding until timing bytes content broken replaced =
-    IsTaken format encoding until timing bytes content broken replaced
+IsTakenBy true full format encoding from until timing bytes content broken replaced =
+    IsTableTaken format full from until timing bytes content broken replaced
+IsTakenBy false full format encoding from until timing bytes content broken replaced =
+    IsTakenBetween format encoding from until timing bytes content broken replaced
 
 -- what is played of a recording: the opening and the content
 pub record IsPrepared' (r : Request) (format : Format) (timing : Option (List ℕ)) (b : List ℕ) (host : Host) (bytes : List ℕ)
     (broken : Option Break) (replaced : ℕ) : Type 0 where
   pub host_is : host ≡ host_of r format b
   pub content : List ℕ
-  pub taken : IsTakenBy (lists_events r.word) format host.encoding r.until timing b content broken replaced
+  pub taken : IsTakenBy (lists_events r.word) r.full format host.encoding r.from r.until timing b content broken replaced
   pub joined : bytes ≡ opening r.word host ++ content
 
 -- the input was read whole and taken apart, and the word was carried out on what is played of it
@@ -117,7 +121,7 @@ OutcomeBy false o r format timing b w f = IsTakenApart o r format timing b w f �
 
 -- what an outcome says of an input in a format, b being the bytes read and w the bytes written
 abbrev pub OutcomeTable : Outcome → Request → Format → (timing : Option (List ℕ)) → (b w : List ℕ) → Flags → Type 0
-OutcomeTable o r format timing b w f = OutcomeBy (is_streamed format r.until r.wide (lists_events r.word)) o r format timing b w f
+OutcomeTable o r format timing b w f = OutcomeBy (is_streamed format r.until r.wide (needs_whole r)) o r format timing b w f
 
 -- the format that the beginning shows: a compressed file is played as it is
 abbrev pub shown_format : Detected → Format
@@ -136,4 +140,6 @@ lacks_times format.Script timed (Some (Micros n)) = not timed
 lacks_times format.Ttyrec timed (Some (Micros n)) = false
 lacks_times format.Asciicast timed (Some (Micros n)) = false
 lacks_times format timed (Some (Bytes n)) = false
+lacks_times format timed (Some (Event n)) = false
+lacks_times format timed (Some (Marker n)) = false
 lacks_times format timed None = false

@@ -11,6 +11,8 @@ returns-clause-some c = record {
   options = search rules;
   source = rw (← c.in-Some.ensures.some) c.requires;
   timing = c.in_ok-timing.ensures ∙ first_value-rows (found_of c.args.matches.now) (codes "timing");
+  full = search rules;
+  partial = search rules;
   quiet = search rules;
 }
 

@@ -14,7 +14,7 @@ use vt_term::{Observer, Terminal};
 /// Returns whether a control sequence without marker and intermediate isn't a VT220's.
 #[inline(always)]
 #[tactic(auto, unfolding(crate::specs::Front::functions_of, crate::specs::Front::function_in, crate::specs::Log::function_off))]
-fn is_own_plain(values: &[u16], last: u8) -> bool
+pub(crate) fn is_own_plain(values: &[u16], last: u8) -> bool
     ensures { OnFalse result (IsTerminals (Sequence None (record { items = values.now }) None last)) }
 {
     match last {
@@ -56,7 +56,7 @@ fn is_own_sequence(marker: Option<u8>, values: &[u16], inter: Option<u8>, last: 
 /// Returns whether an event isn't a VT220's.
 #[inline(always)]
 #[tactic(auto, unfolding(crate::specs::Front::function_in))]
-fn is_own(kind: EventKind, values: &[u16]) -> bool
+pub(crate) fn is_own(kind: EventKind, values: &[u16]) -> bool
     ensures { OnFalse result (IsTerminals (event_of kind values.now)) }
 {
     match kind {

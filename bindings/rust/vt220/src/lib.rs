@@ -466,7 +466,7 @@ impl Terminal {
     /// anything else. The bytes are characters in UTF-8 and CUP, ED, SGR and DECTCEM, and there are none if both show the same. That terminal
     /// has at least 24 rows, and the columns of this one. Afterwards it shows this terminal, so keep a copy (`copy_from`).
     pub fn draw(&self, shown: Option<&Terminal>, scratch: &mut Scratch) -> Vec<u8> {
-        let shown = shown.map_or(std::ptr::null(), |shown| &raw const shown.0);
+        let shown = shown.map_or(std::ptr::null(), |shown| std::ptr::addr_of!(shown.0));
         scratch.written(|s, out, written| unsafe { sys::vt220_draw(shown, &self.0, s, out, DRAW_LIMIT, written) }).expect("a drawing has no error")
     }
 

@@ -20,6 +20,7 @@ from harness import (
     HERE, PATIENCE, PATIENT, PROGRAM, Processes, Source, check, children_of, configured, incarnation_of, key, keys,
     local, program, raises, stores, until, wait_for, wanted, worker, written,
 )
+import vt220
 from fleet import claims, config, host, metrics
 from fleet.config import Settings, Unclear
 from fleet.metrics import DaemonMetrics, PageMetrics, WholeFleet, WorkerMetrics, server
@@ -231,6 +232,13 @@ class OnTerminal:
                 break
         return wanted in self.drawn
 
+    def shows(self, text):
+        """Returns whether an xterm shows a text after what was drawn, which has no spaces where spaces were."""
+        self.has(b"")
+        screen = vt220.Terminal(terminal="xterm")
+        screen.feed(self.drawn)
+        return text in screen.text()
+
     def status(self):
         wait_for(lambda: self.has(b"\033[?1049l"))
         return os.waitstatus_to_exitcode(os.waitpid(self.child, 0)[1])
@@ -270,10 +278,10 @@ def a_viewer_follows_and_types_on_a_terminal(machine, _):
     types, looks = OnTerminal(machine.url, "view", "--type", name), OnTerminal(machine.url, "view", name)
     check(wait_for(lambda: types.has(b"\033[0;1mhello")), "it draws the session")
     os.write(types.master, b"by \xc3\xa4 viewer\r")
-    check(wait_for(lambda: looks.has(b"got by ")), "what one viewer types, the other sees")
+    check(wait_for(lambda: looks.shows("got by ä viewer")), "what one viewer types, the other sees")
     workers.kill(0)
     os.write(types.master, b"after a kill\r")
-    check(wait_for(lambda: looks.has(b"got after a kill")), "over the death of a worker, too")
+    check(wait_for(lambda: looks.shows("got after a kill")), "over the death of a worker, too")
     os.write(types.master, b"\x1d")
     check(types.status() == 0, "Ctrl-] leaves")
     typed = fleet(machine.url, "type", name, "\x04")

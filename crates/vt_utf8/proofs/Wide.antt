@@ -1,6 +1,6 @@
--- A character of two cells leaves its glyph and a space, in one row.
-use Rattle.std.proofs.Common.{◌≡◌, ℕ, ◌≤◌, Bool, true, false, not, List, [], ◌∷◌, ◌++◌, All, None, inr, refl, sym, ap, subst, ◌∙◌, arith}
-use Rattle.std.specs.Prelude.{nat_lt, if◌then◌else◌}
+-- A character of two cells leaves its glyph and a space, in one row, and scrolls off what its glyph does.
+use Rattle.std.proofs.Common.{◌≡◌, ℕ, ◌≤◌, Bool, true, false, not, List, [], ◌∷◌, ◌++◌, All, None, inr, refl, sym, ap, subst, ◌∙◌, arith, append-nil, ◌<◌, rules}
+use Rattle.std.specs.Prelude.{nat_lt, ◌==◌, if◌then◌else◌}
 use Rattle.std.proofs.lemmas.Bool.Decides.{nat_tests}
 use Rattle.std.proofs.lemmas.List.Elements.{All-from_recursion}
 use Rattle.vt_syntax.specs.declared.event.Event.TheVariants.{Control}
@@ -13,18 +13,23 @@ use Rattle.vt_syntax.specs.Laws.{SpellingLaw}
 use Rattle.vt_glyph.specs.GraphicSets.{GraphicSets}
 use Rattle.vt_glyph.specs.Tables.{IsGlyph, space}
 use Rattle.vt_glyph.specs.Laws.{GlyphLaws, SpellingLaws}
-use Rattle.vt_term.specs.State.{Display, State}
-use Rattle.vt_term.specs.Sound.{IsSound}
+use Rattle.vt_term.specs.State.{Display, State, last_column}
+use Rattle.vt_screen.specs.declared.cell.Cell.{Cell}
+use Rattle.vt_screen.specs.Grid.{scroll_up, columns}
+use Rattle.vt_syntax.specs.Laws.{SplitLaw}
+use Rattle.vt_term.specs.Observers.{scrolled-append}
+use Rattle.vt_term.specs.Scrolling.{scrolled_off}
+use Rattle.vt_term.specs.Sound.{IsSound, IsSoundDisplay}
 use Rattle.vt_term.specs.Moving.{next_line}
-use Rattle.vt_term.specs.Writing.{write_glyph}
+use Rattle.vt_term.specs.Writing.{write_glyph, after_wrap}
 use Rattle.vt_term.specs.Functions.{control}
 use Rattle.vt_term.specs.Reports.{control_report}
 use Rattle.vt_term.specs.Play.{Played, play, both}
-use Rattle.vt_utf8.specs.Translation.{written, both_halves, is_at_end, translation, write_wide}
+use Rattle.vt_utf8.specs.Translation.{written, both_halves, is_at_end, translation, write_wide, glyph_off}
 use Rattle.vt_utf8.specs.Similar.{shown}
 use Rattle.vt_utf8.specs.Cells.{cells}
 use Rattle.vt_utf8.proofs.Silence.{shown-glyph}
-use Rattle.vt_utf8.proofs.Written.{writes, unshifted-same, leaves-sets}
+use Rattle.vt_utf8.proofs.Written.{writes, off-written, unshifted-same, leaves-sets}
 
 -- a state of another display, without a report
 abbrev pub silently : State → Display → Played
@@ -38,6 +43,38 @@ PlaysTwo = (s : State) (a b : List ℕ) → play s (a ++ b) ≡ both (play s a) 
 
 pub is-beyond : (c : ℕ) → 0x80 ≤ c → nat_lt c 0x80 ≡ false
 is-beyond c beyond = grind (arith, nat_tests)
+
+-- ---- after a glyph with a cell to its right, no wrap is pending
+
+next_line-width : (d : Display) → last_column (next_line d) ≡ last_column d
+next_line-width d = go (d.cursor.row == d.margins.bottom)
+  where
+    go : (b : Bool) → (if b then scroll_up d.grid d.margins.top d.margins.bottom 1 else d.grid).width ≡ d.grid.width
+    go true = refl
+    go false = refl
+
+wide-columns : (w : ℕ) → (wide : Bool) × (w ≡ columns wide) → 1 < w
+wide-columns w (true, is) = omega (arith, is)
+wide-columns w (false, is) = omega (arith, is)
+
+has-cell : (d : Display) → IsSoundDisplay d → is_at_end d ≡ false
+    → nat_lt (after_wrap d).cursor.col (last_column (after_wrap d)) ≡ true
+has-cell d sound inside = go d.cursor.wrap refl
+  where
+    go : (b : Bool) → d.cursor.wrap ≡ b → nat_lt (after_wrap d).cursor.col (last_column (after_wrap d)) ≡ true
+    go true wrap =
+        let first : 1 < last_column d = wide-columns (last_column d) sound.grid.shape.width in
+        rw (wrap, next_line-width d) (grind (arith, nat_tests, first))
+    go false wrap =
+        let other : (d.cursor.col == last_column d) ≡ false = rw (← wrap) (search rules) in
+        let within : d.cursor.col ≤ last_column d = sound.cursor.col_last in
+        rw wrap (grind (arith, nat_tests, other, within))
+
+no-wrap : (n : ℕ) (d : Display) → IsSoundDisplay d → is_at_end d ≡ false → (write_glyph n d).cursor.wrap ≡ false
+no-wrap n d sound inside = rw (has-cell d sound inside) refl
+
+no-glyph_off : (d : Display) → d.cursor.wrap ≡ false → glyph_off d ≡ []
+no-glyph_off d none = rw none refl
 
 module _ (spelled : SpellingLaw) where
   pub nel : (s : State) → s.held ≡ Nothing → play s (0x1B ∷ 0x45 ∷ []) ≡ silently s (next_line s.display)
@@ -124,3 +161,29 @@ module _ (spelled : SpellingLaw) (spelling : SpellingLaws) where
           ap (λ (b : List ℕ). play s b) bytes
           ∙ plays-halves keeps two s n sound between none (shown-glyph glyphs c) glyphs.space
           ∙ ap (λ (e : Display). silently s e) (sym here)
+
+  -- the glyph's line; the space begins without the wrap flag
+  pub off-wide : GlyphLaws → SplitLaw → KeepsSound → (s : State) (c : ℕ) → IsSound s → s.held ≡ Nothing
+      → s.display.sets.pending ≡ None → 0x80 ≤ c → cells c ≡ 2 → is_at_end s.display ≡ false
+      → scrolled_off s (translation s c) ≡ glyph_off s.display
+  unfolding translation
+  off-wide glyphs split keeps s c sound between none beyond is inside =
+      let high : nat_lt c 0x80 ≡ false = is-beyond c beyond in
+      let d = s.display in
+      let n = shown c in
+      let a = written n d.sets in
+      let t : State = record s { display = write_glyph n d } in
+      let bytes : translation s c ≡ both_halves n d.sets = rw (high, between, is, inside) refl in
+      let first : play s a ≡ silently s (write_glyph n d) =
+      plays-glyph s n sound between none (shown-glyph glyphs c) in
+      let after : (play s a).state ≡ t = ap (λ (p : Played). p.state) first in
+      let sets = leaves-sets n d in
+      ap (λ (b : List ℕ). scrolled_off s b) bytes
+      ∙ scrolled-append split s a (written space d.sets)
+      ∙ ap (λ (u : State). scrolled_off s a ++ scrolled_off u (written space d.sets)) after
+      ∙ ap (λ (g : GraphicSets). scrolled_off s a ++ scrolled_off t (written space g)) (sym sets)
+      ∙ ap (λ (rows : List (List Cell)). scrolled_off s a ++ rows)
+      (off-written spelled spelling t space (subst IsSound after (keeps s a sound)) between glyphs.space
+      ∙ no-glyph_off t.display (no-wrap n d sound.display inside))
+      ∙ append-nil (scrolled_off s a)
+      ∙ off-written spelled spelling s n sound between (shown-glyph glyphs c)

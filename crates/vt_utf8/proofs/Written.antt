@@ -328,6 +328,13 @@ module _ (spelled : SpellingLaw) (spelling : SpellingLaws) where
       let bytes : translation s c ≡ written (shown c) s.display.sets = rw (high, between, one) refl in
       ap (λ (b : List ℕ). play s b) bytes ∙ writes s (shown c) sound between (shown-glyph glyphs c)
 
+  pub off-written : (s : State) (n : ℕ) → IsSound s → s.held ≡ Nothing → IsGlyph n
+      → scrolled_off s (written n s.display.sets) ≡ glyph_off s.display
+  off-written s n sound between is =
+      let d = s.display in
+      ap (λ h. scrolled_off (record { display = d; held = h }) (written n d.sets)) between
+      ∙ scrolls d (write_glyph n (unshifted d)) (written n d.sets) (glyph_off d) (written-does s n sound is)
+
   -- the line that it scrolls off
   pub off-one : GlyphLaws → (s : State) (c : ℕ) → IsSound s → s.held ≡ Nothing → 0x80 ≤ c → cells c ≡ 1
       → scrolled_off s (translation s c) ≡ glyph_off s.display
@@ -335,11 +342,7 @@ module _ (spelled : SpellingLaw) (spelling : SpellingLaws) where
   off-one glyphs s c sound between beyond one =
       let high : nat_lt c 0x80 ≡ false = grind (arith, nat_tests) in
       let bytes : translation s c ≡ written (shown c) s.display.sets = rw (high, between, one) refl in
-      let d = s.display in
-      ap (λ (b : List ℕ). scrolled_off s b) bytes
-      ∙ ap (λ h. scrolled_off (record { display = d; held = h }) (written (shown c) d.sets)) between
-      ∙ scrolls d (write_glyph (shown c) (unshifted d)) (written (shown c) d.sets) (glyph_off d)
-      (written-does s (shown c) sound (shown-glyph glyphs c))
+      ap (λ (b : List ℕ). scrolled_off s b) bytes ∙ off-written s (shown c) sound between (shown-glyph glyphs c)
 
   -- a character without a cell
   pub writes-none : (s : State) (c : ℕ) → s.held ≡ Nothing → 0x80 ≤ c → cells c ≡ 0 → translation s c ≡ []

@@ -24,7 +24,7 @@ use crate::laws::{ascii, cuts, one_byte, silence, writes};
 use crate::log::BytesLog;
 use crate::similar::{code_of, glyph_of_code};
 use crate::translation::{
-    BYTE_LIMIT, TRANSLATION_LIMIT, cells, is_at_end, narrow_code, translation,
+    BYTE_LIMIT, TRANSLATION_LIMIT, is_at_end, is_wide, narrow_code, translation,
 };
 use std::alloc::AllocError;
 use vt_syntax::Held;
@@ -436,7 +436,7 @@ pub fn feed_beyond_ascii(terminal: &mut Terminal, c: char, out: &mut Vec<u8>)
             terminal.write_glyph(glyph_of_code(code));
             return;
         }
-        if cells(c) == 2 && !is_at_end(terminal) {
+        if is_wide(c) && !is_at_end(terminal) {
             write_both(terminal, c);
             return;
         }
@@ -521,6 +521,10 @@ pub fn feed_beyond_ascii_log(
             write_logged(terminal, glyph_of_code(code), lines);
             return;
         }
+        if is_wide(c) && !is_at_end(terminal) {
+            write_both_logged(terminal, c, lines);
+            return;
+        }
     }
     feed_translated_log(terminal, c, out, lines);
 }
@@ -538,6 +542,21 @@ fn write_logged(terminal: &mut Terminal, glyph: Glyph, lines: &mut Vec<u8>)
         terminal.row_text_reserved(1, lines);
     }
     terminal.write_glyph(glyph);
+}
+
+/// Writes the glyph that is shown for a character, and a space after it. Appends the line that the glyph scrolls off.
+#[inline(never)]
+fn write_both_logged(terminal: &mut Terminal, c: char, lines: &mut Vec<u8>)
+    requires { vec_len lines.old + LINES_LIMIT ≤ vec_capacity lines.old }
+    ensures terminal { terminal.new ≡ record terminal.old {
+      display = write_glyph space (write_glyph (shown c) terminal.old.display);
+    } }
+    ensures lines { lines.new.items ≡ lines.old.items ++ flat_map line_text (glyph_off terminal.old.display) }
+    ensures bounded { vec_len lines.new ≤ vec_len lines.old + LINES_LIMIT }
+    ensures capacity { vec_capacity lines.old ≤ vec_capacity lines.new }
+{
+    write_logged(terminal, glyph_of_code(code_of(c)), lines);
+    terminal.write_glyph(Glyph::blank());
 }
 
 /// Plays the bytes that a character beyond ASCII is translated to, and appends the lines that scroll off.

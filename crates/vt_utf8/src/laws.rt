@@ -1,5 +1,5 @@
 //! Laws over the definitions alone. A caller cites a law by a call of its function.
-ghost use Rattle.std.specs.Prelude.{◌≡◌, ◌<◌, ◌≤◌, ℕ, List, [], ◌∷◌, ◌++◌, All, None};
+ghost use Rattle.std.specs.Prelude.{◌≡◌, ◌<◌, ◌≤◌, ℕ, List, [], ◌∷◌, ◌++◌, All, None, false};
 ghost use Rattle.vt_term.specs.State.{State};
 ghost use Rattle.vt_term.specs.Sound.{IsSound};
 ghost use Rattle.vt_term.specs.Play.{play, both, joined};
@@ -9,12 +9,12 @@ ghost use Rattle.vt_syntax.specs.declared.held.Held.TheVariants.{Nothing};
 ghost use Rattle.vt_term.specs.Writing.{write_glyph};
 ghost use Rattle.vt_term.specs.Scrolling.{scrolled_off};
 ghost use Rattle.vt_utf8.specs.Cells.{cells};
-ghost use Rattle.vt_utf8.specs.Translation.{written, unshifted, translation, glyph_off, write_wide, IsPlain};
+ghost use Rattle.vt_utf8.specs.Translation.{written, unshifted, translation, glyph_off, is_at_end, write_wide, IsPlain};
 ghost use Rattle.vt_utf8.specs.Decoding.{read, pending_after};
 ghost use Rattle.vt_utf8.specs.Play.{translated_all, translated, play_utf8, play_utf8_all};
 
 use vt_glyph::laws::{glyphs as all_glyphs, spelling};
-use vt_syntax::laws::spelled;
+use vt_syntax::laws::{one_split, spelled};
 use vt_term::laws::{cuts as played_cuts, soundness as played_soundness};
 
 /// States that each state that UTF-8 leaves is sound: it is one that the terminal's bytes leave.
@@ -85,8 +85,9 @@ pub fn glyphs()
 /// States what a translation does between sequences. The bytes for a glyph write it as any glyph is written, whatever the
 /// sets are, use a pending single shift up and leave the sets. A character of one cell is its glyph, and scrolls line 1 off
 /// with the wrap flag at the bottom margin. One of two cells is its glyph and a space, if no single shift is pending. If
-/// the row has one cell left, they are in the next line under DECAWM, and aren't written without DECAWM. A character
-/// without a cell is no byte. None of this causes a report.
+/// the row has one cell left, they are in the next line under DECAWM, and aren't written without DECAWM. Otherwise the glyph
+/// scrolls off what one of one cell does, and the space nothing. A character without a cell is no byte. None of this causes
+/// a report.
 pub fn writes()
     ensures glyph { (s : State) (n : ℕ) → IsSound s → s.held ≡ Nothing → IsGlyph n
         → play s (written n s.display.sets)
@@ -99,11 +100,14 @@ pub fn writes()
     ensures two { (s : State) (c : ℕ) → IsSound s → s.held ≡ Nothing → s.display.sets.pending ≡ None → 0x80 ≤ c → cells c ≡ 2
         → play s (translation s c)
         ≡ record { state = record s { display = write_wide (shown c) s.display }; reports = [] } }
+    ensures two_off { (s : State) (c : ℕ) → IsSound s → s.held ≡ Nothing → s.display.sets.pending ≡ None → 0x80 ≤ c
+        → cells c ≡ 2 → is_at_end s.display ≡ false → scrolled_off s (translation s c) ≡ glyph_off s.display }
     ensures none { (s : State) (c : ℕ) → s.held ≡ Nothing → 0x80 ≤ c → cells c ≡ 0 → translation s c ≡ [] }
 {
     all_glyphs();
     spelling();
     spelled();
+    one_split();
     played_cuts();
     played_soundness();
 }

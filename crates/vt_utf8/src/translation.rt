@@ -1,5 +1,6 @@
 //! Translation: the terminal's own bytes for a character, in the terminal's state.
 ghost use Rattle.std.specs.Prelude.{◌≡◌, ◌+◌, ◌<◌, ◌≤◌, ◌++◌, [], ◌∷◌, true, IfSome, length};
+ghost use Rattle.std.specs.Bool.{OnTrue};
 ghost use Rattle.std.specs.Option.{option_to_list};
 ghost use Rattle.arrayvec.specs.ArrayVec.{array_vec_len};
 ghost use Rattle.vt_glyph.specs.Encoding.{encoded_glyph};
@@ -44,8 +45,8 @@ pub fn cells(c: char) -> usize
     }
 }
 
-/// Returns the code of the glyph that is shown for a character beyond ASCII, if the character has one cell. Speed: those of the
-/// two charts have, and each finds its code by one test.
+/// Returns the code of the glyph that is shown for a character beyond ASCII, if the character has one cell. Speed: those of six
+/// ranges have, and each finds its code by one test.
 #[inline(always)]
 pub(crate) fn narrow_code(c: char) -> Option<u8>
     ensures { IfSome result (λ code. (cells c ≡ 1) × (encoded_glyph code ≡ shown c) × (is_code code ≡ true)) }
@@ -56,10 +57,47 @@ pub(crate) fn narrow_code(c: char) -> Option<u8>
     if is_in(0x2500, 0x257F, c as u32) {
         return Some(code_of(c));
     }
-    if cells(c) == 1 {
+    if is_in(0x2580, 0x259F, c as u32) {
+        return Some(code_of(c));
+    }
+    if is_in(0x2010, 0x2027, c as u32) {
+        return Some(code_of(c));
+    }
+    if is_in(0x2800, 0x28FF, c as u32) {
+        return Some(code_of(c));
+    }
+    if is_in(0xFFFD, 0xFFFD, c as u32) {
+        return Some(code_of(c));
+    }
+    if !is_kana_or_han(c) && cells(c) == 1 {
         return Some(code_of(c));
     }
     None
+}
+
+/// Returns whether a character is kana, or one of the block of 20,992 Han characters.
+#[inline(always)]
+fn is_kana_or_han(c: char) -> bool
+    ensures { OnTrue result (cells c ≡ 2) }
+{
+    if is_in(0x3041, 0x3096, c as u32) {
+        return true;
+    }
+    if is_in(0x30A1, 0x30FF, c as u32) {
+        return true;
+    }
+    is_in(0x4E00, 0x9FFF, c as u32)
+}
+
+/// Returns whether a character beyond ASCII has two cells. Speed: kana and most Han characters have.
+#[inline(always)]
+pub(crate) fn is_wide(c: char) -> bool
+    ensures { OnTrue result (cells c ≡ 2) }
+{
+    if is_kana_or_han(c) {
+        return true;
+    }
+    cells(c) == 2
 }
 
 /// Returns the spelling of the glyph that is shown for a character of U+00A0 or above.

@@ -1,9 +1,10 @@
-use Rattle.std.proofs.Common.{◌++◌, ◌∙◌, List, sym, ap}
+use Rattle.std.proofs.Common.{◌≡◌, ◌++◌, ◌∙◌, List, false, sym, ap, rules}
 use Rattle.std.specs.Prelude.{flat_map}
 use Rattle.vt_screen.specs.declared.cell.Cell.{Cell}
 use Rattle.vt_term.specs.Scrolling.{log}
 use Rattle.vt_term.specs.Text.{line_text}
-use Rattle.vt_utf8.proofs.Written.{written-itself}
+use Rattle.vt_utf8.specs.Translation.{is_at_end}
+use Rattle.vt_utf8.proofs.Written.{written-itself, wide-itself}
 use Rattle.vt_utf8.proofs.feeding.feed_beyond_ascii_log.Goals as goal
 
 pub returns-clause-silent : goal.returns-clause-silent
@@ -30,3 +31,21 @@ returns-in-Some-clause-lines c =
     ∙ ap (λ (rows : List (List Cell)). c.args.lines.now.items ++ flat_map line_text rows)
     (sym (c.writes.ensures.off c.args.terminal.now c.args.c c.width.ensures.sound is.0 c.requires.beyond
     c.in-Some.ensures.0))
+
+pub returns-then-not-is_at_end-clause-state : goal.returns-then-not-is_at_end-clause-state
+returns-then-not-is_at_end-clause-state c =
+    let is = c.if-writes_glyphs.ensures in
+    let fits : is_at_end c.args.terminal.now.display ≡ false = search rules in
+    wide-itself c.args.terminal.now c.write_both_logged.new.terminal c.args.c fits
+    (c.writes.ensures.two c.args.terminal.now c.args.c c.width.ensures.sound is.0 is.1 c.requires.beyond (search rules))
+    c.write_both_logged.ensures.terminal
+
+pub returns-then-not-is_at_end-clause-lines : goal.returns-then-not-is_at_end-clause-lines
+unfolding log
+returns-then-not-is_at_end-clause-lines c =
+    let is = c.if-writes_glyphs.ensures in
+    let fits : is_at_end c.args.terminal.now.display ≡ false = search rules in
+    c.write_both_logged.ensures.lines
+    ∙ ap (λ (rows : List (List Cell)). c.args.lines.now.items ++ flat_map line_text rows)
+    (sym (c.writes.ensures.two_off c.args.terminal.now c.args.c c.width.ensures.sound is.0 is.1 c.requires.beyond (search rules)
+    fits))

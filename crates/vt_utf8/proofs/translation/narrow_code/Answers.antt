@@ -1,6 +1,6 @@
 use Rattle.std.proofs.Common.{sym, ◌∙◌}
 use Rattle.std.proofs.lemmas.Bool.{eqb-true}
-use Rattle.vt_utf8.proofs.Narrow.{latin-narrow, lines-narrow}
+use Rattle.vt_utf8.proofs.Narrow.{latin-narrow, lines-narrow, elements-narrow, punctuation-narrow, braille-narrow, replacement-narrow}
 use Rattle.vt_utf8.proofs.translation.narrow_code.Goals as goal
 
 pub returns-then-is_in : goal.returns-then-is_in
@@ -15,4 +15,32 @@ returns-then-is_in-2 c = (
   eqb-true _ _ (sym (lines-narrow c.args.c (sym c.if-is_in-2.true ∙ c.is_in-2.ensures))),
   c.code_of-then-is_in-2.ensures.glyph,
   c.code_of-then-is_in-2.ensures.is_code,
+)
+
+pub returns-then-is_in-3 : goal.returns-then-is_in-3
+returns-then-is_in-3 c = (
+  eqb-true _ _ (sym (elements-narrow c.args.c (sym c.if-is_in-3.true ∙ c.is_in-3.ensures))),
+  c.code_of-then-is_in-3.ensures.glyph,
+  c.code_of-then-is_in-3.ensures.is_code,
+)
+
+pub returns-then-is_in-4 : goal.returns-then-is_in-4
+returns-then-is_in-4 c = (
+  eqb-true _ _ (sym (punctuation-narrow c.args.c (sym c.if-is_in-4.true ∙ c.is_in-4.ensures))),
+  c.code_of-then-is_in-4.ensures.glyph,
+  c.code_of-then-is_in-4.ensures.is_code,
+)
+
+pub returns-then-is_in-5 : goal.returns-then-is_in-5
+returns-then-is_in-5 c = (
+  eqb-true _ _ (sym (braille-narrow c.args.c (sym c.if-is_in-5.true ∙ c.is_in-5.ensures))),
+  c.code_of-then-is_in-5.ensures.glyph,
+  c.code_of-then-is_in-5.ensures.is_code,
+)
+
+pub returns-then-is_in-6 : goal.returns-then-is_in-6
+returns-then-is_in-6 c = (
+  eqb-true _ _ (sym (replacement-narrow c.args.c (sym c.if-is_in-6.true ∙ c.is_in-6.ensures))),
+  c.code_of-then-is_in-6.ensures.glyph,
+  c.code_of-then-is_in-6.ensures.is_code,
 )

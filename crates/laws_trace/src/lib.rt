@@ -87,12 +87,10 @@ pub fn utf8_ascii()
     ensures tracer { (s : State) (t : Tracer) (bytes : List ℕ) → All (λ b. b < 0x80) bytes
         → tracer_utf8 s t [] bytes ≡ tracer_all s t bytes }
     ensures summary { (bytes : List ℕ) → All (λ b. b < 0x80) bytes → summary_utf8 bytes ≡ summary bytes }
-{
-}
+{}
 
 /// States that the places of a trace of UTF-8 count the host's bytes.
 pub fn utf8_places()
     ensures { (s : State) (t : Tracer) (pending bytes : List ℕ)
         → (tracer_utf8 s t pending bytes).place ≡ t.place + length bytes }
-{
-}
+{}

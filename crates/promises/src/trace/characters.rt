@@ -10,7 +10,7 @@ use vt_utf8::Decoder;
 /// Promises what `summary.count_utf8` promises.
 pub fn summary_count_utf8(summary: &mut Summary, decoder: &mut Decoder, chunk: &[u8])
     ensures counted { (bytes : List ℕ) → HasCounted bytes summary.old
-            → HasCounted (bytes ++ counted_bytes decoder.old chunk.now) summary.new }
+        → HasCounted (bytes ++ counted_bytes decoder.old chunk.now) summary.new }
     ensures pending { decoder.new ≡ pending_after decoder.old chunk.now }
 {
     summary.count_utf8(decoder, chunk)

@@ -9,7 +9,6 @@ ghost use Rattle.vt_term.specs.Sound.{IsSound};
 ghost use Rattle.vt_term.specs.State.{State};
 ghost use Rattle.vt_trace.specs.declared.tracing.Tracer.{Tracer};
 
-
 /// Promises what `vt_trace::laws::cuts` promises.
 pub fn cuts()
     ensures lines { (s : State) (t : Tracer) (a b : List ℕ) → IsSound s

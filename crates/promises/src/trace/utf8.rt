@@ -5,12 +5,18 @@ ghost use Rattle.promises.specs.v0_3.utf8.Play.{play_utf8};
 ghost use Rattle.std.specs.Prelude.{length, take, vec_capacity, vec_len, ◌*◌, ◌++◌, ◌+◌, ◌<◌, ◌^◌, ◌≡◌, ◌≤◌};
 
 use vt_term::Terminal;
-use vt_trace::TRACE_LIMIT;
-use vt_trace::Tracer;
+use vt_trace::{TRACE_LIMIT, Tracer};
 use vt_utf8::Decoder;
 
 /// Promises what `vt_trace::trace_utf8_reserved` promises.
-pub fn trace_utf8_reserved(terminal: &mut Terminal, tracer: &mut Tracer, decoder: &mut Decoder, chunk: &[u8], reports: &mut Vec<u8>, out: &mut Vec<u8>) -> usize
+pub fn trace_utf8_reserved(
+    terminal: &mut Terminal,
+    tracer: &mut Tracer,
+    decoder: &mut Decoder,
+    chunk: &[u8],
+    reports: &mut Vec<u8>,
+    out: &mut Vec<u8>,
+) -> usize
     requires place { tracer.old.place + length chunk.now < 2 ^ 64 }
     requires reports_room { vec_len reports.old + 10 * length chunk.now ≤ vec_capacity reports.old }
     ensures within { result ≤ length chunk.now }

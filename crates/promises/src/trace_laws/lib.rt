@@ -22,7 +22,6 @@ ghost use Rattle.vt_trace.specs.Summary.{HasPart};
 ghost use Rattle.vt_trace.specs.Trace.{IsAfter};
 ghost use Rattle.vt_trace.specs.declared.tracing.Tracer.{Tracer};
 
-
 /// Promises what `laws_trace::skipped` promises.
 pub fn skipped()
     ensures joined { (s : State) (t : Tracer) (bytes : List ℕ)

@@ -1,7 +1,7 @@
 //! Laws of the trace that no body cites, over the definitions of vt_trace alone. A caller cites a law by a call of its function.
 #![tactic(auto)]
 
-ghost use Rattle.std.specs.Prelude.{◌≡◌, ◌≤◌, ◌+◌, ◌++◌, List, ℕ, All, true, false, length};
+ghost use Rattle.std.specs.Prelude.{◌≡◌, ◌≤◌, ◌<◌, ◌+◌, ◌++◌, [], List, ℕ, All, true, false, length};
 ghost use Rattle.std.specs.List.{flat_map, list_all, range_with_len, sum_by};
 ghost use Rattle.vt_syntax.specs.declared.event.Event.{Event};
 ghost use Rattle.vt_syntax.specs.declared.held.Held.TheVariants.{Nothing};
@@ -13,9 +13,10 @@ ghost use Rattle.vt_trace.specs.declared.tracing.Tracer.{Tracer};
 ghost use Rattle.vt_trace.specs.Ignored.{is_ignored, HasNoEffect, DoesSomething};
 ghost use Rattle.vt_trace.specs.Names.{names, numbered};
 ghost use Rattle.vt_trace.specs.Skipped.{all_kinds, kinds_of};
-ghost use Rattle.vt_trace.specs.Summary.{kind_number, without_values, IsByteAtMost, times_ignored, times_skipped, times_named};
+ghost use Rattle.vt_trace.specs.Summary.{summary, kind_number, without_values, IsByteAtMost, times_ignored, times_skipped, times_named};
 ghost use Rattle.vt_trace.specs.Summary.{HasPart, kind_line, single_line, ignored_lines};
 ghost use Rattle.vt_trace.specs.Trace.{trace, tracer_all, tracer_at_start, end_lines, IsAfter};
+ghost use Rattle.vt_trace.specs.Utf8.{trace_utf8, tracer_utf8, summary_utf8};
 ghost use Rattle.laws_trace.specs.Parts.{part_bytes, part_kind, parts};
 
 use vt_syntax::laws::{one_split, spelled};
@@ -78,3 +79,18 @@ pub fn places()
 {
     one_split();
 }
+
+/// States that UTF-8 that is ASCII has the trace and the summary of the bytes.
+pub fn utf8_ascii()
+    ensures lines { (s : State) (t : Tracer) (bytes : List ℕ) → All (λ b. b < 0x80) bytes
+        → trace_utf8 s t [] bytes ≡ trace s t bytes }
+    ensures tracer { (s : State) (t : Tracer) (bytes : List ℕ) → All (λ b. b < 0x80) bytes
+        → tracer_utf8 s t [] bytes ≡ tracer_all s t bytes }
+    ensures summary { (bytes : List ℕ) → All (λ b. b < 0x80) bytes → summary_utf8 bytes ≡ summary bytes }
+{}
+
+/// States that the places of a trace of UTF-8 count the host's bytes.
+pub fn utf8_places()
+    ensures { (s : State) (t : Tracer) (pending bytes : List ℕ)
+        → (tracer_utf8 s t pending bytes).place ≡ t.place + length bytes }
+{}

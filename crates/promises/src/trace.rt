@@ -1,7 +1,9 @@
 //! The calls of vt_trace.
 pub mod bytes;
+pub mod characters;
 pub mod laws;
 pub mod lines;
 pub mod names;
 pub mod summary;
 pub mod tracing;
+pub mod utf8;

@@ -1,17 +1,18 @@
 -- The bytes that each word writes. (this profile)
-use Rattle.std.specs.Prelude.{ℕ, List, Result}
+use Rattle.std.specs.Prelude.{ℕ, List, [], Result}
 use Rattle.vt_device.specs.Runs.{Flags}
 use Rattle.vt_term.specs.State.{power_up}
 use Rattle.vt_replay.specs.Pages.{pages}
 use Rattle.vt_trace.specs.Trace.{trace, tracer_all, tracer_at_start, end_lines}
 use Rattle.vt_trace.specs.Summary.{summary}
+use Rattle.vt_trace.specs.Utf8.{trace_utf8, tracer_utf8, summary_utf8}
 use Rattle.vt_recording.specs.declared.format.TerminalType.{TerminalType}
 use Rattle.vt_recording.specs.declared.format.TerminalType.TheVariants.{Xterm}
 use Rattle.vt_cli.specs.declared.what.Word.{Word}
 use Rattle.vt_cli.specs.declared.what.Word.TheVariants.{Replay, Log, Pages, Trace, Summary, Events, Content}
 use Rattle.vt_recording.specs.declared.fault.Fault.{Fault}
 use Rattle.vt_recording.specs.declared.format.Encoding.{Encoding}
-use Rattle.vt_recording.specs.declared.format.Encoding.TheVariants.{Dec}
+use Rattle.vt_recording.specs.declared.format.Encoding.TheVariants.{Dec, Utf8}
 use Rattle.vt_replay.specs.Encoding.{decoded}
 use Rattle.vt_replay.specs.Log.{screen, lines_in, screen_in}
 use Rattle.vt_output.specs.Output.{OutputTable, always, all, nothing}
@@ -32,6 +33,21 @@ trace_written bytes = trace power_up tracer_at_start bytes
 abbrev pub trace_ending : List ℕ → List ℕ
 trace_ending bytes = end_lines (tracer_all power_up tracer_at_start bytes)
 
+-- of the host's bytes in each encoding: the events have the host's own characters and places
+abbrev pub trace_in : Encoding → List ℕ → List ℕ
+trace_in Dec bytes = trace_written bytes
+trace_in Utf8 bytes = trace_utf8 power_up tracer_at_start [] bytes
+
+abbrev pub trace_end_in : Encoding → List ℕ → List ℕ
+trace_end_in Dec bytes = trace_ending bytes
+trace_end_in Utf8 bytes = end_lines (tracer_utf8 power_up tracer_at_start [] bytes)
+
+-- ---- summary
+
+abbrev pub summary_in : Encoding → List ℕ → List ℕ
+summary_in Dec bytes = summary bytes
+summary_in Utf8 bytes = summary_utf8 bytes
+
 -- ---- words
 
 -- of the terminal's bytes for the host's
@@ -49,8 +65,8 @@ due_of Log terminal encoding =
     let language = language_of terminal encoding in
     record { written = lines_in language; ending = screen_in language; there = always }
 due_of Pages terminal encoding = of_decoded encoding pages_written screen
-due_of Trace terminal encoding = of_decoded encoding trace_written trace_ending
-due_of Summary terminal encoding = of_decoded encoding nothing summary
+due_of Trace terminal encoding = record { written = trace_in encoding; ending = trace_end_in encoding; there = always }
+due_of Summary terminal encoding = record { written = nothing; ending = summary_in encoding; there = always }
 due_of Events terminal encoding = of_decoded Dec all nothing
 due_of Content terminal encoding = of_decoded encoding all nothing
 

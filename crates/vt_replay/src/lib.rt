@@ -3,6 +3,7 @@
 #![tactic(auto)]
 
 mod blanks;
+mod characters;
 mod converting;
 mod decoding;
 mod engine;

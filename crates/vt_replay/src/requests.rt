@@ -7,13 +7,14 @@ ghost use Rattle.vt_replay.specs.Words.{WordTable};
 ghost use Rattle.vt_replay.specs.Request.{asks_wide, is_streamed, lists_events, needs_whole, format_of, lacks_times, ended_of, IsStreamed, IsTakenBy, IsPrepared, IsPlayed, OutcomeTable};
 ghost use Rattle.vt_replay.specs.Host.{host_of, opening};
 
+use crate::characters::{write_summary, write_trace};
 use crate::converting::Converter;
 use crate::engine::run_from;
 use crate::events::events_taken;
 use crate::host::{Host, host_for, opening, plain_host};
 use crate::language::Language;
 use crate::logging::write_log_from;
-use crate::outputs::{ContentOutput, PageOutput, SummaryOutput, TraceOutput, write_word};
+use crate::outputs::{ContentOutput, PageOutput, write_word};
 use std::alloc::{AllocError, Global};
 use std::io::{Read, Write};
 use vt_cli::{Encoding, Format, Moment, Request, TerminalType, Word};
@@ -48,12 +49,8 @@ fn carry_out_word<S: Source, W: Write>(
         Word::Pages => {
             write_word::<PageOutput, S, W>(alloc, reader, writer, encoding, piece, limit)
         }
-        Word::Trace => {
-            write_word::<TraceOutput, S, W>(alloc, reader, writer, encoding, piece, limit)
-        }
-        Word::Summary => {
-            write_word::<SummaryOutput, S, W>(alloc, reader, writer, encoding, piece, limit)
-        }
+        Word::Trace => write_trace(alloc, reader, writer, encoding, piece, limit),
+        Word::Summary => write_summary(alloc, reader, writer, encoding, piece, limit),
         Word::Events => {
             write_word::<ContentOutput, S, W>(alloc, reader, writer, Encoding::Dec, piece, limit)
         }

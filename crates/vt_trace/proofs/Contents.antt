@@ -37,18 +37,18 @@ kept xs bytes n few is =
 abbrev pub with_content : Tracer → List ℕ → Tracer
 with_content t bytes = record t { place = t.place + length bytes; first = record { items = take 33 (t.first.items ++ bytes) } }
 
-same_content : (t : Tracer) (n m : ℕ) (xs ys : List ℕ) → n ≡ m → xs ≡ ys
+pub same_content : (t : Tracer) (n m : ℕ) (xs ys : List ℕ) → n ≡ m → xs ≡ ys
     → record t { place = n; first = record { items = xs } } ≡ record t { place = m; first = record { items = ys } }
 same_content t n m xs ys place items =
     ap (λ k. record t { place = k; first = record { items = xs } }) place
     ∙ ap (λ (l : List ℕ). record t { place = m; first = record { items = l } }) items
 
-no_content : (t : Tracer) → length t.first.items ≤ 33 → with_content t [] ≡ t
+pub no_content : (t : Tracer) → length t.first.items ≤ 33 → with_content t [] ≡ t
 no_content t few =
     same_content t (t.place + 0) t.place (take 33 (t.first.items ++ [])) t.first.items (omega arith)
     (ap (λ (l : List ℕ). take 33 l) (append-nil t.first.items) ∙ take_all 33 t.first.items few)
 
-more_content : (t : Tracer) (b : ℕ) (bytes : List ℕ)
+pub more_content : (t : Tracer) (b : ℕ) (bytes : List ℕ)
     → with_content (with_content t (b ∷ [])) bytes ≡ with_content t (b ∷ bytes)
 more_content t b bytes =
     let xs : List ℕ = t.first.items in

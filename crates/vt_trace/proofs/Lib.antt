@@ -8,4 +8,6 @@ mod Leaves
 pub mod Runs
 mod Happened
 mod Digits
+pub mod Beyond
+pub mod CountedUtf8
 pub mod ItemKinds

@@ -7,3 +7,5 @@ pub mod Summary
 pub mod Counted
 pub mod Runs
 pub mod Observed
+pub mod Utf8
+pub mod Private

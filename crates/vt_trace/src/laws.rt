@@ -5,8 +5,12 @@ ghost use Rattle.vt_term.specs.Sound.{IsSound};
 ghost use Rattle.vt_term.specs.Play.{play};
 ghost use Rattle.vt_trace.specs.declared.tracing.Tracer.{Tracer};
 ghost use Rattle.vt_trace.specs.Trace.{trace, tracer_all};
+ghost use Rattle.vt_trace.specs.Utf8.{trace_utf8, tracer_utf8};
+ghost use Rattle.vt_utf8.specs.Decoding.{pending_after};
+ghost use Rattle.vt_utf8.specs.Play.{play_utf8};
 
 use vt_term::laws::{cuts as play_cuts, soundness};
+use vt_utf8::laws::{cuts as utf8_play_cuts, soundness as utf8_soundness};
 
 /// States that bytes may be cut anywhere: the trace of chunks in turn is that of the chunks joined.
 pub fn cuts()
@@ -17,4 +21,16 @@ pub fn cuts()
 {
     play_cuts();
     soundness();
+}
+
+/// States the same of UTF-8, also if a chunk ends inside a character.
+pub fn utf8_cuts()
+    ensures lines { (s : State) (t : Tracer) (pending a b : List ℕ) → IsSound s → trace_utf8 s t pending (a ++ b)
+        ≡ trace_utf8 s t pending a
+        ++ trace_utf8 (play_utf8 s pending a).state (tracer_utf8 s t pending a) (pending_after pending a) b }
+    ensures tracer { (s : State) (t : Tracer) (pending a b : List ℕ) → IsSound s → tracer_utf8 s t pending (a ++ b)
+        ≡ tracer_utf8 (play_utf8 s pending a).state (tracer_utf8 s t pending a) (pending_after pending a) b }
+{
+    utf8_play_cuts();
+    utf8_soundness();
 }

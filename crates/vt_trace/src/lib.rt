@@ -3,6 +3,7 @@
 
 mod buffer;
 mod bytes;
+mod characters;
 mod functions;
 mod items;
 pub mod laws;
@@ -13,6 +14,7 @@ mod sequences;
 mod skipped;
 mod summary;
 mod tracing;
+mod utf8;
 
 pub use bytes::push_shown;
 pub use lines::{LINE_LIMIT, push_line};
@@ -20,3 +22,4 @@ pub use names::{is_ignored, name};
 pub use skipped::{First, SKIPPED_LIMIT};
 pub use summary::{SUMMARY_LIMIT, Summary};
 pub use tracing::{TRACE_LIMIT, Tracer, trace_end, trace_reserved};
+pub use utf8::trace_utf8_reserved;

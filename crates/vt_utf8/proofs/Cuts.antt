@@ -89,7 +89,7 @@ module _ (none : (s : State) → IsSound s → play s [] ≡ record { state = s;
 
 -- ---- ASCII
 
-read-ascii : (b : ℕ) → b < 0x80 → read [] b ≡ record { characters = b ∷ []; pending = [] }
+pub read-ascii : (b : ℕ) → b < 0x80 → read [] b ≡ record { characters = b ∷ []; pending = [] }
 unfolding read is_begun
 read-ascii b low = let is : nat_lt b 0x80 ≡ true = grind (arith, nat_tests) in rw is refl
 

@@ -3,7 +3,7 @@ mod Reading
 pub mod Cuts
 pub mod Silence
 mod Plain
-mod Fed
+pub mod Fed
 pub mod Logged
 pub mod Themselves
 pub mod Written

@@ -5,3 +5,4 @@ pub mod Ignored
 pub mod Summary
 pub mod Names
 pub mod Counted
+pub mod Utf8

@@ -1,6 +1,5 @@
 //! The calls of laws_trace/src/lib.
 ghost use Rattle.promises.specs.v0_3.glyph.LookUp.{contains};
-ghost use Rattle.promises.specs.v0_3.trace_laws.Parts.{part_bytes, part_kind, parts};
 ghost use Rattle.promises.specs.v0_3.syntax.Reading.{events_of};
 ghost use Rattle.promises.specs.v0_3.syntax.Spelling.{IsEvent};
 ghost use Rattle.promises.specs.v0_3.term.State.{power_up};
@@ -8,10 +7,13 @@ ghost use Rattle.promises.specs.v0_3.trace.Ignored.{HasNoEffect, is_ignored};
 ghost use Rattle.promises.specs.v0_3.trace.Names.{names, numbered};
 ghost use Rattle.promises.specs.v0_3.trace.Skipped.{all_kinds, kinds_of};
 ghost use Rattle.promises.specs.v0_3.trace.Summary.{ignored_lines, IsByteAtMost, kind_line, kind_number, single_line};
-ghost use Rattle.promises.specs.v0_3.trace.Summary.{times_ignored, times_named, times_skipped, without_values};
+ghost use Rattle.promises.specs.v0_3.trace.Summary.{summary, times_ignored, times_named, times_skipped};
+ghost use Rattle.promises.specs.v0_3.trace.Summary.{without_values};
 ghost use Rattle.promises.specs.v0_3.trace.Trace.{end_lines, trace, tracer_all, tracer_at_start};
+ghost use Rattle.promises.specs.v0_3.trace.Utf8.{summary_utf8, trace_utf8, tracer_utf8};
+ghost use Rattle.promises.specs.v0_3.trace_laws.Parts.{part_bytes, part_kind, parts};
 ghost use Rattle.std.specs.List.{flat_map, list_all, range_with_len, sum_by};
-ghost use Rattle.std.specs.Prelude.{All, false, length, List, true, ℕ, ◌++◌, ◌+◌, ◌≡◌, ◌≤◌};
+ghost use Rattle.std.specs.Prelude.{[], All, false, length, List, true, ℕ, ◌++◌, ◌+◌, ◌<◌, ◌≡◌, ◌≤◌};
 ghost use Rattle.vt_syntax.specs.declared.event.Event.{Event};
 ghost use Rattle.vt_syntax.specs.declared.held.Held.TheVariants.{Nothing};
 ghost use Rattle.vt_term.specs.State.{State};
@@ -70,4 +72,23 @@ pub fn places()
     ensures { (s : State) (bytes : List ℕ) → s.held ≡ Nothing → IsAfter bytes (tracer_all s tracer_at_start bytes) }
 {
     laws_trace::places()
+}
+
+/// Promises what `laws_trace::utf8_ascii` promises.
+pub fn utf8_ascii()
+    ensures lines { (s : State) (t : Tracer) (bytes : List ℕ) → All (λ b. b < 0x80) bytes
+        → trace_utf8 s t [] bytes ≡ trace s t bytes }
+    ensures tracer { (s : State) (t : Tracer) (bytes : List ℕ) → All (λ b. b < 0x80) bytes
+        → tracer_utf8 s t [] bytes ≡ tracer_all s t bytes }
+    ensures summary { (bytes : List ℕ) → All (λ b. b < 0x80) bytes → summary_utf8 bytes ≡ summary bytes }
+{
+    laws_trace::utf8_ascii()
+}
+
+/// Promises what `laws_trace::utf8_places` promises.
+pub fn utf8_places()
+    ensures { (s : State) (t : Tracer) (pending bytes : List ℕ)
+        → (tracer_utf8 s t pending bytes).place ≡ t.place + length bytes }
+{
+    laws_trace::utf8_places()
 }

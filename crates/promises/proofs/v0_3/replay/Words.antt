@@ -6,15 +6,16 @@ use Rattle.promises.proofs.v0_3.replay.Playing.{replayed-same}
 use Rattle.promises.proofs.v0_3.term.State.{power_up-same}
 use Rattle.promises.proofs.v0_3.trace.Summary.{summary-same}
 use Rattle.promises.proofs.v0_3.trace.Trace.{end_lines-same, trace-same, tracer_all-same}
+use Rattle.promises.proofs.v0_3.trace.Utf8.{summary_utf8-same, trace_utf8-same, tracer_utf8-same}
 use Rattle.promises.specs.v0_3.replay.Words as frozen
 use Rattle.std.proofs.Common.{◌≡◌}
-use Rattle.std.specs.Prelude.{List, Result, ℕ}
+use Rattle.std.specs.Prelude.{[], List, Result, ℕ}
 use Rattle.vt_cli.specs.declared.what.Word.TheVariants.{Content, Events, Log, Pages, Replay, Summary, Trace}
 use Rattle.vt_cli.specs.declared.what.Word.{Word}
 use Rattle.vt_device.specs.Runs.{Flags}
 use Rattle.vt_output.specs.Output.{all, always, nothing, OutputTable}
 use Rattle.vt_recording.specs.declared.fault.Fault.{Fault}
-use Rattle.vt_recording.specs.declared.format.Encoding.TheVariants.{Dec}
+use Rattle.vt_recording.specs.declared.format.Encoding.TheVariants.{Dec, Utf8}
 use Rattle.vt_recording.specs.declared.format.Encoding.{Encoding}
 use Rattle.vt_recording.specs.declared.format.TerminalType.TheVariants.{Xterm}
 use Rattle.vt_recording.specs.declared.format.TerminalType.{TerminalType}
@@ -32,6 +33,27 @@ trace_written-same = λ ι bytes. (trace-same ι) (power_up-same ι) tracer_at_s
 pub trace_ending-same : frozen.trace_ending ≡ today.trace_ending
 trace_ending-same = λ ι bytes. (end_lines-same ι) ((tracer_all-same ι) (power_up-same ι) tracer_at_start bytes)
 
+pub trace_in-at : (x0 : Encoding) (x1 : List ℕ) → frozen.trace_in x0 x1 ≡ today.trace_in x0 x1
+trace_in-at Dec bytes = λ ι. (trace_written-same ι) bytes
+trace_in-at Utf8 bytes = λ ι. (trace_utf8-same ι) (power_up-same ι) tracer_at_start [] bytes
+
+pub trace_in-same : frozen.trace_in ≡ today.trace_in
+trace_in-same = λ ι x0 x1. trace_in-at x0 x1 ι
+
+pub trace_end_in-at : (x0 : Encoding) (x1 : List ℕ) → frozen.trace_end_in x0 x1 ≡ today.trace_end_in x0 x1
+trace_end_in-at Dec bytes = λ ι. (trace_ending-same ι) bytes
+trace_end_in-at Utf8 bytes = λ ι. (end_lines-same ι) ((tracer_utf8-same ι) (power_up-same ι) tracer_at_start [] bytes)
+
+pub trace_end_in-same : frozen.trace_end_in ≡ today.trace_end_in
+trace_end_in-same = λ ι x0 x1. trace_end_in-at x0 x1 ι
+
+pub summary_in-at : (x0 : Encoding) (x1 : List ℕ) → frozen.summary_in x0 x1 ≡ today.summary_in x0 x1
+summary_in-at Dec bytes = λ ι. (summary-same ι) bytes
+summary_in-at Utf8 bytes = λ ι. (summary_utf8-same ι) bytes
+
+pub summary_in-same : frozen.summary_in ≡ today.summary_in
+summary_in-same = λ ι x0 x1. summary_in-at x0 x1 ι
+
 pub of_decoded-same : frozen.of_decoded ≡ today.of_decoded
 of_decoded-same = λ ι encoding written ending. record {
   written = λ bytes. written ((decoded-same ι) encoding bytes);
@@ -45,8 +67,8 @@ due_of-at Log terminal encoding = λ ι.
     let language = language_of terminal encoding in
     record { written = (lines_in-same ι) language; ending = (screen_in-same ι) language; there = always }
 due_of-at Pages terminal encoding = λ ι. (of_decoded-same ι) encoding (pages_written-same ι) (screen-same ι)
-due_of-at Trace terminal encoding = λ ι. (of_decoded-same ι) encoding (trace_written-same ι) (trace_ending-same ι)
-due_of-at Summary terminal encoding = λ ι. (of_decoded-same ι) encoding nothing (summary-same ι)
+due_of-at Trace terminal encoding = λ ι. record { written = (trace_in-same ι) encoding; ending = (trace_end_in-same ι) encoding; there = always }
+due_of-at Summary terminal encoding = λ ι. record { written = nothing; ending = (summary_in-same ι) encoding; there = always }
 due_of-at Events terminal encoding = λ ι. (of_decoded-same ι) Dec all nothing
 due_of-at Content terminal encoding = λ ι. (of_decoded-same ι) encoding all nothing
 

@@ -8,12 +8,13 @@ use Rattle.promises.specs.v0_3.replay.Showing.{ShownTable}
 use Rattle.promises.specs.v0_3.term.State.{power_up}
 use Rattle.promises.specs.v0_3.trace.Summary.{summary}
 use Rattle.promises.specs.v0_3.trace.Trace.{end_lines, trace, tracer_all, tracer_at_start}
-use Rattle.std.specs.Prelude.{List, Result, ℕ}
+use Rattle.promises.specs.v0_3.trace.Utf8.{summary_utf8, trace_utf8, tracer_utf8}
+use Rattle.std.specs.Prelude.{[], List, Result, ℕ}
 use Rattle.vt_cli.specs.declared.what.Word.TheVariants.{Content, Events, Log, Pages, Replay, Summary, Trace}
 use Rattle.vt_cli.specs.declared.what.Word.{Word}
 use Rattle.vt_device.specs.Runs.{Flags}
 use Rattle.vt_recording.specs.declared.fault.Fault.{Fault}
-use Rattle.vt_recording.specs.declared.format.Encoding.TheVariants.{Dec}
+use Rattle.vt_recording.specs.declared.format.Encoding.TheVariants.{Dec, Utf8}
 use Rattle.vt_recording.specs.declared.format.Encoding.{Encoding}
 use Rattle.vt_recording.specs.declared.format.TerminalType.TheVariants.{Xterm}
 use Rattle.vt_recording.specs.declared.format.TerminalType.{TerminalType}
@@ -28,6 +29,19 @@ trace_written bytes = trace power_up tracer_at_start bytes
 -- the end of a text, if the last line is one, and the line of a sequence or string that is still open
 abbrev pub trace_ending : List ℕ → List ℕ
 trace_ending bytes = end_lines (tracer_all power_up tracer_at_start bytes)
+
+-- of the host's bytes in each encoding: the events have the host's own characters and places
+abbrev pub trace_in : Encoding → List ℕ → List ℕ
+trace_in Dec bytes = trace_written bytes
+trace_in Utf8 bytes = trace_utf8 power_up tracer_at_start [] bytes
+
+abbrev pub trace_end_in : Encoding → List ℕ → List ℕ
+trace_end_in Dec bytes = trace_ending bytes
+trace_end_in Utf8 bytes = end_lines (tracer_utf8 power_up tracer_at_start [] bytes)
+
+abbrev pub summary_in : Encoding → List ℕ → List ℕ
+summary_in Dec bytes = summary bytes
+summary_in Utf8 bytes = summary_utf8 bytes
 
 -- of the terminal's bytes for the host's
 abbrev pub of_decoded : Encoding → (written ending : List ℕ → List ℕ) → Due
@@ -44,8 +58,8 @@ due_of Log terminal encoding =
     let language = language_of terminal encoding in
     record { written = lines_in language; ending = screen_in language; there = always }
 due_of Pages terminal encoding = of_decoded encoding pages_written screen
-due_of Trace terminal encoding = of_decoded encoding trace_written trace_ending
-due_of Summary terminal encoding = of_decoded encoding nothing summary
+due_of Trace terminal encoding = record { written = trace_in encoding; ending = trace_end_in encoding; there = always }
+due_of Summary terminal encoding = record { written = nothing; ending = summary_in encoding; there = always }
 due_of Events terminal encoding = of_decoded Dec all nothing
 due_of Content terminal encoding = of_decoded encoding all nothing
 

@@ -1,0 +1,17 @@
+//! The calls of vt_trace/src/characters.
+ghost use Rattle.promises.specs.v0_3.trace.Utf8.{counted_bytes};
+ghost use Rattle.promises.specs.v0_3.utf8.Decoding.{pending_after};
+ghost use Rattle.std.specs.Prelude.{List, ℕ, ◌++◌, ◌≡◌};
+ghost use Rattle.vt_trace.specs.Counted.{HasCounted};
+
+use vt_trace::Summary;
+use vt_utf8::Decoder;
+
+/// Promises what `summary.count_utf8` promises.
+pub fn summary_count_utf8(summary: &mut Summary, decoder: &mut Decoder, chunk: &[u8])
+    ensures counted { (bytes : List ℕ) → HasCounted bytes summary.old
+        → HasCounted (bytes ++ counted_bytes decoder.old chunk.now) summary.new }
+    ensures pending { decoder.new ≡ pending_after decoder.old chunk.now }
+{
+    summary.count_utf8(decoder, chunk)
+}

@@ -1,0 +1,26 @@
+use Rattle.std.proofs.Common.{◌+◌, take, drop, arith, length-drop}
+use Rattle.std.proofs.Math.Seq.{take-add, take-length}
+use Rattle.vt_trace.specs.Private.Traces.{CountsUtf8}
+use Rattle.vt_trace.proofs.Traces.{rest-of}
+use Rattle.vt_trace.proofs.CountedUtf8.{counts_none, counts_both}
+use Rattle.vt_trace.proofs.summary.Summary.count_utf8.Goals as goal
+
+pub loop-at-init : goal.loop-at-init
+loop-at-init c = record {
+  within = omega arith;
+  counts = counts_none c.args.decoder.now c.args.self.now;
+}
+
+-- one more front
+pub loop-at-preserved : goal.loop-at-preserved
+loop-at-preserved c =
+    let chunk = c.args.chunk.now in
+    let at = c.loop-at.at in
+    let made = c.count_next-at in
+    let rest = rest-of chunk at in
+    let inside = simp length-drop at (rw rest at made.ensures.within) in record {
+      within = omega (arith, inside);
+      counts = rw (take-add at made.result chunk) (counts_both c.args.decoder.now c.loop-at.decoder made.new.decoder
+          (take at chunk) (take made.result (drop at chunk)) c.args.self.now c.loop-at.self made.new.self
+          c.loop-at.invariant.counts (rw rest at made.ensures.counts));
+    }

@@ -1,0 +1,70 @@
+//! The summary of UTF-8 that comes in chunks: its characters are counted.
+ghost use Rattle.std.specs.Prelude.{◌≡◌, ◌≤◌, ◌++◌, List, ℕ, [], length, map, take};
+ghost use Rattle.std.specs.Option.{option_to_list};
+ghost use Rattle.vt_utf8.specs.Decoding.{pending_after};
+ghost use Rattle.vt_trace.specs.Counted.{HasCounted};
+ghost use Rattle.vt_trace.specs.Utf8.{counted_as, counted_bytes};
+ghost use Rattle.vt_trace.specs.Private.Traces.{CountsUtf8};
+
+use crate::summary::Summary;
+use vt_utf8::laws::{ascii, cuts};
+use vt_utf8::{Decoder, ascii_run, whole_character};
+
+impl Summary {
+    /// Counts the events of a chunk of the host's UTF-8, and its items without a function. A character beyond ASCII counts as
+    /// a graphic byte. `decoder` keeps what is pending between chunks. It never fails, and it allocates nothing.
+    pub fn count_utf8(&mut self, decoder: &mut Decoder, chunk: &[u8])
+        ensures counted { (bytes : List ℕ) → HasCounted bytes self.old
+            → HasCounted (bytes ++ counted_bytes decoder.old chunk.now) self.new }
+        ensures pending { decoder.new ≡ pending_after decoder.old chunk.now }
+    {
+        cuts();
+        let mut at = 0;
+        while at < chunk.len() {
+            at += self.count_next(decoder, &chunk[at..]);
+        }
+    }
+
+    /// Counts the front of a chunk that isn't empty: the ASCII bytes or the character there if nothing is pending, otherwise a
+    /// byte. Returns how many bytes it read.
+    fn count_next(&mut self, decoder: &mut Decoder, piece: &[u8]) -> usize
+        requires { 1 ≤ length piece.now }
+        ensures some { 1 ≤ result }
+        ensures within { result ≤ length piece.now }
+        ensures counts { CountsUtf8 decoder.old (take result piece.now) decoder.new self.old self.new }
+    {
+        ascii();
+        if decoder.is_empty() {
+            let run = ascii_run(piece);
+            if run > 0 {
+                self.count(&piece[..run]);
+                return run;
+            }
+            if let Some((c, size)) = whole_character(piece) {
+                self.count_character(Some(c));
+                return size;
+            }
+        }
+        let (lost, last) = decoder.push(piece[0]);
+        self.count_character(lost);
+        self.count_character(last);
+        1
+    }
+
+    /// Counts a character, if there is one.
+    fn count_character(&mut self, character: Option<char>)
+        ensures { (bytes : List ℕ) → HasCounted bytes self.old
+            → HasCounted (bytes ++ map counted_as (option_to_list character)) self.new }
+    {
+        if let Some(c) = character {
+            self.count(&[counted_as(c)]);
+        }
+    }
+}
+
+/// Returns the byte that a character counts as.
+fn counted_as(c: char) -> u8
+    ensures { result ≡ counted_as c }
+{
+    if (c as u32) < 0x80 { c as u8 } else { 0xE9 }
+}

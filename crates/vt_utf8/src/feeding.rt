@@ -548,12 +548,12 @@ fn write_logged(terminal: &mut Terminal, glyph: Glyph, lines: &mut Vec<u8>)
 #[inline(never)]
 fn write_both_logged(terminal: &mut Terminal, c: char, lines: &mut Vec<u8>)
     requires { vec_len lines.old + LINES_LIMIT ≤ vec_capacity lines.old }
-    ensures terminal { terminal.new ≡ record terminal.old {
-      display = write_glyph space (write_glyph (shown c) terminal.old.display);
-    } }
     ensures lines { lines.new.items ≡ lines.old.items ++ flat_map line_text (glyph_off terminal.old.display) }
     ensures bounded { vec_len lines.new ≤ vec_len lines.old + LINES_LIMIT }
     ensures capacity { vec_capacity lines.old ≤ vec_capacity lines.new }
+    ensures terminal { terminal.new ≡ record terminal.old {
+      display = write_glyph space (write_glyph (shown c) terminal.old.display);
+    } }
 {
     write_logged(terminal, glyph_of_code(code_of(c)), lines);
     terminal.write_glyph(Glyph::blank());

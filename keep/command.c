@@ -63,7 +63,7 @@ int start_command(struct line *line, char **command, bool is_utf8, void (*prepar
     line->command = fork();
     if (line->command == 0) {
         free_signals();
-        prepare(of);
+        if (prepare != NULL) prepare(of);
         become_command(line, command, told[1]);
     }
     if (line->command < 0) error = errno;

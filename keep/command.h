@@ -16,8 +16,8 @@ struct line {
     pid_t command;
 };
 
-/* Runs a command. `prepare` is called in its process before it begins. Returns 0 when it runs. Otherwise returns the error, and nothing is
- * open: *status is then that of env(1). */
+/* Runs a command. `prepare`, unless it is NULL, is called in its process before it begins. Returns 0 when it runs. Otherwise returns the error,
+ * and nothing is open: *status is then that of env(1). */
 int start_command(struct line *line, char **command, bool is_utf8, void (*prepare)(const void *), const void *of, int *status);
 
 #endif

@@ -13,7 +13,9 @@ import sys
 import threading
 import time
 
-from . import VERSION
+import fleet
+from redis.exceptions import AuthenticationError, NoPermissionError, RedisError
+
 from .config import CHOICES, Beyond, Settings, Unclear, seconds, within
 
 LEAVING = 10.0  # seconds to wait for a store after a signal to end, at most
@@ -34,25 +36,24 @@ def option(read, name):
     return number
 
 
-def do_run(words, settings):
-    from .local import run
+def override(chosen, words, *names):
+    """Replaces settings by the options that were given. A number of bytes may be all."""
+    for name in names:
+        if getattr(words, name) is not None:
+            setattr(chosen, name, None if getattr(words, name) == "all" else getattr(words, name))
 
-    return run(words.workers, words.command)
+
+def do_run(words, settings):
+    return fleet.local.run(words.workers, words.command)
 
 
 def do_worker(words, settings):
-    from .worker import Worker
-
     chosen = settings.worker
-    for name in ("every", "lease", "keep", "most", "retain", "metrics"):
-        if getattr(words, name) is not None:
-            setattr(chosen, name, None if getattr(words, name) == "all" else getattr(words, name))
+    override(chosen, words, "every", "lease", "keep", "most", "retain", "metrics")
     store = settings.connect(waits=True, is_examined=True)
-    worker = Worker(store, chosen)
+    worker = fleet.worker.Worker(store, chosen)
     if chosen.metrics:
-        from .metrics import WorkerMetrics, serve
-
-        serve(WorkerMetrics(worker), chosen.metrics)
+        fleet.metrics.serve(fleet.metrics.WorkerMetrics(worker), chosen.metrics)
     on_end(lambda: (setattr(worker, "is_leaving", True), setattr(store, "patience", min(LEAVING, settings.store.give_up))))
     while not worker.is_gone:
         worker.turn()
@@ -75,30 +76,22 @@ def on_end(call):
 
 
 def do_host(words, settings):
-    from .program import become_holder
-
     if bool(words.replay) == bool(words.command):
         raise Unclear("host needs a command, or --replay FILE")
     language, chosen = chosen_language(words, settings.host), settings.host
     if words.replay:
         return replay(settings, words, language)
     chosen.input, chosen.user = words.input or chosen.input, words.user or chosen.user
-    become_holder(words.name, words.command, language, chosen, min(LEAVING, settings.store.give_up))
+    fleet.program.become_holder(words.name, words.command, language, chosen, min(LEAVING, settings.store.give_up))
 
 
 def do_daemon(words, settings):
-    from .daemon import Daemon
-    from .program import hide
-    from .wire import path_of
-
-    hide()
+    fleet.program.hide()
     store = settings.connect(waits=True, is_examined=True)
-    daemon = Daemon(store, settings.host, path_of(settings.host))
+    daemon = fleet.daemon.Daemon(store, settings.host, fleet.wire.path_of(settings.host))
     address = words.metrics or settings.host.metrics
     if address:
-        from .metrics import DaemonMetrics, serve
-
-        serve(DaemonMetrics(daemon), address)
+        fleet.metrics.serve(fleet.metrics.DaemonMetrics(daemon), address)
     for ends in ENDS:  # the programs stay with their holders
         signal.signal(ends, lambda *_: os._exit(0))
     daemon.serve()
@@ -114,10 +107,8 @@ def chosen_language(words, chosen):
 
 def replay(settings, words, language):
     """Sends a file's bytes as a session, at `rate` bytes a second, in twenty parts a second."""
-    from .host import Host
-
     store = settings.connect(waits=True, is_examined=True)
-    host = Host(store, words.name, settings.host.lease, words.input or settings.host.input, words.replay, None, *language)
+    host = fleet.host.Host(store, words.name, settings.host.lease, words.input or settings.host.input, words.replay, None, *language)
     host.register()
     with open(words.replay, "rb") as file:
         while data := file.read(max(1, words.rate // 20)):
@@ -132,72 +123,55 @@ def of_session(call):
     """Returns a command that works on the session of a name."""
 
     def do(words, settings):
-        from .operate import find
-
         store = settings.connect()
-        return call(store, find(store, words.name), words) or 0
+        return call(store, fleet.operate.find(store, words.name), words) or 0
 
     return do
 
 
 @of_session
 def do_view(store, incarnation, words):
-    from .view import follow
-
     store.patience = None
     for ends in (signal.SIGHUP, signal.SIGTERM):  # the terminal is restored on the way out
         signal.signal(ends, lambda number, _: sys.exit(128 + number))
-    return follow(store, incarnation, words.type)
+    return fleet.view.follow(store, incarnation, words.type)
 
 
 @of_session
 def do_screen(store, incarnation, words):
     """Writes the screen as text, as bytes for another terminal, or as a picture."""
-    from .export import picture
-    from .session import as_it_is
-
-    terminal = as_it_is(store, incarnation).terminal
+    terminal = fleet.session.as_it_is(store, incarnation).terminal
     if words.word == "text":
         sys.stdout.write(terminal.text())
     else:
         repaint = terminal.repaint("vt220")
-        sys.stdout.buffer.write(picture(repaint) if words.word == "picture" else repaint)
+        sys.stdout.buffer.write(fleet.export.picture(repaint) if words.word == "picture" else repaint)
 
 
 @of_session
 def do_log(store, incarnation, words):
-    from .export import log
-
-    first = log(store, incarnation, sys.stdout.buffer)
+    first = fleet.export.log(store, incarnation, sys.stdout.buffer)
     if first:
         print(f"fleet: the first {first} bytes are no longer in the store", file=sys.stderr)
 
 
 @of_session
 def do_export(store, incarnation, words):
-    from . import export
-
-    out = sys.stdout.buffer
-    if words.ttyrec:
-        export.ttyrec(store, incarnation, out)
-    else:
-        (export.page if words.page else export.asciicast)(store, incarnation, words.name, out)
+    export = fleet.export.ttyrec if words.ttyrec else fleet.export.page if words.page else fleet.export.asciicast
+    export(store, incarnation, words.name, sys.stdout.buffer)
 
 
 @of_session
 def do_type(store, incarnation, words):
     from vt220.keyboard import Key, spelled, typed
 
-    from .operate import Typist
-    from .session import as_it_is
-
     data = os.fsencode(words.text) if words.text is not None else sys.stdin.buffer.read()
-    terminal = as_it_is(store, incarnation).terminal
+    terminal = fleet.session.as_it_is(store, incarnation).terminal
     modes = terminal.modes()
     keys = typed(data, modes, terminal.encoding, terminal.terminal)
     if keys.refused:
         raise ValueError(f"no key of a VT220 sends {keys.refused!r}")
-    typist = Typist(store, incarnation)
+    typist = fleet.operate.Typist(store, incarnation)
     typist.type(keys.sent + keys.held + (spelled(Key.ENTER, modes) if words.enter else b""))
     typist.leave()
 
@@ -206,19 +180,15 @@ def of_operator(name, *options):
     """Returns a command that calls a function of operate.py with the store and these options."""
 
     def do(words, settings):
-        from . import operate
-
-        return getattr(operate, name)(settings.connect(), *(getattr(words, each) for each in options))
+        return getattr(fleet.operate, name)(settings.connect(), *(getattr(words, each) for each in options))
 
     return do
 
 
 def do_check(words, settings):
-    from .store import connections
-
     store = settings.connect()
     store.examine()
-    print(f"the store is fit; {connections(store.facts())}")
+    print(f"the store is fit; {fleet.store.connections(store.facts())}")
     return 0
 
 
@@ -229,112 +199,98 @@ def do_prepare(words, settings):
 
 
 def do_metrics(words, settings):
-    from .metrics import WholeFleet, server
-
-    server(WholeFleet(settings.connect()), words.address).serve_forever()
+    fleet.metrics.server(fleet.metrics.WholeFleet(settings.connect()), words.address).serve_forever()
     return 0
 
 
 def do_web(words, settings):
-    from .web import serve
-
-    for name in ("address", "port", "typing", "metrics"):
-        if getattr(words, name) is not None:
-            setattr(settings.web, name, getattr(words, name))
+    override(settings.web, words, "address", "port", "typing", "metrics")
     asked = settings.connect()
     asked.patience = min(asked.patience, HEALTH)
-    return serve(settings.connect(waits=True), asked, settings.web)
+    return fleet.web.serve(settings.connect(waits=True), asked, settings.web)
+
+
+# What several commands have, for `add`.
+NAME = "name", {}
+JSON = "--json", {"action": "store_true", "help": "prints a line of JSON for each"}
+METRICS = "--metrics", {"metavar": "HOST:PORT", "help": "serves metrics for Prometheus at this address"}
+PATIENCE = "--patience", {"type": option(seconds, "patience"), "default": 10, "help": "the longest wait, such as 30s (10s)"}
 
 
 def add_hosts(add):
-    each = add("run", do_run, "starts a store and workers on this machine, until Ctrl-C or the end of COMMAND")
+    each = add("run", do_run, "starts a store, a host daemon and workers on this machine, until Ctrl-C or the end of COMMAND")
     each.add_argument("--workers", type=option(int, "workers"), default=4, help="the number of workers (4)")
     each.add_argument("command", nargs=argparse.REMAINDER)
-    each = add("worker", do_worker, "plays sessions until SIGTERM, and then moves them to other workers")
+    each = add("worker", do_worker, "plays sessions until SIGTERM, and then moves them to other workers", METRICS)
     each.add_argument("--every", type=option(int, "every"), help="bytes between two checkpoints of a session (4096)")
     each.add_argument("--lease", type=option(float, "lease"), help="seconds of silence after which other workers take its sessions (5)")
     each.add_argument("--keep", type=option(int, "keep"), help="bytes before a checkpoint that stay in the store: a number, or all (all)")
     each.add_argument("--most", type=option(int, "most"), help="the most sessions that it plays (1000000)")
     each.add_argument("--retain", type=option(seconds, "retain"), help="how long an ended session stays in the store, such as 7d (for ever)")
-    each.add_argument("--metrics", metavar="HOST:PORT", help="serves metrics for Prometheus at this address")
-    each = add("daemon", do_daemon, "has the sessions of this machine until it ends; the next daemon goes on with them")
-    each.add_argument("--metrics", metavar="HOST:PORT", help="serves metrics for Prometheus at this address")
-    each = add("host", do_host, "runs a command on a pseudo-terminal of 24 rows by 80 columns, as a session of this machine's daemon")
+    add("daemon", do_daemon, "has all sessions of this machine, and alone knows the store there; the next daemon goes on with them", METRICS)
+    each = add("host", do_host, "runs a command on a pseudo-terminal of 24 rows by 80 columns, as a session of this machine's daemon", NAME)
     each.add_argument("--input", action="store_true", help="allows viewers to type")
     each.add_argument("--encoding", choices=CHOICES["encoding"], help="what the command writes: the VT220's own bytes, or UTF-8 (dec)")
     each.add_argument("--terminal", choices=CHOICES["terminal"], help="the terminal that the command writes for; xterm is in UTF-8 (vt220)")
     each.add_argument("--replay", metavar="FILE", help="sends a file's bytes instead of running a command")
     each.add_argument("--user", help="runs the command and its holder as this user, which needs root")
     each.add_argument("--rate", type=option(int, "rate"), default=9600, help="bytes a second for --replay (9600)")
-    each.add_argument("name")
     each.add_argument("command", nargs=argparse.REMAINDER)
 
 
 def add_viewers(add):
-    each = add("view", do_view, "follows a session on this terminal")
+    each = add("view", do_view, "follows a session on this terminal", NAME)
     each.add_argument("--type", action="store_true", help="sends keys to the session; Ctrl-] ends the view")
-    each.add_argument("name")
-    for name, do, words in (
-        ("text", do_screen, "prints the screen as text"),
-        ("picture", do_screen, "writes the screen as SVG"),
-        ("repaint", do_screen, "writes bytes that leave a terminal in the session's state"),
-        ("log", do_log, "writes the bytes that the session's program wrote"),
-    ):
-        add(name, do, words).add_argument("name")
-    each = add("export", do_export, "writes a recording with its times, as asciicast 2 or ttyrec, or a page that plays it")
+    add("text", do_screen, "prints the screen as text", NAME)
+    add("picture", do_screen, "writes the screen as SVG", NAME)
+    add("repaint", do_screen, "writes bytes that leave a terminal in the session's state", NAME)
+    add("log", do_log, "writes the bytes that the session's program wrote", NAME)
+    each = add("export", do_export, "writes a recording with its times, as asciicast 2 or ttyrec, or a page that plays it", NAME)
     form = each.add_mutually_exclusive_group()
     form.add_argument("--ttyrec", action="store_true", help="writes ttyrec instead of asciicast 2")
     form.add_argument("--page", action="store_true", help="writes a page that plays it in a browser; needs what make js builds")
-    each.add_argument("name")
-    each = add("type", do_type, "types into a session")
+    each = add("type", do_type, "types into a session, as on a terminal; gives up if the program reads nothing for ten seconds", NAME)
     each.add_argument("--enter", action="store_true", help="sends Return after the text")
-    each.add_argument("name")
     each.add_argument("text", nargs="?", help="the text; without it, standard input")
-    each = add("web", do_web, "serves a page with live pictures of all sessions")
+    each = add("web", do_web, "serves a page with live pictures of all sessions", METRICS)
     each.add_argument("--address", help="the address on which it listens (127.0.0.1)")
     each.add_argument("--port", type=option(int, "port"), help="the port on which it listens (8220)")
     each.add_argument("--typing", action="store_true", default=None, help="allows the page to type, if the session's host does")
-    each.add_argument("--metrics", metavar="HOST:PORT", help="serves metrics for Prometheus at this address")
 
 
 def add_operators(add):
-    each = add("list", of_operator("show_list", "json", "all"), "lists the sessions")
+    each = add("list", of_operator("show_list", "json", "all"), "lists the sessions", JSON)
     each.add_argument("--all", action="store_true", help="also lists ended sessions")
-    each.add_argument("--json", action="store_true", help="prints a line of JSON for each")
-    each = add("workers", of_operator("workers", "json"), "lists the workers")
-    each.add_argument("--json", action="store_true", help="prints a line of JSON for each")
-    each = add("kill", of_operator("kill", "name", "signal", "patience"), "sends a signal to a session's program, and waits until it ends")
+    add("workers", of_operator("workers", "json"), "lists the workers, how many sessions each has, and which are silent, or unfit: they failed on their first sessions", JSON)
+    each = add("kill", of_operator("kill", "name", "signal", "patience"), "sends a signal to a session's program, and waits until it ends", PATIENCE, NAME)
     each.add_argument("--signal", choices=("HUP", "INT", "TERM", "KILL"), default="HUP", help="the signal (HUP)")
-    each.add_argument("--patience", type=option(seconds, "patience"), default=10, help="the longest wait, such as 30s (10s)")
-    each.add_argument("name")
-    each = add("end", of_operator("end", "name", "keep", "force"), "ends a session that has no host")
-    each.add_argument("--keep", type=option(seconds, "keep"), help="how long it stays in the store, such as 7d, or 0 (for ever)")
-    each.add_argument("--force", action="store_true", help="also if its host is alive")
-    each.add_argument("name")
+    each = add("end", of_operator("end", "name", "keep", "force"), "ends a session that has no host", NAME)
+    each.add_argument("--keep", type=option(seconds, "keep"), help="how long it stays in the store, such as 7d; 0 removes it at once (for ever)")
+    each.add_argument("--force", action="store_true", help="also if its host is alive, which then hangs up on the program")
     each = add("retry", of_operator("retry", "name"), "has workers try sessions with a fault again")
     each.add_argument("name", nargs="+")
-    each = add("drain", of_operator("drain", "worker", "patience"), "moves a worker's sessions to other workers, and ends it")
-    each.add_argument("--patience", type=option(seconds, "patience"), default=10, help="the longest wait, such as 30s (10s)")
+    each = add("drain", of_operator("drain", "worker", "patience"), "moves a worker's sessions to other workers, and ends it", PATIENCE)
     each.add_argument("worker", help="its name, or the beginning of its name")
     each = add("metrics", do_metrics, "serves metrics of the whole fleet for Prometheus, at /metrics, and /healthz")
     each.add_argument("address", metavar="HOST:PORT", help="the address on which it listens")
-    add("check-store", do_check, "checks whether the store can keep a fleet")
+    add("check-store", do_check, "checks whether the store can keep a fleet, and has connections left")
     each = add("prepare-store", do_prepare, "loads this version's functions into the store; its user is the operator")
     each.add_argument("--alone", action="store_true", help="removes the functions of other versions")
 
 
 def parser():
-    made = argparse.ArgumentParser(
-        prog="fleet", description="Sessions of a VT220 that outlive their machine.", epilog=__doc__.split("\n\n")[1]
-    )
-    made.add_argument("--version", action="version", version=f"vt220-fleet {VERSION}")
+    words = "Sessions of a VT220 that outlive their machine."
+    made = argparse.ArgumentParser(prog="fleet", description=words, epilog=__doc__.split("\n\n")[1])
+    made.add_argument("--version", action="version", version=f"vt220-fleet {fleet.VERSION}")
     made.add_argument("--config", help="the configuration file")
     made.add_argument("--quiet", action="store_true", help="logs errors only")
     commands = made.add_subparsers(dest="word", required=True, metavar="COMMAND")
 
-    def add(name, do, words):
+    def add(name, do, words, *shared):
         each = commands.add_parser(name, help=words, description=words)
         each.set_defaults(do=do)
+        for argument, options in shared:
+            each.add_argument(argument, **options)
         return each
 
     for adding in (add_hosts, add_viewers, add_operators):
@@ -344,34 +300,27 @@ def parser():
 
 def message_of(error):
     """Returns the message for an error. That of a fault begins with the fault's name."""
-    from .keys import Fault
-
     if isinstance(error, OSError) and error.strerror:
         return ": ".join(str(part) for part in (error.filename, error.strerror) if part)
     name, text = type(error).__name__, str(error).strip()
-    return f"{name}: {text}" if isinstance(error, Fault) or not text else text
+    return f"{name}: {text}" if isinstance(error, fleet.keys.Fault) or not text else text
 
 
 def status_of(error):
     """Returns the exit status for an error, or None if the error isn't an expected one."""
-    from redis.exceptions import AuthenticationError, NoPermissionError, RedisError
-
-    from . import keys, operate, store
-    from .host import Taken
-
     known = [
-        (Taken, TAKEN),
-        (keys.Fault, FAULT),
-        (operate.NoSession, NONE),
-        (operate.Refused, REFUSED),
-        (store.Unfit, UNFIT),
+        (fleet.host.Taken, TAKEN),
+        (fleet.keys.Fault, FAULT),
+        (fleet.operate.NoSession, NONE),
+        (fleet.operate.Refused, REFUSED),
+        (fleet.store.Unfit, UNFIT),
         (Unclear, CONFIGURATION),
         ((AuthenticationError, NoPermissionError), DENIED),
         (RedisError, UNFIT),
         (ValueError, 2),
         (OSError, 1),
     ]
-    if isinstance(error, RedisError) and store.is_denial(error):
+    if isinstance(error, RedisError) and fleet.store.is_denial(error):
         return DENIED
     return next((status for kind, status in known if isinstance(error, kind)), None)
 

@@ -13,6 +13,7 @@ import select
 import socket
 import threading
 import time
+from concurrent.futures import Future
 
 from . import wire
 from .host import BEAT, COUNT, name_of_host
@@ -27,13 +28,6 @@ RENEWED = 100  # leases that are renewed with one call, so that the store has ti
 LAST = 64  # reads that take in all that a connection holds
 OF_USER = 64  # connections of another user than the daemon's, at most
 TAKEN = 5  # the exit status of a holder whose name another session has
-
-
-class Asked:
-    """A call to the store, whose answer somebody may wait for."""
-
-    def __init__(self, words):
-        self.words, self.answer, self.is_answered = words, None, threading.Event()
 
 
 class Shared:
@@ -53,21 +47,18 @@ class Shared:
                 while len(some) < TOGETHER:
                     some.append(self.asked.get_nowait())
             try:
-                answers = self.store.run_all([each.words for each in some])
+                answers = self.store.run_all([words for words, _ in some])
             except Exception as error:
                 answers = [error] * len(some)
-            for each, answer in zip(some, answers):
-                each.answer = answer
-                each.is_answered.set()
+            for (_, asked), answer in zip(some, answers):
+                asked.set_result(answer)
 
     def ask(self, *words):
         """Returns the answer to a command, or raises the error that it is."""
-        asked = Asked(words)
-        self.asked.put(asked)
-        asked.is_answered.wait()
-        if isinstance(asked.answer, Exception):
-            raise asked.answer
-        return asked.answer
+        answer = self.post(*words).result()
+        if isinstance(answer, Exception):
+            raise answer
+        return answer
 
     def run(self, name, *arguments):
         return self.store.checked(self.ask(*self.store.call_of(name, *arguments)))
@@ -76,8 +67,10 @@ class Shared:
         return self.ask("HGET", name, field)
 
     def post(self, *words):
-        """Asks for something whose answer nobody waits for."""
-        self.asked.put(Asked(words))
+        """Asks for something, and waits for no answer. Returns what will have it."""
+        asked = Future()
+        self.asked.put((words, asked))
+        return asked
 
     def xdel(self, name, entry_id):
         self.post("XDEL", name, entry_id)

@@ -46,8 +46,8 @@ def asciicast(store, incarnation, title, out):
     out.writelines(vt220.cast.asciicast(head, events, encoding))
 
 
-def ttyrec(store, incarnation, out):
-    """Writes a ttyrec: frames of seconds, microseconds, length and bytes."""
+def ttyrec(store, incarnation, _title, out):
+    """Writes a ttyrec: frames of seconds, microseconds, length and bytes. It has no title."""
     for _, moment, data in bytes_of(store, incarnation):
         out.write(struct.pack("<III", moment // 1000, moment % 1000 * 1000, len(data)) + data)
 

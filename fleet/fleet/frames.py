@@ -33,22 +33,21 @@ class Frames:
             return
         self.shown = now
         self.watched = {i: s for i, s in self.watched.items() if s.watched > now and kept.get(i) is s}
-        with self.store.pipeline(transaction=False) as together:
-            for session in self.watched.values():
-                if now - session.framed > FORGET / 2 and session.terminal.is_between():
-                    session.shown = None  # who comes later must find a frame, also if nothing changes
-                if (session.is_dirty or session.shown is None) and session.terminal.is_between():
-                    self.add(together, session, worker)
-            if together.command_stack:
-                self.store.all_of(together)
+        calls = []
+        for session in self.watched.values():
+            if now - session.framed > FORGET / 2 and session.terminal.is_between():
+                session.shown = None  # who comes later must find a frame, also if nothing changes
+            if (session.is_dirty or session.shown is None) and session.terminal.is_between():
+                self.add(calls, session, worker)
+        self.store.run_all(calls)
 
-    def add(self, together, session, worker):
-        """A repaint, or an update on what was sent before it; `by` and `step` say on what."""
+    def add(self, calls, session, worker):
+        """Adds the calls that send a repaint, or an update on what was sent before it; `by` and `step` say on what."""
         stream, session.is_dirty = key(session.incarnation, "view"), False
         if session.shown is None or session.step == STEPS:
             if session.shown is None:
                 # Not deleted: ids only grow in a stream that stays, whatever the clock does.
-                together.execute_command("XTRIM", stream, "MAXLEN", 0)
+                calls.append(("XTRIM", stream, "MAXLEN", 0))
             session.shown, session.step = vt220.Terminal(), 0
             frame = {"repaint": session.terminal.repaint("vt220")}
             session.shown.feed(frame["repaint"])
@@ -58,6 +57,5 @@ class Frames:
                 return
             session.step += 1
         words = [word for pair in (frame | {"by": worker, "step": session.step, "at": session.at}).items() for word in pair]
-        together.execute_command("XADD", stream, "MAXLEN", 2 * STEPS, "*", *words)
-        together.execute_command("EXPIRE", stream, FORGET)
+        calls += [("XADD", stream, "MAXLEN", 2 * STEPS, "*", *words), ("EXPIRE", stream, FORGET)]
         session.framed = time.monotonic()

@@ -165,10 +165,7 @@ class Gallery:
                 facts = {name: each[name] for name in ("name", "state", "worker", "host", "fault", "lag", "size", "input")}
                 self.followed[each["incarnation"]].picture.learn(facts)
         asked = [each for each in self.followed.values() if not each.is_final]
-        with self.store.pipeline(transaction=False) as together:
-            for each in asked:
-                together.execute_command(*self.store.call_of("watch", each.incarnation))
-            answers = self.store.all_of(together) if asked else []
+        answers = self.store.run_all([self.store.call_of("watch", each.incarnation) for each in asked])
         for each, answer in zip(asked, answers):
             if isinstance(answer, list):
                 self.guarded(each, each.hear, answer)

@@ -188,9 +188,7 @@ class Host:
         with self.lock:
             log.warning("%s: the store has the bytes up to %d of %d", self.name, there, self.at)
             if there < self.held_from:
-                self.fail(
-                    WentBack(f"the store lost the bytes from {there} to {self.at}, and the host has those from {self.held_from}")
-                )
+                self.fail(WentBack(f"the store lost the bytes from {there} to {self.at}, and the host has those from {self.held_from}"))
             self.rebuilt += 1
             self.register_again()
             for at, moment, data in list(self.held):
@@ -262,10 +260,8 @@ class Host:
         with self.lock:
             if not self.is_ended:
                 self.renewed = time.monotonic()
-                self.heed(self.store.run(*self.renewal())[1], self.at)
-
-    def renewal(self):
-        return "renew", int(self.lease * 1000), self.me, self.name, self.incarnation
+                answer = self.store.run("renew", int(self.lease * 1000), self.me, self.name, self.incarnation)
+                self.heed(answer[1], self.at)
 
     def heed(self, answer, at):
         """Takes in what the store said to a renewal. It had acknowledged the bytes up to `at` before."""
@@ -289,19 +285,14 @@ class Host:
     def receive(self, patience=0.5):
         """Waits for what comes for the program. Returns it, as a list of ("report", bytes), ("keys", bytes), ("signal", number),
         each one once and in order."""
-        got = self.receive_entries(patience)
-        for _, stream, entry_id, _ in got:
-            self.forget(stream, entry_id)
-        return [(kind, what) for kind, _, _, what in got]
-
-    def receive_entries(self, patience):
-        """Waits for what comes for the program. Returns it, as a list of (kind, stream, id, what). Each one is to be given to `forget`
-        once the program has it."""
         try:
-            return self.read_entries(self.store.read_streams(COUNT, self.streams(), patience))
+            got = self.read_entries(self.store.read_streams(COUNT, self.streams(), patience))
         except ResponseError as error:
             self.remove_wrong(error)
             return []
+        for _, stream, entry_id, _ in got:
+            self.forget(stream, entry_id)
+        return [(kind, what) for kind, _, _, what in got]
 
     def remove_wrong(self, error):
         """Removes what somebody wrote in place of a stream for the program, so that the other streams can be read. Raises the error if it is
@@ -317,7 +308,8 @@ class Host:
         return {self.part(name).encode(): self.last[name] for name in names}
 
     def read_entries(self, came):
-        """Takes in what came in streams, and returns what of it is for the program."""
+        """Takes in what came in streams. Returns what of it is for the program, as a list of (kind, stream, id, what). Each one is to be given to
+        `forget` once the program has it."""
         got = []
         for part, entries in came:
             name = part.decode().rpartition(":")[2]

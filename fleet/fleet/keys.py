@@ -111,24 +111,10 @@ class Damaged(Exception):
     """A checkpoint was cut short or changed."""
 
 
-def key(incarnation, part):
-    return f"fleet:{incarnation}:{part}"
-
-
-def of(worker):
-    return f"fleet:of:{worker}"
-
-
-def alive(worker):
-    return f"fleet:alive:{worker}"
-
-
-def wake(worker):
-    return f"fleet:wake:{worker}"
-
-
-def lease(name):
-    return f"fleet:lease:{name}"
+# These return the names of keys, and of a channel: a part of an incarnation, what is of a worker, and the lease on a session's name.
+key = "fleet:{}:{}".format
+of, alive, wake = "fleet:of:{}".format, "fleet:alive:{}".format, "fleet:wake:{}".format
+lease = "fleet:lease:{}".format
 
 
 # All that comes from the store is read by these: anybody who may write there may have written it.

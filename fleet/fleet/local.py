@@ -103,10 +103,10 @@ class Workers:
         self.words, self.folder, self.url = words, folder, url
         self.all = [self.another() for _ in range(count)]
 
-    def another(self, url=None):
+    def another(self):
         with open(os.path.join(self.folder, "workers"), "ab") as said:
             words = [PYTHON, COMMAND, "worker", *self.words]
-            where = os.environ | {"FLEET_REDIS": url or self.url}
+            where = os.environ | {"FLEET_REDIS": self.url}
             return subprocess.Popen(words, stdout=subprocess.DEVNULL, stderr=said, env=where, preexec_fn=self.before)
 
     def kill(self, number):

@@ -2,11 +2,10 @@
 import collections
 import threading
 import time
-from http.server import BaseHTTPRequestHandler, ThreadingHTTPServer
+from http.server import ThreadingHTTPServer
 
-from prometheus_client import CollectorRegistry, generate_latest
+from prometheus_client import CollectorRegistry, MetricsHandler
 from prometheus_client.core import CounterMetricFamily, GaugeMetricFamily
-from prometheus_client.exposition import CONTENT_TYPE_LATEST
 
 from . import keys
 from .operate import living, living_workers
@@ -99,7 +98,7 @@ class DaemonMetrics:
         yield gauge("host_lag_seconds", "Seconds for which the same bytes of a program are being sent, at most", max((now - since for each in programs if (since := each.sends_since) is not None), default=0))
         yield counter("host_bytes", "Bytes of its programs that the store has taken from this daemon", totals["bytes"])
         yield counter("host_inputs", "Keys and reports that its programs were given", totals["inputs"])
-        yield counted(GaugeMetricFamily, "host_programs", "Its programs by their state", "state", self.states())
+        yield counted(GaugeMetricFamily, "host_programs", "Its programs by their state: slowed if too much waits, or if the store is away", "state", self.states())
         yield from of_store(self.daemon.store)
 
     def problem(self):
@@ -120,7 +119,7 @@ class PageMetrics:
         yield counter("page_connections", "Connections of browsers that were let in", page.connections)
         yield counter("page_sent_bytes", "Bytes of pages and messages that were sent", page.sent)
         yield counter("page_received_bytes", "Bytes of messages that came", page.received)
-        yield counted(CounterMetricFamily, "page_refused", "Requests that were refused, and why", "why", page.refused)
+        yield counted(CounterMetricFamily, "page_refused", "Connections that were refused, by why: without the token, or the origin is another page's", "why", page.refused)
         yield from of_store(page.store)
 
     def problem(self):
@@ -177,7 +176,7 @@ class WholeFleet:
         yield gauge("store_round_trip_seconds", "Seconds until the store answered a ping", facts["trip"])
         yield gauge("store_clients", "Connections to the store", facts["store"]["connected_clients"])
         yield gauge("store_clients_most", "Connections that the store allows (maxclients)", facts["store"]["maxclients"])
-        yield gauge("workers", "Workers that live", facts["workers"])
+        yield gauge("workers", "Workers that live: they raised their count within their lease, by the store's clock", facts["workers"])
         yield gauge("workers_unfit", "Those of them that failed on their first sessions, and take no more", facts["unfit"])
         yield gauge("formats_missing", "Sessions that wait for a worker that knows their format", facts["foreign"])
         yield gauge("lag_stands_seconds", "Seconds for which a session with bytes to play wasn't played on, at most", facts["stands"])
@@ -200,27 +199,21 @@ def server(collector, address):
     registry = CollectorRegistry()
     registry.register(collector)
 
-    class Handler(BaseHTTPRequestHandler):
+    class Handler(MetricsHandler.factory(registry)):
         timeout = SILENT
 
         def do_GET(self):
+            if self.path == "/metrics":
+                super().do_GET()
+                return
+            status, said = 404, "/metrics and /healthz are here"
             if self.path == "/healthz":
                 problem = collector.problem()
-                self.reply(503 if problem else 200, "text/plain", f"{problem or 'ok'}\n".encode())
-            elif self.path == "/metrics":
-                self.reply(200, CONTENT_TYPE_LATEST, generate_latest(registry))
-            else:
-                self.reply(404, "text/plain", b"/metrics and /healthz are here\n")
-
-        def reply(self, status, kind, data):
+                status, said = (503, problem) if problem else (200, "ok")
             self.send_response(status)
-            self.send_header("Content-Type", kind)
-            self.send_header("Content-Length", str(len(data)))
+            self.send_header("Content-Type", "text/plain")
             self.end_headers()
-            self.wfile.write(data)
-
-        def log_message(self, *_):
-            pass
+            self.wfile.write(f"{said}\n".encode())
 
     return ThreadingHTTPServer((host or "127.0.0.1", int(port)), Handler)
 

@@ -14,6 +14,16 @@ COLUMNS = ("NAME", "STATE", "HOST", "WORKER", "LAG", "SIZE", "LAST OUTPUT")
 SIGNALS = {"HUP": 1, "INT": 2, "KILL": 9, "TERM": 15}
 
 
+def comes(is_so, patience, pause=0.05):
+    """Waits until something is so, for at most so many seconds. Returns whether it is."""
+    end = time.monotonic() + patience
+    while not is_so():
+        if time.monotonic() > end:
+            return False
+        time.sleep(pause)
+    return True
+
+
 class NoSession(Exception):
     """Reports that no session has this name."""
 
@@ -36,13 +46,11 @@ def about(store, incarnations):
     listed, raw = [], []
     for at in range(0, len(incarnations), 256):
         some = incarnations[at : at + 256]
-        with store.pipeline(transaction=False) as together:
-            for each in some:
-                together.hmget(key(each, "about"), *FIELDS)
-                together.get(key(each, "fault"))
-                together.hget(key(each, "ended"), "status")
-                together.hget(keys.FOREIGN, each)
-            answers = store.all_of(together)
+        calls = []
+        for each in some:
+            calls += [("HMGET", key(each, "about"), *FIELDS), ("GET", key(each, "fault"))]
+            calls += [("HGET", key(each, "ended"), "status"), ("HGET", keys.FOREIGN, each)]
+        answers = store.run_all(calls)
         for number, each in enumerate(some):
             fields, fault, status, foreign = answers[4 * number : 4 * number + 4]
             if isinstance(fields, list) and fields[0] is not None:
@@ -54,12 +62,10 @@ def about(store, incarnations):
 
 def described(incarnation, fields, fault, status):
     """Returns what `list` shows of a session. A field that is wrong is the fault of this session, and harms no other."""
-    shown = {name: keys.shown(fields[name]) for name in ("name", "host", "owner", "closed", "command")}
-    made = {"incarnation": incarnation, "name": shown["name"], "host": shown["host"], "worker": shown["owner"]}
-    made |= {"fault": keys.shown(fault), "input": fields["input"] == b"1"}
-    made |= {"status": keys.shown(status), "closed": shown["closed"]}
+    made = {"incarnation": incarnation} | {name: keys.shown(fields[name]) for name in ("name", "host", "closed", "command")}
     made |= {name: keys.shown(fields[name]) or usual for name, usual in keys.DEC._asdict().items()}
-    made |= {"command": shown["command"], "size": 0, "lag": 0, "started": 0, "seen": 0}
+    made |= {"worker": keys.shown(fields["owner"]), "fault": keys.shown(fault), "status": keys.shown(status)}
+    made |= {"input": fields["input"] == b"1", "size": 0, "lag": 0, "started": 0, "seen": 0}
     try:
         end, played, started, seen = (keys.number(fields[name]) for name in ("end", "played", "started", "seen"))
         made |= {"size": end, "lag": max(0, end - played), "started": started, "seen": seen}
@@ -73,12 +79,8 @@ def add_states(store, listed, raw):
     """Adds the state: a session whose host is silent is told from one that is idle, and one whose worker is silent waits. Keys have names as
     the store has them, not as they are shown."""
     owners = sorted({fields["owner"] or b"" for fields in raw})
-    with store.pipeline(transaction=False) as together:
-        for fields in raw:
-            together.get(keys.lease("").encode() + fields["name"])
-        for owner in owners:
-            together.exists(keys.alive("").encode() + owner)
-        answers = store.all_of(together) if listed else []
+    leases = [("GET", keys.lease("").encode() + fields["name"]) for fields in raw]
+    answers = store.run_all(leases + [("EXISTS", keys.alive("").encode() + owner) for owner in owners])
     living = {owner for owner, is_alive in zip(owners, answers[len(listed) :]) if is_alive == 1}
     for each, fields, holder in zip(listed, raw, answers):
         each["worker"] = each["worker"] if fields["owner"] in living else ""
@@ -130,11 +132,8 @@ def show_list(store, is_json, is_all):
         return 0
     rows = [COLUMNS]
     for each in listed:
-        row = [
-            each["name"], each["state"], each["host"], each["worker"] or "-", str(each["lag"]), str(each["size"]),
-            ago(each["seen"]),
-        ]
-        rows.append(row)
+        told = each["worker"] or "-", str(each["lag"]), str(each["size"]), ago(each["seen"])
+        rows.append((each["name"], each["state"], each["host"], *told))
     widths = [max(len(row[column]) for row in rows) for column in range(len(COLUMNS))]
     for row in rows:
         print("  ".join(word.ljust(width) for word, width in zip(row, widths)).rstrip())
@@ -182,11 +181,8 @@ class Typist:
         return answer == "ok"
 
     def send(self, field, value):
-        end = time.monotonic() + self.patience
-        while not self.offer(field, value):
-            if time.monotonic() > end:
-                raise self.unread()
-            time.sleep(PAUSE)
+        if not comes(lambda: self.offer(field, value), self.patience, PAUSE):
+            raise self.unread()
 
     def unread(self):
         return Refused(f"the program read none of what was typed for {self.patience:g} s")
@@ -239,10 +235,6 @@ class Sender(threading.Thread):
         self.join(patience)
 
 
-def is_over(store, incarnation):
-    return bool(store.exists(key(incarnation, "ended"), key(incarnation, "fault")))
-
-
 def kill(store, name, signal, patience):
     """Has the host send a signal to the program, and waits until the session is over."""
     incarnation = find(store, name)
@@ -252,11 +244,9 @@ def kill(store, name, signal, patience):
     typist = Typist(store, incarnation, patience)
     typist.signal(SIGNALS[signal])
     typist.leave()
-    end = time.monotonic() + patience
-    while not store.hexists(key(incarnation, "about"), "closed") and not is_over(store, incarnation):
-        if time.monotonic() > end:
-            raise Refused(f"{name} still runs after {patience:g} s; try --signal KILL")
-        time.sleep(0.05)
+    over = key(incarnation, "ended"), key(incarnation, "fault")
+    if not comes(lambda: store.hexists(key(incarnation, "about"), "closed") or store.exists(*over), patience):
+        raise Refused(f"{name} still runs after {patience:g} s; try --signal KILL")
     return 0
 
 
@@ -291,11 +281,8 @@ def drain(store, worker, patience):
         raise NoSession(f"no such worker: {worker}" if not found else f"{len(found)} workers have a name that begins with {worker}")
     store.sadd(keys.DRAINING, found[0])
     store.publish(keys.wake(found[0]), "drain")
-    end_at = time.monotonic() + patience
-    while store.hexists(keys.WORKERS, found[0]):
-        if time.monotonic() > end_at:
-            raise Refused(f"{found[0]} still has {store.scard(keys.of(found[0]))} sessions after {patience:g} s")
-        time.sleep(0.02)
+    if not comes(lambda: not store.hexists(keys.WORKERS, found[0]), patience):
+        raise Refused(f"{found[0]} still has {store.scard(keys.of(found[0]))} sessions after {patience:g} s")
     if not living_workers(store):
         print(f"no other worker lives: {store.zcard(keys.WAITING)} sessions wait for one", file=sys.stderr)
     return 0
@@ -304,13 +291,8 @@ def drain(store, worker, patience):
 def known_workers(store):
     """Returns a dictionary for each worker that didn't leave: one that is silent for its lease doesn't live."""
     found = sorted(store.hgetall(keys.WORKERS).items())
-    with store.pipeline(transaction=False) as together:
-        for each, _ in found:
-            together.exists(keys.alive("").encode() + each)
-            together.scard(keys.of("").encode() + each)
-            together.sismember(keys.UNFIT, each)
-        answers = store.all_of(together) if found else []
-    listed = []
+    alive, of, listed = keys.alive("").encode(), keys.of("").encode(), []
+    answers = store.run_all([call for each, _ in found for call in (("EXISTS", alive + each), ("SCARD", of + each), ("SISMEMBER", keys.UNFIT, each))])
     for (each, shown), is_alive, sessions, is_unfit in zip(found, *(answers[at::3] for at in range(3))):
         count = shown.split()[0] if SHOWN.fullmatch(shown) else b""
         made = {"worker": keys.shown(each), "sessions": sessions, "count": int(count) if count else None}

@@ -191,7 +191,8 @@ class Program(threading.Thread):
                 self.sends_since = time.monotonic()
                 self.host.send_up_to(*came)
                 self.sends_since = None
-                self.say_kept()
+                self.link.say(wire.packed(wire.KEPT, self.host.at))
+                self.begin_to_pass_on()
             self.host.end("lost" if self.status is None else self.status)
             self.link.say(wire.packed(wire.DONE))
         except Left:
@@ -211,10 +212,6 @@ class Program(threading.Thread):
         self.host.adopt(self.state.base, self.state.end, self.state.last)
         self.is_named = True
         self.link.say(wire.framed(wire.NAMED, self.host.incarnation.encode()))
-        self.begin_to_pass_on()
-
-    def say_kept(self):
-        self.link.say(wire.packed(wire.KEPT, self.host.at))
         self.begin_to_pass_on()
 
     def begin_to_pass_on(self):

@@ -24,10 +24,6 @@ class Session:
     def language(self):
         return Language(self.terminal.encoding, self.terminal.terminal)
 
-    def rebuilt(self):
-        """Returns bytes that rebuild the terminal, as it is at the position that settled() returns."""
-        return self.terminal.repaint()
-
     def data_of(self, entry_id, fields):
         """Returns what of an entry wasn't played yet. Raises a fault if it isn't a host's, or if bytes before it are missing."""
         said = fields.get(b"v", b"")
@@ -48,7 +44,7 @@ class Session:
         return data[self.at - begin :] if at > self.at else b""
 
     def settled(self):
-        """Returns the position up to which all bytes are in the terminal's state: what is pending comes after it."""
+        """Returns the position up to which all bytes are in the terminal's state, and so in its repaint: what is pending comes after it."""
         return self.at - len(self.terminal.pending())
 
     def play(self, data, reports, most=None):

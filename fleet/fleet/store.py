@@ -1,4 +1,5 @@
 """The store: Redis, whose calls wait for as long as it is away, and which has our functions."""
+import contextlib
 import functools
 import hashlib
 import logging
@@ -104,12 +105,6 @@ def words_of_read(count, streams, patience):
     return [b"XREAD", b"COUNT", b"%d" % count, *wait, b"STREAMS", *streams.keys(), *streams.values()]
 
 
-def drop(pool, connection):
-    """Closes a connection of which more may come than was read."""
-    connection.disconnect()
-    pool.release(connection)
-
-
 def has_come(connection, patience):
     """Returns whether something comes over a connection within some seconds. If a connection over a Unix socket is reset, redis-py 4.3 looks
     for a host to name in its error, and finds none."""
@@ -125,33 +120,6 @@ def answer_of(connection):
         return connection.read_response()
     except ResponseError as error:
         return error
-
-
-class Awaited:
-    """What the store was asked for, and says when something came, or after some seconds."""
-
-    def __init__(self, store, connection, patience):
-        self.pool, self.connection = store.connection_pool, connection
-        timeout = connection.socket_timeout or TIMEOUT
-        self.patience = max(timeout, patience + timeout / 2) if patience else 0
-
-    def answer(self):
-        """Returns what came. Raises what the store's calls raise."""
-        try:
-            if self.patience and not has_come(self.connection, self.patience):
-                raise TimeoutError("the store says nothing")
-            came = self.connection.read_response() or []
-        except ResponseError:
-            self.pool.release(self.connection)
-            raise
-        except BaseException:
-            drop(self.pool, self.connection)
-            raise
-        self.pool.release(self.connection)
-        return came
-
-    def drop(self):
-        drop(self.pool, self.connection)
 
 
 class Store(redis.Redis):
@@ -257,20 +225,29 @@ class Store(redis.Redis):
                 raise NoPermissionError(str(answer))
         return answers
 
+    @contextlib.contextmanager
+    def lent(self, word):
+        """Lends a connection. It is closed if more may come over it than was read: after any error but one that the store answered."""
+        connection = self.connection_pool.get_connection(word)
+        try:
+            yield connection
+        except ResponseError:
+            raise
+        except BaseException:
+            connection.disconnect()
+            raise
+        finally:
+            self.connection_pool.release(connection)
+
     def run_all(self, calls):
-        """Runs functions with one message. Returns their answers, errors among them. The client's own pipeline packs each word by itself,
+        """Runs commands with one message. Returns their answers, errors among them. The client's own pipeline packs each word by itself,
         which takes as long as all else that a worker does for an entry."""
         words = b"".join([packed([as_bytes(word) for word in call]) for call in calls])
 
         def once():
-            connection = self.connection_pool.get_connection("FCALL")
-            try:
+            with self.lent("FCALL") as connection:
                 connection.send_packed_command([words])
                 answers = [answer_of(connection) for _ in calls]
-            except BaseException:
-                drop(self.connection_pool, connection)
-                raise
-            self.connection_pool.release(connection)
             return self.sound(answers)
 
         return self.patiently(once) if calls else []
@@ -282,13 +259,12 @@ class Store(redis.Redis):
         words = packed(words_of_read(count, streams, patience))
 
         def once():
-            connection = self.connection_pool.get_connection("XREAD")
-            try:
+            with self.lent("XREAD") as connection:
                 connection.send_packed_command([words])
-            except BaseException:
-                drop(self.connection_pool, connection)
-                raise
-            return Awaited(self, connection, patience).answer()
+                timeout = connection.socket_timeout or TIMEOUT
+                if patience and not has_come(connection, max(timeout, patience + timeout / 2)):
+                    raise TimeoutError("the store says nothing")
+                return connection.read_response() or []
 
         return self.patiently(once)
 

@@ -23,6 +23,7 @@ from aiohttp import WSMsgType, web
 from vt220.keyboard import spelled
 from vt220.page import hashed
 
+from . import metrics
 from .gallery import Gallery
 from .operate import PAUSE as PAUSE_OF_KEYS, Typist, living_workers, parts
 
@@ -244,9 +245,7 @@ def serve(store, asked, settings):
     """Serves the page until Ctrl-C."""
     page = Page(store, asked, settings)
     if settings.metrics:
-        from .metrics import PageMetrics, serve as serve_metrics
-
-        serve_metrics(PageMetrics(page), settings.metrics)
+        metrics.serve(metrics.PageMetrics(page), settings.metrics)
     where = f"[{settings.address}]" if ":" in settings.address else settings.address
     # What a service prints is in the journal, which others may read. So a token of a file is never printed.
     address = f"http://{where}:{settings.port}/"

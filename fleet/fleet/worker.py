@@ -80,7 +80,7 @@ class Kept(Session):
     def check(self, number):
         """Makes a checkpoint in a format, if the terminal is between sequences."""
         if self.terminal.is_between():
-            self.checked, self.checkpoint = self.at, keys.checkpoint(self.settled(), self.rebuilt(), number)
+            self.checked, self.checkpoint = self.at, keys.checkpoint(self.settled(), self.terminal.repaint(), number)
             self.newest = number
 
     def check_again(self, number):
@@ -376,10 +376,7 @@ class Worker:
         if not self.choked or self.begun - self.asked < 0.1:
             return
         self.asked, choked = self.begun, list(self.choked & self.kept.keys())
-        with self.store.pipeline(transaction=False) as together:
-            for incarnation in choked:
-                together.xlen(key(incarnation, "answers"))
-            unread = self.store.all_of(together) if choked else []
+        unread = self.store.run_all([("XLEN", key(incarnation, "answers")) for incarnation in choked])
         self.choked = {i for i, count in zip(choked, unread) if isinstance(count, int) and count > UNREAD}
         self.due |= set(choked) - self.choked
 
@@ -490,9 +487,7 @@ class Worker:
 
     def leave(self):
         """Hands all sessions over, each as far as it was played, and begins no others."""
-        self.tell(
-            [session for session in self.kept.values() if session.told != session.at or session.reports or session.checkpoint]
-        )
+        self.tell([each for each in self.kept.values() if each.told != each.at or each.reports or each.checkpoint])
         self.claims.leave()
         self.is_gone = True
         log.info("%s hands %d sessions over", self.claims.me, len(self.kept))

@@ -9,6 +9,7 @@
 #include "../../keep/command.h"
 #include "../../keep/frame.h"
 #include <errno.h>
+#include <inttypes.h>
 #include <limits.h>
 #include <poll.h>
 #include <signal.h>
@@ -126,14 +127,10 @@ static void drop_before(uint64_t position) {
 
 /* --- the program --- */
 
-static void prepare(const void *unused) {
-    (void)unused;
-}
-
 /* Starts the program. If it can't be started, it has written why, and has ended. */
 static void start_program(void) {
     char why[1024];
-    int error = start_command(&the.line, the.command, strcmp(the.encoding, "utf-8") == 0, prepare, NULL, &the.status);
+    int error = start_command(&the.line, the.command, strcmp(the.encoding, "utf-8") == 0, NULL, NULL, &the.status);
     the.is_started = true;
     if (error == 0) {
         close(the.line.slave); /* so the terminal is closed when the last program has closed it */
@@ -195,25 +192,18 @@ static void kill_program(void) {
 
 /* --- the daemon --- */
 
-static bool add_text(struct bytes *bytes, const char *text) {
-    return add(bytes, text, strlen(text) + 1);
-}
-
-static bool add_number(struct bytes *bytes, uint64_t number) {
-    char text[32];
-    snprintf(text, sizeof text, "%llu", (unsigned long long)number);
-    return add_text(bytes, text);
-}
-
 /* Sends what is held. */
 static bool send_state(int link) {
-    struct bytes state = {0};
-    bool is_made = add_text(&state, "2") && add_text(&state, the.name) && add_text(&state, the.incarnation) && add_text(&state, the.input) &&
-                   add_text(&state, the.encoding) && add_text(&state, the.terminal) && add_number(&state, the.base) && add_number(&state, end());
-    for (size_t i = 0; i < STREAMS; i++) is_made = is_made && add_number(&state, the.last[i].moment) && add_number(&state, the.last[i].number);
-    for (char **word = the.command; *word != NULL; word++) is_made = is_made && add_text(&state, *word);
-    bool is_sent = is_made && wire_send(link, STATE, state.at, state.len);
-    free(state.at);
+    char *state = NULL;
+    size_t len = 0;
+    FILE *to = open_memstream(&state, &len);
+    if (to == NULL) return false;
+    fprintf(to, "2%c%s%c%s%c%s%c", 0, the.name, 0, the.incarnation, 0, the.input, 0);
+    fprintf(to, "%s%c%s%c%" PRIu64 "%c%" PRIu64 "%c", the.encoding, 0, the.terminal, 0, the.base, 0, end(), 0);
+    for (size_t i = 0; i < STREAMS; i++) fprintf(to, "%" PRIu64 "%c%" PRIu64 "%c", the.last[i].moment, 0, the.last[i].number, 0);
+    for (char **word = the.command; *word != NULL; word++) fprintf(to, "%s%c", *word, 0);
+    bool is_sent = fclose(to) == 0 && wire_send(link, STATE, state, len);
+    free(state);
     return is_sent;
 }
 

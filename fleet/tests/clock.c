@@ -1,7 +1,5 @@
-/* Another clock for a program: gettimeofday, time and clock_gettime(CLOCK_REALTIME) are moved by the seconds in the file that
- * CLOCK_FILE names. For LD_PRELOAD. */
-#define _GNU_SOURCE
-#include <dlfcn.h>
+/* Another clock for a store: the two calls by which Redis asks for the time of day are moved by the seconds in the file that CLOCK_FILE names.
+ * For LD_PRELOAD. */
 #include <stdio.h>
 #include <stdlib.h>
 #include <sys/time.h>
@@ -18,26 +16,18 @@ static long moved(void) {
     return by;
 }
 
-int clock_gettime(clockid_t which, struct timespec *at) {
-    static int (*real)(clockid_t, struct timespec *);
-    if (!real) real = (int (*)(clockid_t, struct timespec *))dlsym(RTLD_NEXT, "clock_gettime");
-    int status = real(which, at);
-    if (status == 0 && which == CLOCK_REALTIME) at->tv_sec += moved();
-    return status;
-}
-
 int gettimeofday(struct timeval *restrict at, void *restrict zone) {
     struct timespec now;
     (void)zone;
     clock_gettime(CLOCK_REALTIME, &now);
-    at->tv_sec = now.tv_sec;
+    at->tv_sec = now.tv_sec + moved();
     at->tv_usec = now.tv_nsec / 1000;
     return 0;
 }
 
 time_t time(time_t *at) {
-    struct timespec now;
-    clock_gettime(CLOCK_REALTIME, &now);
+    struct timeval now;
+    gettimeofday(&now, NULL);
     if (at) *at = now.tv_sec;
     return now.tv_sec;
 }

@@ -2,7 +2,7 @@
 import signal
 
 from harness import (
-    Processes, Proxy, Source, check, compare, is_buried, key, keys, local, played, playing, program, raises, stores,
+    Processes, Proxy, Source, check, compare, end_all, is_buried, key, keys, local, owned, playing, program, raises, stores,
     until, wait_for, worker,
 )
 from fleet.host import Taken
@@ -17,12 +17,7 @@ def four_hundred_idle_sessions_outlive_their_worker(machine, _):
     url = machine.url
     sources = [Source(url, f"idle-{number}").send(b"Session %d\033[6n" % number) for number in range(400)]
     store, workers = sources[0].store, Processes(machine, 1, "--lease", "1")
-    check(
-        wait_for(
-            lambda: store.scard(keys.of(store.hkeys(keys.WORKERS)[0].decode())) == 400 if store.hlen(keys.WORKERS) else False
-        ),
-        "one has all",
-    )
+    check(wait_for(lambda: owned(store) == 400), "one has all")
     workers.all[0].send_signal(signal.SIGKILL)
     workers.all[0].wait()
     dead = store.hkeys(keys.WORKERS)[0]
@@ -33,12 +28,7 @@ def four_hundred_idle_sessions_outlive_their_worker(machine, _):
         return all(owner and owner != dead for owner in have.values())
 
     check(wait_for(are_moved), "all are another's")
-    for source in sources:
-        source.send(b"!\033[6n").end(0)
-    check(wait_for(lambda: all(source.is_ended() for source in sources)), "they go on")
-    for source in sources:
-        source.receive(0)
-    check(all(source.reports() == played(source.sent)[1] for source in sources), "each report once")
+    end_all(sources, b"!\033[6n")
 
 
 def a_slow_worker_harms_no_session(url, data):
@@ -75,15 +65,7 @@ def stopped_workers_harm_no_session(machine, data):
                 victim.send_signal(signal.SIGSTOP)
         check(wait_for(lambda: is_buried(sources[0].store, victim)), "others have the sessions of one that is stopped")
         victim.send_signal(signal.SIGCONT)
-    for source in sources:
-        source.send(b"\030").end(0)
-    check(wait_for(lambda: all(source.is_ended() for source in sources)), "all end")
-    for source in sources:
-        source.finish()
-        check(source.fault() == "", f"{source.name}: {source.fault()}")
-        check(source.reports() == played(source.sent)[1], f"{source.name}: each report once")
-        ended = source.store.hget(source.part("ended"), "text")
-        check(ended == played(source.sent)[0].text().encode(), f"{source.name}: text")
+    end_all(sources, b"\030")
 
 
 def a_worker_behind_a_dead_link_harms_no_session(machine, data):
@@ -92,21 +74,17 @@ def a_worker_behind_a_dead_link_harms_no_session(machine, data):
     cut = Processes(machine, 1, "--lease", "1", "--every", "512", "--keep", "0", url=proxy.url)
     sources = [Source(machine.url, f"link-{number}").send(data[:1000]).listen() for number in range(4)]
     store = sources[0].store
-    wait_for(lambda: all(int(store.hget(s.part("about"), "played")) == 1000 for s in sources))
+    wait_for(lambda: all(source.about("played") == b"1000" for source in sources))
     proxy.signal(signal.SIGUSR2)
     other = Processes(machine, 1, "--lease", "1", "--every", "512", "--keep", "0")
     check(wait_for(lambda: is_buried(store, cut.all[0])), "others take what it had")
     for source in sources:
         source.send(data[1000:] * 4 + b"\033[c")
-    check(wait_for(lambda: all(source.reports() == played(source.sent)[1] for source in sources)), "another answers")
+    check(wait_for(lambda: all(source.has_all_reports() for source in sources)), "another answers")
     proxy.signal(signal.SIGUSR2)
     check(wait_for(lambda: not is_buried(store, cut.all[0])), "it begins anew")
+    end_all(sources, b"\033[6n")
     for source in sources:
-        source.send(b"\033[6n").end(0)
-    check(wait_for(lambda: all(source.is_ended() for source in sources)), "all end")
-    for source in sources:
-        source.finish()
-        check(source.fault() == "", source.fault())
         compare(source)
 
 

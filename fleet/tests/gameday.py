@@ -2,6 +2,7 @@
 evaluates alerts.yml, and its time is that of the samples: each phase is twenty minutes of what the metrics said once."""
 import json
 import os
+import pathlib
 import re
 import subprocess
 import threading
@@ -11,11 +12,10 @@ import urllib.error
 from prometheus_client import CollectorRegistry, generate_latest
 
 from harness import (
-    Clock, HERE, PATIENCE, PATIENT, Processes, Proxy, Source, check, configured, keys, local, playing, program, replace,
-    settings, started, stores, until, wait_for,
+    HERE, PATIENCE, PATIENT, Clock, Failing, Processes, Proxy, Source, begun, check, conf, configured, ending, fleet, free_port, keys,
+    launched, playing, program, replace, settings, stores, text_of, until, wait_for, worker,
 )
 from operators import asked, metrics_at, state
-from safety import fleet, free_port
 from fleet import config, metrics
 from fleet.claims import Claims
 from fleet.daemon import Daemon
@@ -25,6 +25,7 @@ from fleet.web import Page
 from fleet.worker import Worker
 
 ALERTS = os.path.join(HERE, "..", "alerts.yml")
+BUG = TypeError("a bug of this version")
 SAMPLES = 80  # of each phase, 15 seconds apart: no alert looks back further, or waits longer
 
 
@@ -54,10 +55,12 @@ def of_port(port):
 
 
 class Day:
-    """What the targets said in each phase."""
+    """What the targets said in each phase: the metrics of the whole fleet, by a store that gives up at once, and more that a case adds."""
 
-    def __init__(self, **targets):
-        self.targets, self.phases = targets, []
+    def __init__(self, machine):
+        self.whole, self.phases = WholeFleet(stores.connect(machine.url)), []
+        self.whole.store.patience = 0.1
+        self.targets = {"all": of_collector(self.whole)}
 
     def look(self, metric="", value=""):
         """Notes what each target says, once a metric of the whole fleet has a value: a worker may be slow to show that it lives."""
@@ -102,95 +105,99 @@ class Day:
         series = sorted(set().union(*self.phases))
         made = {"interval": "15s", "input_series": [{"series": each, "values": self.values(each)} for each in series]}
         made["promql_expr_test"] = self.expect(alert, labels)
-        path = os.path.join(machine.folder, "rules.json")
-        with open(path, "w") as file:  # JSON is YAML
-            json.dump({"rule_files": [os.path.realpath(ALERTS)], "evaluation_interval": "15s", "tests": [made]}, file)
+        rules = {"rule_files": [os.path.realpath(ALERTS)], "evaluation_interval": "15s", "tests": [made]}
+        path = conf(machine, "rules.json", json.dumps(rules))  # JSON is YAML
         done = subprocess.run(["promtool", "test", "rules", path], capture_output=True, text=True)
         check(done.returncode == 0, f"{alert}: it isn't there, fires, and ends: {done.stdout[-3000:]}{done.stderr}")
 
 
-def whole_of(machine):
-    """Returns the metrics of the whole fleet, by a store that gives up at once."""
-    whole = WholeFleet(stores.connect(machine.url))
-    whole.store.patience = 0.1
-    return whole
+def day_of(alert, *labels):
+    """Makes a case of a generator, which stops three times, each time for a look: before the fault, while it is there, and once it is cured.
+    It may yield a metric and the value that is waited for. An alert that has labels fires for each of them."""
+
+    def decorate(case):
+        def judged(machine, _):
+            day = Day(machine)
+            for awaited in case(machine, day):
+                day.look(*awaited or ())
+            for each in labels or ({},):
+                day.judge(machine, alert, **each)
+
+        judged.__name__ = case.__name__
+        return judged
+
+    return decorate
 
 
-def no_workers(machine, _):
+@day_of("FleetNoWorkers")
+def no_workers(machine, day):
     """All are killed, and nobody is left to bury them."""
-    whole = whole_of(machine)
-    day, workers, source = Day(all=of_collector(whole)), Processes(machine, 2, "--lease", "1"), Source(machine.url, "played").send(b"x")
+    workers, source = Processes(machine, 2, "--lease", "1"), Source(machine.url, "played").send(b"x")
     wait_for(lambda: state(source.store, "played")["lag"] == 0)
-    day.look("fleet_workers{", "2.0")
+    yield "fleet_workers{", "2.0"
     for each in workers.all:
         each.kill()
         each.wait()
     source.send(b"y")
-    day.look("fleet_workers{", "0.0")
-    check(whole.problem() == "no worker lives", f"nor is the fleet well: {whole.problem()}")
+    yield "fleet_workers{", "0.0"
+    check(day.whole.problem() == "no worker lives", f"nor is the fleet well: {day.whole.problem()}")
     check(state(source.store, "played")["state"] == "waiting", "its session waits")
     listed = [line.split() for line in fleet(machine.url, "workers")[1].splitlines()]
     check(len(listed) == 2 and all(words[3] == "silent" for words in listed), f"both are listed as silent: {listed}")
     another = Processes(machine, 1, "--lease", "8")  # so it doesn't take itself for stopped on a busy machine
     check(wait_for(lambda: state(source.store, "played")["lag"] == 0), "another one plays the session")
-    day.look("fleet_workers{", "1.0")
-    day.judge(machine, "FleetNoWorkers")
+    yield "fleet_workers{", "1.0"
 
 
-def a_session_stands_still(machine, _):
+@day_of("FleetStandsStill")
+def a_session_stands_still(machine, day):
     """Its host reads no reports."""
-    whole, clock = whole_of(machine), replace(metrics, "time", Clock())
-    one, day = Worker(stores.connect(machine.url), settings(lease=3600)), Day(all=of_collector(whole))
-    source = Source(machine.url, "stands still").send(b"x")
-    until(lambda: one.kept and not one.due, one)
+    clock, (source, one) = replace(metrics, "time", Clock()), playing(machine.url, "stands still", b"x", lease=3600)
     one.tell(list(one.kept.values()))
-    day.look()
+    yield
     source.send(b"\033[c" * 20000, piece=3000)
     until(lambda: source.incarnation in one.choked, one)
-    whole.facts_of_store()
+    day.whole.facts_of_store()
     clock.now += 90
-    day.look()
+    yield
     source.listen()
     check(until(lambda: len(source.got) == 20000 and not one.due, one), "a host that reads them goes on")
     one.tell(list(one.kept.values()))
-    day.look()
-    day.judge(machine, "FleetStandsStill")
+    yield
 
 
-def a_format_is_missing(machine, _):
-    day, old = Day(all=of_collector(whole_of(machine))), Worker(stores.connect(machine.url), settings(lease=3600), formats=(2,))
-    day.look()
+@day_of("FleetFormatMissing")
+def a_format_is_missing(machine, day):
+    old = Worker(stores.connect(machine.url), settings(lease=3600), formats=(2,))
+    yield
     source = Source(machine.url, "newer", encoding="utf-8")
     until(lambda: source.store.hlen(keys.FOREIGN) == 1, old)
-    day.look()
-    newer = Worker(stores.connect(machine.url), settings(lease=3600))
+    yield
+    newer = worker(machine.url, lease=3600)
     check(until(lambda: source.incarnation in newer.kept, newer, old), "a worker of the newer version takes it")
-    day.look()
-    day.judge(machine, "FleetFormatMissing")
+    yield
 
 
-def connections_run_out(machine, _):
-    whole, store, one = whole_of(machine), stores.connect(machine.url), lives(machine)
-    day = Day(all=of_collector(whole))
-    day.look()
+@day_of("FleetConnections")
+def connections_run_out(machine, day):
+    store, one = stores.connect(machine.url), lives(machine)
+    yield
     others = [stores.connect(machine.url) for _ in range(8)]
     check(all(each.ping() for each in others), "others come")
     most = store.info("clients")["connected_clients"] + 2
     store.config_set("maxclients", most)
     status, _, said = fleet(machine.url, "check-store")
     check(status == 69 and f"of {most} connections" in said, f"check-store says so: {status} {said}")
-    day.look()
+    yield
     run_of("FleetConnections", machine)
     status, _, said = fleet(machine.url, "check-store")
     check(status == 0, f"then the store is fit: {said}")
-    day.look()
-    day.judge(machine, "FleetConnections")
+    yield
 
 
 def run_of(section, machine):
     """Runs the runbook's commands of a section on a test's store."""
-    with open(os.path.join(HERE, "..", "RUNBOOK.md")) as file:
-        text = re.search(rf"^## {section}\n(.*?)(?=^## |\Z)", file.read(), re.MULTILINE | re.DOTALL)[1]
+    text = re.search(rf"^## {section}\n(.*?)(?=^## |\Z)", text_of("RUNBOOK.md"), re.MULTILINE | re.DOTALL)[1]
     commands = "\n".join(line[4:] for line in text.splitlines() if line.startswith("    "))
     commands = commands.replace("redis-cli", f"redis-cli -s {machine.socket}").replace("/var/lib/redis", machine.folder)
     done = subprocess.run(["sh", "-e", "-c", commands], capture_output=True, text=True)
@@ -217,8 +224,7 @@ def a_store_is_upgraded(machine, data):
     machine.server.wait()
     place = os.path.join(machine.folder, "appendonlydir")
     files = [file for file in os.listdir(place) if ".base." in file]
-    with open(os.path.join(place, files[0]), "rb") as base:
-        text = base.read()
+    text = pathlib.Path(place, files[0]).read_bytes()
     check(len(files) == 1 and text.startswith(b"*") and b"FUNCTION" in text, f"the file has plain commands, and the functions: {files} {text[:20]}")
     machine.start()
     check(fleet(machine.url, "check-store")[0] == 0, "the store is fit")
@@ -226,46 +232,30 @@ def a_store_is_upgraded(machine, data):
     source.ends(one)
 
 
-def a_target_is_down(machine, _):
+@day_of("FleetTargetDown", {"instance": "one"})
+def a_target_is_down(machine, day):
     """`fleet metrics` ends, and that of another fleet doesn't."""
     port, one = free_port(), lives(machine)
-    day = Day(one=of_port(port), other=of_collector(whole_of(machine)))
-
-    def served():
-        words = [local.PYTHON, local.COMMAND, "metrics", f"127.0.0.1:{port}"]
-        made = subprocess.Popen(words, env=os.environ | {"FLEET_REDIS": machine.url})
-        started.callback(made.kill)
+    day.targets["one"] = of_port(port)
+    for is_killed in (True, False):
+        serves = ending(launched(machine, "metrics", f"127.0.0.1:{port}"))
         check(wait_for(of_port(port)), "it serves")
-        day.look()
-        return made
-
-    serves = served()
-    serves.kill()
-    serves.wait()
-    day.look()
-    serves = served()
-    day.judge(machine, "FleetTargetDown", instance="one")
+        yield
+        if is_killed:
+            serves.kill()
+            serves.wait()
+            yield
 
 
-class Faulty(Worker):
-    """A worker of a version with a bug."""
-
-    def play(self, session, budget):
-        if any(b"bytes" in fields for _, fields in session.queue):
-            raise TypeError("a bug of this version")
-        super().play(session, budget)
-
-
-def an_upgrade_fails(machine, _):
+@day_of("FleetUpgradeFails")
+def an_upgrade_fails(machine, day):
     """A faulty worker fails on its first sessions, and the others go on with these. It is the last one, and then the earlier version is back."""
-    chosen = settings(lease=3600)
-    day, url = Day(all=of_collector(whole_of(machine))), machine.url
-    old = Worker(stores.connect(url), chosen)
+    url, old = machine.url, worker(machine.url, lease=3600)
     sources = [Source(url, f"upgraded-{number}").send(b"x") for number in range(20)]
     until(lambda: len(old.kept) == 20 and not old.due, old)
     old.note()
-    day.look()
-    new = Faulty(stores.connect(url), chosen)
+    yield
+    new = Failing(url, BUG, lease=3600)
     old.claims.release(list(old.kept)[:10])
     old.read_anew()
     for source in sources:
@@ -273,7 +263,7 @@ def an_upgrade_fails(machine, _):
     check(until(lambda: new.is_unfit, new), "it takes no more")
     check(until(lambda: all(source.receive(0).reports() for source in sources), old, new), "the earlier version goes on with all")
     check([source.fault() for source in sources] == [""] * 20, "none has a fault")
-    day.look()
+    yield
     listed = fleet(url, "workers")[1].splitlines()
     check([line.split()[0] for line in listed if line.endswith("unfit")] == [new.claims.me], f"it is listed: {listed}")
     old.leave()
@@ -282,16 +272,14 @@ def an_upgrade_fails(machine, _):
     new.turn(0.01)
     check(not new.kept and [source.fault() for source in sources] == [""] * 20, "if it is the last one, they wait")
     new.leave()
-    back = Worker(stores.connect(url), chosen)
+    back = worker(url, lease=3600)
     check(until(lambda: len(back.kept) == 20 and not back.due, back), "the earlier version takes them")
-    day.look()
-    day.judge(machine, "FleetUpgradeFails")
+    yield
 
 
 def an_error_is_taken_back(url, _):
     """All workers that there are meet it, so it is the session's fault. `fleet retry` has a sound one go on."""
-    chosen = settings(lease=3600)
-    faulty = [Faulty(stores.connect(url), chosen) for _ in range(2)]
+    faulty = [Failing(url, BUG, lease=3600) for _ in range(2)]
     source, sound = Source(url, "taken-back"), Source(url, "sound")
     source.send(b"x\033[6n")
     check(until(source.fault, *faulty), "it is a fault")
@@ -301,7 +289,7 @@ def an_error_is_taken_back(url, _):
     check(source.host.said_fault == source.fault(), "its host knows")
     for each in faulty:
         each.leave()
-    one = Worker(stores.connect(url), chosen)
+    one = worker(url, lease=3600)
     check(fleet(url, "retry", "sound")[0] == 6 and fleet(url, "retry", "nosuch")[0] == 3, "one without a fault, and none")
     check(fleet(url, "retry", "taken-back")[0] == 0, "it is tried again")
     check(until(lambda: source.receive(0).reports() and sound.incarnation in one.kept, one), "and goes on")
@@ -317,62 +305,57 @@ def lives(machine):
     return Claims(stores.connect(machine.url), 3600)
 
 
+@day_of("FleetStoreAway")
 def the_store_is_away(machine, _):
-    day = Day(all=of_collector(whole_of(machine)))
     lives(machine)
-    day.look()
+    yield
     machine.kill()
-    day.look()
+    yield
     machine.start()
-    day.look()
-    day.judge(machine, "FleetStoreAway")
+    yield
 
 
-def the_store_is_slow(machine, _):
+@day_of("FleetReportsSlow")
+def the_store_is_slow(machine, day):
     """Each ping takes longer than it should, by the clock of the metrics."""
-    whole, clock = whole_of(machine), replace(metrics, "time", Clock())
-    day, ping = Day(all=of_collector(whole)), whole.store.ping
+    clock, store = replace(metrics, "time", Clock()), day.whole.store
+    ping = store.ping
     lives(machine)
-    day.look()
-    whole.store.ping = lambda: setattr(clock, "now", clock.now + 0.7)
-    day.look()
-    whole.store.ping = ping
-    day.look()
-    day.judge(machine, "FleetReportsSlow")
+    yield
+    store.ping = lambda: setattr(clock, "now", clock.now + 0.7)
+    yield
+    store.ping = ping
+    yield
 
 
+@day_of("FleetSessionsWait")
 def sessions_wait(machine, _):
     """The only worker is full."""
-    day = Day(all=of_collector(whole_of(machine)))
     lives(machine)
-    day.look()
+    yield
     source = Source(machine.url, "waits")
     source.store.zincrby(keys.WAITING, -60000, source.incarnation)
-    day.look()
-    more = Worker(stores.connect(machine.url), settings(lease=3600))
+    yield
+    more = worker(machine.url, lease=3600)
     check(until(lambda: source.incarnation in more.kept, more), "one more worker takes it")
-    day.look()
-    day.judge(machine, "FleetSessionsWait")
+    yield
 
 
+@day_of("FleetHostsSilent")
 def hosts_are_silent(machine, _):
     """A host daemon is killed, and the next one goes on with its programs."""
-    name, store, day = "silent", stores.connect(machine.url), Day(all=of_collector(whole_of(machine)))
-    one, command = lives(machine), ["sh", "-c", "echo on; read x; exit 3"]
+    name, one, silent = "silent", lives(machine), 'fleet_states{state="no host",'
     with configured(machine, *PATIENT, "[host]", "lease = 1"):
-        host = program(machine, name, command, "--input")
-    wait_for(lambda: (state(store, name) or {"size": 0})["size"])  # so its program runs
+        host, store, incarnation = begun(machine, name, ["sh", "-c", "echo on; read x; exit 3"], "--input")
     one.take(16)
-    silent = 'fleet_states{state="no host",'
-    day.look(silent, "0.0")
+    yield silent, "0.0"
     machine.kill_daemon()
-    day.look(silent, "1.0")
+    yield silent, "1.0"
     machine.start_daemon()
     check(wait_for(lambda: state(store, name)["state"] == "running"), "it has a host again")
-    day.look(silent, "0.0")
-    Typist(store, state(store, name)["incarnation"]).type(b"\r")
+    yield silent, "0.0"
+    Typist(store, incarnation).type(b"\r")
     check(host.wait(PATIENCE) == 3, f"and its program lives: {host.returncode}")
-    day.judge(machine, "FleetHostsSilent")
 
 
 FAULTS = {
@@ -384,26 +367,26 @@ FAULTS = {
 }
 
 
+@day_of("FleetFaults", *({"fault": each} for each in FAULTS))
 def sessions_have_faults(machine, _):
     """Of each kind, made in the store. An operator ends these sessions."""
-    one, day = Worker(stores.connect(machine.url), settings(lease=3600)), Day(all=of_collector(whole_of(machine)))
-    day.look()
+    one = worker(machine.url, lease=3600)
+    yield
     made = {fault: Source(machine.url, fault) for fault in FAULTS}
     for fault, harm in FAULTS.items():
         harm(made[fault])
     check(until(lambda: all(source.fault().startswith(fault) for fault, source in made.items()), one), "each has its own")
-    day.look()
+    yield
     for fault in FAULTS:
         check(fleet(machine.url, "end", "--force", "--keep", "0", fault)[0] == 0, f"{fault}: it is removed")
-    day.look()
-    for fault in FAULTS:
-        day.judge(machine, "FleetFaults", fault=fault)
+    yield
 
 
-def a_worker_is_cut_off(machine, _):
+@day_of("FleetCutOff", {"instance": "one"})
+def a_worker_is_cut_off(machine, day):
     """Its link ends, and is back."""
     port, proxy = free_port(), Proxy(machine)
-    day, cut = Day(one=of_port(port), all=of_collector(whole_of(machine))), Processes(machine, 1, "--metrics", f"127.0.0.1:{port}", url=proxy.url)
+    day.targets["one"], cut = of_port(port), Processes(machine, 1, "--metrics", f"127.0.0.1:{port}", url=proxy.url)
     lives(machine)
 
     def is_away():
@@ -411,51 +394,46 @@ def a_worker_is_cut_off(machine, _):
 
     wait_for(of_port(port))
     wait_for(lambda: not is_away())
-    day.look()
+    yield
     proxy.process.kill()
     wait_for(is_away)
-    day.look()
+    yield
     os.unlink(proxy.socket)
-    proxy.process = subprocess.Popen(proxy.process.args, stdout=subprocess.PIPE)
+    proxy.start()
     check(wait_for(lambda: not is_away()), "it reaches the store again")
-    day.look()
-    day.judge(machine, "FleetCutOff", instance="one")
+    yield
 
 
-def a_host_is_behind(machine, _):
+@day_of("FleetHostBehind")
+def a_host_is_behind(machine, day):
     """No worker plays a session, and its program writes more than may wait. The daemon is in this process."""
     name, clock = "behind", replace(metrics, "time", Clock())
     daemon = replace(machine, "daemon", Daemon(stores.connect(machine.url), config.Host(lease=3600), machine.where()["FLEET_DAEMON"]))
     threading.Thread(target=daemon.serve, daemon=True).start()
-    day = Day(one=of_collector(DaemonMetrics(daemon)), all=of_collector(whole_of(machine)))
+    day.targets["one"] = of_collector(DaemonMetrics(daemon))
     lives(machine)
     host = program(machine, name, ["sh", "-c", "read x; head -c 3000000 /dev/zero"], "--input")
     wait_for(lambda: daemon.all() and daemon.all()[0].is_named)
     [ran], clock.now = daemon.all(), time.monotonic()
-    day.look()
+    yield
     Typist(daemon.store, ran.host.incarnation).type(b"\r")
     wait_for(lambda: ran.host.is_waiting)
     clock.now = ran.sends_since + 60
-    day.look()
-    one = Worker(stores.connect(machine.url), settings(lease=3600))
+    yield
+    one = worker(machine.url, lease=3600)
     check(until(lambda: host.poll() is not None, one) and host.returncode == 0, "a worker plays it, so the program goes on")
-    day.look()
-    day.judge(machine, "FleetHostBehind")
+    yield
 
 
-def a_page_is_asked_without_its_token(machine, _):
+@day_of("FleetPageRefuses", {"instance": "one"})
+def a_page_is_asked_without_its_token(machine, day):
     store = stores.connect(machine.url)
-
-    def served():
-        return Page(store, store, config.Web())
-
-    page = served()
-    day = Day(one=lambda: of_collector(PageMetrics(page))(), all=of_collector(whole_of(machine)))
     lives(machine)
-    day.look()
-    for _ in range(30):
-        check(not page.admits('{"token": "a guess"}'), "it is refused")
-    day.look()
-    page = served()  # with another token
-    day.look()
-    day.judge(machine, "FleetPageRefuses", instance="one")
+    for guesses in (30, 0):
+        page = Page(store, store, config.Web())  # each with another token
+        day.targets["one"] = of_collector(PageMetrics(page))
+        yield
+        for _ in range(guesses):
+            check(not page.admits('{"token": "a guess"}'), "it is refused")
+        if guesses:
+            yield

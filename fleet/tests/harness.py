@@ -1,13 +1,12 @@
 """What the tests share: a count of what passed, a store, workers in this process, and hosts whose program is the test."""
 import contextlib
-import glob
 import os
+import pathlib
 import random
+import socket
 import subprocess
 import sys
-import tempfile
 import threading
-import time
 
 sys.dont_write_bytecode = True
 HERE = os.path.dirname(os.path.abspath(__file__))
@@ -16,6 +15,7 @@ sys.path.insert(0, os.path.join(HERE, ".."))
 from fleet import config, frames, keys, local, program as programs, session, store as stores
 from fleet.host import Host
 from fleet.keys import key
+from fleet.operate import comes
 from fleet.worker import Worker
 import vt220
 
@@ -33,6 +33,7 @@ HOLDER = next(filter(os.path.exists, programs.HOLDERS), programs.HOLDERS[0])
 
 counts = {"case": "", "passed": 0, "failed": 0}  # of the cases that ran, with the name of the one that runs
 started = contextlib.ExitStack()  # what a case has started, which ends with it
+ports = []  # sockets that hold ports as long as this process lives
 
 
 def check(is_so, what):
@@ -62,9 +63,18 @@ def incarnation_of(store, name):
     return store.hget(keys.NAMES, name).decode()
 
 
+def end_of(store, incarnation):
+    """Returns how many bytes of a session the store has taken."""
+    return int(store.hget(key(incarnation, "about"), "end") or 0)
+
+
 def recordings():
-    found = sorted(glob.glob(os.path.join(ROOT, "bench", "recordings", "*.raw")))
-    return [open(path, "rb").read() for path in found]
+    return [path.read_bytes() for path in sorted(pathlib.Path(ROOT, "bench", "recordings").glob("*.raw"))]
+
+
+def text_of(file):
+    """Returns the text of a file of the fleet."""
+    return pathlib.Path(HERE, "..", file).read_text()
 
 
 def played(data):
@@ -82,12 +92,7 @@ def raises(fault, call, *arguments):
 
 def wait_for(is_so, pause=0.02):
     """Waits until something is so. Returns whether it is."""
-    end = time.monotonic() + PATIENCE
-    while not is_so():
-        if time.monotonic() > end:
-            return bool(is_so())
-        time.sleep(pause)
-    return True
+    return comes(is_so, PATIENCE, pause)
 
 
 def until(is_so, *workers):
@@ -101,6 +106,11 @@ def until(is_so, *workers):
     return bool(is_so()) or wait_for(is_so_after_a_turn, 0 if workers else 0.02)
 
 
+def commands(store):
+    """Returns how often each command was called, also inside functions, without the call that asks."""
+    return {name: each["calls"] for name, each in store.info("commandstats").items() if name != "cmdstat_info"}
+
+
 def settings(**chosen):
     made = config.Worker()
     for name, value in ({"every": 1000, "lease": 0.4} | chosen).items():
@@ -110,6 +120,19 @@ def settings(**chosen):
 
 def worker(url, **chosen):
     return Worker(stores.connect(url), settings(**chosen))
+
+
+class Failing(Worker):
+    """A worker in this process that raises an error when it plays certain bytes."""
+
+    def __init__(self, url, error, fatal=b"", **chosen):
+        super().__init__(stores.connect(url), settings(**chosen))
+        self.error, self.fatal = error, fatal
+
+    def play(self, session, budget):
+        if any(self.fatal in fields.get(b"bytes", b"") for _, fields in session.queue if b"bytes" in fields):
+            raise self.error
+        super().play(session, budget)
 
 
 def replace(thing, name, value):
@@ -206,11 +229,31 @@ class Source:
     def part(self, name):
         return key(self.incarnation, name)
 
+    def about(self, field):
+        """Returns what the store has of the session in a field."""
+        return self.store.hget(self.part("about"), field)
+
+    def has_all_reports(self):
+        """Returns whether all reports to what it sent have come."""
+        return self.reports() == played(self.sent)[1]
+
     def is_ended(self):
         return bool(self.store.exists(self.part("ended")))
 
     def fault(self):
         return (self.store.get(self.part("fault")) or b"").decode()
+
+
+def end_all(sources, data, *workers):
+    """Ends sessions after some more bytes, and compares each with a terminal once it is played: by workers of this process or by others."""
+    for source in sources:
+        source.send(data).end(0)
+    check(until(lambda: all(source.is_ended() for source in sources), *workers), "all end")
+    for source in sources:
+        source.finish()
+        check(source.fault() == "", f"{source.name}: {source.fault()}")
+        check(source.has_all_reports(), f"{source.name}: each report once")
+        check(source.store.hget(source.part("ended"), "text") == played(source.sent)[0].text().encode(), f"{source.name}: text")
 
 
 def playing(url, name, data, **chosen):
@@ -259,25 +302,63 @@ def compare_screen(source, data):
         check(now.terminal.repaint() == repaint, "repaint")
 
 
-class Processes:
-    """Worker processes on a store, which may be reached through a proxy."""
+class Processes(local.Workers):
+    """Worker processes on a store, which may be reached through a proxy. They end with the case."""
 
     def __init__(self, machine, count, *words, url=None):
-        self.machine = machine
-        self.group = local.Workers(0, machine.folder, url or machine.url, *words)
-        self.group.all = [self.group.another() for _ in range(count)]
-        started.callback(self.group.stop)
+        super().__init__(0, machine.folder, url or machine.url, *words)
+        started.callback(self.stop)
+        self.all += [self.another() for _ in range(count)]
 
-    def __getattr__(self, name):
-        return getattr(self.group, name)
+
+def ending(process):
+    """Has a process end with the case. Returns it."""
+    started.callback(process.wait)
+    started.callback(process.kill)
+    return process
+
+
+def launched(machine, *words, **options):
+    """Starts a command of the fleet on a machine's store."""
+    words = [local.PYTHON, local.COMMAND, *words]
+    return subprocess.Popen(words, env=os.environ | machine.where(), **{"stdout": subprocess.DEVNULL, "stderr": subprocess.DEVNULL} | options)
+
+
+def fleet(url, *words, config=None, **where):
+    """Runs the command. Returns its exit status, and what it wrote as text."""
+    status, out, said = fleet_bytes(url, *words, **({"FLEET_CONFIG": config} if config else {}), **where)
+    return status, out.decode(), said.decode()
+
+
+def fleet_bytes(url, *words, **where):
+    """Runs the command, with more variables in its environment. Returns its exit status, and the bytes that it wrote."""
+    words, where = [local.PYTHON, local.COMMAND, *words], os.environ | {"FLEET_REDIS": url} | where
+    done = subprocess.run(words, env=where, stdin=subprocess.DEVNULL, capture_output=True, timeout=PATIENCE)
+    return done.returncode, done.stdout, done.stderr
+
+
+def free_port():
+    """Returns a port of this process alone. A socket that doesn't listen holds it, so the kernel gives it to nobody else. Whoever is told
+    its number can listen there, as all servers here allow addresses to be used again."""
+    one = socket.socket()
+    one.setsockopt(socket.SOL_SOCKET, socket.SO_REUSEADDR, 1)
+    one.bind(("127.0.0.1", 0))
+    ports.append(one)
+    return one.getsockname()[1]
 
 
 def program(machine, name, command, *words, **options):
     """Starts a program as a session of the machine's daemon, which is started if there is none. The process becomes the holder."""
     if not machine.daemon:
         machine.start_daemon()
-    words = [local.PYTHON, local.COMMAND, "host", *words, name, *command]
-    return subprocess.Popen(words, env=os.environ | machine.where(), **{"stdout": subprocess.DEVNULL, "stderr": subprocess.DEVNULL} | options)
+    return launched(machine, "host", *words, name, *command, **options)
+
+
+def begun(machine, name, command, *words, says=b"on", **options):
+    """Starts a program as a session, and waits until it has written something. Returns its holder, the store, and its incarnation."""
+    host, store = program(machine, name, command, *words, **options), stores.connect(machine.url)
+    check(wait_for(lambda: says in written(store, name)), f"the program of {name} runs")
+    return host, store, incarnation_of(store, name)
 
 
 def another_daemon(machine):
@@ -293,9 +374,21 @@ def written(store, name):
     return b"".join(fields.get(b"bytes", b"") for _, fields in entries)
 
 
+def seen(viewer):
+    """Returns the text that a viewer shows, once it has played what there is."""
+    viewer.ask()
+    viewer.follow(0)
+    return viewer.terminal.text()
+
+
 def bury(one):
     """Has the store take a worker of this process for dead, and all of its sessions wait."""
     one.store.run("bury", one.claims.me, one.store.hget(keys.WORKERS, one.claims.me), 500)
+
+
+def owned(store):
+    """Returns how many sessions workers have."""
+    return sum(store.scard(keys.of(each.decode())) for each in store.hkeys(keys.WORKERS))
 
 
 def is_buried(store, process):
@@ -303,14 +396,19 @@ def is_buried(store, process):
     return all(int(each.decode().rsplit("-", 2)[1]) != process.pid for each in store.hkeys(keys.WORKERS))
 
 
+def conf(machine, name, *lines):
+    """Returns the path of a file of a machine, which is this user's alone and has these lines."""
+    path = os.path.join(machine.folder, name)
+    with open(path, "w", opener=lambda path, flags: os.open(path, flags, 0o600)) as file:
+        print(*lines, sep="\n", file=file)
+    return path
+
+
 @contextlib.contextmanager
 def configured(machine, *lines):
     """Has the fleet's processes that start meanwhile read these lines. They may do so later: the file stays as long as the machine."""
     before = os.environ.get("FLEET_CONFIG")
-    descriptor, path = tempfile.mkstemp(prefix="conf-", dir=machine.folder)
-    with open(descriptor, "w") as file:
-        print(*lines, sep="\n", file=file)
-    os.environ["FLEET_CONFIG"] = path
+    os.environ["FLEET_CONFIG"] = conf(machine, f"conf-{keys.new_id()}", *lines)
     try:
         yield
     finally:
@@ -322,31 +420,20 @@ def report():
     return 1 if counts["failed"] else 0
 
 
-def flush(machine):
-    stores.connect(machine.url).flushall()
-
-
-def chance(seed):
-    return random.Random(seed)
-
-
 class Proxy:
     """A link to a machine's store that a test can harm."""
 
     def __init__(self, machine, share=0.0):
         self.socket = os.path.join(machine.folder, f"proxy-{random.randrange(10**9)}.sock")
         self.url = f"unix://{self.socket}"
-        words = ["/usr/bin/python3", os.path.join(HERE, "proxy.py"), self.socket, machine.socket, str(share)]
-        self.process = subprocess.Popen(words, stdout=subprocess.PIPE)
-        started.callback(self.stop)
+        self.words = [local.PYTHON, os.path.join(HERE, "proxy.py"), self.socket, machine.socket, str(share)]
+        self.start()
+
+    def start(self):
+        self.process = ending(subprocess.Popen(self.words, stdout=subprocess.PIPE))
         wait_for(lambda: os.path.exists(self.socket))
 
     def signal(self, number):
         """Sends a signal, and waits until it is taken: two of one number that come at once would be one."""
         self.process.send_signal(number)
         self.process.stdout.readline()
-
-    def stop(self):
-        self.process.kill()
-        self.process.wait()
-

@@ -1,9 +1,10 @@
 """Loads a worker with many sessions, for `measure`: what an entry, an idle session and a report cost."""
+import itertools
 import os
 import subprocess
 import time
 
-from harness import HOLDER, key, keys, stores, wait_for
+from harness import HOLDER, key, keys, owned, stores, wait_for
 
 TICKS = os.sysconf("SC_CLK_TCK")
 
@@ -21,11 +22,6 @@ def proportional(pid):
         return next(int(line.split()[1]) * 1024 for line in rollup if line.startswith("Pss:"))
 
 
-def commands(store):
-    """Returns how often each command was called, also inside functions, without the call that asks."""
-    return {name: each["calls"] for name, each in store.info("commandstats").items() if name != "cmdstat_info"}
-
-
 def idle_holders(machine, count):
     """Starts sessions whose programs are idle. Returns the processes of their holders."""
     words = [HOLDER, machine.where()["FLEET_DAEMON"], "-1", "0", "1", "dec", "vt220"]
@@ -39,19 +35,13 @@ class Sessions:
         self.store = stores.connect(url)
         self.incarnations = [keys.new_id() for _ in range(count)]
         self.at = dict.fromkeys(self.incarnations, 0)
+        words = 10**9, keys.version(), "host", "load", "input", 0
+        calls = [("register", f"{word}-{number}", each, *words) for number, each in enumerate(self.incarnations)]
         for at in range(0, count, 500):
-            self.call(
-                [
-                    ("register", f"{word}-{number + at}", each, 10**9, keys.version(), "host", "load", "input", 0)
-                    for number, each in enumerate(self.incarnations[at : at + 500])
-                ]
-            )
+            self.call(calls[at : at + 500])
 
     def call(self, calls):
-        with self.store.pipeline(transaction=False) as together:
-            for words in calls:
-                together.execute_command(*self.store.call_of(*words))
-            answers = self.store.all_of(together)
+        answers = self.store.run_all([self.store.call_of(*words) for words in calls])
         assert all(answer[0] == b"ok" for answer in answers), answers[:3]
 
     def send(self, incarnations, data):
@@ -62,38 +52,25 @@ class Sessions:
             calls.append(("append", each, before, self.at[each], keys.version(), keys.now(), data))
         self.call(calls)
 
-    def end(self):
-        for number in range(0, len(self.incarnations), 500):
-            self.call(
-                [("finish", "x", each, self.at[each], 0, keys.version()) for each in self.incarnations[number : number + 500]]
-            )
-
     def are_taken(self):
-        some = self.incarnations
-        return sum(self.store.scard(keys.of(worker.decode())) for worker in self.store.hkeys(keys.WORKERS)) == len(some)
+        return owned(self.store) == len(self.incarnations)
 
 
 def run(sessions, entries, size, seconds, pids, every=0.05):
     """Sends entries of `size` bytes to the sessions in turn, so many a second of each. Returns each process's seconds of
     processor, and how many were sent."""
     data = b"\033[7mThe quick brown fox jumps over the lazy dog.\033[m\r\n" * (size // 40 + 1)
-    per_step = entries * len(sessions.incarnations) * every
-    before, begin, sent = [processor(pid) for pid in pids], time.monotonic(), 0
-    position = 0
+    per_step, turns = entries * len(sessions.incarnations) * every, itertools.cycle(sessions.incarnations)
+    before, begin, sent, last = [processor(pid) for pid in pids], time.monotonic(), 0, ""
     while (now := time.monotonic() - begin) < seconds:
         due = int(min(now / every, seconds / every) * per_step) - sent
-        some = [sessions.incarnations[(position + n) % len(sessions.incarnations)] for n in range(due)]
-        position += due
+        some = list(itertools.islice(turns, due))
+        last = some[-1] if some else last
         for at in range(0, due, 200):
             sessions.send(some[at : at + 200], data[:size])
         sent += due
         time.sleep(max(0.0, begin + now + every - time.monotonic()))
-    wait_for(
-        lambda: int(
-            sessions.store.hget(key(sessions.incarnations[(position - 1) % len(sessions.incarnations)], "about"), "played") or 0
-        )
-        > 0
-    )
+    wait_for(lambda: sessions.store.hget(key(last, "about"), "played") != b"0")
     return [after - b for after, b in zip([processor(pid) for pid in pids], before)], sent
 
 

@@ -7,10 +7,9 @@ import time
 
 import load
 from harness import (
-    Processes, Source, bury, check, compare, incarnation_of, key, keys, program, raises, settings, stores, until,
-    wait_for, worker,
+    Failing, Processes, Source, begun, bury, check, compare, conf, end_all, end_of, fleet, key, keys, raises, settings, stores,
+    until, wait_for, worker,
 )
-from safety import fleet
 from operators import OnTerminal
 from web import Served
 from fleet import claims
@@ -25,20 +24,9 @@ class Died(BaseException):
     """A worker in this process dies, as by SIGKILL: it writes nothing any more."""
 
 
-class Mortal(Worker):
-    """A worker that dies when it plays certain bytes."""
-
-    DEADLY = b"deadly"
-
-    def play(self, session, budget):
-        if any(self.DEADLY in fields.get(b"bytes", b"") for _, fields in session.queue):
-            raise Died
-        super().play(session, budget)
-
-
 def dies(url, turns=60):
-    """Lets a worker turn until it dies, and buries it. Returns whether it died."""
-    mortal = Mortal(stores.connect(url), settings())
+    """Lets a worker turn until it dies of certain bytes, and buries it. Returns whether it died."""
+    mortal = Failing(url, Died, b"deadly")
     try:
         for _ in range(turns):
             mortal.turn(patience=0.01)
@@ -60,12 +48,8 @@ def poison_is_tried_alone(url, _):
     check(bad.fault().startswith("Poison"), f"the poison is given up: {bad.fault()}")
     check(deaths <= 13, f"after ten workers or a little more: {deaths}")
     check([source.fault() for source in good] == [""] * 15, "and no other session is")
-    one = worker(url)
+    end_all(good, b"on\033[6n", worker(url))
     for source in good:
-        source.send(b"on\033[6n").end(0)
-    check(until(lambda: all(source.is_ended() for source in good), one), "they all go on")
-    for source in good:
-        source.receive()
         compare(source)
     check(store.zcard(keys.SUSPECTS) == 0 and store.hlen(keys.TRYING) == 0, "nothing is left of the trials")
 
@@ -148,9 +132,7 @@ def an_end_by_force_ends_a_session_that_lives(url, _):
 
 def a_host_whose_session_was_ended_ends(machine, _):
     name = "ended by force"
-    host = program(machine, name, ["sh", "-c", "while :; do echo tick; read -t 1 x; done"])
-    store = stores.connect(machine.url)
-    wait_for(lambda: store.hexists(keys.NAMES, name))
+    host, store, _ = begun(machine, name, ["sh", "-c", "while :; do echo tick; read -t 1 x; done"], says=b"tick")
     check(fleet(machine.url, "end", "--force", "--keep", "0", name)[0] == 0, "it is ended")
     check(host.wait(120) == 5, f"its host ends, since the session was closed by another: {host.returncode}")
     check(store.zcard(keys.ALL) == 0 and not store.hexists(keys.NAMES, name), "and it doesn't come back")
@@ -158,31 +140,21 @@ def a_host_whose_session_was_ended_ends(machine, _):
 
 def a_session_with_a_fault_doesn_t_fill_the_store(machine, _):
     name = "faulted flood"
-    store = stores.connect(machine.url)
-    host = program(machine, name, ["sh", "-c", "read x; exec yes"], "--input")
-    incarnation = incarnation_of(store, name)
+    host, store, incarnation = begun(machine, name, ["sh", "-c", "read x; exec yes"], "--input", says=b"")
     store.set(key(incarnation, "fault"), "Poison: so")
     store.srem(keys.LIVE, incarnation)
     Typist(store, incarnation).type(b"\r")
-
-    def end():
-        return int(store.hget(key(incarnation, "about"), "end"))
-
-    check(wait_for(lambda: end() > WAITING), "its program writes until a mebibyte waits")
+    check(wait_for(lambda: end_of(store, incarnation) > WAITING), "its program writes until a mebibyte waits")
     leases = store.object("idletime", keys.lease(name))
-    check(leases is not None and end() <= WAITING + 65536, f"and no more: {end()}")
+    check(leases is not None and end_of(store, incarnation) <= WAITING + 65536, f"and no more: {end_of(store, incarnation)}")
     check(fleet(machine.url, "kill", name)[0] in (0, 6), "a signal reaches it")
     check(host.wait(120) == 4, f"its host ends with the fault: {host.returncode}")
-    check(end() <= WAITING + 65536, f"nothing more came: {end()}")
+    check(end_of(store, incarnation) <= WAITING + 65536, f"nothing more came: {end_of(store, incarnation)}")
 
 
 def a_signal_reaches_a_program_that_reads_nothing(machine, _):
-    name = "deaf"
-    store = stores.connect(machine.url)
-    workers = Processes(machine, 1)
-    host = program(machine, name, ["sh", "-c", "stty raw -echo; printf ready; exec sleep 100000"], "--input")
-    incarnation = incarnation_of(store, name)
-    wait_for(lambda: int(store.hget(key(incarnation, "about"), "end")) >= 5)
+    name, workers, command = "deaf", Processes(machine, 1), ["sh", "-c", "stty raw -echo; printf ready; exec sleep 100000"]
+    host, store, incarnation = begun(machine, name, command, "--input", says=b"ready")
     typist, things = Typist(store, incarnation), 0
     while typist.offer("keys", b"x" * 1000) or store.xlen(key(incarnation, "keys")) < Typist.LIMIT:
         things += 1
@@ -254,14 +226,11 @@ def a_long_session_without_a_checkpoint_doesn_t_stop_the_page(machine, _):
     gallery.clients = 1
 
     def shows(source):
+        gallery.look()
         followed = gallery.followed.get(source.incarnation)
         return followed and followed.picture.shown >= 0
 
-    def look():
-        gallery.look()
-        return shows(short)
-
-    check(wait_for(look), "the short one is read from the store")
+    check(wait_for(lambda: shows(short)), "the short one is read from the store")
     check(wait_for(lambda: not gallery.followed[long.incarnation].is_reading), "the other one was tried")
     check(not shows(long), "and isn't played")
 
@@ -396,28 +365,21 @@ def what_the_store_says_is_printed_without_its_escapes(url, _):
 
 def a_password_is_changed_while_the_fleet_runs(machine, data):
     """The file is written, then the store's password is changed, and all connections are broken."""
-    name, file = "password", os.path.join(machine.folder, "password")
-    admin = stores.connect(machine.url)
-    write(file, "first")
+    name, admin, file = "password", stores.connect(machine.url), conf(machine, "password", "first")
     admin.config_set("requirepass", "first")
     admin.execute_command("AUTH", "first")
     one = stores.connect(machine.url, file)
     source = Source(machine.url, name, connection={"password_file": file}).send(data[:500])
     player = Worker(one, settings())
     until(lambda: source.incarnation in player.kept and not player.due, player)
-    write(file, "second")
+    conf(machine, "password", "second")
     admin.config_set("requirepass", "second")
     admin.execute_command("CLIENT", "KILL", "TYPE", "normal", "SKIPME", "yes")
     source.send(data[500:] + b"\033[6n")
     source.ends(player)
-    write(file, "wrong")
+    conf(machine, "password", "wrong")
     refused = stores.connect(machine.url, file)
     refused.patience = 0.5
     begin = time.monotonic()
     check(raises(stores.AuthenticationError, refused.ping), "a password that never was right is an error")
     check(refused.outages == 0, f"at once: {time.monotonic() - begin:.1f} s")
-
-
-def write(path, text):
-    with open(path, "w") as file:
-        file.write(text)

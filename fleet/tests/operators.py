@@ -17,18 +17,16 @@ import urllib.error
 import urllib.request
 
 from harness import (
-    HERE, PATIENCE, PATIENT, PROGRAM, Processes, Source, check, children_of, configured, incarnation_of, key, keys,
-    local, program, raises, stores, until, wait_for, wanted, worker, written,
+    HERE, PATIENCE, PATIENT, PROGRAM, Processes, Proxy, Source, begun, check, children_of, commands, conf, configured, fleet,
+    fleet_bytes, free_port, key, keys, local, program, raises, stores, text_of, until, wait_for, wanted, worker, written,
 )
 import vt220
 from fleet import claims, config, host, metrics
 from fleet.config import Settings, Unclear
 from fleet.metrics import DaemonMetrics, PageMetrics, WholeFleet, WorkerMetrics, server
+from fleet.operate import Typist, everything
 from fleet.web import Page
-from safety import UNITS, conf, fleet, fleet_bytes, free_port
-
-SHELL = ["sh", "-c", "while read x; do echo got $x; done; exit 9"]
-
+from safety import UNITS
 
 def is_there(pid):
     """Returns whether a process runs."""
@@ -61,22 +59,18 @@ def a_list_asks_little_of_sessions_that_ended(machine, _):
     store.set(bad.part("fault"), "Wrong: so")
     store.srem(keys.LIVE, bad.incarnation)
 
-    def asked():
-        return store.info("commandstats")["cmdstat_hmget"]["calls"]
-
-    before = asked()
+    before = commands(store)["cmdstat_hmget"]
     status, out, _ = fleet(machine.url, "list")
     shown = sorted(line.split()[0] for line in out.splitlines())  # two that begin in one millisecond are in any order
     check(status == 0 and shown == ["NAME", "bad", "lives"], f"they aren't listed: {out}")
-    check(asked() - before == 2, f"nor read: {asked() - before}")
+    asked = commands(store)["cmdstat_hmget"] - before
+    check(asked == 2, f"nor read: {asked}")
     check(len(fleet(machine.url, "list", "--all")[1].splitlines()) == 63, "but with --all")
     facts = WholeFleet(stores.connect(machine.url)).look()
     check((facts["ended"], len(facts["listed"])) == (60, 2), "the metrics count them")
 
 
 def state(store, name):
-    from fleet.operate import everything
-
     return next((each for each in everything(store) if each["name"] == name), None)
 
 
@@ -111,17 +105,14 @@ def list_tells_how_sessions_are(machine, data):
 
 def kill_end_and_their_statuses(machine, data):
     url = machine.url
-    store = stores.connect(url)
     workers = Processes(machine, 1, "--lease", "1")
-    host = program(machine, "runs", ["sh", "-c", "echo on; " + SHELL[2]])
-    wait_for(lambda: b"on" in written(store, "runs"))
+    host, store, _ = begun(machine, "runs", ["sh", "-c", "echo on; while read x; do echo got $x; done; exit 9"])
     check(fleet(url, "host", "runs", "true")[0] == 5, "a second host of the name: 5")
     check(fleet(url, "end", "runs")[0] == 6, "a session whose host lives isn't ended: 6")
     patiently = ("--patience", str(PATIENCE))
     check(fleet(url, "kill", *patiently, "runs")[0] == 0 and host.wait(PATIENCE) == 129, f"kill hangs up: {host.returncode}")
     check(wait_for(lambda: state(store, "runs")["state"] == "ended 129"), "the session has the program's status")
-    host = program(machine, "stubborn", ["sh", "-c", "trap '' HUP TERM; echo on; while :; do sleep 0.1; done"])
-    wait_for(lambda: b"on" in written(store, "stubborn"))
+    host, *_ = begun(machine, "stubborn", ["sh", "-c", "trap '' HUP TERM; echo on; while :; do sleep 0.1; done"])
     check(fleet(url, "kill", "--signal", "TERM", "--patience", "1", "stubborn")[0] == 6, "one that minds no signal: 6")
     check(fleet(url, "kill", "--signal", "KILL", *patiently, "stubborn")[0] == 0, "but KILL")
     check(host.wait(PATIENCE) == 137, f"which its host's status shows: {host.returncode}")
@@ -148,11 +139,8 @@ def kill_end_and_their_statuses(machine, data):
 
 
 def a_host_ends_also_without_a_store(machine, _):
-    name, words = "no store", ["sh", "-c", "echo on; exec sleep infinity"]
     with configured(machine, "[store]", "timeout = 60", "give-up = 1"):
-        host = program(machine, name, words, stderr=subprocess.PIPE, text=True)
-        store = stores.connect(machine.url)
-        wait_for(lambda: b"on" in written(store, name))
+        host, *_ = begun(machine, "no store", ["sh", "-c", "echo on; exec sleep infinity"], stderr=subprocess.PIPE, text=True)
     machine.kill()
     host.terminate()
     said = host.communicate(timeout=PATIENCE)[1]
@@ -166,20 +154,27 @@ def drain_hands_over(machine, data):
     sources = [Source(url, f"drain-{number}").send(b"abc") for number in range(100)]
     store = sources[0].store
     workers = Processes(machine, 1)
-    wait_for(lambda: all(store.hget(s.part("about"), "owner") for s in sources[::9] + sources[-1:]))
-    [first] = store.hkeys(keys.WORKERS)
-    workers.all.append(workers.another())
-    wait_for(lambda: store.hlen(keys.WORKERS) == 2)
+    wait_for(lambda: all(source.about("owner") for source in sources[::9] + sources[-1:]))
+
+    def another_comes():
+        """Returns the name of the worker that is there. Another one is, too, then."""
+        [name] = store.hkeys(keys.WORKERS)
+        workers.all.append(workers.another())
+        wait_for(lambda: store.hlen(keys.WORKERS) == 2)
+        return name
+
+    def are_moved(last):
+        return wait_for(lambda: all(source.about("owner") not in (None, last) for source in sources))
+
+    first = another_comes()
     check(fleet(url, "drain", "--patience", str(PATIENCE), first.decode()[:-2])[0] == 0, "it is done")
-    check(wait_for(lambda: all(store.hget(s.part("about"), "owner") not in (None, first) for s in sources)), "another has all")
+    check(are_moved(first), "another has all")
     check(workers.all[0].wait(PATIENCE) == 0, "the worker has ended with 0")
-    check(wait_for(lambda: all(store.hget(s.part("about"), "played") == b"3" for s in sources)), "which goes on with each")
-    [second] = store.hkeys(keys.WORKERS)
-    workers.all.append(workers.another())
-    wait_for(lambda: store.hlen(keys.WORKERS) == 2)
+    check(wait_for(lambda: all(source.about("played") == b"3" for source in sources)), "which goes on with each")
+    second = another_comes()
     workers.all[1].terminate()
     check(workers.all[1].wait(PATIENCE) == 0, "SIGTERM does the same")
-    check(wait_for(lambda: all(store.hget(s.part("about"), "owner") not in (None, second) for s in sources)), "another has all")
+    check(are_moved(second), "another has all")
     check(fleet(url, "drain", "nosuch")[0] == 3, "no such worker: 3")
     [last] = [each for each in store.hkeys(keys.WORKERS) if each != second]
     status, _, said = fleet(url, "drain", "--patience", str(PATIENCE), last.decode())
@@ -188,30 +183,22 @@ def drain_hands_over(machine, data):
 
 def viewers_type_in_order_and_once(machine, _):
     """Through a link that swallows answers: what is typed is there once, in order."""
-    from harness import Proxy
-    from fleet.operate import Typist
-
     name, proxy = "type", Proxy(machine, 0.05)
     workers = Processes(machine, 1)
-    host = program(machine, name, ["sh", "-c", 'stty -echo; echo on; while read x; do echo "$x"; done'], "--input")
-    store = stores.connect(machine.url)
-    wait_for(lambda: b"on" in written(store, name))
-    incarnation = incarnation_of(store, name)
+    _, store, incarnation = begun(machine, name, ["sh", "-c", 'stty -echo; echo on; while read x; do echo "$x"; done'], "--input")
     typists = [Typist(stores.connect(proxy.url), incarnation) for _ in range(2)]
     for number in range(60):
         typists[number % 2].type(b"line %d\r" % number)
-    wanted_lines = [b"line %d" % number for number in range(60)]
 
     def lines():
         return written(store, name).replace(b"\r", b"").split(b"\n")[1:-1]
 
     check(wait_for(lambda: len(lines()) >= 60), f"all arrives: {len(lines())}")
-    check(lines() == wanted_lines, "once, and in order")
+    check(lines() == [b"line %d" % number for number in range(60)], "once, and in order")
     check(wait_for(lambda: store.xlen(key(incarnation, "keys")) == 0), "and doesn't stay in the store")
     check(fleet(machine.url, "type", "--enter", name, "\u00e4 by the command")[0] == 0, "the command types")
     check(wait_for(lambda: b"\xe4 by the command" in lines()), "with the byte of the Supplemental set")
-    other = program(machine, "read-only", ["cat"])
-    wait_for(lambda: store.hexists(keys.NAMES, "read-only"))
+    begun(machine, "read-only", ["cat"], says=b"")
     check(fleet(machine.url, "type", "read-only", "x")[0] == 6, "a host without --input takes none: 6")
 
 
@@ -272,9 +259,8 @@ def keys_have_the_form_that_the_program_asked_for(machine, _):
 
 def a_viewer_follows_and_types_on_a_terminal(machine, _):
     name, workers = "view", Processes(machine, 1, "--lease", "1")
-    host = program(machine, name, ["sh", "-c", "printf '\\033[1mhello\\033[m'; while read x; do echo \"got $x\"; done; exit 3"], "--input")
-    store = stores.connect(machine.url)
-    wait_for(lambda: store.hexists(keys.NAMES, name))
+    command = ["sh", "-c", "printf '\\033[1mhello\\033[m'; while read x; do echo \"got $x\"; done; exit 3"]
+    host, *_ = begun(machine, name, command, "--input", says=b"hello")
     types, looks = OnTerminal(machine.url, "view", "--type", name), OnTerminal(machine.url, "view", name)
     check(wait_for(lambda: types.has(b"\033[0;1mhello")), "it draws the session")
     os.write(types.master, b"by \xc3\xa4 viewer\r")
@@ -287,7 +273,6 @@ def a_viewer_follows_and_types_on_a_terminal(machine, _):
     typed = fleet(machine.url, "type", name, "\x04")
     check(typed[0] == 0 and host.wait(PATIENCE) == 3, "an end of file ends the program")
     check(looks.status() == 0, "and the viewer, at the session's end")
-    workers.stop()
 
 
 BEGUN = 1_700_000_000_000  # a moment, in milliseconds
@@ -371,10 +356,8 @@ def metrics_and_logs(machine, data):
     check(found["fleet_sessions"] == 1 and found["fleet_faults_total"] == 0 < found["fleet_store_connections_total"], str(found))
     check(found["fleet_report_seconds_count"] > 0 == found['fleet_report_seconds_bucket{le="+Inf"}'] - found["fleet_report_seconds_count"], "latencies")
     check(wait_for(lambda: asked(port, "healthz") == (200, "ok\n")), "it is well")
-    check(
-        all(re.match(r"\d{4}-\d\d-\d\d \d\d:\d\d:\d\d,\d{3} (INFO|WARNING|ERROR) ", line) for line in workers.said()),
-        "logs have times",
-    )
+    line = re.compile(r"\d{4}-\d\d-\d\d \d\d:\d\d:\d\d,\d{3} (INFO|WARNING|ERROR) ")
+    check(all(map(line.match, workers.said())), "logs have times")
 
 
 def asked(port, what):
@@ -397,9 +380,7 @@ def a_daemon_has_metrics(machine, _):
     waits = ["while [ ! -e %s ]; do sleep 0.05; done" % step for step in steps]
     script = f"printf begins; {waits[0]}; printf ' and on'; {waits[1]}; exit 3"
     machine.start_daemon("--metrics", f"127.0.0.1:{port}")
-    host = program(machine, name, ["sh", "-c", script])
-    store, now = stores.connect(machine.url), lambda: metrics_at(port)
-    wait_for(lambda: written(store, name) == b"begins")
+    host, now = begun(machine, name, ["sh", "-c", script], says=b"begins")[0], lambda: metrics_at(port)
     check(wait_for(lambda: now()["fleet_host_bytes_total"] == 6), f"bytes: {now()}")
     before = now()
     wanted = {'fleet_host_programs{state="running"}': 1, 'fleet_host_programs{state="slowed"}': 0, 'fleet_host_programs{state="ended"}': 0}
@@ -439,10 +420,7 @@ def alerts_and_documents_name_the_metrics_that_there_are(url, _):
     store, source = stores.connect(url), Source(url, "one")
     of_daemon = DaemonMetrics(types.SimpleNamespace(store=store, all=list, totals=lambda: {"bytes": 0, "inputs": 0}))
     known = set().union(*map(names_of, (WorkerMetrics(worker(url)), of_daemon, PageMetrics(Page(store, store, config.Web())), WholeFleet(store))))
-    texts = {}
-    for file in ("alerts.yml", "README.md", "RUNBOOK.md"):
-        with open(os.path.join(HERE, "..", file)) as read:
-            texts[file] = read.read()
+    texts = {file: text_of(file) for file in ("alerts.yml", "README.md", "RUNBOOK.md", "tests/gameday.py")}
     used = {re.sub(r"_bucket$", "", each) for each in re.findall(r"\bfleet_\w+", texts["alerts.yml"])}
     check(len(used) > 8 and used <= known, f"the alerts are of metrics that there are: {used - known}")
     listed = set(re.findall(r"`(fleet_\w+)`", texts["README.md"]))
@@ -451,8 +429,7 @@ def alerts_and_documents_name_the_metrics_that_there_are(url, _):
     check(len(alerts) == len(set(alerts)) == texts["alerts.yml"].count("summary:"), f"each alert has a summary: {alerts}")
     pages = set(re.findall(r"^## (\w+)", texts["RUNBOOK.md"], re.MULTILINE))
     faults = {each.__name__ for each in keys.Fault.__subclasses__()} | {host.Taken.__name__, "Poison", *alerts}
-    with open(os.path.join(HERE, "gameday.py")) as read:
-        judged = set(re.findall(r'judge\(machine, "(\w+)"', read.read()))
+    judged = set(re.findall(r'^@day_of\("(\w+)"', texts["tests/gameday.py"], re.MULTILINE))
     check(judged == set(alerts), f"the game day has each alert: {judged ^ set(alerts)}")
     check(faults <= pages, f"the runbook has a page for each fault and each alert: {faults - pages}")
 
@@ -504,21 +481,18 @@ def the_configuration_is_read_and_checked(machine, _):
         status, _, said = fleet(url, "list", config=conf(machine, f"wrong-{number}", text))
         check(status == 78 and word in said, f"{text!r}: {status} {said}")
     check(fleet(url, "list", config="/nonexistent")[0] == 78, "a file that isn't there")
-    check(
-        fleet(f"unix://{machine.folder}/none", "list", config=conf(machine, "quick", "[store]", "give-up = 1"))[0] == 69,
-        "no store: 69",
-    )
+    quick = conf(machine, "quick", "[store]", "give-up = 1")
+    check(fleet(f"unix://{machine.folder}/none", "list", config=quick)[0] == 69, "no store: 69")
     for words in ("worker --lease 0", "worker --every x", "worker --keep -5", "worker --lease nan", "host --rate 0 x y", "web --port 99999", "end --keep -1 x"):
         status, _, said = fleet(url, *words.split())
         check(status == 2 and words.split()[1] in said, f"a number that cannot be: {words}: {status} {said}")
     check(fleet(url, "nosuch")[0] == 2 and fleet(url, "host", "x")[0] == 78, "a wrong command line")
     for bad in ("", "a\nb", "x" * 201, "a\x1b[31m"):
         check(fleet(url, "host", bad, "true")[0] == 2, f"a name that cannot be: {bad!r}")
-    with open(os.path.join(UNITS, "vt220-fleet-.service.d", "all.conf")) as file:
-        common = file.read()
     for path in glob.glob(os.path.join(UNITS, "*.service")):
-        with open(path) as file:
-            text, is_session = common + file.read(), "-host@" in path
+        is_session = "-host@" in path
+        parts = (path, "systemd/vt220-fleet-.service.d/all.conf", *(() if is_session else ("systemd/store.conf",)))
+        text = "".join(map(text_of, parts))
         words = ("ExecStart", "StartLimitIntervalSec", "Restart", "SystemCallFilter", "UMask", "NoNewPrivileges", "ProtectSystem")
         check(all(f"\n{word}=" in text for word in words), f"{path} is started again for ever, and is hardened")
         check(("\nMemoryMax=" not in text) == is_session, f"{path} has a bound of memory, but no session")

@@ -6,6 +6,7 @@ that are there say nothing any more, in either direction, and stay open; new one
 tries waits; again SIGUSR2: as before. For each signal that was taken, a line is written.
 """
 import asyncio
+import contextlib
 import random
 import signal
 import sys
@@ -45,19 +46,16 @@ class Link:
         self.all.discard(me)
 
     async def pipe(self, me, reader, writer, share):
-        try:
+        with contextlib.suppress(OSError):
             while data := await reader.read(65536):
                 await self.is_open.wait()
                 if me in self.holes:
                     continue
-                if self.chance.random() < share:
-                    writer.write(data[: self.chance.randrange(len(data))])
-                    await writer.drain()
-                    return
-                writer.write(data)
+                is_cut = self.chance.random() < share
+                writer.write(data[: self.chance.randrange(len(data))] if is_cut else data)
                 await writer.drain()
-        except OSError:
-            pass
+                if is_cut:
+                    return
 
 
 async def main():

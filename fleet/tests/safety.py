@@ -10,29 +10,13 @@ import tempfile
 import types
 
 from harness import (
-    HERE, HOLDER, PATIENCE, PATIENT, Processes, Source, check, incarnation_of, key, keys, local, played, program,
-    raises, stores, until, wait_for, worker, written,
+    HERE, HOLDER, PATIENCE, PATIENT, Processes, Source, begun, check, conf, fleet, free_port, incarnation_of, key, keys, local,
+    played, program, raises, seen, stores, text_of, until, wait_for, worker, written,
 )
 from fleet import wire
 from fleet.host import REPORT, REPORT_LIMIT
 from fleet.operate import Typist
 from fleet.view import Viewer
-
-held = []  # sockets that hold ports as long as this process lives
-
-
-def fleet(url, *words, config=None, **where):
-    """Runs the command. Returns its exit status, and what it wrote as text."""
-    status, out, said = fleet_bytes(url, *words, **({"FLEET_CONFIG": config} if config else {}), **where)
-    return status, out.decode(), said.decode()
-
-
-def fleet_bytes(url, *words, **where):
-    """Runs the command, with more variables in its environment. Returns its exit status, and the bytes that it wrote."""
-    words, where = [local.PYTHON, local.COMMAND, *words], os.environ | {"FLEET_REDIS": url} | where
-    done = subprocess.run(words, env=where, stdin=subprocess.DEVNULL, capture_output=True, timeout=PATIENCE)
-    return done.returncode, done.stdout, done.stderr
-
 
 def the_store_of_run_is_this_users_alone(machine, _):
     check(stat.S_IMODE(os.stat(machine.folder).st_mode) == 0o700, "its directory is this user's alone")
@@ -41,24 +25,19 @@ def the_store_of_run_is_this_users_alone(machine, _):
 
 
 def the_program_learns_no_address(machine, _):
-    name = "environment"
-    workers = Processes(machine, 1)
-    config = os.path.join(machine.folder, "conf")
-    open(config, "w").close()
+    name, workers, store = "environment", Processes(machine, 1), stores.connect(machine.url)
     machine.start_daemon()
     reads = "env; cat /proc/$PPID/cmdline /proc/$PPID/environ | tr '\\0' '\\n'"
-    status, _, _ = fleet(machine.url, "host", name, "sh", "-c", reads, config=config)
-    store = stores.connect(machine.url)
-    incarnation = incarnation_of(store, name)
-    wait_for(lambda: store.exists(key(incarnation, "ended")))
-    said = b"".join(f[b"bytes"] for _, f in store.xrange(key(incarnation, "bytes")) if b"bytes" in f).decode()
+    status, _, _ = fleet(machine.url, "host", name, "sh", "-c", reads, config=conf(machine, "conf"))
+    wait_for(lambda: store.exists(key(incarnation_of(store, name), "ended")))
+    said = written(store, name).decode()
     check(status == 0 and "TERM=vt220" in said, "the program ran")
     check("FLEET" not in said and "redis" not in said.lower(), "no variable and no argument has the address")
     check(said.count("TERM=vt220") == 2, "neither of its own nor of its holder's")
 
 
 def only_reports_reach_the_program(url, _):
-    name, one = "reports", worker(url)
+    one = worker(url)
     true = [
         b"\033[?62;1;6c", b"\033[>1;10;0c", b"\033[0n", b"\033[24;132R", b"\033[?13n", b"\033[?27;1n", b"\x9b?62;1;6c",
         b"\x9b1;1R",
@@ -68,11 +47,10 @@ def only_reports_reach_the_program(url, _):
         b"id -u > file\n", b"\033[1;1R\n", b"\033[1;1Rx", b"", b"\033[A", b"\033[11111;1R", b"\033[?62;1;6c\033[0n",
         b"\n\033[0n",
     ]
-    source = Source(url, name).send(b"abc")
-    for number, report in enumerate(false):
-        source.store.xadd(source.part("answers"), {"v": keys.version(), "report": report}, id=f"0-{number + 1}")
-    source.store.xadd(source.part("answers"), {"v": keys.version(), "report": b"\033[9;9R"}, id="2-5")
-    source.store.xadd(source.part("answers"), {"v": keys.version(), "report": b"\033[9;9R"}, id="99999999-0")
+    source = Source(url, "reports").send(b"abc")
+    ids = [f"0-{number + 1}" for number in range(len(false))] + ["2-5", "99999999-0"]
+    for entry_id, report in zip(ids, [*false, b"\033[9;9R", b"\033[9;9R"]):
+        source.store.xadd(source.part("answers"), {"v": keys.version(), "report": report}, id=entry_id)
     source.receive()
     check(source.got == [], f"nothing else is passed on: {source.got}")
     source.send(b"\033[6n")
@@ -98,24 +76,6 @@ def every_report_of_the_terminal_has_the_form(_, __):
     check(len(made) > 1000 and not wrong, f"{len(made)} reports: {wrong[:5]}")
 
 
-def free_port():
-    """Returns a port of this process alone. A socket that doesn't listen holds it, so the kernel gives it to nobody else. Whoever is told
-    its number can listen there, as all servers here allow addresses to be used again."""
-    one = socket.socket()
-    one.setsockopt(socket.SOL_SOCKET, socket.SO_REUSEADDR, 1)
-    one.bind(("127.0.0.1", 0))
-    held.append(one)
-    return one.getsockname()[1]
-
-
-def conf(machine, name, *lines):
-    path = os.path.join(machine.folder, name)
-    with open(path, "w") as file:
-        file.write("\n".join(lines) + "\n")
-    os.chmod(path, 0o600)
-    return path
-
-
 def a_password_is_needed_and_read_from_a_file(machine, _):
     password = conf(machine, "password", "secret")
     stores.connect(machine.url).config_set("requirepass", "secret")
@@ -137,7 +97,7 @@ while read x; do echo got $x; done"""
 
 def users_have_the_rights_that_they_need(machine, _):
     """users.acl, as it is: host, worker, viewer, typist and operator do their work, and no other's."""
-    acl = conf(machine, "users.acl", open(os.path.join(HERE, "..", "users.acl")).read())
+    acl = conf(machine, "users.acl", text_of("users.acl"))
     machine.kill()
     urls = {user: f"unix://{user}:{user.upper()}-PASSWORD@{machine.socket}" for user in USERS}
     machine.url = urls["operator"]
@@ -165,12 +125,6 @@ def users_have_the_rights_that_they_need(machine, _):
     check(host.wait(PATIENCE) == 129, f"and the host ends with it: {host.returncode}")
     check(wait_for(lambda: store.exists(key(incarnation, "ended"))), "with an end")
     check(0 < store.ttl(key(incarnation, "bytes")) <= 3600, "whose keys stay for an hour")
-
-
-def seen(viewer):
-    viewer.ask()
-    viewer.follow(0)
-    return viewer.terminal.text()
 
 
 def rights_of_commands(urls):
@@ -205,9 +159,7 @@ def state_of_holder(name="other", version=wire.VERSION, encoding="dec", numbers=
 
 def what_is_no_holder_harms_no_session(machine, _):
     """It is refused or left, and the daemon goes on."""
-    store = stores.connect(machine.url)
-    host = program(machine, "good", ["sh", "-c", "stty -echo; echo on; while read x; do echo got $x; done"], "--input")
-    check(wait_for(lambda: b"on" in written(store, "good")), "a session runs")
+    host, store, incarnation = begun(machine, "good", ["sh", "-c", ANSWERS], "--input")
 
     def connected():
         made = socket.socket(socket.AF_UNIX)
@@ -230,13 +182,14 @@ def what_is_no_holder_harms_no_session(machine, _):
     for _ in range(200):
         with connected() as made:
             made.sendall((state_of_holder() if chance.random() < 0.5 else b"") + chance.randbytes(chance.randrange(200)))
-    Typist(store, incarnation_of(store, "good")).type(b"hello\r")
+    Typist(store, incarnation).type(b"hello\r")
     check(wait_for(lambda: b"got hello" in written(store, "good")), "the session goes on")
     check(machine.daemon.poll() is None and host.poll() is None, "and so does the daemon")
     for each in silent:
         each.close()
 
 
+ANSWERS = "stty -echo; echo on; while read x; do echo got $x; done"
 UNITS = os.path.join(HERE, "..", "systemd")
 ATTACK = r"""cat %s/*/password /proc/*/environ; %s %s -1 0 1 dec vt220 victim true; echo "status $?"; until [ -e %s/go ]; do sleep 0.1; done; [ "$(id -u)" -ne 0 ] && kill -9 -1; echo survived"""
 
@@ -251,8 +204,8 @@ class Units:
         os.chmod(self.place, 0o755)
 
     def start(self, unit, *words, instance=""):
-        with open(os.path.join(UNITS, f"vt220-fleet-{unit}.service")) as file:
-            said = dict(line.split("=", 1) for line in file.read().splitlines() if "=" in line and line[0] != "#")
+        lines = text_of(f"{UNITS}/vt220-fleet-{unit}.service").splitlines()
+        said = dict(line.split("=", 1) for line in lines if "=" in line and line[0] != "#")
         mine = os.path.join(self.place, f"{unit}{instance}")
         named = said.get("User", f"vt220-fleet-{unit.rstrip('@')}").replace("%i", instance)
         user = self.users.setdefault(named, self.first + len(self.users))
@@ -283,13 +236,12 @@ def a_session_reaches_no_other_and_no_password(machine, _):
     served = [units.start("daemon", "daemon"), units.start("worker@", "worker")]
     socket_of_daemon = os.path.join(units.place, "daemon", "socket")
     check(wait_for(lambda: local.is_listening(socket_of_daemon)), "the daemon listens")
-    victim = units.start("host@", "host", "--input", "victim", "sh", "-c", "stty -echo; echo on; while read x; do echo got $x; done", instance="victim")
+    victim = units.start("host@", "host", "--input", "victim", "sh", "-c", ANSWERS, instance="victim")
     check(wait_for(lambda: b"on" in written(store, "victim")), "a session runs")
     attack = ATTACK % (units.place, os.path.realpath(HOLDER), socket_of_daemon, units.place)
     attacker = units.start("host@", "host", "attacker", "sh", "-c", attack, instance="attacker")
     check(wait_for(lambda: b"status 5" in written(store, "attacker")), "it doesn't get another user's name")
-    with open(os.path.join(units.place, "go"), "w"):
-        pass
+    open(os.path.join(units.place, "go"), "w").close()
     check(attacker.wait(PATIENCE) == -9, f"its holder ends with it: {attacker.returncode}")
     check(wait_for(lambda: store.hget(key(store.hget(keys.NAMES, "attacker").decode(), "about"), "closed") == b"lost"), "so its session is lost")
     said = written(store, "attacker")

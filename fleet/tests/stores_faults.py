@@ -7,10 +7,10 @@ import threading
 import time
 
 from harness import (
-    HERE, PATIENCE, Processes, Proxy, Source, check, compare, configured, incarnation_of, key, keys, outlast, played,
-    playing, program, raises, started, stores, until, wait_for, worker,
+    HERE, PATIENCE, Processes, Proxy, Source, begun, check, commands, compare, conf, configured, end_all, end_of, ending, free_port,
+    incarnation_of, key, keys, outlast, played, playing, program, raises, seen, stores, until, wait_for, worker,
 )
-from safety import free_port
+from parts import ASKS
 from fleet.host import WAITING, WentBack
 from fleet.session import bytes_of
 from fleet.view import Viewer
@@ -23,11 +23,11 @@ def half_open_connections_are_left(machine, data):
     with configured(machine, "[store]", "timeout = 2"):
         workers = Processes(machine, 1, "--lease", "1", url=proxy.url)
     source = Source(proxy.url, name, connection={"socket_timeout": 2.0}).send(data).listen()
-    check(wait_for(lambda: source.reports() == played(source.sent)[1]), "it runs")
+    check(wait_for(source.has_all_reports), "it runs")
     for _ in range(2):
         proxy.signal(signal.SIGUSR1)
         source.send(b"abc\033[6n")
-        check(wait_for(lambda: source.reports() == played(source.sent)[1]), "it goes on")
+        check(wait_for(source.has_all_reports), "it goes on")
     source.send(b"x")
     source.ends()
     stores.TIMEOUT = before
@@ -51,27 +51,18 @@ def a_store_that_went_back_is_noticed(machine, data):
     """The end of its file is gone: bytes, reports and checkpoints that it had acknowledged."""
     workers = Processes(machine, 2, "--every", "300", "--keep", "600")
     sources = [Source(machine.url, f"back-{number}").send(data[:2000], piece=100).listen() for number in range(6)]
-    wait_for(lambda: all(source.reports() == played(source.sent)[1] for source in sources))
+    wait_for(lambda: all(source.has_all_reports() for source in sources))
     for _ in range(3):
         before = sum(source.host.rebuilt for source in sources)
         for source in sources:
             source.send(b"\033[6n" + data[2000:3000] + b"\033[c", piece=100)
-        wait_for(lambda: all(source.reports() == played(source.sent)[1] for source in sources))
-        ends = b"bytes\r\n"
-        cut_back(machine, lambda gone: gone.count(ends) > 40)
+        wait_for(lambda: all(source.has_all_reports() for source in sources))
+        cut_back(machine, lambda gone: gone.count(b"bytes\r\n") > 40)
         for source in sources:
             source.send(b"abc\033[6n")
-        check(wait_for(lambda: all(source.reports() == played(source.sent)[1] for source in sources)), "all reports, once")
+        check(wait_for(lambda: all(source.has_all_reports() for source in sources)), "all reports, once")
         check(sum(source.host.rebuilt for source in sources) > before, "bytes were gone, and were sent again")
-    for source in sources:
-        source.send(b"\030").end(0)
-    check(wait_for(lambda: all(source.is_ended() for source in sources)), "all end")
-    for source in sources:
-        source.finish()
-        check(source.fault() == "", source.fault())
-        ended = source.store.hget(source.part("ended"), "text")
-        check(ended == played(source.sent)[0].text().encode(), "text")
-        check(source.reports() == played(source.sent)[1], "reports")
+    end_all(sources, b"\030")
 
 
 def reports_that_the_store_lost_are_made_again(machine, _):
@@ -117,11 +108,9 @@ def a_store_without_persistence_is_refused_and_rebuilt(machine, data):
 
 def a_store_that_comes_back_without_its_file_is_waited_for(machine, data):
     """It was fit when host and worker began, and is started again by another configuration."""
-    name, one = "without its file", worker(machine.url)
-    source = Source(machine.url, name).send(data)
+    source, one = playing(machine.url, "without its file", data)
     for each in (one.store, source.store):
         each.examine()
-    until(lambda: one.kept and not one.due, one)
     machine.kill()
     machine.start("--appendonly", "no")
     source.store.patience = 0.5
@@ -138,11 +127,6 @@ def refusals(store):
     return int(store.info("errorstats").get("errorstat_OOM", "count=0").removeprefix("count="))
 
 
-def lengths_asked(store):
-    """Returns how often hosts have asked the store how far a worker has played."""
-    return store.info("commandstats").get("cmdstat_hget", {}).get("calls", 0)
-
-
 def a_full_store_is_waited_for(machine, data):
     """maxmemory, and no eviction: a flood beside a quiet session."""
     machine.kill()
@@ -157,9 +141,9 @@ def a_full_store_is_waited_for(machine, data):
     sends.start()
     store.config_set("maxmemory", "200mb")
     incarnation = incarnation_of(store, "flood")
-    check(outlast(host, lambda: int(store.hget(key(incarnation, "about"), "end"))) == 5, "the flood goes on to its end")
+    check(outlast(host, lambda: end_of(store, incarnation)) == 5, "the flood goes on to its end")
     sends.join(PATIENCE)
-    check(wait_for(lambda: quiet.reports() == played(quiet.sent)[1]), "the quiet session goes on")
+    check(wait_for(quiet.has_all_reports), "the quiet session goes on")
     quiet.ends()
 
 
@@ -186,10 +170,7 @@ def evicted_keys_are_named_or_sent_again(machine, data):
             source.receive()
             compare(source)
         else:
-            check(
-                source.fault().startswith(("Lost", "Trimmed", "Forged", "WentBack")),
-                f"{part}: a named fault: {source.fault()}",
-            )
+            check(source.fault().startswith(("Lost", "Trimmed", "Forged", "WentBack")), f"{part}: a named fault: {source.fault()}")
     for part in (keys.WAITING, keys.WORKERS, keys.LIVE, keys.NAMES, keys.ALL):
         source = Source(machine.url, f"evicted {part}").send(data)
         until(lambda: source.incarnation in one.kept and not one.due, one)
@@ -202,27 +183,22 @@ def evicted_keys_are_named_or_sent_again(machine, data):
 
 
 def without_a_worker_bytes_wait_within_a_bound(machine, _):
-    name = "backpressure"
-    host = program(machine, name, ["yes"])
-    store = stores.connect(machine.url)
-    incarnation = incarnation_of(store, name)
-    wait_for(lambda: int(store.hget(key(incarnation, "about"), "end")) >= WAITING)
-    asked = lengths_asked(store)
-    wait_for(lambda: lengths_asked(store) > asked + 50)  # the host waits, and asks again and again
-    there = int(store.hget(key(incarnation, "about"), "end"))
+    host, store, incarnation = begun(machine, "backpressure", ["yes"], says=b"y")
+    wait_for(lambda: end_of(store, incarnation) >= WAITING)
+    asked = commands(store).get("cmdstat_hget", 0)
+    wait_for(lambda: commands(store).get("cmdstat_hget", 0) > asked + 50)  # the host waits, and asks again and again how far a worker has played
+    there = end_of(store, incarnation)
     check(WAITING <= there <= WAITING + 65536, f"a mebibyte waits, and no more: {there}")
     workers = Processes(machine, 1)
-    check(wait_for(lambda: int(store.hget(key(incarnation, "about"), "end")) > 2 * WAITING), "with a worker it goes on")
+    check(wait_for(lambda: end_of(store, incarnation) > 2 * WAITING), "with a worker it goes on")
     host.terminate()
     host.wait(PATIENCE)
 
 
 def a_host_ends_a_program_that_floods(machine, _):
     """A worker plays meanwhile."""
-    name = "flooding"
-    host, store, workers = program(machine, name, ["yes"]), stores.connect(machine.url), Processes(machine, 1)
-    incarnation = incarnation_of(store, name)
-    wait_for(lambda: int(store.hget(key(incarnation, "about"), "end")) > 2 * WAITING)
+    workers, (host, store, incarnation) = Processes(machine, 1), begun(machine, "flooding", ["yes"], says=b"y")
+    wait_for(lambda: end_of(store, incarnation) > 2 * WAITING)
     host.terminate()
     check(host.wait(PATIENCE) == 128 + signal.SIGHUP, f"its host ends it: {host.returncode}")
     check(wait_for(lambda: store.exists(key(incarnation, "ended"))), "with an end")
@@ -235,7 +211,7 @@ def a_host_ends_a_program_that_floods(machine, _):
 def shimmed(machine):
     """Starts the machine's store with a clock that a file moves."""
     library, file = os.path.join(machine.folder, "clock.so"), os.path.join(machine.folder, "clock")
-    subprocess.run(["gcc", "-O2", "-shared", "-fPIC", "-o", library, os.path.join(HERE, "clock.c"), "-ldl"], check=True)
+    subprocess.run(["gcc", "-O2", "-shared", "-fPIC", "-o", library, os.path.join(HERE, "clock.c")], check=True)
     machine.kill()
     os.environ.update(LD_PRELOAD=library, CLOCK_FILE=file)
     try:
@@ -263,14 +239,8 @@ def the_clock_may_jump(machine, data):
         check(wait_for(lambda: abs(store.time()[0] - time.time() - seconds) < 60), "the clock jumped")
         workers.kill(0)
         source.send(b"abc\033[6n")
-        check(wait_for(lambda: source.reports() == played(source.sent)[1]), f"{seconds}: another worker goes on")
-
-        def is_there():
-            viewer.ask()
-            viewer.follow(0)
-            return viewer.terminal.text() == played(source.sent)[0].text()
-
-        check(wait_for(is_there), f"{seconds}: a viewer sees it")
+        check(wait_for(source.has_all_reports), f"{seconds}: another worker goes on")
+        check(wait_for(lambda: seen(viewer) == played(source.sent)[0].text()), f"{seconds}: a viewer sees it")
     source.renew()
     source.send(b"\030")
     source.ends()
@@ -281,14 +251,12 @@ def a_failover_is_followed(machine, data):
     ports = [free_port() for _ in range(3)]
     machine.kill()
     machine.start("--port", str(ports[0]), "--repl-diskless-sync-delay", "0")
-    replica, conf = os.path.join(machine.folder, "replica"), os.path.join(machine.folder, "sentinel.conf")
+    replica, times = os.path.join(machine.folder, "replica"), "sentinel down-after-milliseconds fleet 3000\nsentinel failover-timeout fleet 10000"
     os.mkdir(replica)
-    with open(conf, "w") as file:
-        file.write(f"port {ports[2]}\nsentinel monitor fleet 127.0.0.1 {ports[0]} 1\n")
-        file.write("sentinel down-after-milliseconds fleet 3000\nsentinel failover-timeout fleet 10000\n")
+    sentinel = conf(machine, "sentinel.conf", f"port {ports[2]}", f"sentinel monitor fleet 127.0.0.1 {ports[0]} 1", times)
     words = ["--port", str(ports[1]), "--dir", replica, "--replicaof", "127.0.0.1", str(ports[0])]
-    for each in (["redis-server", *words, "--appendonly", "yes", "--appendfsync", "always"], ["redis-server", conf, "--sentinel"]):
-        started.callback(subprocess.Popen(each, stdout=subprocess.DEVNULL).kill)
+    for each in (["redis-server", *words, "--appendonly", "yes", "--appendfsync", "always"], ["redis-server", sentinel, "--sentinel"]):
+        ending(subprocess.Popen(each, stdout=subprocess.DEVNULL))
     url = f"sentinel://127.0.0.1:{ports[2]}/fleet"
     asked, second = stores.connect(f"redis://127.0.0.1:{ports[2]}"), stores.connect(f"redis://127.0.0.1:{ports[1]}")
     check(raises(stores.Unfit, asked.examine), "a sentinel's own address is refused")
@@ -312,3 +280,40 @@ def a_cluster_is_refused(machine, _):
                 os.remove(os.path.join(path, each))
     machine.start("--cluster-enabled", "yes", "--cluster-port", str(free_port()))
     check(raises(stores.Unfit, stores.connect(machine.url).examine), "with a clear error")
+
+
+ASKS_LATER = 'while [ ! -e "$0" ]; do sleep 0.1; done; ' + ASKS
+
+
+def an_outage_of_ninety_seconds_is_waited_for(machine, data):
+    """Workers, a host with a program that waits for an answer, a host that sends, and a viewer."""
+    asks = os.path.join(machine.folder, "asks")
+    workers = Processes(machine, 2)
+    source = Source(machine.url, "sends").send(data).listen()
+    host, store, incarnation = begun(machine, "asks", ["sh", "-c", ASKS_LATER, asks], says=b"")
+    viewer = Viewer(stores.connect(machine.url), source.incarnation)
+    machine.kill()
+    open(asks, "w").close()
+    sends = threading.Thread(target=lambda: source.send(data + b"\033[6n").end(0), daemon=True)
+    sends.start()
+    looks = threading.Thread(target=lambda: until_over(viewer), daemon=True)
+    looks.start()
+    time.sleep(90)
+    check(host.poll() is None and all(each.poll() is None for each in workers.all), "host and workers wait")
+    machine.start()
+    check(host.wait(PATIENCE) == 3, "the program got its answer, and its host has its status")
+    check(wait_for(lambda: store.exists(key(incarnation, "ended"))), "it ends")
+    text = (store.hget(key(incarnation, "ended"), "text") or b"").decode()
+    check(" ".join(text.split()) == "ab 033 [ 1 ; 3 R", f"the answer: {text.split()}")
+    sends.join(PATIENCE)
+    check(wait_for(source.is_ended), "the other host went on")
+    looks.join(PATIENCE)
+    check(not looks.is_alive() and viewer.is_over, "and so did the viewer")
+    source.finish()
+    compare(source)
+
+
+def until_over(viewer):
+    while not viewer.is_over:
+        viewer.ask()
+        viewer.follow()

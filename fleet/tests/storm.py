@@ -30,19 +30,12 @@ def endless(chance, pieces):
 
 
 def cut_sequences(chance, pieces):
-    parts = [
-        chance.choice([b"\033", b"\033[", b"\033[1;", b"\033[?", b"\033(", b"\x9b", b"\033P1"])
-        + chance.choice([b"", b"\030", b"x"])
-        for _ in range(1500)
-    ]
+    begins, ends = [b"\033", b"\033[", b"\033[1;", b"\033[?", b"\033(", b"\x9b", b"\033P1"], [b"", b"\030", b"x"]
+    parts = [chance.choice(begins) + chance.choice(ends) for _ in range(1500)]
     return b"".join(parts) + b"\030" + b"".join(QUERIES)
 
 
-def of_recordings(chance, pieces):
-    return made_up(chance, pieces)
-
-
-KINDS = (of_recordings, of_recordings, noise, questions, cut_sequences, endless)
+KINDS = (made_up, made_up, noise, questions, cut_sequences, endless)
 
 
 class Slot:
@@ -63,11 +56,10 @@ class Slot:
 
     def send(self, share):
         """Sends what is due when this share of the time is over. Returns whether all is sent."""
-        number = len(self.all) - 1
         if self.now is None and not self.begin():
             return False
-        data = self.todo[len(self.all) - 1]
         number = len(self.all) - 1
+        data = self.todo[number]
         due = int(len(data) * min(1.0, max(0.0, share * TIMES - number)))
         while len(self.now.sent) < due:
             size = min(due - len(self.now.sent), self.chance.randint(1, 1000))
@@ -160,10 +152,8 @@ def storm(machine, move, proxy, chance, pieces):
     workers = Processes(machine, 4, "--every", "512", "--lease", "1", "--keep", "512", url=proxy.url)
     slots = [Slot(proxy.url, number, random.Random(seed * 1000 + number), pieces) for number in range(SESSIONS)]
     begin, length, errors = time.monotonic(), rounds * 4.0, []
-    threads = [
-        threading.Thread(target=send_all, args=(slots[part::SENDERS], lambda: (time.monotonic() - begin) / length, errors))
-        for part in range(SENDERS)
-    ]
+    clock = lambda: (time.monotonic() - begin) / length
+    threads = [threading.Thread(target=send_all, args=(slots[part::SENDERS], clock, errors)) for part in range(SENDERS)]
     for thread in threads:
         thread.start()
     weather = Weather(machine, proxy, workers, move, random.Random(seed + 5))
@@ -210,10 +200,8 @@ def hold(source):
 
 def report(workers, slots):
     said = workers.said()
-    check(
-        not any("Traceback" in line or "gives up" in line for line in said),
-        "no worker has a fault: " + "; ".join(line for line in said if "gives up" in line)[:500],
-    )
+    faults = [line for line in said if "Traceback" in line or "gives up" in line]
+    check(not faults, f"no worker has a fault: {faults[:5]}")
     everything = [source for slot in slots for source in slot.all]
     lost = sum(source.store.hget(source.part("ended"), "status") == b"lost" for source in everything)
     counted = {

@@ -1,17 +1,19 @@
 """What is replaced while sessions live: formats, leases, hosts; and what is removed in the end."""
 import os
+import pathlib
 import random
 import signal
 import subprocess
 import sys
 
 from harness import (
-    Clock, HOLDER, PATIENCE, PATIENT, Processes, Source, another_daemon, bury, check, configured, incarnation_of, key,
-    keys, outlast, program, raises, replace, settings, stores, until, wait_for, wanted, worker, written,
+    HOLDER, PATIENCE, PATIENT, Clock, Processes, Source, another_daemon, begun, bury, check, commands, compare, configured,
+    end_of, fleet, incarnation_of, key, keys, outlast, program, raises, replace, settings, stores, until, wait_for, worker,
+    written,
 )
-from safety import fleet
 from fleet import claims, wire
 from fleet.daemon import listening
+from fleet.host import Host, Taken
 from fleet.operate import Typist
 from fleet.worker import Worker
 
@@ -35,10 +37,6 @@ def entries_of(source):
     return {fields[b"v"].split(b".")[0] for _, fields in source.store.xrange(source.part("bytes")) if b"bytes" in fields}
 
 
-def renew(source):
-    source.renew()
-
-
 def formats_are_rolled_out_and_back(url, data):
     """Workers and a host of the next version come, all others go, and then the older ones come back."""
     name, old = "formats", worker(url, every=100)
@@ -48,21 +46,21 @@ def formats_are_rolled_out_and_back(url, data):
     new = newer(url, every=100)
     for part in (data[1000:2000], data[2000:3000]):
         source.send(part + b"\030\033[6n")
-        renew(source)
-        check(until(lambda: source.store.hget(source.part("about"), "played") == b"%d" % source.host.at, old, new), "both play")
+        source.renew()
+        check(until(lambda: source.about("played") == b"%d" % source.host.at, old, new), "both play")
     check(version_of(source) == NOW and entries_of(source) == {NOW}, "while one knows the older format only, it is written")
     old.is_leaving = True
     old.turn(0.01)
     check(until(lambda: new.claims.format == int(NEW), new), "the other one notices that")
-    renew(source)
+    source.renew()
     source.send(data[3000:4000] + b"\030\033[6n")
     check(until(lambda: version_of(source) == NEW, new), "then the newer one is")
     check(entries_of(source) == {NOW, NEW}, "by hosts, too")
     back = worker(url, every=100, lease=3600)
     check(until(lambda: version_of(source) == NOW, new), "an older worker comes: all checkpoints are of its format again")
-    renew(source)
+    source.renew()
     source.send(data[4000:5000] + b"\030\033[6n")
-    check(until(lambda: source.store.hget(source.part("about"), "played") == b"%d" % source.host.at, new, back), "it is played")
+    check(until(lambda: source.about("played") == b"%d" % source.host.at, new, back), "it is played")
     new.is_leaving = True
     new.turn(0.01)
     source.send(b"\033[6n")
@@ -155,33 +153,34 @@ class Run:
     """A session with a program that writes bytes and writes down the reports."""
 
     def __init__(self, machine, name, parts):
-        self.machine, self.name, self.data = machine, name, b"".join(parts)
-        self.store = stores.connect(machine.url)
-        self.file, self.got = os.path.join(machine.folder, f"{name}.data"), os.path.join(machine.folder, f"{name}.got")
-        with open(self.file, "wb") as file:
-            file.write(self.data)
-        self.reports = wanted("reports", self.data)[1]
+        self.machine, self.name = machine, name
+        self.store, self.sent = stores.connect(machine.url), b"".join(parts)
+        self.file, self.got = (pathlib.Path(machine.folder, f"{name}.{end}") for end in ("data", "got"))
+        self.file.write_bytes(self.sent)
         self.host = program(machine, name, [sys.executable, "-c", ASKER, self.file, self.got, str(len(parts[0]))])
 
+    @property
     def incarnation(self):
-        found = self.store.hget(keys.NAMES, self.name)
-        return found.decode() if found else None
+        """Returns the session's incarnation; nothing until it has one."""
+        return (self.store.hget(keys.NAMES, self.name) or b"").decode()
+
+    def part(self, name):
+        return key(self.incarnation, name)
+
+    def reports(self):
+        """Returns what the program has got."""
+        return self.got.read_bytes()
 
     def end(self):
         """Returns how many bytes the store has."""
-        return int(self.store.hget(key(self.incarnation() or "", "about"), "end") or 0)
+        return end_of(self.store, self.incarnation)
 
     def hold(self):
         """Compares all with the program vt220."""
-        incarnation = self.incarnation()
-        check(wait_for(lambda: self.store.exists(key(incarnation, "ended"))), f"{self.name}: it ends")
-        ended = self.store.hgetall(key(incarnation, "ended"))
-        check((ended[b"at"], ended[b"status"]) == (b"%d" % len(self.data), b"3"), f"{self.name}: place, status: {ended[b'at']} {ended[b'status']}")
-        check(ended[b"text"] == wanted("text", self.data)[1], f"{self.name}: text")
-        with open(self.got, "rb") as got:
-            check(got.read() == self.reports, f"{self.name}: each report reached the program once")
+        check(wait_for(lambda: self.store.exists(self.part("ended"))), f"{self.name}: it ends")
+        compare(self, status=b"3")
         kept = written(self.store, self.name)
-        check(kept and self.data.endswith(kept), f"{self.name}: each byte of the program, once: {len(kept)}")
+        check(kept and self.sent.endswith(kept), f"{self.name}: each byte of the program, once: {len(kept)}")
 
 
 def asking(data, times, size=100):
@@ -247,10 +246,8 @@ def keys_of_a_daemon_that_is_killed_are_not_lost(machine, _):
 
 
 def keys_stay_in_the_store_until_the_program_has_them(machine, _):
-    name, store = "kept keys", stores.connect(machine.url)
-    host = program(machine, name, ["sh", "-c", "stty raw -echo; printf ready; exec sleep infinity"], "--input")
-    wait_for(lambda: written(store, name) == b"ready")
-    incarnation = incarnation_of(store, name)
+    command = ["sh", "-c", "stty raw -echo; printf ready; exec sleep infinity"]
+    host, store, incarnation = begun(machine, "kept keys", command, "--input", says=b"ready")
     host.send_signal(signal.SIGSTOP)
     Typist(store, incarnation).type(b"abc")
     marker = program(machine, "marker", ["true"])  # once it ended, the daemon has had the keys for long
@@ -264,20 +261,18 @@ def keys_stay_in_the_store_until_the_program_has_them(machine, _):
 
 def a_session_begins_anew_after_daemon_and_program_died(machine, _):
     """As when the kernel ends them both. The unit starts the session again, which waits for the end of the dead one's lease."""
-    name, store = "both", stores.connect(machine.url)
-    first = program(machine, name, ["sleep", "infinity"])
-    wait_for(lambda: store.hexists(keys.NAMES, name))
-    before = store.hget(keys.NAMES, name)
+    name = "both"
+    first, store, before = begun(machine, name, ["sleep", "infinity"], says=b"")
     machine.kill_daemon()
     first.kill()
     first.wait()
     machine.start_daemon()
     store.config_resetstat()
     second = program(machine, name, ["sh", "-c", "exit 3"])
-    wait_for(lambda: second.poll() is not None or store.info("commandstats").get("cmdstat_fcall", {}).get("calls", 0) > 3)
+    wait_for(lambda: second.poll() is not None or commands(store).get("cmdstat_fcall", 0) > 3)
     check(second.poll() is None, f"it waits while the lease lasts: {second.returncode}")
     store.pexpire(keys.lease(name), 1)
-    check(second.wait(PATIENCE) == 3 and store.hget(keys.NAMES, name) != before, f"then it begins: {second.returncode}")
+    check(second.wait(PATIENCE) == 3 and incarnation_of(store, name) != before, f"then it begins: {second.returncode}")
 
 
 VICTIMS = ("host", "worker", "host", "host", "store", "worker", "host", "store", "host", "worker", "host")
@@ -292,7 +287,7 @@ def a_storm_with_hosts_among_the_victims(machine, data):
         runs = [Run(machine, f"victim-{number}", asking(data[number * 500 :] + data * 9 * times, 250 * times)) for number in range(4)]
         for each in runs:
             wait_for(each.end)
-        firsts, kills = [each.incarnation() for each in runs], {"host": 0, "worker": 0, "store": 0}
+        firsts, kills = [each.incarnation for each in runs], {"host": 0, "worker": 0, "store": 0}
         for victim in VICTIMS * times:
             going = [each for each in runs if each.host.poll() is None]
             if not going:
@@ -310,12 +305,12 @@ def a_storm_with_hosts_among_the_victims(machine, data):
             kills[victim] += 1
         for each, first in zip(runs, firsts):
             check(outlast(each.host, each.end) == 3, f"{each.name}: its holder has the program's status: {each.host.returncode}")
-            check(each.incarnation() == first, f"{each.name}: it is one session")
+            check(each.incarnation == first, f"{each.name}: it is one session")
             each.hold()
     check(min(kills.values()) > 0, f"all kinds were killed: {kills}")
     said = workers.said()
     check(not any("Traceback" in line or "gives up" in line for line in said), "no worker has a fault")
-    counted = {"sessions": len(runs), "bytes": sum(map(len, (each.data for each in runs))), "reports": sum(each.data.count(b"\033[5n") for each in runs)}
+    counted = {"sessions": len(runs), "bytes": sum(len(each.sent) for each in runs), "reports": sum(each.sent.count(b"\033[5n") for each in runs)}
     counted |= {f"{victim}s killed": count for victim, count in kills.items()} | {"takings": sum(" took " in line for line in said)}
     print(", ".join(f"{count} {what}" for what, count in counted.items()), file=sys.stderr)
 
@@ -323,10 +318,7 @@ def a_storm_with_hosts_among_the_victims(machine, data):
 def a_daemon_is_replaced_by_a_newer_one(machine, _):
     name, workers = "replaced", Processes(machine, 1)
     command = ["sh", "-c", 'stty -echo; echo on; while read x; do echo "got $x"; done; exit 4']
-    host = program(machine, name, command, "--input")
-    store = stores.connect(machine.url)
-    wait_for(lambda: b"on" in written(store, name))
-    incarnation = incarnation_of(store, name)
+    host, store, incarnation = begun(machine, name, command, "--input")
 
     def held_by():
         return store.hget(key(incarnation, "about"), "host")
@@ -348,34 +340,28 @@ def a_daemon_is_replaced_by_a_newer_one(machine, _):
 
 def an_old_host_writes_nothing_once_there_is_a_new_one(machine, _):
     """What the old one had sent arrives late."""
-    name = "fenced"
+    name, store = "fenced", stores.connect(machine.url)
     old = Source(machine.url, name, lease=600).send(b"abc")
-    new = Source.__new__(Source)
-    new.store = stores.connect(machine.url)
-    from fleet.host import Host, Taken
-
-    new.host = Host(new.store, name, 600, incarnation=old.incarnation)
-    new.host.resume()
-    check(new.host.at == 3, f"the new one goes on where the old one stopped: {new.host.at}")
+    new = Host(store, name, 600, incarnation=old.incarnation)
+    new.resume()
+    check(new.at == 3, f"the new one goes on where the old one stopped: {new.at}")
     check(raises(Taken, old.send, b"late"), "the old one writes nothing more")
-    new.host.adopt(0, 6, {})
-    check(not new.host.is_whole(), "the new one first takes in what the store has")
-    new.host.send_up_to(2, b"ab")
-    new.host.send_up_to(6, b"cdef")
-    check(new.host.is_whole() and new.host.at == 6, "and then sends the rest")
-    check(b"".join(fields.get(b"bytes", b"") for _, fields in new.store.xrange(old.part("bytes"))) == b"abcdef", "once")
-    new.store.delete(old.part("bytes"), old.part("about"))
-    new.host.renewed = -1e9
-    new.host.renew_if_due()
-    check(b"".join(fields.get(b"bytes", b"") for _, fields in new.store.xrange(old.part("bytes"))) == b"abcdef", "it can send all again")
+    new.adopt(0, 6, {})
+    check(not new.is_whole(), "the new one first takes in what the store has")
+    new.send_up_to(2, b"ab")
+    new.send_up_to(6, b"cdef")
+    check(new.is_whole() and new.at == 6, "and then sends the rest")
+    check(written(store, name) == b"abcdef", "once")
+    store.delete(old.part("bytes"), old.part("about"))
+    new.renewed = -1e9
+    new.renew_if_due()
+    check(written(store, name) == b"abcdef", "it can send all again")
 
 
 def a_program_without_a_daemon_is_ended_in_time(machine, _):
-    name, marker = "orphan", os.path.join(machine.folder, "hung-up")
+    marker = os.path.join(machine.folder, "hung-up")
     with configured(machine, *PATIENT, "[host]", "orphan = 0.1"):
-        host = program(machine, name, ["sh", "-c", f"trap ': >{marker}; exit' HUP; echo on; sleep 100000 & wait"])
-        store = stores.connect(machine.url)
-        wait_for(lambda: b"on" in written(store, name))
+        host, *_ = begun(machine, "orphan", ["sh", "-c", f"trap ': >{marker}; exit' HUP; echo on; sleep 100000 & wait"])
         machine.kill_daemon()
         host.wait(PATIENCE)
         check(os.path.exists(marker), "its holder hangs up on it, and ends")

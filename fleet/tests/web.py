@@ -6,21 +6,40 @@ import json
 import os
 import socket
 import subprocess
+import sys
 
 import aiohttp
+from yarl import URL
 
-from browser import Browser
-from harness import PATIENCE, PATIENT, Processes, Source, check, keys, local, played, program, started, stores, wait_for, wanted
+from harness import (
+    PATIENCE, PATIENT, ROOT, Processes, Source, check, conf, ending, free_port, keys, launched, played, program, session, started,
+    stores, wait_for, wanted,
+)
 from operators import asked, metrics_at
-from safety import conf, free_port
 from fleet import claims
 from fleet.gallery import Followed, Picture
 from fleet.web import UNKNOWN
 import vt220
 
+sys.path.append(os.path.join(ROOT, "js", "tests"))
+
+from browsers import Chromium
+
 HOSTILE = "<b>bold</b><script>alert(1)</script>&amp;\"'"
 MARKUP = "<img src=x onerror=alert(1)>\\033[1mBold \\033[7mreverse\\033[0m &lt; \\033[4munder"
-PICTURES = os.environ.get("FLEET_PICTURES")  # a directory for screenshots, to be looked at
+
+
+class Browser(Chromium):
+    """A page in a headless Chromium, which ends with the case."""
+
+    def __init__(self, url, width=1500, height=900):
+        super().__init__("about:blank", width, height)
+        started.callback(self.close)
+        self.call("Page.navigate", url=url)  # the page changes its address at once, so that one isn't waited for
+
+    def type(self, text):
+        for each in text:
+            self.press(each, text=each)
 
 
 class Served:
@@ -28,22 +47,18 @@ class Served:
 
     def __init__(self, machine, *words, config=None):
         self.port = free_port()
-        words = [local.PYTHON, local.COMMAND, *(["--config", config] if config else []), "web", "--port", str(self.port), *words]
-        self.process = subprocess.Popen(
-            words, env=os.environ | {"FLEET_REDIS": machine.url}, stdout=subprocess.DEVNULL, stderr=subprocess.PIPE, text=True
-        )
-        started.callback(self.stop)
-        self.url = self.process.stderr.readline().strip()
+        words = [*(["--config", config] if config else []), "web", "--port", str(self.port), *words]
+        self.url = ending(launched(machine, *words, stderr=subprocess.PIPE, text=True)).stderr.readline().strip()
         wait_for(self.listens)
 
     def token(self):
         return self.url.split("#token=")[1]
 
     @contextlib.asynccontextmanager
-    async def live(self, *sessions):
+    async def live(self, *sessions, token=None):
         """A browser's connection that has said the token, once it was told of these sessions."""
         async with aiohttp.ClientSession() as client, client.ws_connect(f"http://127.0.0.1:{self.port}/live") as socket:
-            await socket.send_json({"token": self.token()})
+            await socket.send_json({"token": token or self.token()})
             known = set()
             while not known >= set(sessions):
                 known |= {each["session"] for each in json.loads((await socket.receive(PATIENCE)).data).get("news", [])}
@@ -53,39 +68,37 @@ class Served:
         with socket.socket() as client:
             return client.connect_ex(("127.0.0.1", self.port)) == 0
 
-    def stop(self):
-        self.process.kill()
-        self.process.wait()
-
-
-def shot(browser, name):
-    if PICTURES:
-        browser.picture(os.path.join(PICTURES, name + ".png"))
-
 
 # What is inside of the player.
 INSIDE = "document.getElementById('screen').shadowRoot"
 
 
 def lines(browser):
-    return browser.run(f"[...{INSIDE}.querySelectorAll('#screen > div')].map(e => e.textContent)")
+    return browser.evaluate(f"[...{INSIDE}.querySelectorAll('#screen > div')].map(e => e.textContent)")
+
+
+def count(browser, selector):
+    """Returns how many elements of the page a selector finds."""
+    return browser.evaluate(f"document.querySelectorAll('{selector}').length")
+
+
+def said(browser, name):
+    """Returns the text of an element of the page."""
+    return browser.evaluate(f"document.getElementById('{name}').textContent")
+
+
+def is_hidden(browser, name):
+    """Returns whether an element of the page is hidden."""
+    return browser.evaluate(f"document.getElementById('{name}').hidden")
 
 
 def choose(browser, name):
-    browser.run(
-        "[...document.querySelectorAll('li button')]"
-        f".find(e => e.querySelector('.name').textContent === {json.dumps(name)}).click()"
-    )
+    buttons = "[...document.querySelectorAll('li button')]"
+    browser.evaluate(f"{buttons}.find(e => e.querySelector('.name').textContent === {json.dumps(name)}).click()")
 
 
 def terminal_of(store, name):
-    from fleet.session import as_it_is
-
-    return as_it_is(store, store.hget(keys.NAMES, name).decode()).terminal
-
-
-def text_of(store, name):
-    return terminal_of(store, name).text().splitlines()
+    return session.as_it_is(store, store.hget(keys.NAMES, name).decode()).terminal
 
 
 def cursor_of(store, name):
@@ -102,9 +115,9 @@ def real_sessions_in_the_browser(machine, _):
     program(machine, "flood", ["sh", "-c", "while :; do seq 1 100000; done"])
     program(machine, HOSTILE, ["sh", "-c", f"printf '{MARKUP}'; sleep infinity"])
     browser = Browser(served.url)
-    check(wait_for(lambda: browser.run("document.querySelectorAll('li').length") == 4), "all sessions are there")
-    check(browser.run("location.href") == f"http://127.0.0.1:{served.port}/", "the token is no longer in the address")
-    names = browser.run("[...document.querySelectorAll('.name')].map(e => e.textContent)")
+    check(wait_for(lambda: count(browser, "li") == 4), "all sessions are there")
+    check(browser.evaluate("location.href") == f"http://127.0.0.1:{served.port}/", "the token is no longer in the address")
+    names = browser.evaluate("[...document.querySelectorAll('.name')].map(e => e.textContent)")
     check(names == sorted(["editor", "top", "flood", HOSTILE]), f"by name: {names}")
     markup_is_text(browser)
     the_editor_is_typed_into(browser, store)
@@ -125,90 +138,76 @@ COPIED = """((root, row) => {
 
 def markup_is_text(browser):
     choose(browser, HOSTILE)
-    check(
-        wait_for(lambda: lines(browser)[0].rstrip() == "<img src=x onerror=alert(1)>Bold reverse &lt; under"),
-        f"markup in a screen is text: {lines(browser)[0]}",
-    )
-    found = browser.run("document.querySelectorAll('img, li b, main script, iframe').length")
-    check(found == 0, "and never markup, in a name, a title or a screen")
-    check(browser.run("document.getElementById('title').textContent") == HOSTILE, "the title")
-    looks = browser.run(f"[...{INSIDE}.querySelectorAll('#screen span')].map(e => [e.textContent, e.className])")
-    check(
-        [["Bold ", "b"], ["reverse", "b r"], ["under", "u"]] == [look for look in looks if "c" not in look[1].split()],
-        f"attributes: {looks}",
-    )
+    wanted = "<img src=x onerror=alert(1)>Bold reverse &lt; under"
+    check(wait_for(lambda: lines(browser)[0].rstrip() == wanted), f"markup in a screen is text: {lines(browser)[0]}")
+    check(count(browser, "img, li b, main script, iframe") == 0, "and never markup, in a name, a title or a screen")
+    check(said(browser, "title") == HOSTILE, "the title")
+    looks = browser.evaluate(f"[...{INSIDE}.querySelectorAll('#screen span')].map(e => [e.textContent, e.className])")
+    marked = [look for look in looks if "c" not in look[1].split()]
+    check(marked == [["Bold ", "b"], ["reverse", "b r"], ["under", "u"]], f"attributes: {looks}")
     # In one script: between two the page may draw the row anew.
-    copied = browser.run(COPIED)
-    check(copied == "<img src=x onerror=alert(1)>Bold reverse &lt; under", f"its text can be selected and copied: {copied!r}")
-    shot(browser, "hostile")
+    copied = browser.evaluate(COPIED)
+    check(copied == wanted, f"its text can be selected and copied: {copied!r}")
 
 
 def the_editor_is_typed_into(browser, store):
     choose(browser, "top")
-    check(browser.run("document.getElementById('type').hidden"), "no typing at a host that takes no input")
+    check(is_hidden(browser, "type"), "no typing at a host that takes no input")
     choose(browser, "editor")
-    check(wait_for(lambda: not browser.run("document.getElementById('type').hidden")), "typing at one that does")
+    check(wait_for(lambda: not is_hidden(browser, "type")), "typing at one that does")
     browser.type("x")
-    browser.run("document.getElementById('type').click()")
+    browser.evaluate("document.getElementById('type').click()")
     browser.type("iHello <b>page</b>")
-    browser.press("Enter", "\r", 13)
+    browser.press("Enter", text="\r")
     browser.type("two")
-    browser.press("Escape", code=27)
+    browser.press("Escape")
     check(wait_for(lambda: cursor_of(store, "editor") == (2, 3)), "ESC ends the insertion, and the cursor goes back")
-    for key_name, code in (("ArrowLeft", 37), ("ArrowUp", 38)):
-        browser.press(key_name, code=code)
+    for name in ("ArrowLeft", "ArrowUp"):
+        browser.press(name)
     browser.type("i!")
-    browser.press("Escape", code=27)
+    browser.press("Escape")
     wanted_lines = ["H!ello <b>page</b>", "two"]
-    check(
-        wait_for(lambda: [line.rstrip() for line in lines(browser)[:2]] == wanted_lines),
-        f"keys arrive in order, once: {lines(browser)[:3]}",
-    )
-    check(text_of(store, "editor")[:2] == wanted_lines, "at the program")
-    shot(browser, "editor")
-    browser.press("]", code=221, modifiers=2)
-    check(browser.run("document.activeElement.id") == "type", "Ctrl+] leaves the screen")
+    are_shown = wait_for(lambda: [line.rstrip() for line in lines(browser)[:2]] == wanted_lines)
+    check(are_shown, f"keys arrive in order, once: {lines(browser)[:3]}")
+    check(terminal_of(store, "editor").text().splitlines()[:2] == wanted_lines, "at the program")
+    browser.press("]", control=True)
+    check(browser.evaluate("document.activeElement.id") == "type", "Ctrl+] leaves the screen")
 
 
 def it_fits(browser):
     """The page fits a phone, where a screen scrolls to the side, and is light or dark as the reader wants."""
-    browser.do(browser.ask("Emulation.setDeviceMetricsOverride", width=375, height=700, deviceScaleFactor=1, mobile=False))
-    sizes = browser.run("[document.documentElement.scrollWidth, innerWidth]")
+    browser.size(375, 700)
+    sizes = browser.evaluate("[document.documentElement.scrollWidth, innerWidth]")
     check(sizes[0] <= sizes[1], f"the page fits a phone: {sizes}")
-    shot(browser, "phone")
-    browser.do(browser.ask("Emulation.clearDeviceMetricsOverride"))
+    browser.call("Emulation.clearDeviceMetricsOverride")
     grounds = []
     for scheme in ("light", "dark"):
-        browser.do(browser.ask("Emulation.setEmulatedMedia", features=[{"name": "prefers-color-scheme", "value": scheme}]))
-        grounds.append(browser.run("getComputedStyle(document.body).backgroundColor"))
-        shot(browser, scheme)
+        browser.media(prefers_color_scheme=scheme)
+        grounds.append(browser.evaluate("getComputedStyle(document.body).backgroundColor"))
     check(grounds[0] == "rgb(255, 255, 255)" != grounds[1], f"light and dark: {grounds}")
-    browser.do(browser.ask("Emulation.setEmulatedMedia", features=[]))
+    browser.media()
 
 
 def by_keyboard_alone(browser):
-    browser.run("document.body.focus(); document.activeElement.blur()")
+    browser.evaluate("document.body.focus(); document.activeElement.blur()")
     seen = []
+    focused = "(e => e.id || (e.querySelector('.name') || {}).textContent || e.className)(document.activeElement)"
     for _ in range(20):  # the player has six controls
-        browser.press("Tab", code=9)
-        seen.append(
-            browser.run("(e => e.id || (e.querySelector('.name') || {}).textContent || e.className)(document.activeElement)")
-        )
+        browser.press("Tab")
+        seen.append(browser.evaluate(focused))
     for each in ("skip", "filter", "editor", "top", "flood", HOSTILE, "type", "announce", "screen"):
         check(each in seen, f"Tab reaches {each}: {seen}")
-    browser.run("[...document.querySelectorAll('li button')].find(e => e.textContent.startsWith('top')).focus()")
-    browser.press("Enter", "\r", 13)
-    check(browser.run("document.getElementById('title').textContent") == "top", "Enter chooses a session")
-    for each in (
-        ("button", "editor, running"), ("searchbox", "Filter"), ("heading", "top"), ("navigation", "Sessions"),
-        ("checkbox", "Announce changes"),
-    ):
-        check(wait_for(lambda: each in browser.tree()), f"a screen reader finds {each}")
-    names = [said for role, said in browser.tree() if role in ("group", "region")]
+    browser.evaluate("[...document.querySelectorAll('li button')].find(e => e.textContent.startsWith('top')).focus()")
+    browser.press("Enter", text="\r")
+    check(said(browser, "title") == "top", "Enter chooses a session")
+    parts = {"button": "editor, running", "searchbox": "Filter", "heading": "top", "navigation": "Sessions", "checkbox": "Announce changes"}
+    for each in parts.items():
+        check(wait_for(lambda: each in browser.names()), f"a screen reader finds {each}")
+    names = [said for role, said in browser.names() if role in ("group", "region")]
     check("Screen of top" in names, f"and the screen by its name: {names}")
-    browser.run("document.getElementById('announce').click()")
-    check(wait_for(lambda: len(browser.run("document.getElementById('said').textContent")) > 20), "changes are announced")
-    browser.run("document.getElementById('announce').click()")
+    browser.evaluate("document.getElementById('announce').click()")
+    check(wait_for(lambda: len(said(browser, "said")) > 20), "changes are announced")
+    browser.evaluate("document.getElementById('announce').click()")
 
 
 # Another connection: its messages, until there are COUNT of them and two have bytes of the session MOVING, and how many seconds they took.
@@ -229,22 +228,21 @@ MESSAGES = """new Promise(done => {
 def changes_arrive(browser, store):
     """Only what changed is sent; the flood doesn't hold up the rest. However slow the machine is, messages don't come sooner."""
     top, still = (store.hget(keys.NAMES, each).decode() for each in ("top", HOSTILE))
-    seconds, got = browser.run(MESSAGES.replace("COUNT", "100").replace("MOVING", json.dumps(top)))
+    seconds, got = browser.evaluate(MESSAGES.replace("COUNT", "100").replace("MOVING", json.dumps(top)))
     check(seconds > len(got) / 40, f"at most some messages a second: {len(got)} in {seconds:.2f} s")
     news = [each for message in got for each in json.loads(message).get("news", []) if each["session"] == still]
     check(sum("bytes" in each for each in news) == 1, f"a session that stands still is sent once: {news}")
     choose(browser, "flood")
     before = lines(browser)
     check(wait_for(lambda: lines(browser) != before), "the flood moves")
-    shot(browser, "flood")
 
 
 def its_terminal_is_the_session_s(browser, source):
     """The page has played bytes: its terminal has also what no screen shows."""
     repaint = f"btoa(String.fromCharCode(...sessions.get({json.dumps(source.incarnation)}).terminal.repaint()))"
     state = base64.b64encode(terminal_of(source.store, source.name).repaint()).decode()
-    check(wait_for(lambda: browser.run(repaint) == state), "the page's terminal has the state of the session")
-    check(browser.run("performance.getEntriesByType('resource').length") == 0, "and the page loads nothing")
+    check(wait_for(lambda: browser.evaluate(repaint) == state), "the page's terminal has the state of the session")
+    check(browser.evaluate("performance.getEntriesByType('resource').length") == 0, "and the page loads nothing")
 
 
 def ended_and_faulty_sessions_are_shown(machine, data):
@@ -257,27 +255,20 @@ def ended_and_faulty_sessions_are_shown(machine, data):
     owner = (bad.store.hget(bad.part("about"), "owner") or b"nobody").decode()
     bad.store.publish(keys.wake(owner), bad.incarnation)
     browser = Browser(served.url, 900, 1000)
-    check(wait_for(lambda: browser.run("document.querySelectorAll('li').length") == 63), "all are there")
-    said = lambda: dict(
-        browser.run(
-            "[...document.querySelectorAll('li')]"
-            ".map(e => [e.querySelector('.name').textContent, e.querySelector('.how').textContent])"
-        )
-    )
+    check(wait_for(lambda: count(browser, "li") == 63), "all are there")
+    facts = "[...document.querySelectorAll('li')].map(e => [e.querySelector('.name').textContent, e.querySelector('.how').textContent])"
+    said = lambda: dict(browser.evaluate(facts))
     check(wait_for(lambda: said()["bad"].startswith("fault: Version")), f"a fault is named: {said()['bad']}")
     check(wait_for(lambda: said()["done"] == "ended 7" and said()["gone"] == "no host"), f"{said()['done']}, {said()['gone']}")
     choose(browser, "done")
-    check(
-        wait_for(lambda: [line.rstrip() for line in lines(browser)] == wanted("text", data)[1].decode().splitlines()),
-        "the screen of one that ended",
-    )
+    text = wanted("text", data)[1].decode().splitlines()
+    check(wait_for(lambda: [line.rstrip() for line in lines(browser)] == text), "the screen of one that ended")
     its_terminal_is_the_session_s(browser, done)
     choose(browser, "many-042")
     check(wait_for(lambda: lines(browser)[0].rstrip() == "Session 42"), "and of one of many")
-    check(browser.run("document.documentElement.scrollWidth <= innerWidth"), "nothing is wider than the window")
-    shot(browser, "many")
-    browser.run("const f = document.getElementById('filter'); f.value = '-04'; f.dispatchEvent(new Event('input'))")
-    check(browser.run("document.querySelectorAll('li').length") == 10, "a filter")
+    check(browser.evaluate("document.documentElement.scrollWidth <= innerWidth"), "nothing is wider than the window")
+    browser.evaluate("const f = document.getElementById('filter'); f.value = '-04'; f.dispatchEvent(new Event('input'))")
+    check(count(browser, "li") == 10, "a filter")
 
 
 def tell(client, picture):
@@ -365,41 +356,30 @@ def the_page_sends_the_keys_of_a_vt220(machine, _):
     source = Source(machine.url, "keys", takes_input=True).listen().send(b"\033[20h\033[?1h\033 Gready")
     wanted = b""
     browser = Browser(served.url)
-    check(wait_for(lambda: browser.run("document.querySelectorAll('li').length") == 1), "the session is there")
+    check(wait_for(lambda: count(browser, "li") == 1), "the session is there")
     choose(browser, "keys")
     check(wait_for(lambda: lines(browser)[0].rstrip() == "ready"), "and its screen")
-    check(wait_for(lambda: not browser.run("document.getElementById('type').hidden")), "and typing")
-    browser.run("document.getElementById('type').click()")
+    check(wait_for(lambda: not is_hidden(browser, "type")), "and typing")
+    browser.evaluate("document.getElementById('type').click()")
     for pressed, sent in (
-        (lambda: browser.press("Enter", "\r", 13), b"\r\n"),
-        (lambda: browser.press("Delete", code=46), b"\x9b3~"),
-        (lambda: browser.press("Backspace", code=8), b"\x7f"),
-        (lambda: browser.press("ArrowUp", code=38), b"\x8fA"),
-        (lambda: browser.press("Home", code=36), b"\x9b1~"),
-        (lambda: browser.press("F1", code=112), b"\x8fP"),
-        (lambda: browser.press("F10", code=121), b"\x9b21~"),
-        (lambda: browser.press("c", code=67, modifiers=2), b"\x03"),
+        (lambda: browser.press("Enter", text="\r"), b"\r\n"),
+        (lambda: browser.press("Delete"), b"\x9b3~"),
+        (lambda: browser.press("Backspace"), b"\x7f"),
+        (lambda: browser.press("ArrowUp"), b"\x8fA"),
+        (lambda: browser.press("Home"), b"\x9b1~"),
+        (lambda: browser.press("F1"), b"\x8fP"),
+        (lambda: browser.press("F10"), b"\x9b21~"),
+        (lambda: browser.press("c", control=True), b"\x03"),
         (lambda: browser.type("éœÿ"), b"\xe9\xf7\xfd"),
         # A German keyboard of a Mac has these by Option and L, 5, 7. Alt and a letter is for the browser.
-        (lambda: [browser.press(sign, sign, code, modifiers=1) for sign, code in (("f", 70), ("@", 76), ("[", 53), ("|", 55))], b"@[|"),
+        (lambda: [browser.press(sign, text=sign, alt=True) for sign in "f@[|"], b"@[|"),
         (lambda: browser.type("3÷4"), b"34"),
     ):
         pressed()
         wanted += sent
         check(wait_for(lambda: source.keys() == wanted), f"{sent} arrives: {source.keys()}")
-    refused = lambda: browser.run("document.getElementById('problem').textContent")
     browser.type("÷")
-    check(wait_for(lambda: "no key of a VT220 sends '÷'" in refused()), f"a character without a key is refused: {refused()}")
-
-
-async def raw(base, path):
-    """Returns the status of a request whose path no client puts in order."""
-    host, port = base.removeprefix("http://").split(":")
-    reader, writer = await asyncio.open_connection(host, int(port))
-    writer.write(f"GET {path} HTTP/1.1\r\nHost: {host}:{port}\r\nConnection: close\r\n\r\n".encode())
-    line = await reader.readline()
-    writer.close()
-    return int(line.split()[1])
+    check(wait_for(lambda: "no key of a VT220 sends '÷'" in said(browser, "problem")), "a character without a key is refused")
 
 
 FIRST = ("", "x", "[]", "{}", '{"token": 1}', '{"token": ""}', '{"token": "a guess"}', '{"token": "\\ud800"}')
@@ -413,22 +393,12 @@ async def refusal(client, address, first):
         return socket.close_code
 
 
-async def connect_from_elsewhere(client, base):
-    try:
-        await client.ws_connect(f"{base}/live", origin="http://evil.example")
-        status = 101
-    except aiohttp.WSServerHandshakeError as refused:
-        status = refused.status
-    check(status == 403, "another page's script is refused")
-
-
 async def type_without_right(served, session):
     async with served.live(session) as socket:
-        for bad in (
-            {"session": session, "text": "id\r"}, {"session": "x", "text": "y"}, {"session": session}, [], "x",
-            {"session": session, "key": "nosuch"},
-        ):
-            await socket.send_str(json.dumps(bad))
+        for bad in ({"text": "id\r"}, {"session": "x", "text": "y"}, {}, {"key": "nosuch"}):
+            await socket.send_json({"session": session} | bad)
+        await socket.send_json([])
+        await socket.send_json("x")
         await socket.send_str("no JSON")
         errors = 0
         while errors < 7:
@@ -448,7 +418,7 @@ def only_the_token_opens_the_page(machine, _):
                 code = await refusal(client, base + f"/live?token={token}", first)
                 check(code == UNKNOWN, f"{first}: {code}")
             for path in ("/page.js", "/../cli.py", "/%2e%2e/cli.py", "//etc/passwd"):
-                status = await raw(base, f"{path}?token={token}")
+                status = (await client.get(URL(f"{base}{path}?token={token}", encoded=True))).status  # as it is written
                 check(status in (403, 404), f"{path}: {status}")
             async with client.get(base + "/") as answer:
                 check(token not in await answer.text(), "the page has no token")
@@ -456,7 +426,12 @@ def only_the_token_opens_the_page(machine, _):
                 loose = policy.replace("'wasm-unsafe-eval'", "")
                 check(answer.status == 200 and "default-src 'none'" in policy and "unsafe" not in loose, "a strict policy")
                 check(answer.headers["Referrer-Policy"] == "no-referrer", "the token leaks to no other page")
-            await connect_from_elsewhere(client, base)
+            status = 101
+            try:
+                await client.ws_connect(f"{base}/live", origin="http://evil.example")
+            except aiohttp.WSServerHandshakeError as refused:
+                status = refused.status
+            check(status == 403, "another page's script is refused")
             await type_without_right(served, source.incarnation)
 
     asyncio.run(ask())
@@ -468,15 +443,15 @@ def the_page_asks_for_the_token(address, token):
     browser = Browser(address)
 
     def typed(what):
-        browser.run(f"document.getElementById('token').value = {json.dumps(what)}; document.getElementById('enter').requestSubmit()")
+        browser.evaluate(f"document.getElementById('token').value = {json.dumps(what)}; document.getElementById('enter').requestSubmit()")
 
-    check(wait_for(lambda: browser.run("document.getElementById('enter')?.hidden === false")), "the page asks for the token")
+    check(wait_for(lambda: browser.evaluate("document.getElementById('enter')?.hidden === false")), "the page asks for the token")
     typed("a guess")
-    check(wait_for(lambda: "not the token" in browser.run("document.getElementById('problem').textContent")), "a wrong one is refused")
-    check(not browser.run("document.getElementById('enter').hidden"), "and asked for again")
+    check(wait_for(lambda: "not the token" in said(browser, "problem")), "a wrong one is refused")
+    check(not is_hidden(browser, "enter"), "and asked for again")
     typed(token)
-    check(wait_for(lambda: "session" in browser.run("document.getElementById('summary').textContent")), "the right one opens the page")
-    check(browser.run("location.href") == address and browser.run("document.getElementById('enter').hidden"), "and isn't in its address")
+    check(wait_for(lambda: "session" in said(browser, "summary")), "the right one opens the page")
+    check(browser.evaluate("location.href") == address and is_hidden(browser, "enter"), "and isn't in its address")
 
 
 def a_token_of_a_file_is_not_printed(machine, _):
@@ -486,23 +461,15 @@ def a_token_of_a_file_is_not_printed(machine, _):
     served = Served(machine, config=conf(machine, "web.conf", *PATIENT, "[web]", f"token-file = {file}"))
     check(token not in served.url and file in served.url, f"the file is named: {served.url}")
     the_page_asks_for_the_token(f"http://127.0.0.1:{served.port}/", token)
-    base = f"http://127.0.0.1:{served.port}"
 
     async def ask():
-        async with aiohttp.ClientSession() as client:
+        async with served.live(token=token) as connection:
+            return json.loads((await connection.receive(PATIENCE)).data)
 
-            async def status(path):
-                async with client.get(base + path) as answer:
-                    return answer.status
-
-            async with client.ws_connect(base + "/live") as connection:
-                await connection.send_str(json.dumps({"token": token}))
-                check("typing" in json.loads((await connection.receive(PATIENCE)).data), "its token opens the page")
-            check(await status("/healthz") == 503, "without a worker the page isn't well")
-            claims.Claims(stores.connect(machine.url), 60)
-            check(await status("/healthz") == 200, "with one it is, and tells that without the token")
-            machine.kill()
-            check(await status("/healthz") == 503, "without a store it isn't")
-            machine.start()
-
-    asyncio.run(ask())
+    check("typing" in asyncio.run(ask()), "its token opens the page")
+    check(asked(served.port, "healthz")[0] == 503, "without a worker the page isn't well")
+    claims.Claims(stores.connect(machine.url), 60)
+    check(asked(served.port, "healthz")[0] == 200, "with one it is, and tells that without the token")
+    machine.kill()
+    check(asked(served.port, "healthz")[0] == 503, "without a store it isn't")
+    machine.start()

@@ -47,8 +47,8 @@ class Chromium(Page):
         self.folder = tempfile.mkdtemp(prefix="chromium-")
         words = ["chromium", "--headless=new", "--no-sandbox", "--disable-gpu", "--disable-dev-shm-usage", "--no-first-run", "--hide-scrollbars",
                  "--remote-debugging-pipe", f"--user-data-dir={self.folder}", f"--window-size={width},{height}", *options, "about:blank"]
-        # The browser reads from descriptor 3 and writes to 4. The shell moves them there.
-        shell = ["sh", "-c", f'exec "$@" 3<&{to_read} 4>&{to_write}', "sh", *words]
+        # The browser reads from descriptor 3 and writes to 4. The shell moves them there: bash, since dash knows no descriptors beyond 9.
+        shell = ["bash", "-c", f'exec "$@" 3<&{to_read} 4>&{to_write}', "bash", *words]
         self.process = subprocess.Popen(shell, pass_fds=(to_read, to_write), stdin=subprocess.DEVNULL, stdout=subprocess.DEVNULL, stderr=subprocess.DEVNULL)
         os.close(to_read)
         os.close(to_write)
@@ -84,7 +84,7 @@ class Chromium(Page):
                 if "error" in answer:
                     raise RuntimeError(f"{method}: {answer['error']}")
                 return answer["result"]
-            if answer.get("method") in ("Runtime.consoleAPICalled", "Runtime.exceptionThrown", "Log.entryAdded"):
+            if answer.get("method") in ("Runtime.consoleAPICalled", "Runtime.exceptionThrown", "Log.entryAdded", "Page.javascriptDialogOpening"):
                 self.said.append(answer["params"])
 
     def evaluate(self, script):
@@ -93,8 +93,8 @@ class Chromium(Page):
             raise RuntimeError(got["exceptionDetails"].get("exception", {}).get("description", got["exceptionDetails"]))
         return got["result"].get("value")
 
-    def press(self, key, code=None, text=None, shift=False, alt=False):
-        words = {"key": key, "code": code or key, "modifiers": 8 * shift + alt, **({"text": text} if text else {})}
+    def press(self, key, code=None, text=None, shift=False, alt=False, control=False):
+        words = {"key": key, "code": code or key, "modifiers": 8 * shift + 2 * control + alt, **({"text": text} if text else {})}
         self.call("Input.dispatchKeyEvent", type="keyDown", **words)
         self.call("Input.dispatchKeyEvent", type="keyUp", **words)
 

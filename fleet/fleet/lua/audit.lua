@@ -20,7 +20,7 @@ local found, walked = 0, redis.call('SSCAN', 'fleet:live', ARGV[1], 'COUNT', ARG
 local function look_after(inc)
   local owner = field(inc, 'about', 'owner')
   local is_had = owner and redis.call('HEXISTS', 'fleet:workers', owner) == 1 and redis.call('SISMEMBER', 'fleet:of:' .. owner, inc) == 1
-  if redis.call('EXISTS', key(inc, 'about')) == 0 or redis.call('EXISTS', key(inc, 'ended'), key(inc, 'fault')) > 0 then
+  if redis.call('EXISTS', key(inc, 'about')) == 0 or is_over(inc) then
     retire(inc)
   elseif not is_had and not is_waiting(inc) then
     queue(inc)

@@ -6,11 +6,11 @@ local count, lease, formats = string.match(redis.call('HGET', 'fleet:workers', m
 if not count then return {'dead'} end
 redis.call('HSET', 'fleet:workers', me, string.format('%.0f %s %s', tonumber(count) + 1, lease, formats))
 show_life(me, lease)
-local waiting = redis.call('ZCARD', 'fleet:waiting') + redis.call('ZCARD', 'fleet:suspects')
-if waiting == 0 then
+local wait = waiting()
+if wait == 0 then
   local foreign = redis.call('HRANDFIELD', 'fleet:foreign', 64, 'WITHVALUES')
   for at = 2, #foreign, 2 do
-    if knows(me, foreign[at]) then waiting = waiting + 1 end
+    if knows(me, foreign[at]) then wait = wait + 1 end
   end
 end
 if not noted_format() then note_format() end
@@ -23,4 +23,4 @@ for i = 2, #ARGV do
   end
 end
 local draining, has = redis.call('SISMEMBER', 'fleet:draining', me), redis.call('SCARD', 'fleet:of:' .. me)
-return {'ok', draining, has, waiting, share(), common_format(), redis.call('HLEN', 'fleet:workers'), shown}
+return {'ok', draining, has, wait, share(), common_format(), redis.call('HLEN', 'fleet:workers'), shown}

@@ -159,6 +159,17 @@ local function close(inc, status, version)
   if about[3] then redis.call('PUBLISH', 'fleet:wake:' .. about[3], inc) end
 end
 
+-- Frees a name that a session has.
+local function free_name(name, inc)
+  if redis.call('GET', 'fleet:lease:' .. name) == inc then redis.call('DEL', 'fleet:lease:' .. name) end
+end
+
+-- Returns how many sessions wait for any worker.
+local function waiting() return redis.call('ZCARD', 'fleet:waiting') + redis.call('ZCARD', 'fleet:suspects') end
+
+-- Returns whether a session has ended, or has a fault.
+local function is_over(inc) return redis.call('EXISTS', key(inc, 'ended'), key(inc, 'fault')) > 0 end
+
 -- Forgets which workers met errors at a session.
 local function forgive(inc)
   redis.call('DEL', key(inc, 'failed'))
@@ -182,6 +193,11 @@ local function doom(inc)
 end
 
 local parts = {'about', 'bytes', 'answers', 'checkpoint', 'view', 'keys', 'signals', 'ended', 'fault', 'failed'}
+
+-- Has all that there is of a session removed after a time.
+local function expire_all(inc, after)
+  for _, part in ipairs(parts) do redis.call('PEXPIRE', key(inc, part), after) end
+end
 
 -- Removes all that there is of a session.
 local function forget(inc)

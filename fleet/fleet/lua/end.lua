@@ -19,8 +19,6 @@ end
 close(inc, 'ended', ARGV[3])
 if expire > 0 then
   redis.call('HSET', key(inc, 'about'), 'expire', ARGV[4])
-  if redis.call('EXISTS', key(inc, 'ended'), key(inc, 'fault')) > 0 then
-    for _, part in ipairs(parts) do redis.call('PEXPIRE', key(inc, part), expire) end
-  end
+  if is_over(inc) then expire_all(inc, expire) end
 end
 return {'ok'}

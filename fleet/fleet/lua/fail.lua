@@ -8,5 +8,5 @@ redis.call('HSETNX', key(inc, 'about'), 'closed', 'lost')
 redis.call('ZADD', 'fleet:all', 'NX', moment(), inc)
 redis.call('HSETNX', 'fleet:names', name, inc)
 retire(inc)
-if redis.call('GET', 'fleet:lease:' .. name) == inc then redis.call('DEL', 'fleet:lease:' .. name) end
+free_name(name, inc)
 return {'ok'}

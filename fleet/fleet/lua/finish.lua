@@ -7,5 +7,5 @@ if not about[1] then return {'lost'} end
 if ARGV[6] and about[3] ~= ARGV[6] then return {'taken', about[3] or ''} end
 if tonumber(about[1]) ~= tonumber(ARGV[3]) then return {'back', about[1]} end
 close(inc, ARGV[4], ARGV[5])
-if redis.call('GET', 'fleet:lease:' .. name) == inc then redis.call('DEL', 'fleet:lease:' .. name) end
+free_name(name, inc)
 return {'ok'}

@@ -6,10 +6,6 @@ local me, limit = ARGV[1], tonumber(ARGV[3])
 if redis.call('HEXISTS', 'fleet:workers', me) == 0 then return {'dead'} end
 if redis.call('SISMEMBER', 'fleet:draining', me) == 1 then return {'ok', 0} end
 
-local function is_over(inc)
-  return redis.call('EXISTS', key(inc, 'about')) == 0 or redis.call('EXISTS', key(inc, 'ended'), key(inc, 'fault')) > 0
-end
-
 -- Returns whether this worker met an error at a session. Others take that one; if there are none, it has a fault.
 local function has_failed(inc)
   return redis.pcall('SISMEMBER', key(inc, 'failed'), me) == 1 and (doom(inc) or true)
@@ -17,7 +13,7 @@ end
 
 -- Makes a session this worker's. Returns false if it is over, is given up, or is none: then no host wrote it there.
 local function own(inc)
-  if not string.match(inc, '^%w+$') or is_over(inc) then
+  if not string.match(inc, '^%w+$') or redis.call('EXISTS', key(inc, 'about')) == 0 or is_over(inc) then
     retire(inc)
     return false
   end
@@ -32,8 +28,6 @@ local function own(inc)
   redis.call('SADD', 'fleet:of:' .. me, inc)
   return true
 end
-
-local function waiting() return redis.call('ZCARD', 'fleet:waiting') + redis.call('ZCARD', 'fleet:suspects') end
 
 local trial = redis.call('HGET', 'fleet:trying', me)
 if trial and redis.call('SISMEMBER', 'fleet:of:' .. me, trial) == 1 and field(trial, 'about', 'owner') == me then

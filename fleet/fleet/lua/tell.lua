@@ -37,8 +37,6 @@ if ARGV[12] ~= 'none' then
   redis.call('HSET', key(inc, 'ended'), 'at', played, 'status', ARGV[12], 'text', ARGV[13], 't', moment(), 'v', version)
   retire(inc)
   local expire = about[3] or ARGV[6]
-  if tonumber(expire) >= 0 then
-    for _, part in ipairs(parts) do redis.call('PEXPIRE', key(inc, part), expire) end
-  end
+  if tonumber(expire) >= 0 then expire_all(inc, expire) end
 end
 return {'ok', redis.call('XLEN', answers)}

@@ -1,15 +1,15 @@
-"""Sessions whose programs write UTF-8: where checkpoints are, who plays them, and what programs and viewers get."""
+"""Sessions in UTF-8, and for TERM=xterm-256color: where checkpoints are, what rebuilds their terminals, who plays them, and what programs and
+viewers get."""
 import asyncio
 import json
 import os
 import random
 
 from harness import (
-    PATIENCE, Processes, Source, another_daemon, bury, check, keys, program, session, settings, stores, until, wait_for,
-    worker, written,
+    PATIENCE, Processes, Source, another_daemon, begun, bury, check, fleet, keys, raises, session, settings, stores, until,
+    wait_for, worker, written,
 )
 from operators import OnTerminal
-from safety import fleet
 from web import Served
 from fleet.worker import Worker
 import vt220
@@ -28,7 +28,7 @@ def place(source):
 
 
 def played(source):
-    return int(source.store.hget(source.part("about"), "played"))
+    return int(source.about("played"))
 
 
 def a_checkpoint_is_before_what_is_pending(url, _):
@@ -130,9 +130,7 @@ def an_older_worker_takes_no_session_in_utf_8(url, _):
 def a_program_writes_and_reads_utf_8(machine, _):
     name, url, workers = "program", machine.url, Processes(machine, 1)
     command = ["sh", "-c", "stty -a | grep -o ' iutf8'; echo $LC_ALL; stty raw -echo; printf ready; head -c 2 | od -An -tx1; printf 'Gr\\303\\274\\303\\237e'; cat"]
-    host = program(machine, name, command, "--input", "--encoding", "utf-8")
-    store = stores.connect(url)
-    wait_for(lambda: b"ready" in written(store, name))
+    host, store, _ = begun(machine, name, command, "--input", "--encoding", "utf-8", says=b"ready")
     check(written(store, name).split()[:2] == [b"iutf8", b"C.UTF-8"], f"its line and its locale: {written(store, name)}")
     another_daemon(machine)
     check(fleet(url, "type", name, "\u00fc")[0] == 0, "it takes a character, also from another daemon")
@@ -162,3 +160,136 @@ def viewers_type_in_utf_8(machine, _):
             return await asyncio.to_thread(wait_for, lambda: source.keys() == 2 * sent.encode())
 
     check(asyncio.run(ask()), f"on the page: {source.keys()}")
+
+
+XTERM = {"encoding": "utf-8", "terminal": "xterm"}
+MAIN, ALTERNATE = b"\033[?47l", b"\033[?47h"
+# The main page, the alternate one, and the main one again, with a question on each.
+PAGES = "main \u00fc\033[?1049h\033[5;5Halt\033[6n\033[1m\u250c\033[?1049l\033[3`x\033[6n".encode()
+SHOWN_AT_LAST = "maxn \u00fc"
+PIECES_OF_PAGES = [
+    MAIN, ALTERNATE, b"\033[?1049h", b"\033[?1049l", b"\033[?1047h", b"\033[?1047l", b"\033[?1048h", b"\033[?1048l", b"\033[?40h", b"\033[?40l", b"\033[?3h", b"\033[?3l",
+    b"\0337", b"\0338", b"\033c", b"\033[!p", b"\033[?7l", b"\033[1;132H\xc3\xa4", b"\033[5;9H\033H", b"\033[3g", b"\033[1;7m", b"\033[1\"q", b"\033(0", b"\016", b"\033[4;9r",
+    b"\033[?6h", b"text \xe2\x80\x9c\xe4\xb8\x96", b"\xe2\x94", b"\xff", b"\033[2;79Hab", b"\r\n\n", b"\033[9;9Hxyz", b"\033[?5h", b"\033N", b"\033[?25l", b"\033=", b"\033[J", b"\033[3S",
+    b"\033[4b", b"\033]0;\xc2\x9c\xe2\033\\", b"\033[6n", b"\033[c",
+]  # fmt: skip
+
+
+def terminal(data=b""):
+    made = vt220.Terminal(terminal="xterm")
+    made.feed(data)
+    return made
+
+
+def is_same(one, two):
+    """Returns whether two terminals go on alike, whatever is pending."""
+    return one.repaint() == two.repaint() and one.same_state(two) and one.alternate() == two.alternate()
+
+
+def some(chance, most=60):
+    return b"".join(chance.choice(PIECES_OF_PAGES) for _ in range(chance.randint(0, most)))
+
+
+def bytes_rebuild_a_terminal(url, _):
+    """On any terminal they leave the same state: both pages, in each width."""
+    chance = random.Random(seed)
+    for number in range(400):
+        one = terminal(some(chance) + b"\030" * chance.randint(0, 1))
+        if not one.is_between():
+            check(raises(vt220.Partial, one.repaint), f"{number}: none inside a sequence")
+            continue
+        before, two = (one.repaint(), one.alternate(), one.pending()), terminal(some(chance))
+        two.feed(one.repaint())
+        two.feed(one.pending())
+        check((one.repaint(), one.alternate(), one.pending()) == before, f"{number}: the terminal stays")
+        check(two.pending() == one.pending() and is_same(one, two), f"{number}: it is rebuilt")
+        more = some(chance) + b"\030"
+        for way in (more, MAIN, ALTERNATE, b"\033[?40h\033[?3h" + MAIN, ALTERNATE, b"\033[?3l" + MAIN, ALTERNATE):
+            check(one.feed(way) == two.feed(way) and one.same_state(two) and one.alternate() == two.alternate(), f"{number}: and goes on alike: {way[:20]}")
+
+
+def a_terminal_that_is_rebuilt_wrongly_is_found(url, _):
+    """The comparison finds each part of the state that differs."""
+    one = terminal(b"main\033[?47halt\0337\033[?47l")
+    others = [b"main\033[?47hal\0337\033[?47l", b"main\033[?47halt\033[?47l", b"main\033[?47halt\0337", b"main\033[?47halt\0337\033[?47l\033[?40h", b"\033[?40h\033[?3h\033[?47hx\033[?47l\033[?3l\033[?40l"]
+    check(is_same(one, one.copy()), "a copy is the same")
+    for other in others:
+        check(not is_same(one, terminal(other)), f"{other} isn't")
+    check(not is_same(terminal(others[-1]), terminal()), "nor is a page of another width")
+
+
+def each_byte_is_another_workers(url, _):
+    """Each begins at the checkpoint of the one before."""
+    source = Source(url, "pages", **XTERM)
+    for number, byte in enumerate(PAGES):
+        one = worker(url, every=1, keep=0)
+        source.send(bytes([byte]))
+        check(until(lambda: played(source) == number + 1 and not one.due, one), f"byte {number} is played")
+        source.receive()
+        now = session.as_it_is(source.store, source.incarnation).terminal
+        check(now.text() == terminal(PAGES[: number + 1]).text() and now.terminal == "xterm", f"a reader sees the screen after {number + 1} bytes")
+        one.leave()
+    one = worker(url, every=1, keep=0)
+    source.end(0)
+    check(until(source.is_ended, one), f"it ends: {source.fault()}")
+    check(source.store.hget(source.part("ended"), "text").decode().splitlines()[:2] == [SHOWN_AT_LAST, ""], "the text")
+    check(source.receive().reports() == terminal().feed(PAGES), f"and the reports: {source.reports()}")
+
+
+def pieces_are_cut_anywhere(url, _):
+    """Parts of characters, sequences and pages."""
+    cut_anywhere(url, "at random", random.Random(seed), PIECES_OF_PAGES, 500, terminal(), is_same)
+
+
+def an_older_worker_takes_no_such_session(url, _):
+    old = Worker(stores.connect(url), settings(every=1), formats=(keys.OLDEST, keys.NEEDED[keys.UTF8]))
+    source, other = Source(url, "xterm", **XTERM).send(PAGES), Source(url, "utf-8", encoding="utf-8").send(b"x")
+    new = taken_by_newer_workers(url, source, other, old)
+    source.end(0)
+    check(until(source.is_ended, old, new), "and ends it")
+    check(source.store.hget(source.part("ended"), "text").decode().splitlines()[0] == SHOWN_AT_LAST, "the text")
+
+
+def a_wrong_language_is_a_fault(url, _):
+    for terminal_name, encoding in (("xterm-256color", "utf-8"), ("xterm", "dec"), ("vt220", "utf-7")):
+        name, one = f"wrong terminal {terminal_name} {encoding}", worker(url)
+        source = Source(url, name).send(b"x")
+        source.store.hset(source.part("about"), mapping={"terminal": terminal_name, "encoding": encoding})
+        check(until(source.fault, one) and source.fault().startswith("Wrong"), source.fault())
+        check(raises(keys.Wrong, session.as_it_is, source.store, source.incarnation), "for readers, too")
+
+
+def a_program_has_its_terminal(machine, _):
+    name, url, workers = "program", machine.url, Processes(machine, 1)
+    command = ["sh", "-c", "echo $TERM $LC_ALL; stty -a | grep -o ' iutf8'; stty raw -echo; printf '\\033[?1049hready'; head -c 1 | od -An -tx1; printf '\\033[?1049l\\033[9`back'; cat"]
+    host, store, _ = begun(machine, name, command, "--input", "--terminal", "xterm", says=b"ready")
+    check(written(store, name).split()[:3] == [b"xterm-256color", b"C.UTF-8", b"iutf8"], f"its environment and its line: {written(store, name)}")
+    check(fleet(url, "text", name)[1].split() == ["ready"], "the alternate page is shown")
+    another_daemon(machine)
+    check(fleet(url, "type", name, "x")[0] == 0, "another daemon goes on with it")
+    check(wait_for(lambda: b"back" in written(store, name)), "the program goes on")
+    check(fleet(url, "text", name)[1].splitlines()[0] == "xterm-256color C.UTF-8" and "        back" in fleet(url, "text", name)[1], "the main page is back")
+    recording = [json.loads(line) for line in fleet(url, "export", name)[1].splitlines()]
+    check(recording[0]["env"] == {"TERM": "xterm-256color"}, "the recording names its terminal")
+    listed = json.loads(fleet(url, "list", "--json")[1])
+    check((listed["encoding"], listed["terminal"]) == ("utf-8", "xterm"), "the list names it")
+    status, page, said = fleet(url, "export", "--page", name)
+    check(status == 0 and '"terminal": "xterm"' in page, f"and the page plays it: {said}")
+    check(fleet(url, "kill", "--signal", "KILL", "--patience", str(PATIENCE), name)[0] == 0 and host.wait(PATIENCE) == 137, "it ends")
+    status, _, said = fleet(url, "host", "--terminal", "xterm", "--encoding", "dec", "other", "true")
+    check(status == 78 and "doesn't go with --encoding dec" in said, f"dec is refused: {status} {said}")
+
+
+def keys_are_those_of_an_xterm(machine, _):
+    name, workers = "typed", Processes(machine, 1)
+    source = Source(machine.url, name, takes_input=True, lease=600, **XTERM).send(b"here").listen()
+    view = OnTerminal(machine.url, "view", "--type", name)
+    check(wait_for(lambda: view.has(b"here")), "it is shown")
+    os.write(view.master, b"\033[1~\033[25~\033[A")
+    wanted = b"\033[H\033[1;2P\033[A"
+    check(wait_for(lambda: source.keys() == wanted), f"in a viewer: {source.keys()}")
+    source.send(b"\033[?1h")
+    check(fleet(machine.url, "type", name, "\033[1~")[0] == 0, "type")
+    check(wait_for(lambda: source.keys() == wanted + b"\033OH"), f"by type: {source.keys()}")
+    os.write(view.master, b"\x1d")
+    check(view.status() == 0, "the viewer leaves")

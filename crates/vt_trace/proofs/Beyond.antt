@@ -14,7 +14,6 @@ use Rattle.bstr.specs.Utf8.{replacement}
 use Rattle.vt_utf8.specs.Decoding.{read, characters, pending_after, IsWhole}
 use Rattle.vt_utf8.specs.Translation.{translation}
 use Rattle.vt_utf8.specs.Play.{translated_all, play_utf8}
-use Rattle.vt_utf8.specs.Private.Feeds.{FeedsUtf8}
 use Rattle.vt_utf8.proofs.Cuts.{read-ascii, ascii-played}
 use Rattle.vt_utf8.proofs.Fed.{played-one, feeds-nothing, feeds-ascii, feeds-whole, feeds-byte}
 use Rattle.vt_trace.specs.declared.tracing.Tracer.{Tracer}

@@ -2,7 +2,7 @@
 use Rattle.std.specs.Prelude.{ℕ, ◌+◌, ◌==◌, List, [], ◌∷◌, ◌++◌, true, false, Option, Some, None, nat_lt, length, take, map, if◌then◌else◌}
 use Rattle.vt_term.specs.State.{State}
 use Rattle.vt_term.specs.Play.{play}
-use Rattle.vt_utf8.specs.Decoding.{read, characters, pending_after}
+use Rattle.vt_utf8.specs.Decoding.{read, characters}
 use Rattle.vt_utf8.specs.Translation.{translation}
 use Rattle.vt_utf8.specs.Play.{play_utf8}
 use Rattle.vt_trace.specs.declared.tracing.Tracer.{Tracer}

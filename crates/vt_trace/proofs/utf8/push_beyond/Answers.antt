@@ -1,4 +1,4 @@
-use Rattle.std.proofs.Common.{◌≡◌, ◌+◌, ◌-◌, ◌++◌, ◌∙◌, true, false, rules, ap, sym, length, append-nil, append_assoc, List, ℕ}
+use Rattle.std.proofs.Common.{◌≡◌, ◌++◌, ◌∙◌, true, false, rules, ap, sym, length, append-nil, append_assoc, List, ℕ}
 use Rattle.std.specs.Prelude.{◌==◌}
 use Rattle.vt_trace.specs.Lines.{shown}
 use Rattle.vt_trace.specs.Trace.{open_lines, text_begin}

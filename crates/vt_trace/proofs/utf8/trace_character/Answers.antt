@@ -1,5 +1,4 @@
-use Rattle.std.proofs.Common.{◌≡◌, ◌≤◌, ◌<◌, ◌++◌, ◌∙◌, [], ◌∷◌, List, ℕ, ap, sym, arith, length, take}
-use Rattle.vt_term.specs.Play.{Played, play}
+use Rattle.std.proofs.Common.{◌≡◌, ◌++◌, ◌∙◌, List, ℕ, ap}
 use Rattle.vt_utf8.proofs.Cuts.{translation-ascii}
 use Rattle.vt_trace.proofs.Beyond.{taken_one, one_traced, one_tracer}
 use Rattle.vt_trace.proofs.utf8.trace_character.Goals as goal

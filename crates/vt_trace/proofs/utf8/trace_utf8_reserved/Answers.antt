@@ -1,4 +1,4 @@
-use Rattle.std.proofs.Common.{◌≡◌, ◌+◌, ◌++◌, ◌∙◌, take, drop, length, ap, arith, length-drop, length-take}
+use Rattle.std.proofs.Common.{◌≡◌, ◌+◌, ◌∙◌, take, drop, length, ap, arith, length-drop, length-take}
 use Rattle.std.proofs.Math.Seq.{take-add}
 use Rattle.vt_trace.specs.declared.tracing.Tracer.{Tracer}
 use Rattle.vt_trace.specs.Private.Traces.{TracesUtf8}

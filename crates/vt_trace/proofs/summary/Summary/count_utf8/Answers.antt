@@ -1,6 +1,5 @@
-use Rattle.std.proofs.Common.{◌+◌, take, drop, arith, length-drop}
-use Rattle.std.proofs.Math.Seq.{take-add, take-length}
-use Rattle.vt_trace.specs.Private.Traces.{CountsUtf8}
+use Rattle.std.proofs.Common.{take, drop, arith, length-drop}
+use Rattle.std.proofs.Math.Seq.{take-add}
 use Rattle.vt_trace.proofs.Traces.{rest-of}
 use Rattle.vt_trace.proofs.CountedUtf8.{counts_none, counts_both}
 use Rattle.vt_trace.proofs.summary.Summary.count_utf8.Goals as goal

@@ -7,6 +7,7 @@
 #   make lib          the library for C in out/: libvt220.a, libvt220.so and vt220.pc, with its headers
 #   make keeper       out/vt220-keep
 #   make player       out/vt220-play, over the reader of recordings
+#   make python       out/_calls.abi3.so, the extension module of the Python package, with the headers of PYTHON
 #   make holder       out/vt220-fleet-holder, which needs nothing that is proved
 #   make js           the package for JavaScript in out/js/: vt220.wasm, package/ and vt220-VERSION.tgz; and what js/vt220-page
 #                     and the fleet's page need
@@ -19,7 +20,7 @@
 #   make help         prints this text
 #
 # Variables: PREFIX (/usr/local) and LIBDIR (PREFIX/lib), absolute paths; DESTDIR, which is put before each path; CC (gcc), CFLAGS (-O2)
-# and LDFLAGS for the files in C; OUT (out), the directory of what is built here; TARGET (x86_64), the processor of `make lib`.
+# and LDFLAGS for the files in C; PYTHON (python3); OUT (out), the directory of what is built here; TARGET (x86_64), the processor of `make lib`.
 # `make TARGET=aarch64 lib` builds over the same proofs into out/aarch64/.
 MAKEFLAGS += --no-builtin-rules
 SHELL := bash
@@ -31,6 +32,7 @@ PREFIX ?= /usr/local
 LIBDIR ?= $(PREFIX)/lib
 TARGET ?= x86_64
 CFLAGS ?= -O2
+PYTHON ?= python3
 NATIVE := crates/vt220_c/out/libvt220_c.a
 # What allocates for the proved code: the toolchain's own shim, which is for x86-64, or c/heap.c.
 ifeq ($(TARGET),aarch64)
@@ -67,7 +69,7 @@ PROGRAM := crates/vt220/out/vt220
 READER := crates/recording_c/out/librecording_c.a
 SCREEN := crates/screen/out/screen
 
-.PHONY: everything program try screen lib keeper player holder js install install-lib install-page uninstall crates version help
+.PHONY: everything program try screen lib keeper player python holder js install install-lib install-page uninstall crates version help
 everything: program lib keeper player holder
 program: $(PROGRAM)
 screen: $(SCREEN)
@@ -79,6 +81,7 @@ try:
 lib: $(OUT)/libvt220.a $(OUT)/libvt220.so $(OUT)/vt220.pc $(addprefix $(OUT)/,$(notdir $(HEADERS)))
 keeper: $(OUT)/vt220-keep
 player: $(OUT)/vt220-play
+python: $(OUT)/_calls.abi3.so
 holder: $(OUT)/vt220-fleet-holder
 
 # The time of what the toolchain builds is that of the beginning. So a source that changes meanwhile is newer.
@@ -119,6 +122,9 @@ $(OUT)/recording.o: $(READER)
 PLAYER := $(wildcard play/*.c) keep/outer.c
 $(OUT)/vt220-play: $(PLAYER) $(wildcard play/*.h) keep/outer.h keep/utf8.h c/recording.h $(HEADERS) $(OUT)/recording.o $(OUT)/libvt220.a
 	$(CC) $(CFLAGS) $(LDFLAGS) -Iinclude -o $@ $(PLAYER) $(OUT)/recording.o $(OUT)/libvt220.a
+$(OUT)/_calls.abi3.so: bindings/python/calls.c include/vt220.h
+	@mkdir -p $(@D)
+	$(CC) -std=c11 $(CFLAGS) $(LDFLAGS) -fPIC -shared -I$$($(PYTHON) -c 'import sysconfig; print(sysconfig.get_paths()["include"])') -Iinclude -o $@ $<
 $(OUT)/vt220-fleet-holder: fleet/holder/holder.c $(wildcard keep/command.[ch] keep/frame.[ch])
 	@mkdir -p $(@D)
 	$(CC) -std=c11 $(CFLAGS) $(LDFLAGS) -o $@ $(filter %.c,$^)

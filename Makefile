@@ -1,11 +1,13 @@
 # Builds and installs. crates.txt is the graph of the crates. The toolchain proves what isn't proved before it builds.
 #
-#   make              the program, the library for C, the session keeper and the fleet's holder of programs
+#   make              the program, the library for C, the session keeper, the player and the fleet's holder of programs
 #   make program      crates/vt220/out/vt220, which ./vt220 runs
 #   make try          prints the screen that the bytes of standard input leave, or those of a small example. The core runs without a proof
 #   make screen       crates/screen/out/screen, the smallest program over the core, which is proved first
 #   make lib          the library for C in out/: libvt220.a, libvt220.so and vt220.pc, with its headers
 #   make keeper       out/vt220-keep
+#   make player       out/vt220-play, over the reader of recordings
+#   make python       out/_calls.abi3.so, the extension module of the Python package, with the headers of PYTHON
 #   make holder       out/vt220-fleet-holder, which needs nothing that is proved
 #   make js           the package for JavaScript in out/js/: vt220.wasm, package/ and vt220-VERSION.tgz; and what js/vt220-page
 #                     and the fleet's page need
@@ -18,7 +20,7 @@
 #   make help         prints this text
 #
 # Variables: PREFIX (/usr/local) and LIBDIR (PREFIX/lib), absolute paths; DESTDIR, which is put before each path; CC (gcc), CFLAGS (-O2)
-# and LDFLAGS for the files in C; OUT (out), the directory of the library and the keeper; TARGET (x86_64), the processor of `make lib`.
+# and LDFLAGS for the files in C; PYTHON (python3); OUT (out), the directory of what is built here; TARGET (x86_64), the processor of `make lib`.
 # `make TARGET=aarch64 lib` builds over the same proofs into out/aarch64/.
 MAKEFLAGS += --no-builtin-rules
 SHELL := bash
@@ -30,6 +32,7 @@ PREFIX ?= /usr/local
 LIBDIR ?= $(PREFIX)/lib
 TARGET ?= x86_64
 CFLAGS ?= -O2
+PYTHON ?= python3
 NATIVE := crates/vt220_c/out/libvt220_c.a
 # What allocates for the proved code: the toolchain's own shim, which is for x86-64, or c/heap.c.
 ifeq ($(TARGET),aarch64)
@@ -66,8 +69,8 @@ PROGRAM := crates/vt220/out/vt220
 READER := crates/recording_c/out/librecording_c.a
 SCREEN := crates/screen/out/screen
 
-.PHONY: everything program try screen lib keeper holder js install install-lib install-page uninstall crates version help
-everything: program lib keeper holder
+.PHONY: everything program try screen lib keeper player python holder js install install-lib install-page uninstall crates version help
+everything: program lib keeper player holder
 program: $(PROGRAM)
 screen: $(SCREEN)
 # What rt prints besides the screen is shown if it fails.
@@ -77,6 +80,8 @@ try:
 	  cd crates/screen; rt try 2>"$$log" || { cat "$$log" >&2; exit 1; }
 lib: $(OUT)/libvt220.a $(OUT)/libvt220.so $(OUT)/vt220.pc $(addprefix $(OUT)/,$(notdir $(HEADERS)))
 keeper: $(OUT)/vt220-keep
+player: $(OUT)/vt220-play
+python: $(OUT)/_calls.abi3.so
 holder: $(OUT)/vt220-fleet-holder
 
 # The time of what the toolchain builds is that of the beginning. So a source that changes meanwhile is newer.
@@ -110,6 +115,16 @@ $(OUT)/%.h: include/%.h
 	@cp $< $@
 $(OUT)/vt220-keep: $(wildcard keep/*.[ch]) $(HEADERS) $(OUT)/libvt220.a
 	$(CC) $(CFLAGS) $(LDFLAGS) -Iinclude -o $@ keep/*.c $(OUT)/libvt220.a
+# The proved reader as one object, since it has the same allocation shim as the library.
+$(OUT)/recording.o: $(READER)
+	@mkdir -p $(@D)
+	@TOOLS=$(TOOLS) tools/link-object $@ $<
+PLAYER := $(wildcard play/*.c) keep/outer.c
+$(OUT)/vt220-play: $(PLAYER) $(wildcard play/*.h) keep/outer.h keep/utf8.h c/recording.h $(HEADERS) $(OUT)/recording.o $(OUT)/libvt220.a
+	$(CC) $(CFLAGS) $(LDFLAGS) -Iinclude -o $@ $(PLAYER) $(OUT)/recording.o $(OUT)/libvt220.a
+$(OUT)/_calls.abi3.so: bindings/python/calls.c include/vt220.h
+	@mkdir -p $(@D)
+	$(CC) -std=c11 $(CFLAGS) $(LDFLAGS) -fPIC -shared -I$$($(PYTHON) -c 'import sysconfig; print(sysconfig.get_paths()["include"])') -Iinclude -o $@ $<
 $(OUT)/vt220-fleet-holder: fleet/holder/holder.c $(wildcard keep/command.[ch] keep/frame.[ch])
 	@mkdir -p $(@D)
 	$(CC) -std=c11 $(CFLAGS) $(LDFLAGS) -o $@ $(filter %.c,$^)
@@ -119,11 +134,11 @@ js: program lib $(READER)
 
 # What is installed: FROM:TO:MODE of each file, and TARGET:TO of each link. vt220.pc comes from standard input, since PREFIX may be another than
 # when the library was built.
-PAGES := man/vt220.1 man/vt220.3 man/vt220.7 keep/vt220-keep.1
+PAGES := man/vt220.1 man/vt220.3 man/vt220.7 keep/vt220-keep.1 play/vt220-play.1
 SHARE = $(PREFIX)/share
-FILES = $(PROGRAM):$(PREFIX)/bin/vt220:755 $(OUT)/vt220-keep:$(PREFIX)/bin/vt220-keep:755 \
+FILES = $(PROGRAM):$(PREFIX)/bin/vt220:755 $(OUT)/vt220-keep:$(PREFIX)/bin/vt220-keep:755 $(OUT)/vt220-play:$(PREFIX)/bin/vt220-play:755 \
   $(foreach page,$(PAGES),$(page):$(SHARE)/man/man$(subst .,,$(suffix $(page)))/$(notdir $(page)):644) \
-  $(foreach name,vt220 vt220-keep,completions/$(name).bash:$(SHARE)/bash-completion/completions/$(name):644 \
+  $(foreach name,vt220 vt220-keep vt220-play,completions/$(name).bash:$(SHARE)/bash-completion/completions/$(name):644 \
     completions/_$(name):$(SHARE)/zsh/site-functions/_$(name):644 completions/$(name).fish:$(SHARE)/fish/vendor_completions.d/$(name).fish:644) \
   $(foreach header,$(HEADERS),$(header):$(PREFIX)/include/$(notdir $(header)):644) $(OUT)/libvt220.a:$(LIBDIR)/libvt220.a:644 \
   $(OUT)/libvt220.so.$(VERSION):$(LIBDIR)/libvt220.so.$(VERSION):755 /dev/stdin:$(LIBDIR)/pkgconfig/vt220.pc:644

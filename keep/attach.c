@@ -1,6 +1,7 @@
 /* A client: plays what the keeper sends on its own emulated terminal, which then equals the keeper's. It draws that on the terminal
  * in which it runs, and sends the keys that are typed there. */
 #include "keep.h"
+#include "outer.h"
 #include <errno.h>
 #include <poll.h>
 #include <signal.h>
@@ -9,7 +10,6 @@
 #include <string.h>
 #include <sys/socket.h>
 #include <sys/wait.h>
-#include <termios.h>
 #include <time.h>
 #include <unistd.h>
 
@@ -36,48 +36,10 @@ static struct {
     uint8_t version;       /* of the protocol */
     bool asks;             /* the log is to be asked for */
     bool is_behind;        /* whether there is something new to draw */
-    struct termios before; /* how the outer terminal was */
     char why;              /* the frame that ended it; 'k' for the key, 's' for a signal, 'm' if out of memory, '?' if the
                             * keeper is gone; 0 as long as it goes on */
     struct ending ending;
 } it;
-
-static volatile sig_atomic_t has_new_size, was_continued, is_told_to_go, is_told_to_stop;
-
-static const int ending_signals[] = {SIGTERM, SIGHUP,    SIGINT,  SIGQUIT, SIGALRM, SIGUSR1, SIGUSR2,
-                                     SIGPIPE, SIGVTALRM, SIGPROF, SIGXCPU, SIGPWR,  SIGIO,   SIGSTKFLT};
-
-static void on_signal(int number) {
-    if (number == SIGWINCH) has_new_size = 1;
-    else if (number == SIGCONT) was_continued = 1;
-    else if (number == SIGTSTP) is_told_to_stop = 1;
-    else is_told_to_go = 1;
-}
-
-static void set_raw(void) {
-    struct termios raw = it.before;
-    cfmakeraw(&raw);
-    tcsetattr(STDIN_FILENO, TCSADRAIN, &raw);
-}
-
-static void hold_signal(int number, sigset_t *held) {
-    struct sigaction action = {.sa_handler = on_signal};
-    sigaddset(held, number);
-    sigaction(number, &action, NULL);
-}
-
-/* Signals are handled only in ppoll, except those that can't be blocked. */
-static void hold_signals(sigset_t *open_mask) {
-    static const int others[] = {SIGWINCH, SIGCONT, SIGTSTP};
-    sigset_t held;
-    sigemptyset(&held);
-    for (size_t i = 0; i < sizeof ending_signals / sizeof *ending_signals; i++) hold_signal(ending_signals[i], &held);
-    for (size_t i = 0; i < sizeof others / sizeof *others; i++) hold_signal(others[i], &held);
-    sigprocmask(SIG_BLOCK, &held, open_mask);
-    for (int number = 1; number < NSIG; number++) {
-        if (sigismember(&held, number) == 1) sigdelset(open_mask, number);
-    }
-}
 
 /* --- keys --- */
 
@@ -236,14 +198,7 @@ static void read_frames(int flags) {
 
 /* --- the loop --- */
 
-/* Lets go of the outer terminal, and takes it again. */
-static void release_terminal(void) {
-    draw_leave();
-    tcsetattr(STDIN_FILENO, TCSADRAIN, &it.before);
-}
-
 static void take_terminal(void) {
-    set_raw();
     if (!draw_enter()) it.why = 'm';
     it.is_behind = true;
 }
@@ -273,7 +228,7 @@ static void page_log(void) {
         return;
     }
     struct sigaction ignored = {.sa_handler = SIG_IGN}, interrupt, quit;
-    release_terminal();
+    draw_leave();
     sigaction(SIGINT, &ignored, &interrupt);
     sigaction(SIGQUIT, &ignored, &quit);
     pid_t pager = fork();
@@ -288,30 +243,19 @@ static void page_log(void) {
     take_terminal();
 }
 
-/* Stops as a program without a handler for SIGTSTP does, after the outer terminal is restored. */
-static void stop(void) {
-    struct sigaction normal = {.sa_handler = SIG_DFL}, before;
-    sigset_t only, mask;
-    release_terminal();
-    sigemptyset(&only);
-    sigaddset(&only, SIGTSTP);
-    sigaction(SIGTSTP, &normal, &before);
-    sigprocmask(SIG_UNBLOCK, &only, &mask);
-    raise(SIGTSTP);
-    sigprocmask(SIG_SETMASK, &mask, NULL);
-    sigaction(SIGTSTP, &before, NULL);
-    take_terminal();
-}
-
 static void obey_signals(void) {
-    if (is_told_to_go) it.why = 's';
-    if (is_told_to_stop) stop();
-    if (was_continued) set_raw();
-    if (was_continued || has_new_size) {
+    if (outer_told.to_go) it.why = 's';
+    if (outer_told.to_stop) {
+        draw_leave();
+        outer_stop();
+        take_terminal();
+    }
+    if (outer_told.was_continued) outer_set_raw();
+    if (outer_told.was_continued || outer_told.has_new_size) {
         if (!draw_resize()) it.why = 'm';
         it.is_behind = true;
     }
-    is_told_to_stop = was_continued = has_new_size = 0;
+    outer_told.to_stop = outer_told.was_continued = outer_told.has_new_size = 0;
 }
 
 static void obey_clock(void) {
@@ -332,7 +276,7 @@ static void turn(const sigset_t *open_mask) {
     struct pollfd polled[3] = {
         {has_room() ? STDIN_FILENO : -1, POLLIN, 0},
         {it.socket, (short)(POLLIN | (has_keys() ? POLLOUT : 0)), 0},
-        {draw_is_done() ? -1 : draw_line(), POLLOUT, 0},
+        {outer_is_done() ? -1 : outer_line(), POLLOUT, 0},
     };
     if (ppoll(polled, 3, is_timed ? &timeout : NULL, open_mask) < 0) polled[0].revents = polled[1].revents = polled[2].revents = 0;
     obey_signals();
@@ -341,8 +285,8 @@ static void turn(const sigset_t *open_mask) {
     if (scroll_is_to_page() && it.why == 0) page_log();
     obey_clock();
     send_keys();
-    if (polled[2].revents) draw_on();
-    if (it.is_behind && draw_is_done() && it.why == 0) {
+    if (polled[2].revents) outer_write();
+    if (it.is_behind && outer_is_done() && it.why == 0) {
         it.is_behind = false;
         if (scroll_is_on()) scroll_draw();
         else draw(&it.terminal);
@@ -417,11 +361,10 @@ static int follow(const char *name) {
     sigset_t open_mask;
     while (it.why == 0 && !it.is_behind) read_frames(0); /* a keeper that takes no more clients sends no screen */
     if (it.why != 0 && it.why != FRAME_ENDED) return say(name);
-    hold_signals(&open_mask);
-    set_raw();
+    outer_hold_signals(&open_mask);
     if (!draw_enter()) it.why = 'm';
     while (it.why == 0) turn(&open_mask);
-    release_terminal();
+    draw_leave();
     /* The outer terminal shows what was there before, so what the command said last is printed there. */
     if (it.why == FRAME_ENDED) print_screen();
     int status = say(name);
@@ -437,7 +380,7 @@ int attach(int socket, const char *name, bool is_read_only, bool removes) {
     it.detach = (uint8_t)keys_detach();
     if (inside != NULL && !reads_utf8) fail(1, "cannot attach to %s from inside session %s, whose terminal doesn't read UTF-8", name, inside);
     if (inside != NULL && strcmp(inside, name) == 0) fail(1, "cannot attach to %s from inside itself", name);
-    if (!isatty(STDOUT_FILENO) || tcgetattr(STDIN_FILENO, &it.before) != 0) fail(2, "attach needs a terminal");
+    if (!isatty(STDOUT_FILENO) || !outer_open()) fail(2, "attach needs a terminal");
     if (vt220_open(&it.terminal) != VT220_OK) fail(1, "out of memory");
     struct hello hello = wire_greet(socket, name, ASK_ATTACH, (is_read_only ? FLAG_READ_ONLY : 0) | (removes ? FLAG_REMOVES : 0));
     it.version = hello.version;

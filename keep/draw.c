@@ -2,16 +2,13 @@
  * cursor shown or hidden. What is drawn there is remembered, and only differences are drawn. The two screens may have any size.
  * A smaller outer screen shows the part that has the cursor, and names that part in a corner. On a larger one the remainder is blank;
  * nothing is drawn beyond the columns of a VT220.
- * A drawing is gathered and written as the outer terminal takes it. The next one is made when that is done. */
+ * outer.c writes a drawing as the outer terminal takes it. The next one is made when that is done. */
 #include "keep.h"
-#include <errno.h>
-#include <fcntl.h>
-#include <poll.h>
+#include "outer.h"
+#include "utf8.h"
 #include <stdio.h>
 #include <stdlib.h>
 #include <string.h>
-#include <sys/ioctl.h>
-#include <unistd.h>
 
 enum { BOLD = 1, UNDERLINE = 2, BLINK = 4, REVERSE = 8 };
 enum { PIECE = 64, PLACE_LIMIT = 48 /* the most bytes that a place takes, with its CUP and SGR */ };
@@ -22,7 +19,6 @@ struct place {
 };
 
 static struct {
-    int line;            /* the file that is written, without waiting */
     size_t rows, cols;   /* of the screen that is drawn on; no more columns than a VT220 has */
     struct place *drawn; /* what is on it, row by row */
     size_t row, col;     /* where its cursor is; row 0 if that isn't known */
@@ -37,47 +33,13 @@ static struct {
     size_t hint_row, hint_col;
 } outer;
 
-static char *out; /* the drawing, written up to `at`; it has capacity for one whole drawing, and for what enters or leaves */
-static size_t at, length;
-
-static void put(const char *text) {
-    size_t len = strlen(text);
-    memcpy(out + length, text, len);
-    length += len;
-}
-
-bool draw_is_done(void) {
-    return at == length;
-}
-
-int draw_line(void) {
-    return outer.line;
-}
-
-void draw_on(void) {
-    ssize_t n = at < length ? write(outer.line, out + at, length - at) : 0;
-    if (n < 0 && errno != EAGAIN && errno != EINTR) at = length; /* the terminal has closed, which standard input shows as well */
-    if (n > 0) at += (size_t)n;
-    if (at == length) at = length = 0;
-}
-
 static void put_glyph(uint32_t glyph) {
-    char utf8[5] = {0};
-    if (glyph < 0x80) {
-        utf8[0] = (char)glyph;
-    } else if (glyph < 0x800) {
-        utf8[0] = (char)(0xC0 | glyph >> 6);
-        utf8[1] = (char)(0x80 | (glyph & 0x3F));
-    } else {
-        utf8[0] = (char)(0xE0 | glyph >> 12);
-        utf8[1] = (char)(0x80 | (glyph >> 6 & 0x3F));
-        utf8[2] = (char)(0x80 | (glyph & 0x3F));
-    }
-    put(utf8);
+    char utf8[UTF8_LIMIT];
+    outer_put(utf8, utf8_put(glyph, utf8));
 }
 
 static void show_cursor(bool is_shown) {
-    if (outer.has_cursor != is_shown) put(is_shown ? "\033[?25h" : "\033[?25l");
+    if (outer.has_cursor != is_shown) outer_say(is_shown ? "\033[?25h" : "\033[?25l");
     outer.has_cursor = is_shown;
 }
 
@@ -85,7 +47,7 @@ static void go(size_t row, size_t col) {
     char text[PIECE];
     if (outer.row == row && outer.col == col) return;
     snprintf(text, sizeof text, "\033[%zu;%zuH", row, col);
-    put(text);
+    outer_say(text);
     outer.row = row;
     outer.col = col;
 }
@@ -95,7 +57,7 @@ static void set_brush(uint32_t brush) {
     if (outer.brush == brush) return;
     snprintf(text, sizeof text, "\033[0%s%s%s%sm", brush & BOLD ? ";1" : "", brush & UNDERLINE ? ";4" : "", brush & BLINK ? ";5" : "",
              brush & REVERSE ? ";7" : "");
-    put(text);
+    outer_say(text);
     outer.brush = brush;
 }
 
@@ -157,11 +119,11 @@ static void draw_row(vt220 *t, size_t row, bool is_reversed) {
 }
 
 static void draw_modes(const vt220_mode_set *modes) {
-    if (outer.rings) put("\a");
+    if (outer.rings) outer_say("\a");
     outer.rings = false;
-    if (outer.has_keypad != modes->keypad_application) put(modes->keypad_application ? "\033=" : "\033>");
+    if (outer.has_keypad != modes->keypad_application) outer_say(modes->keypad_application ? "\033=" : "\033>");
     outer.has_keypad = modes->keypad_application;
-    if (outer.has_brackets != outer.wants_brackets) put(outer.wants_brackets ? "\033[?2004h" : "\033[?2004l");
+    if (outer.has_brackets != outer.wants_brackets) outer_say(outer.wants_brackets ? "\033[?2004h" : "\033[?2004l");
     outer.has_brackets = outer.wants_brackets;
 }
 
@@ -179,25 +141,17 @@ void draw(vt220 *t) {
     bool is_inside = row <= outer.rows && col <= outer.cols;
     if (is_inside) go(row, col);
     show_cursor(is_inside && modes.dectcem);
-    draw_on();
+    outer_write();
 }
 
 size_t draw_rows(void) {
     return outer.rows;
 }
 
-/* Reads one character of UTF-8 that the terminal itself wrote. */
-static const uint8_t *read_glyph(const uint8_t *at, uint32_t *glyph) {
-    size_t more = *at >= 0xE0 ? 2 : *at >= 0xC0 ? 1 : 0;
-    *glyph = more == 2 ? *at & 0x0F : more == 1 ? *at & 0x1F : *at;
-    for (at++; more > 0 && (*at & 0xC0) == 0x80; at++, more--) *glyph = *glyph << 6 | (*at & 0x3F);
-    return at;
-}
-
 static void draw_text(size_t row, const uint8_t *line) {
     for (size_t col = 1; col <= outer.cols; col++) {
         struct place it = {' ', 0};
-        if (line != NULL && *line != '\n') line = read_glyph(line, &it.glyph);
+        if (line != NULL && *line != '\n') line = utf8_read(line, &it.glyph);
         if (it.glyph < ' ' || (it.glyph >= 0x7F && it.glyph < 0xA0)) it.glyph = '?'; /* never a control character */
         draw_place(row, col, hint_or(row, col, it));
     }
@@ -208,11 +162,11 @@ void draw_lines(const uint8_t *const *lines, size_t count, const char *hint) {
     snprintf(outer.hint, sizeof outer.hint, "%s", outer.cols > len + 1 ? hint : "");
     outer.hint_row = 1;
     outer.hint_col = outer.cols - len + 1;
-    if (outer.rings) put("\a");
+    if (outer.rings) outer_say("\a");
     outer.rings = false;
     for (size_t row = 1; row <= outer.rows; row++) draw_text(row, row <= count ? lines[row - 1] : NULL);
     show_cursor(false);
-    draw_on();
+    outer_write();
 }
 
 void draw_bell(void) {
@@ -225,21 +179,16 @@ void draw_brackets(bool on) {
 
 /* Asks for the size of the outer screen. Returns false if allocation fails. */
 static bool set_size(void) {
-    struct winsize size = {0};
-    ioctl(outer.line, TIOCGWINSZ, &size);
-    outer.rows = size.ws_row > 0 ? size.ws_row : VT220_ROWS;
-    outer.cols = size.ws_col > 0 ? size.ws_col : 80;
+    outer_size(&outer.rows, &outer.cols);
     if (outer.cols > VT220_COLUMNS) outer.cols = VT220_COLUMNS;
     free(outer.drawn);
     outer.drawn = calloc(outer.rows * outer.cols, sizeof *outer.drawn);
-    char *more = realloc(out, length + outer.rows * outer.cols * PLACE_LIMIT + 4 * PIECE);
-    if (more != NULL) out = more;
-    return outer.drawn != NULL && more != NULL;
+    return outer.drawn != NULL && outer_reserve(outer.rows * outer.cols * PLACE_LIMIT);
 }
 
 static void clear(void) {
     set_brush(0);
-    put("\033[2J");
+    outer_say("\033[2J");
     outer.row = 0;
 }
 
@@ -250,28 +199,20 @@ bool draw_resize(void) {
     return true;
 }
 
-/* Enters the alternate screen of the outer terminal. The terminal is opened again, so that only this program's writes don't wait. */
+/* Takes the outer terminal, whose line is then raw. Returns false if allocation fails. */
 bool draw_enter(void) {
-    const char *name = ttyname(STDOUT_FILENO);
-    if (outer.line == 0) outer.line = name != NULL ? open(name, O_WRONLY | O_NONBLOCK | O_NOCTTY | O_CLOEXEC) : -1;
-    if (outer.line < 0) outer.line = STDOUT_FILENO;
-    at = length = 0;
-    if (!set_size()) return false;
-    put("\033[?1049h\033[0m\033[?25h");
+    if (!outer_take(0, "\033>\033[?2004l" OUTER_LEAVING) || !set_size()) return false;
     outer.has_cursor = true;
     outer.brush = 0;
     clear();
     return true;
 }
 
-/* Restores the outer terminal's screen, cursor, keypad and pasting. A drawing that has begun is completed, unless the outer
- * terminal takes nothing for longer than `patience`. */
+/* Restores the outer terminal's screen, cursor, keypad, pasting and line. A drawing that has begun is completed, unless the outer terminal
+ * takes nothing for longer than `patience`. */
 void draw_leave(void) {
-    struct pollfd line = {outer.line, POLLOUT, 0};
-    if (out == NULL) return;
-    put(outer.has_keypad ? "\033>\033[0m\033[?25h\033[?1049l" : "\033[0m\033[?25h\033[?1049l");
-    if (outer.has_brackets) put("\033[?2004l");
+    char leaving[PIECE];
+    snprintf(leaving, sizeof leaving, "%s%s%s", outer.has_keypad ? "\033>" : "", OUTER_LEAVING, outer.has_brackets ? "\033[?2004l" : "");
+    outer_release(leaving, patience);
     outer.has_keypad = outer.has_brackets = false;
-    do draw_on();
-    while (!draw_is_done() && poll(&line, 1, patience) > 0);
 }

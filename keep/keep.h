@@ -142,9 +142,6 @@ size_t draw_rows(void);
 void draw_lines(const uint8_t *const *lines, size_t count, const char *hint);
 void draw_bell(void);
 void draw_brackets(bool on); /* whether the outer terminal is to send pasted text in brackets */
-bool draw_is_done(void);
-void draw_on(void);  /* writes as much as the outer terminal takes now */
-int draw_line(void); /* returns the file to wait for */
 void draw_leave(void);
 
 #endif

@@ -97,6 +97,11 @@ EXPORT(update) uint32_t js_update(uint32_t shown, uint32_t to) {
     return vt220_update(AT(vt220, shown), AT(vt220, to), &scratch, out, out_size, &written);
 }
 
+/* `shown` is 0 if the terminal that is drawn on shows anything. */
+EXPORT(draw) uint32_t js_draw(uint32_t shown, uint32_t to) {
+    return vt220_draw(AT(vt220, shown), AT(vt220, to), &scratch, out, out_size, &written);
+}
+
 /* --- cells and parts of the state --- */
 
 EXPORT(width) uint32_t js_width(uint32_t t) { return (uint32_t)vt220_width(AT(vt220, t)); }

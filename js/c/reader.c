@@ -1,38 +1,16 @@
 /* The exports of reader.wasm: the calls of the crate recording_c with addresses and lengths as numbers of 32 bits. An instance reads one
  * recording, and its memory is dropped with it. So nothing is freed but what the proved code frees. */
+#include "../../c/recording.h"
 #include "heap.h"
 
 #define EXPORT(name) __attribute__((export_name(#name)))
 #define AT(type, p) ((type *)(uintptr_t)(p))
 
-/* The structs of recording_c. JavaScript reads an event as six words. */
-typedef struct event {
-    uint64_t micros;
-    size_t length;
-    uint32_t kind;
-} event;
+_Static_assert(sizeof(recording_event) == 24, "JavaScript reads six words an event");
 
-typedef struct extent {
-    size_t events, bytes;
-    uint64_t broken_at;
-    uint32_t broken_part;
-} extent;
-
-typedef struct heading {
-    uint32_t format, terminal, columns, rows;
-} heading;
-
-enum { OK, MEMORY, ROOM };
-
-uint32_t recording_heading(const uint8_t *recording, size_t len, bool is_timed, heading *heading);
-uint32_t recording_events(const uint8_t *recording, size_t len, const uint8_t *timing, size_t timing_len, bool is_timed, event *events,
-                          size_t events_size, uint8_t *text, size_t text_size, extent *extent);
-
-_Static_assert(sizeof(event) == 24, "JavaScript reads six words an event");
-
-static heading head;
-static extent size;
-static event *events;
+static recording_head head;
+static recording_extent size;
+static recording_event *events;
 static uint8_t *text;
 static double out[10];
 
@@ -45,9 +23,9 @@ static void *taken(size_t n) {
 EXPORT(take) uint32_t js_take(uint32_t n) { return (uint32_t)(uintptr_t)taken(n); }
 
 static uint32_t tell(uint32_t from, uint32_t len, uint32_t timing, uint32_t timing_len, bool is_timed, size_t events_size, size_t text_size) {
-    events = taken(events_size * sizeof(event));
+    events = taken(events_size * sizeof(recording_event));
     text = taken(text_size);
-    if (events == NULL || text == NULL) return MEMORY;
+    if (events == NULL || text == NULL) return RECORDING_MEMORY;
     return recording_events(AT(uint8_t, from), len, AT(uint8_t, timing), timing_len, is_timed, events, events_size, text, text_size, &size);
 }
 
@@ -55,9 +33,9 @@ static uint32_t tell(uint32_t from, uint32_t len, uint32_t timing, uint32_t timi
  * there are more events, it reads again. */
 EXPORT(read) uint32_t js_read(uint32_t from, uint32_t len, uint32_t timing, uint32_t timing_len, uint32_t is_timed) {
     uint32_t status = recording_heading(AT(uint8_t, from), len, is_timed != 0, &head);
-    if (status != OK) return status;
-    status = tell(from, len, timing, timing_len, is_timed != 0, len / 32 + timing_len / 4 + 64, (size_t)len + timing_len + 1);
-    return status == ROOM ? tell(from, len, timing, timing_len, is_timed != 0, size.events, size.bytes) : status;
+    if (status != RECORDING_OK) return status;
+    status = tell(from, len, timing, timing_len, is_timed != 0, recording_events_likely(len, timing_len), recording_bytes_likely(len, timing_len));
+    return status == RECORDING_ROOM ? tell(from, len, timing, timing_len, is_timed != 0, size.events, size.bytes) : status;
 }
 
 /* Returns the address of what was read, as numbers of 64 bits: the heading, the extent, and the addresses of the events and of the text. */

@@ -181,6 +181,12 @@ export declare class Terminal {
    * equal. Throws PARTIAL if one of the two is inside a sequence, and LANGUAGE if this terminal is of TERM=xterm.
    */
   update(to: Terminal): Uint8Array;
+  /**
+   * Returns bytes that make a terminal of today, such as xterm, show this screen, given that it shows that of `shown`. null stands for
+   * anything else. The bytes are characters in UTF-8 and CUP, ED, SGR and DECTCEM, and there are none if both show the same. That terminal
+   * has at least 24 rows, and the columns of this one. Afterwards it shows this terminal, so keep a copy (`copyFrom`).
+   */
+  draw(shown?: Terminal | null): Uint8Array;
   /** Returns whether two terminals are in the same state, hidden parts included. */
   sameState(other: Terminal): boolean;
   /** Returns the rows of `to` to be drawn again if the screen of this terminal is shown: all of them if the widths differ. */

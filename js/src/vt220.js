@@ -293,6 +293,12 @@ export class Terminal {
     return this.#written("update", this.#other(to));
   }
 
+  draw(shown = null) {
+    const core = this.#core, handle = this.#handle;
+    core.expect(core.calls.draw(shown === null ? 0 : this.#other(shown), handle));
+    return core.out();
+  }
+
   copyFrom(from) {
     const other = this.#other(from);
     this.#core.expect(this.#core.calls.copy(this.#handle, other));

@@ -112,7 +112,7 @@ def in_utf8(data, options):
     more, lines = copied.feed_log(data[half:])
     shown, pending = copied.text(), copied.pending()
     copied.feed(b"\x18\x1b[?47l" if copied.alternate() else b"\x18\x1b[?47h")
-    return [replies, more, lines[:-1].encode(), shown.encode(), pending, copied.repaint()]
+    return [replies, more, lines[:-1].encode(), shown.encode(), pending, copied.repaint(), copied.draw(terminal)]
 
 
 def typed(data, modes):
@@ -142,7 +142,7 @@ def hashes(data):
             one.feed(b"\x18")
         shown = vt220.Terminal()
         shown.copy_from(last)
-        ours = [bytes(alike), replies, more, lines[:-1].encode(), text.encode(), terminal.repaint(), shown.update(terminal), halfway.update(terminal)]
+        ours = [bytes(alike), replies, more, lines[:-1].encode(), text.encode(), terminal.repaint(), shown.update(terminal), halfway.update(terminal), terminal.draw(), terminal.draw(last)]
         theirs = in_utf8(each, {"encoding": "utf-8"}) + in_utf8(each, {"terminal": "xterm"})
         made.append(hash_of([*ours, *theirs, vt220.shown(each.decode("utf-8", "replace")).encode(), typed(each, terminal.modes())]))
         last = terminal

@@ -15,7 +15,7 @@ function thrown(call) {
 /** The calls and properties that a closed terminal refuses, with their arguments. */
 const OPEN = [
   ["feed", [bytes("x")]], ["feedLog", [bytes("x")]], ["reset", []], ["text", []], ["rowText", [1]], ["show", []], ["picture", []], ["repaint", []],
-  ["cells", [1]], ["copyFrom", ["other"]], ["update", ["other"]], ["sameState", ["other"]], ["changedRows", ["other"]], ["rowChanges", ["other", 1]],
+  ["cells", [1]], ["copyFrom", ["other"]], ["update", ["other"]], ["draw", ["other"]], ["draw", []], ["sameState", ["other"]], ["changedRows", ["other"]], ["rowChanges", ["other", 1]],
 ];
 const PROPERTIES = ["cursor", "margins", "modes", "brush", "sets", "saved", "stops", "width", "bells", "isBetween", "held", "pending", "alternate"];
 
@@ -67,6 +67,27 @@ function pairs({ Terminal }, core, check) {
   check("a copy inside a sequence", b.held === "control" && a.sameState(b));
   a.close();
   b.close();
+}
+
+/** Tests the drawings of one terminal on another: the bytes are those of the C library's tests (tests-c/calls.c) and of the other bindings'. */
+function drawings({ Terminal }, core, check) {
+  const t = new Terminal(core), fresh = new Terminal(core), session = new Terminal(core, { terminal: "xterm" });
+  t.feed(bytes("\x1b[1mab"));
+  check("a drawing", text(t.draw(fresh)) === "\x1b[0;1mab\x1b[0m");
+  check("no drawing", t.draw(t).length === 0);
+  for (const words of [[], [null], [undefined]]) check("a drawing for any terminal", text(t.draw(...words)) === "\x1b[0m\x1b[1;1H\x1b[J\x1b[?25h\x1b[0;1mab\x1b[0m");
+  check("an argument that isn't a terminal", thrown(() => t.draw({})) === "TypeError" && thrown(() => t.draw("")) === "TypeError");
+  session.feed(bytes("\x1b[?3h\x1b[2;3Hx\x1b[?1049h\x1b[5;5Hother\x1b["));
+  for (const shown of [null, t, fresh]) {
+    const screen = new Terminal(core, { terminal: "xterm" });
+    screen.feed(bytes("\x1b[3;3H\x1b[7mjunk"));
+    screen.feed(t.draw());
+    if (shown !== null) screen.feed(shown.draw(t));
+    screen.feed(session.draw(shown));
+    check("a session is drawn, also inside a sequence", screen.text() === session.text() && json(screen.cursor) === json(session.cursor));
+    screen.close();
+  }
+  for (const each of [t, fresh, session]) each.close();
 }
 
 function errors({ Terminal, Vt220Error, ROWS, COLUMNS }, core, other, check) {
@@ -121,6 +142,7 @@ async function modules({ load, Terminal }, wasm, check) {
 /** The exports that take closed handles, which the package never passes: their arguments, and what they return. t and x are closed, and pages is under TERM=xterm. */
 const CLOSED = [
   ["text", ["t"], 3], ["show", ["t"], 3], ["picture", ["t"], 3], ["repaint", ["t", 0], 3], ["repaint", ["x", 2], 3], ["repaint", ["open", 2], 10], ["repaint", ["open", 4], 10], ["row_text", ["t", 1], 3], ["reset", ["t"], 3], ["update", ["t", "open"], 3],
+  ["draw", [0, "t"], 3], ["draw", ["t", "open"], 3], ["draw", ["open", "t"], 3], ["draw", ["open", "open"], 0], ["draw", [0, "pages"], 0],
   ["update", ["open", "t"], 3], ["copy", ["t", "open"], 3], ["copy", ["open", "t"], 3], ["row_changes", ["t", "open", 1], 3], ["row_changes", ["open", "t", 1], 3],
   ["changed_rows", ["t", "open"], 2 ** 24 - 1], ["changed_rows", ["t", "t"], 0], ["width", ["t"], 0], ["row", ["t", 1], 0], ["bells", ["t"], 0], ["is_between", ["t"], 0],
   ["held_kind", ["t"], 0], ["same_state", ["t", "open"], 0], ["same_state", ["open", "t"], 0], ["same_state", ["t", "t"], 0], ["feed", ["t", 0, 1], 0], ["feed_log", ["t", 0, 1], 0],
@@ -135,9 +157,9 @@ async function handles(wasm, check) {
   const { exports } = await WebAssembly.instantiate(await WebAssembly.compile(wasm));
   const [t, x, open, pages] = [0, 2, 0, 2].map((language) => exports.open(language)), at = { t, x, open, pages };
   check("no such language", exports.open(4) === 0);
-  for (const name of ["text", "show", "picture", "repaint", "row_text", "update", "feed_log"])
+  for (const name of ["text", "show", "picture", "repaint", "row_text", "update", "draw", "feed_log"])
     for (const one of name === "update" ? [open] : [open, pages])
-      check(`before the start: ${name}`, exports[name](one, name === "update" ? t : 1, 1, 2) === (name.startsWith("feed") ? 0 : 3) && exports.written() === 0);
+      check(`before the start: ${name}`, exports[name](one, name === "update" || name === "draw" ? t : 1, 1, 2) === (name.startsWith("feed") ? 0 : 3) && exports.written() === 0);
   check("the start", exports.start() === 0);
   for (const name of PARTS) exports[name](open);
   exports.close(t);
@@ -155,7 +177,7 @@ function sizes({ Terminal }, core, check) {
   const t = new Terminal(core), shown = new Terminal(core), plain = new Terminal(core);
   t.feed(bytes("\x1b[?3h\x1b[3;7Htext\x1b(0\x1b[1mlqk\x1b[5;20r\x1b7"));
   const size = (out) => core.calls.test_sizes(5120, 204800, out);
-  for (const [call, ...words] of [[() => t.text()], [() => t.show()], [() => t.picture()], [() => t.repaint()], [() => t.rowText(3)], [(from) => from.update(t)], [() => core.key("F20", {})]]) {
+  for (const [call, ...words] of [[() => t.text()], [() => t.show()], [() => t.picture()], [() => t.repaint()], [() => t.rowText(3)], [(from) => from.update(t)], [() => t.draw()], [(from) => t.draw(from)], [() => core.key("F20", {})]]) {
     const from = new Terminal(core), whole = json(call(from)), needed = core.calls.written();
     for (const out of [0, 1, needed - 1]) {
       size(out);
@@ -264,6 +286,7 @@ export async function calls(vt220, wasm, check) {
   values(vt220, core, check);
   logs(vt220, core, check);
   pairs(vt220, core, check);
+  drawings(vt220, core, check);
   errors(vt220, core, other, check);
   keys(core, check);
   memory(vt220, core, check);

@@ -36,9 +36,9 @@ function inUtf8(Terminal, core, input, options) {
   copied.copyFrom(terminal);
   const logged = copied.feedLog(input.subarray(half)), shown = copied.text(), pending = copied.pending;
   copied.feed(encoder.encode(copied.alternate ? "\x18\x1b[?47l" : "\x18\x1b[?47h"));
-  const repaint = copied.repaint();
+  const repaint = copied.repaint(), drawing = copied.draw(terminal);
   for (const each of [terminal, copied]) each.close();
-  return [replies, logged.replies, encoder.encode(logged.lines.join("\n")), encoder.encode(shown), pending, repaint];
+  return [replies, logged.replies, encoder.encode(logged.lines.join("\n")), encoder.encode(shown), pending, repaint, drawing];
 }
 
 /** Returns what is read of an input as keys: the lengths of the first key in its first bytes, and what its first characters send. */
@@ -76,11 +76,11 @@ export function* hashes({ Terminal }, core, inputs) {
     for (const each of [terminal, halfway]) each.feed(Uint8Array.of(0x18));
     const shown = new Terminal(core);
     shown.copyFrom(last);
-    const repaint = terminal.repaint(), update = shown.update(terminal), near = halfway.update(terminal);
+    const repaint = terminal.repaint(), update = shown.update(terminal), near = halfway.update(terminal), drawings = [terminal.draw(), terminal.draw(last)];
     for (const each of [shown, halfway, twin]) each.close();
     last.close();
     last = terminal;
-    const ours = [alike.map(Number), replies, logged.replies, encoder.encode(logged.lines.join("\n")), encoder.encode(text), repaint, update, near];
+    const ours = [alike.map(Number), replies, logged.replies, encoder.encode(logged.lines.join("\n")), encoder.encode(text), repaint, update, near, ...drawings];
     const theirs = [{ encoding: "utf-8" }, { terminal: "xterm" }].flatMap((options) => inUtf8(Terminal, core, input, options));
     yield hash([...ours, ...theirs, encoder.encode(core.shown(decoder.decode(input))), typed(core, input, terminal.modes)]);
   }

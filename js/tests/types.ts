@@ -13,6 +13,7 @@ export async function use(bytes: Uint8Array): Promise<string> {
   const cells: Cell[] = terminal.cells(1), cursor: Cursor = terminal.cursor, margins: Margins = terminal.margins, modes: Modes = terminal.modes;
   const brush: Attributes = terminal.brush, sets: Sets = terminal.sets, saved: Saved = terminal.saved, held: Held = terminal.held;
   const parts: [Uint8Array, Uint8Array, boolean, number[], boolean[]] = [terminal.repaint(), terminal.update(other), terminal.sameState(other), terminal.changedRows(other), terminal.rowChanges(other, 1)];
+  const drawings: Uint8Array[] = [terminal.draw(), terminal.draw(null), terminal.draw(other)];
   const recording: Recording = { bytes, times: [0], ends: Float64Array.of(bytes.length) };
   const line = new Timeline(core, recording, { every: 100, encoding, terminal: name }), spans: Span[] = line.search("x", { matchCase: true, expression: true, limit: 3 });
   const difference: Difference | null = line.firstDifference(line), available: number = line.available;

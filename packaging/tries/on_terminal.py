@@ -1,5 +1,5 @@
 #!/usr/bin/env python3
-"""on_terminal.py COMMAND: runs a command that attaches to a session, on a terminal, and detaches it by the key once it draws.
+"""on_terminal.py COMMAND [KEYS]: runs a command on a terminal, and types keys once it draws: without KEYS, the one that detaches from a session.
 
 Prints what the command printed, and ends with its exit status.
 """
@@ -15,8 +15,11 @@ import termios
 PATIENCE = 600  # seconds without output, after which a command hangs
 
 
-def on_terminal(command, detaches, directory=".", environment=None):
-    """Runs a command on a terminal, and types the detach key if that is wanted. Returns the exit status and the printed text."""
+DETACH = b"\x1c"
+
+
+def on_terminal(command, keys, directory=".", environment=None):
+    """Runs a command on a terminal, and types keys when it draws. Returns the exit status and the printed text."""
     process, terminal = pty.fork()
     if process == 0:
         os.chdir(directory)
@@ -29,9 +32,9 @@ def on_terminal(command, detaches, directory=".", environment=None):
         except OSError:  # the command has ended
             break
         said += read
-        if detaches and b"\x1b" in said:  # the client draws, so it reads keys
-            os.write(terminal, b"\x1c")
-            detaches = False
+        if keys and b"\x1b" in said:  # it draws, so it reads keys
+            os.write(terminal, keys)
+            keys = b""
     else:
         os.kill(process, signal.SIGKILL)
     os.close(terminal)
@@ -39,9 +42,9 @@ def on_terminal(command, detaches, directory=".", environment=None):
 
 
 def main():
-    if len(sys.argv) != 2 or sys.argv[1] == "--help":
+    if len(sys.argv) not in (2, 3) or sys.argv[1] == "--help":
         sys.exit(__doc__)
-    status, said = on_terminal(sys.argv[1], True)
+    status, said = on_terminal(sys.argv[1], sys.argv[2].encode() if len(sys.argv) == 3 else DETACH)
     print(said, end="")
     return status
 

@@ -289,7 +289,8 @@ def test_a_row_is_read_by_one_call_and_a_known_row_is_not_cut_again(monkeypatch)
 
 
 def test_a_long_feed_lets_other_threads_run(monkeypatch):
-    """The interpreter's lock is held during each call of the library, so no call plays more than 64 KB."""
+    """The interpreter's lock is held during each call of the library, so no call plays more than 64 KB. calls.c does the same."""
+    monkeypatch.setattr(vt220._library, "calls", vt220._ByCtypes)
     terminal, other, lengths = vt220.Terminal(), vt220.Terminal(), []
     for name, at in (("vt220_feed", 2), ("vt220_feed_log", 3)):
         call = getattr(vt220._library, name)
@@ -301,6 +302,45 @@ def test_a_long_feed_lets_other_threads_run(monkeypatch):
     for at in range(0, len(data), 1000):
         other.feed(data[at : at + 1000])
     assert other.text() == terminal.text()
+
+
+def test_the_calls_are_by_the_extension_module_if_there_is_one():
+    program = "import vt220; print(type(vt220._library.calls).__name__)"
+    assert python(program, VT220_EXTENSION="").stdout == "type\n"
+    assert "NoLibrary: the extension module can't be loaded: " in python(program, VT220_EXTENSION="/no/such/file").stderr
+    path = os.environ.get("VT220_EXTENSION")
+    if path:
+        assert python(program, VT220_EXTENSION=path).stdout == "module\n" and type(vt220._library.calls).__name__ == "module"
+
+
+def test_both_ways_to_call_refuse_alike():
+    terminal, other, closed = vt220.Terminal(), vt220.Terminal(terminal="xterm"), vt220.Terminal()
+    closed.close()
+    for calls in {vt220._ByCtypes, vt220._library.calls}:
+        for name, *words in (("feed", b""), ("feed", b"x"), ("text",), ("show",), ("picture",), ("row_text", 1), ("repaint_as", 0)):
+            with pytest.raises(vt220.Closed):
+                getattr(calls, name)(closed._handle, *words)
+        for name in ("update", "draw"):
+            for pair in ((closed, terminal), (terminal, closed)):
+                with pytest.raises(vt220.Closed):
+                    getattr(calls, name)(*(each._handle for each in pair))
+        with pytest.raises(vt220.Closed):
+            calls.draw(None, closed._handle)
+        with pytest.raises(vt220.OtherLanguage):
+            calls.update(other._handle, terminal._handle)
+        with pytest.raises(vt220.OtherLanguage):
+            calls.repaint_as(terminal._handle, 2)
+        with pytest.raises(vt220.NoRow):
+            calls.row_text(terminal._handle, 25)
+        terminal.feed(b"\033[")
+        with pytest.raises(vt220.Partial):
+            calls.repaint_as(terminal._handle, 0)
+        terminal.feed(b"c")
+        assert calls.feed(terminal._handle, b"\033[c" * 2000) == b"\033[?62;1;6c" * 2000
+        assert calls.feed(terminal._handle, b"") == b"" == calls.update(terminal._handle, terminal._handle)
+        for words in ((), (terminal._handle,), (terminal._handle, "x"), (bytearray(3), b"x")):
+            with pytest.raises((TypeError, ctypes.ArgumentError, BufferError)):
+                calls.feed(*words)
 
 
 def test_a_copy_is_a_terminal_of_its_own():

@@ -952,6 +952,7 @@ def calls_of(monkeypatch, work):
     """Returns the names of the library's calls that are made while `work` runs."""
     made, calls = [], vars(vt220._library)
     with monkeypatch.context() as patch:
+        patch.setattr(vt220._library, "calls", vt220._ByCtypes)
         for name, call in [(name, call) for name, call in calls.items() if name.startswith("vt220_")]:
             patch.setitem(calls, name, lambda *words, name=name, call=call: made.append(name) or call(*words))
         work()

@@ -17,6 +17,8 @@ parallel. feed() and feed_log() let other threads run after each 64 KB.
 import ctypes
 import ctypes.util
 import functools
+import importlib.machinery
+import importlib.util
 import operator
 import os
 import pathlib
@@ -259,24 +261,23 @@ _Stops = _struct(("stop",), {}, ctypes.c_bool * COLUMNS, 12)
 _Marks = _struct(("width", "changed"), {"width": ctypes.c_size_t}, ctypes.c_bool * COLUMNS, 12)
 
 
-def _find() -> str:
-    """Returns the path of the shared library."""
-    named = os.environ.get("VT220_LIBRARY")
-    if named:
-        return named
+def _built(name: str) -> Optional[str]:
+    """Returns the path of a built file in the package, or in the repository that the package is in, if it is there."""
     package = pathlib.Path(__file__).resolve().parent
     repository = package.parents[2] if len(package.parents) > 2 else package
-    places = [package / "libvt220.so"]
-    # The repository's own library is meant only if this module is in the repository, not in a directory three below any other.
+    places = [package / name]
+    # The repository's own file is meant only if this module is in the repository, not in a directory three below any other.
     if (repository / "include" / "vt220.h").exists():
-        places.append(repository / "out" / "libvt220.so")
-    for place in places:
-        if place.exists():
-            return str(place)
-    found = ctypes.util.find_library("vt220")
-    if not found:
+        places.append(repository / "out" / name)
+    return next((str(place) for place in places if place.exists()), None)
+
+
+def _find() -> str:
+    """Returns the path of the shared library."""
+    named = os.environ.get("VT220_LIBRARY") or _built("libvt220.so") or ctypes.util.find_library("vt220")
+    if not named:
         raise NoLibrary()
-    return found
+    return named
 
 
 def _declare(library: ctypes.PyDLL) -> None:
@@ -349,6 +350,22 @@ def _load() -> ctypes.PyDLL:
     return library
 
 
+def _extension(library: ctypes.PyDLL) -> Any:
+    """Returns the extension module over a library. Returns None if there is none for this Python, or VT220_EXTENSION is empty."""
+    path = os.environ["VT220_EXTENSION"] if "VT220_EXTENSION" in os.environ else _built("_calls.abi3.so")
+    if not path or sys.version_info < (3, 11) or sys.implementation.name != "cpython":
+        return None
+    try:
+        loader = importlib.machinery.ExtensionFileLoader("vt220._calls", path)
+        module = importlib.util.module_from_spec(importlib.machinery.ModuleSpec("vt220._calls", loader, origin=path))
+        loader.exec_module(module)
+    except ImportError as fault:
+        raise NoLibrary(f"the extension module can't be loaded: {fault}") from None
+    addresses = [ctypes.cast(getattr(library, f"vt220_{name}"), ctypes.c_void_p).value for name in module.CALLS]
+    module.bind(_expect, *addresses)
+    return module
+
+
 def _spelled(number: int) -> str:
     return f"{number // 10000}.{number // 100 % 100}.{number % 100}"
 
@@ -359,10 +376,18 @@ class _Library:
     def __getattr__(self, name: str) -> Any:
         if not name.startswith("vt220_"):
             raise AttributeError(name)
+        call = self.__dict__[name] = getattr(self.library(), name)
+        return call
+
+    def library(self) -> ctypes.PyDLL:
         # Two threads may both come here: the system loads a library once, and the second one finds the same calls.
         self._loaded = self.__dict__.get("_loaded") or _load()
-        call = self.__dict__[name] = getattr(self._loaded, name)
-        return call
+        return self._loaded
+
+    @functools.cached_property
+    def calls(self) -> Any:
+        """The calls that programs make most, by the extension module or by ctypes."""
+        return _extension(self.library()) or _ByCtypes
 
 
 _library = _Library()
@@ -504,6 +529,60 @@ _CUTS = {12 * width: struct.Struct("12s" * width).unpack for width in (80, 132)}
 _cells, _rows = _Cells(), _Rows()
 
 
+class _ByCtypes:
+    """The calls that programs make most, as the extension module has them. Each returns what the library wrote, and raises the error of its status."""
+
+    @staticmethod
+    def feed(handle: _Handle, data: bytes) -> bytes:
+        if not _library.vt220_is_open(handle):
+            raise Closed()
+        start, room = ctypes.cast(ctypes.c_char_p(data), ctypes.c_void_p).value or 0, _work.reports
+        reports, written, at = [], ctypes.c_size_t(), 0
+        while at < len(data):
+            played = _library.vt220_feed(handle, start + at, min(len(data) - at, _PIECE), room, len(room), written)
+            if not played:  # another thread has closed the terminal
+                raise Closed()
+            at += played
+            if written.value:
+                reports.append(ctypes.string_at(room, written.value))
+        return b"".join(reports)
+
+    @staticmethod
+    def text(handle: _Handle) -> bytes:
+        return _written(_library.vt220_text, handle)
+
+    @staticmethod
+    def show(handle: _Handle) -> bytes:
+        return _written(_library.vt220_show, handle)
+
+    @staticmethod
+    def picture(handle: _Handle) -> bytes:
+        return _written(_library.vt220_picture, handle)
+
+    @staticmethod
+    def row_text(handle: _Handle, row: int) -> bytes:
+        return _written(_library.vt220_row_text, handle, after=(row,))
+
+    @staticmethod
+    def repaint_as(handle: _Handle, language: int) -> bytes:
+        return _written(_library.vt220_repaint_as, handle, language)
+
+    @staticmethod
+    def update(shown: _Handle, to: _Handle) -> bytes:
+        return _written(_library.vt220_update, shown, to)
+
+    @staticmethod
+    def draw(shown: Optional[_Handle], to: _Handle) -> bytes:
+        return _written(_library.vt220_draw, shown, to)
+
+
+def _written(function: Callable[..., int], *before: object, after: Tuple[int, ...] = ()) -> bytes:
+    """Returns what a call writes. Its other arguments come before the scratch buffer, or after it."""
+    written, work = ctypes.c_size_t(), _work
+    _expect(function(*before, work.scratch.handle, *after, work.out, PICTURE_LIMIT, written))
+    return ctypes.string_at(work.out, written.value)
+
+
 def _open(language: int, handle: _Handle) -> int:
     return int(_library.vt220_open_as(handle, language))
 
@@ -574,17 +653,7 @@ class Terminal:
 
     def feed(self, data: Bytes) -> bytes:
         """Plays all bytes of the host, and returns the reports to it. Raises TypeError if `data` isn't bytes-like."""
-        handle, data, room = self._opened(), _whole(data), _work.reports
-        start = ctypes.cast(ctypes.c_char_p(data), ctypes.c_void_p).value or 0
-        reports, written, at = [], ctypes.c_size_t(), 0
-        while at < len(data):
-            played = _library.vt220_feed(handle, start + at, min(len(data) - at, _PIECE), room, len(room), written)
-            if not played:  # another thread has closed the terminal
-                raise Closed()
-            at += played
-            if written.value:
-                reports.append(ctypes.string_at(room, written.value))
-        return b"".join(reports)
+        return _library.calls.feed(self._handle, _whole(data))  # type: ignore[no-any-return]
 
     def feed_log(self, data: Bytes) -> Tuple[bytes, str]:
         """Plays all bytes of the host. Returns the reports to it, and the lines that scroll off the top of the screen.
@@ -620,29 +689,21 @@ class Terminal:
             at += played
         return at, ctypes.string_at(room, written.value) if written.value else b""
 
-    def _written(self, function: Callable[..., int], *handles: Optional[_Handle]) -> bytes:
-        written = ctypes.c_size_t()
-        work = _work
-        _expect(function(*handles, work.scratch.handle, work.out, PICTURE_LIMIT, written))
-        return ctypes.string_at(work.out, written.value)
-
     def text(self) -> str:
         """Returns the screen's text: 24 lines, each without the spaces at its end and with a line feed."""
-        return self._written(_library.vt220_text, self._opened()).decode()
+        return _library.calls.text(self._handle).decode()  # type: ignore[no-any-return]
 
     def row_text(self, row: int) -> str:
         """Returns one line of text(), that of a row from 1 to 24. Raises as row() does."""
-        written, number = ctypes.c_size_t(), _check_row(row)
-        _expect(_library.vt220_row_text(self._opened(), _work.scratch.handle, number, _work.out, ROW_TEXT_LIMIT, written))
-        return ctypes.string_at(_work.out, written.value).decode()
+        return _library.calls.row_text(self._handle, _check_row(row)).decode()  # type: ignore[no-any-return]
 
     def show(self) -> str:
         """Returns the screen's text with SGR sequences for the attributes."""
-        return self._written(_library.vt220_show, self._opened()).decode()
+        return _library.calls.show(self._handle).decode()  # type: ignore[no-any-return]
 
     def picture(self) -> str:
         """Returns the screen as a picture: an SVG document."""
-        return self._written(_library.vt220_picture, self._opened()).decode()
+        return _library.calls.picture(self._handle).decode()  # type: ignore[no-any-return]
 
     def repaint(self, terminal: str = "") -> bytes:
         """Returns bytes that leave any terminal of this one's encoding and terminal exactly as this one is. What is pending of UTF-8 is left out.
@@ -650,10 +711,7 @@ class Terminal:
         With terminal="vt220" they are for a VT220, which they leave in this one's state, with the page that is shown. Raises Partial inside a
         sequence, and OtherLanguage if they are for an xterm and this terminal is a VT220.
         """
-        language = _language(self.encoding, terminal or self.terminal)
-        written, work = ctypes.c_size_t(), _work
-        _expect(_library.vt220_repaint_as(self._opened(), language, work.scratch.handle, work.out, PICTURE_LIMIT, written))
-        return ctypes.string_at(work.out, written.value)
+        return _library.calls.repaint_as(self._handle, _language(self.encoding, terminal or self.terminal))  # type: ignore[no-any-return]
 
     def update(self, to: "Terminal") -> bytes:
         """Brings this terminal to the state of `to`, and returns bytes that do the same to any terminal in this one's old state.
@@ -661,7 +719,7 @@ class Terminal:
         This terminal is a VT220, and `to` may be any. Raises Partial if one of the two is inside a sequence, and OtherLanguage if this one is an
         xterm. The update to itself is empty.
         """
-        return self._written(_library.vt220_update, self._opened(), to._opened())
+        return _library.calls.update(self._handle, to._handle)  # type: ignore[no-any-return]
 
     def draw(self, shown: Optional["Terminal"] = None) -> bytes:
         """Returns bytes that make a terminal of today, such as xterm, show this screen, given that it shows that of `shown`.
@@ -669,7 +727,7 @@ class Terminal:
         None stands for anything else. The bytes are characters in UTF-8 and CUP, ED, SGR and DECTCEM, and there are none if both show the same.
         That terminal has at least 24 rows, and the columns of this one. Afterwards it shows this terminal, so keep a copy().
         """
-        return self._written(_library.vt220_draw, None if shown is None else shown._opened(), self._opened())
+        return _library.calls.draw(None if shown is None else shown._handle, self._handle)  # type: ignore[no-any-return]
 
     def changed(self, to: "Terminal", row: int) -> List[int]:
         """Returns the columns of a row of `to`, 1 to 24, in which this terminal has another cell or none. Raises as row() does.

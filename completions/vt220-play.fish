@@ -1,0 +1,11 @@
+# Completions of vt220-play for fish.
+complete -c vt220-play -s h -l help -d 'Print the help'
+complete -c vt220-play -l version -d 'Print the version'
+complete -c vt220-play -l timing -r -d 'The timing file of script'
+complete -c vt220-play -l speed -x -d 'How many times as fast it plays'
+complete -c vt220-play -l from -x -d 'Where it begins'
+complete -c vt220-play -l until -x -d 'Where it ends'
+complete -c vt220-play -l pause -x -d 'The longest pause that is played'
+complete -c vt220-play -l exit -d 'Ends at the end of the recording'
+complete -c vt220-play -l encoding -x -a 'dec utf-8 auto' -d 'How the bytes are read'
+complete -c vt220-play -l terminal -x -a 'vt220 xterm auto' -d 'The terminal for which the program wrote'

@@ -1,0 +1,79 @@
+/* vt220-play: plays a recording on the terminal in which it runs. Declarations of all parts. */
+#ifndef PLAY_H
+#define PLAY_H
+
+#include "../c/recording.h"
+#include "vt220.h"
+#include <stdnoreturn.h>
+
+/* --- play.c --- */
+
+/* Prints the reason on standard error, and ends with this status. */
+noreturn void fail(int status, const char *why, ...) __attribute__((format(printf, 2, 3)));
+
+/* --- recording.c: what is played --- */
+
+struct chunk {
+    uint64_t micros; /* when it came, in microseconds after the beginning */
+    size_t end;      /* the number of bytes up to its end */
+};
+
+/* What the options ask for. */
+struct asked {
+    const char *file, *timing;
+    enum { ENCODING_AUTO, ENCODING_DEC, ENCODING_UTF8 } encoding;
+    enum { TERMINAL_AUTO, TERMINAL_VT220, TERMINAL_XTERM } terminal;
+};
+
+struct recording {
+    recording_event *events; /* as they were recorded */
+    size_t events_count;
+    uint8_t *bytes;          /* what the host sent */
+    struct chunk *chunks;    /* as they are played, in the order of their times and their ends */
+    size_t count;
+    uint32_t language;       /* of the terminal that plays it */
+    const char *front;       /* what that terminal is sent first */
+    bool is_timed;
+};
+
+/* A moment of a recording. */
+struct moment {
+    uint64_t micros;
+    size_t position; /* the number of bytes that came up to it */
+};
+
+/* Reads a recording. Prints a line on what can't be played of it. Ends the program if nothing can. */
+void recording_read(struct recording *it, const struct asked *asked);
+/* Leaves out what comes after a position. */
+void recording_cut(struct recording *it, size_t position);
+size_t chunks_at(const struct recording *it, uint64_t micros);     /* how many chunks came up to this time */
+size_t chunks_before(const struct recording *it, uint64_t micros); /* and how many before it */
+size_t position_at(const struct recording *it, uint64_t micros);
+uint64_t duration_of(const struct recording *it);
+/* Returns the time of the marker next to a time, after it or before it, and the end or the beginning if there is none. */
+uint64_t marker_next_to(const struct recording *it, uint64_t micros, bool is_after);
+
+bool time_of(const char *text, uint64_t *micros); /* reads 12.5, 12:31 or 1:02:03; false if it is no time */
+/* Reads a moment as vt220 does: a time, 4096b, event:N or marker:N. Ends the program if it is none, or isn't there. */
+struct moment moment_of(const struct recording *it, const char *option, const char *text);
+
+/* --- reel.c: the terminal at each position of a recording --- */
+
+struct reel {
+    vt220 terminal;
+    size_t at; /* the position */
+};
+
+void reel_begin(const struct recording *recording); /* ends the program if allocation fails */
+void reel_open(struct reel *reel);                  /* at the beginning; ends the program if allocation fails */
+void reel_seek(struct reel *reel, size_t position);
+
+/* --- find.c: the search --- */
+
+#define NOWHERE SIZE_MAX
+
+/* Returns the first chunk with an index from `first` up to `end` that brings a text on the screen, or the last one; NOWHERE if none does. The
+ * text is in UTF-8. A character is found by what is shown for it. */
+size_t find(const struct recording *recording, const char *text, size_t first, size_t end, bool is_last);
+
+#endif

@@ -1,4 +1,4 @@
-use Rattle.std.proofs.Common.{rules, ◌≡◌, ◌++◌, ◌∙◌, ℕ, List, ap, take, arith}
+use Rattle.std.proofs.Common.{rules, ◌≡◌, ◌++◌, ◌∙◌, ℕ, List, ap, take}
 use Rattle.vt_replay.specs.Pages.{pages}
 use Rattle.vt_replay.proofs.PageLines.{pages-happened}
 use Rattle.vt_replay.proofs.pages.feed_pages_reserved.Goals as goal

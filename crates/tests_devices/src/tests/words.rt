@@ -283,24 +283,24 @@ const UTF8_ROWS: &[Row] = &[
         b"\xc3\xa9\n\n\n\n\n\n\n\n\n\n\n\n\n\n\n\n\n\n\n\n\n\n\n\nB\n\n\n\n\n\n\n\n\n\n\n\n\n\n\n\n\n\n\n\n\n\n\n\n",
     ),
     (
-        "a trace of SS2 and a code for a letter, and of a report",
+        "a trace of a letter's own bytes, and of a report",
         b"A\xc3\xa9B\x1b[6n",
         Asked {
             word: Word::Trace,
             ..UTF8
         },
         DONE,
-        b"0\ttext\tA\n1\tSS2\t\n3\ttext\tiB\n5\tDSR\t6\n5\treport\t\\x1B[1;4R\n",
+        b"0\ttext\tA\\xC3\\xA9B\n4\tDSR\t6\n4\treport\t\\x1B[1;4R\n",
     ),
     (
-        "a summary counts SS2, and not what is pending at the end",
+        "a summary counts a letter as a text, and not what is pending at the end",
         b"A\xc3\xa9B\xc3",
         Asked {
             word: Word::Summary,
             ..UTF8
         },
         DONE,
-        b"3\ttext\n1\tSS2\n",
+        b"3\ttext\n",
     ),
 ];
 

@@ -952,7 +952,6 @@ def calls_of(monkeypatch, work):
     """Returns the names of the library's calls that are made while `work` runs."""
     made, calls = [], vars(vt220._library)
     with monkeypatch.context() as patch:
-        patch.setattr(vt220._library, "calls", vt220._ByCtypes)
         for name, call in [(name, call) for name, call in calls.items() if name.startswith("vt220_")]:
             patch.setitem(calls, name, lambda *words, name=name, call=call: made.append(name) or call(*words))
         work()
@@ -960,7 +959,9 @@ def calls_of(monkeypatch, work):
 
 
 def test_a_look_at_a_stored_screen_makes_few_calls(monkeypatch):
-    """A wait compares after each read, so a comparison plays one repaint, and reads each row and each other part once."""
+    """A wait compares after each read, so a comparison plays one repaint, and reads each row and each other part once. Calls by ctypes
+    can be seen."""
+    monkeypatch.setattr(vt220._library, "calls", vt220._ByCtypes)
     terminal = vt220.Terminal()
     terminal.feed(b"\033[7mtext\033[m\033)0\033[5;9r")
     stored = screen_of(terminal.repaint()).stored()

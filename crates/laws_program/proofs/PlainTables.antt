@@ -14,20 +14,22 @@ use Rattle.vt_recording.specs.declared.format.TerminalType.TheVariants.{Vt220}
 use Rattle.vt_cli.specs.declared.asked.Request.{Request}
 use Rattle.vt_cli.specs.declared.what.What.TheVariants as what
 use Rattle.vt_cli.specs.declared.what.Word.{Word}
-use Rattle.vt_cli.specs.declared.what.Word.TheVariants.{Replay, Log, Pages, Trace, Summary, Events, Content}
+use Rattle.vt_cli.specs.declared.what.Word.TheVariants.{Replay, Animation, Log, Pages, Trace, Summary, Events, Content}
 use Rattle.vt_cli.specs.CommandLine.{vt220, word_name, found_in}
-use Rattle.vt_cli.specs.Request.{IsFound, IsRequest}
+use Rattle.vt_cli.specs.declared.what.Looks.{Looks}
+use Rattle.vt_cli.specs.Request.{word_looks, IsFound, IsRequest}
 use Rattle.vt_replay.specs.declared.requests.Outcome.{Outcome}
 use Rattle.vt_replay.specs.Host.{terminal_for, encoding_for, named_for, plain_host}
 use Rattle.vt_replay.specs.Words.{WordTable}
-use Rattle.vt_replay.specs.Request.{is_streamed, lists_events, needs_whole, format_of, IsStreamed, OutcomeBy, OutcomeTable}
+use Rattle.vt_replay.specs.Request.{is_streamed, takes_whole, needs_whole, format_of, IsStreamed, OutcomeBy, OutcomeTable}
 use Rattle.laws_program.specs.Plain.{IsPlainCommand}
 use Rattle.laws_program.proofs.Found.{Options, Asked, options_in, asked_by, asked, no_options, AsksPlainly}
 
--- ---- the word of a name
+-- ---- the word of a name, and of the looks of a picture that moves
 
-abbrev word_of : Text → Option Word
-word_of name =
+abbrev word_of : Text → Option Looks → Option Word
+word_of name (Some looks) = Some (Animation looks)
+word_of name None =
     if bytes_eq name (codes "text") then Some (Replay what.Text) else (
     if bytes_eq name (codes "reports") then Some (Replay what.Reports) else (
     if bytes_eq name (codes "repaint") then Some (Replay what.Repaint) else (
@@ -40,13 +42,14 @@ word_of name =
     if bytes_eq name (codes "summary") then Some Summary else (
     if bytes_eq name (codes "events") then Some Events else Some Content))))))))))
 
-own-name : (word : Word) → word_of (word_name word) ≡ Some word
+own-name : (word : Word) → word_of (word_name word) (word_looks word) ≡ Some word
 own-name (Replay what.Text) = refl
 own-name (Replay what.Reports) = refl
 own-name (Replay what.Repaint) = refl
 own-name (Replay what.Status) = refl
 own-name (Replay what.Show) = refl
 own-name (Replay what.Picture) = refl
+own-name (Animation looks) = refl
 own-name Log = refl
 own-name Pages = refl
 own-name Trace = refl
@@ -57,8 +60,9 @@ own-name Content = refl
 some-word : (a b : Word) → Some a ≡ Some b → a ≡ b
 some-word a b h = cc
 
-same-word : (a b : Word) → word_name a ≡ word_name b → a ≡ b
-same-word a b h = some-word a b (sym (own-name a) ∙ ap word_of h ∙ own-name b)
+same-word : (a b : Word) → word_name a ≡ word_name b → word_looks a ≡ word_looks b → a ≡ b
+same-word a b h l =
+    some-word a b (sym (own-name a) ∙ ap (λ name. word_of name (word_looks a)) h ∙ ap (λ looks. word_of (word_name b) looks) l ∙ own-name b)
 
 some-asked : (a b : Asked) → Some a ≡ Some b → a ≡ b
 some-asked a b h = cc
@@ -70,7 +74,7 @@ some-options a b h = cc
 
 abbrev options_of : Request → Options
 options_of r =
-    record { format = r.format; from = r.from; until = r.until; encoding = r.encoding; terminal = r.terminal; wide = r.wide }
+    record { format = r.format; from = r.from; until = r.until; encoding = r.encoding; terminal = r.terminal; wide = r.wide; looks = word_looks r.word }
 
 found-options : (found : Option (Text × List Row)) (r : Request) (is : IsFound found r)
     → options_in (word_name r.word) is.matches ≡ Some (options_of r)
@@ -81,18 +85,20 @@ pub record AsksFor (word : Word) (file : Option Text) (r : Request) : Type 0 whe
   pub options_are : options_of r ≡ no_options
   pub file_is : option_map (λ f. string_bytes f) r.file ≡ file
 
-asks-for : (word : Word) (file : Option Text) (words : List (String Global)) (r : Request) → AsksPlainly word
+asks-for : (word : Word) → word_looks word ≡ None → (file : Option Text) (words : List (String Global)) (r : Request) → AsksPlainly word
     → IsPlainCommand (word_name word) file words → IsRequest words r → AsksFor word file r
-asks-for word file words r asks plain request =
+asks-for word still file words r asks plain request =
     let found = request.found in
     let here : asked (found_in words) ≡ Some (record { name = word_name word; options = Some no_options; file = file }) =
     ap (λ (ws : List Text). asked (subcommand_of vt220 ws)) plain.are ∙ asks plain.program file plain.operand in
     let there : asked (found_in words) ≡ Some (asked_by (word_name r.word, found.matches)) = ap asked found.word in
     let same : asked_by (word_name r.word, found.matches) ≡ record { name = word_name word; options = Some no_options; file = file } =
     some-asked _ _ (sym there ∙ here) in
+    let options : options_of r ≡ no_options =
+    some-options _ _ (sym (found-options (found_in words) r found) ∙ ap (λ (a : Asked). a.options) same) in
     record {
-      word_is = same-word r.word word (ap (λ (a : Asked). a.name) same);
-      options_are = some-options _ _ (sym (found-options (found_in words) r found) ∙ ap (λ (a : Asked). a.options) same);
+      word_is = same-word r.word word (ap (λ (a : Asked). a.name) same) (ap (λ (o : Options). o.looks) options ∙ sym still);
+      options_are = options;
       file_is = found.options.file_is ∙ ap (λ (a : Asked). a.file) same;
     }
 
@@ -100,6 +106,7 @@ asks-for word file words r asks plain request =
 
 named-none : (word : Word) → named_for word None ≡ None
 named-none (Replay what) = refl
+named-none (Animation looks) = refl
 named-none Log = refl
 named-none Pages = refl
 named-none Trace = refl
@@ -118,18 +125,18 @@ plain-encoding word file r asks =
     ∙ ap (λ (s : Options). encoding_for Vt220 s.encoding Raw) asks.options_are
 
 is-streamed : (word : Word) (file : Option Text) (r : Request) (beginning : List ℕ) → AsksFor word file r
-    → lists_events word ≡ false → is_streamed (format_of r.format beginning) r.until r.wide (needs_whole r) ≡ true
+    → takes_whole word ≡ false → is_streamed (format_of r.format beginning) r.until r.wide (needs_whole r) ≡ true
 is-streamed word file r beginning asks plays =
-    ap (λ (s : Options). is_streamed (format_of s.format beginning) s.until s.wide (lists_events r.word || is_some s.from)) asks.options_are
-    ∙ ap (λ (e : Bool). is_streamed Raw None None (e || false)) (ap lists_events asks.word_is ∙ plays)
+    ap (λ (s : Options). is_streamed (format_of s.format beginning) s.until s.wide (takes_whole r.word || is_some s.from)) asks.options_are
+    ∙ ap (λ (e : Bool). is_streamed Raw None None (e || false)) (ap takes_whole asks.word_is ∙ plays)
 
-pub plain-table : (word : Word) → AsksPlainly word → lists_events word ≡ false → (file : Option Text) (words : List (String Global)) (r : Request) (o : Outcome)
+pub plain-table : (word : Word) → word_looks word ≡ None → AsksPlainly word → takes_whole word ≡ false → (file : Option Text) (words : List (String Global)) (r : Request) (o : Outcome)
     (beginning : List ℕ) (timing : Option (List ℕ)) (b w : List ℕ) (f : Flags)
     → IsPlainCommand (word_name word) file words → IsRequest words r
     → OutcomeTable o r (format_of r.format beginning) timing b w f
     → (WordTable o.ended word Vt220 Dec r.piece b w f r.limit) × (option_map (λ f. string_bytes f) r.file ≡ file)
-plain-table word plainly plays file words r o beginning timing b w f plain request table =
-    let asks = asks-for word file words r plainly plain request in
+plain-table word still plainly plays file words r o beginning timing b w f plain request table =
+    let asks = asks-for word still file words r plainly plain request in
     let streamed : IsStreamed o r b w f =
     subst (λ (s : Bool). OutcomeBy s o r (format_of r.format beginning) timing b w f) (is-streamed word file r beginning asks plays) table in (
       subst (λ (x : Word). WordTable o.ended x Vt220 Dec r.piece b w f r.limit) asks.word_is

@@ -15,16 +15,19 @@ use crate::peeked::Peeked;
 use crate::reasons::{STANDARD_OUTPUT, Seen, print_error, print_reason};
 use std::alloc::AllocError;
 use std::env::{self, Env};
-use std::fs::{File, Files};
+use std::fs::{File, Files, OpenFile};
 use std::io::{self, ErrorKind, Input, Read, Write};
 use std::process::ExitCode;
 use vt_replay::{
-    Break, Detected, Fault, Format, Outcome, Part, Refused, Request, Watched, What, Word,
+    Break, Detected, Fault, Format, Moment, Outcome, Part, Refused, Request, Watched, What, Word,
     carry_out, detect, format_of, lacks_times, read_recording, request,
 };
 
 /// The exit status of a wrong command line.
 const BAD_COMMAND_LINE: u8 = 2;
+
+/// The time at which a recording begins.
+const BEGINNING: Moment = Moment::Micros(0);
 
 /// Ends the program with a fault's line and status.
 fn ended_by(rt: &impl Eprint, fault: Fault) -> ExitCode
@@ -151,7 +154,7 @@ fn carry_out_on<R: Print + AllocGlobal, D: Read + Drop>(
 }
 
 /// Returns why an input that begins so isn't played, if it isn't: its beginning was to decide on its format, and it is
-/// compressed, or it has no times, and a moment is one.
+/// compressed, or it has no times, and a moment is one or the picture moves.
 fn refusal_of(request: &Request, format: Format, timed: bool, beginning: &[u8]) -> Option<Fault> {
     if request.format.is_none() && matches!(detect(beginning), Detected::Compressed(_)) {
         let part = Part::Recording;
@@ -160,7 +163,15 @@ fn refusal_of(request: &Request, format: Format, timed: bool, beginning: &[u8]) 
     if lacks_times(format, timed, request.from) || lacks_times(format, timed, request.until) {
         return Some(Fault::NoTimes);
     }
+    if is_moving(request.word) && lacks_times(format, timed, Some(BEGINNING)) {
+        return Some(Fault::NoTimes);
+    }
     None
+}
+
+/// Returns whether a word writes a picture that moves.
+fn is_moving(word: Word) -> bool {
+    matches!(word, Word::Animation(_))
 }
 
 /// Carries out a request on an input in a format, to standard output, and flushes that, after a fault too.
@@ -195,6 +206,14 @@ fn carry_out_in<R: Print + AllocGlobal, D: Read + Drop>(
     }
 }
 
+/// Returns whether a file is a regular one that has more bytes than the limit. Then nothing of it needs to be read.
+fn is_too_long(file: &impl OpenFile, limit: u64) -> bool {
+    match file.metadata() {
+        Ok(data) => data.is_file() && limit < data.len(),
+        Err(_) => false,
+    }
+}
+
 /// Opens the file, if one is named, and carries out the request on it, or on standard input.
 fn carry_out_by_name<R: Files + Input + Print + AllocGlobal>(
     rt: &R,
@@ -203,6 +222,9 @@ fn carry_out_by_name<R: Files + Input + Print + AllocGlobal>(
 ) -> Ended {
     match &request.file {
         Some(name) => match File::open(rt, name.as_str()) {
+            Ok(file) if is_too_long(&file, request.limit) => {
+                ended_early(rt, request, Fault::TooLong, Part::Recording, None)
+            }
             Ok(file) => carry_out_on(rt, file, timing, request),
             Err(error) => ended_unread(rt, request, error),
         },
@@ -222,6 +244,9 @@ fn carry_out_with_timing<R: Files + Input + Print + AllocGlobal>(
         Ok(file) => file,
         Err(error) => return ended_early(rt, request, Fault::Read, Part::Timing, Some(error)),
     };
+    if is_too_long(&file, request.limit) {
+        return ended_early(rt, request, Fault::TooLong, Part::Timing, None);
+    }
     let mut reader = Watched::new(file);
     match read_recording(rt.alloc(), &mut reader, request.limit as usize) {
         Ok(bytes) => carry_out_by_name(rt, Some(&bytes), request),

@@ -70,7 +70,7 @@ fn language_hint(
             Word::Pages | Word::Trace | Word::Summary => {
                 Some("recorded for an xterm, and this command plays a VT220")
             }
-            Word::Replay(_) | Word::Log | Word::Events | Word::Content => None,
+            Word::Replay(_) | Word::Animation(_) | Word::Log | Word::Events | Word::Content => None,
         };
     }
     let front = beginning.get(..LOOKED_AT).unwrap_or(beginning);

@@ -15,7 +15,7 @@ use Rattle.clap.specs.declared.error.kind.ErrorKind.TheVariants.{DisplayHelp, Di
 use Rattle.vt_cli.specs.declared.what.What.{What}
 use Rattle.vt_cli.specs.declared.what.What.TheVariants as what
 use Rattle.vt_cli.specs.declared.what.Word.{Word}
-use Rattle.vt_cli.specs.declared.what.Word.TheVariants.{Replay, Log, Pages, Trace, Summary, Events, Content}
+use Rattle.vt_cli.specs.declared.what.Word.TheVariants.{Replay, Animation, Log, Pages, Trace, Summary, Events, Content}
 use Rattle.vt_cli.specs.declared.command_line.Takes.{Takes}
 use Rattle.vt_cli.specs.declared.command_line.Takes.TheVariants as takes
 use Rattle.vt_cli.specs.declared.asked.Settings.{Settings}
@@ -53,6 +53,7 @@ name_of what.Picture = codes "picture"
 -- the name of a word's subcommand
 abbrev pub word_name : Word → Text
 word_name (Replay what) = name_of what
+word_name (Animation looks) = name_of what.Picture
 word_name Log = codes "log"
 word_name Pages = codes "pages"
 word_name Trace = codes "trace"
@@ -80,6 +81,7 @@ abbrev pub subcommand : Text → App
 subcommand name = fold (λ a rule. with_rule a rule) (new_app name) (piece_option ∷ limit_option ∷ file_argument
     ∷ text_option (codes "format") ∷ text_option (codes "timing") ∷ text_option (codes "from") ∷ text_option (codes "until")
     ∷ text_option (codes "encoding") ∷ text_option (codes "terminal") ∷ text_option (codes "columns")
+    ∷ flag_option (codes "animate") ∷ text_option (codes "theme") ∷ text_option (codes "cursor") ∷ text_option (codes "title")
     ∷ flag_option (codes "full") ∷ flag_option (codes "partial") ∷ flag_option (codes "quiet") ∷ [])
 
 abbrev pub with_name : App → Text → App
@@ -140,8 +142,10 @@ is_plain matches =
     not (is_some (first_of (codes "format") matches)) && (not (is_some (first_of (codes "timing") matches))
     && (not (is_some (first_of (codes "from") matches)) && (not (is_some (first_of (codes "until") matches))
     && (not (is_some (first_of (codes "encoding") matches)) && (not (is_some (first_of (codes "terminal") matches))
-    && (not (is_some (first_of (codes "columns") matches)) && (not (is_set (codes "full") matches)
-    && (not (is_set (codes "partial") matches) && not (is_set (codes "quiet") matches)))))))))
+    && (not (is_some (first_of (codes "columns") matches)) && (not (is_set (codes "animate") matches)
+    && (not (is_some (first_of (codes "theme") matches)) && (not (is_some (first_of (codes "cursor") matches))
+    && (not (is_some (first_of (codes "title") matches)) && (not (is_set (codes "full") matches)
+    && (not (is_set (codes "partial") matches) && not (is_set (codes "quiet") matches)))))))))))))
 
 -- s is what the subcommand that clap found, and its matches, ask for: a replay of bytes that no recorder wrote
 pub record AreSettings (found : Option (Text × List Row)) (s : Settings) : Type 0 where

@@ -10,10 +10,17 @@ use Rattle.vt_recording.specs.declared.format.Moment.{Moment}
 use Rattle.vt_recording.specs.declared.format.Moment.TheVariants.{Micros, Bytes, Event, Marker}
 use Rattle.vt_recording.specs.declared.format.TerminalType.{TerminalType}
 use Rattle.vt_recording.specs.declared.format.TerminalType.TheVariants.{Vt220, Xterm}
+use Rattle.vt_picture.specs.declared.looks.Theme.{Theme}
+use Rattle.vt_picture.specs.declared.looks.Theme.TheVariants.{Dark, Light, Green, Amber}
+use Rattle.vt_picture.specs.declared.looks.CursorShape.{CursorShape}
+use Rattle.vt_picture.specs.declared.looks.CursorShape.TheVariants.{Outline, Block, Underline, Hidden}
+use Rattle.vt_cli.specs.declared.what.Looks.{Looks}
 use Rattle.vt_cli.specs.declared.source.Source.{Source}
 use Rattle.vt_cli.specs.declared.source.Complaint.{Complaint}
 use Rattle.vt_cli.specs.declared.source.Complaint.TheVariants.{NoFormat, NoTimingFile, NoMoment, NoTimes, NoStart, NoEncoding}
 use Rattle.vt_cli.specs.declared.source.Complaint.TheVariants.{NoTerminal, NoColumns, OnlyUtf8, OnlyVt220}
+use Rattle.vt_cli.specs.declared.source.Complaint.TheVariants.{OnlyPicture, OnlyMoving, NoSteps, NoTheme, NoShape}
+use Rattle.vt_cli.specs.CommandLine.{is_set}
 use Rattle.vt_cli.specs.Moment.{moment}
 
 -- the format of a name, or none for the name that lets the beginning of the input decide
@@ -118,23 +125,71 @@ abbrev pub wide_of : Option Text → Result (Option Bool) Complaint
 wide_of None = Ok None
 wide_of (Some name) = wide_named name
 
--- ---- all of them
+-- ---- a picture that moves
 
 -- what follows if there is no complaint
 abbrev pub and_then : {A B : Type 0} → (A → Result B Complaint) → Result A Complaint → Result B Complaint
 and_then next (Ok value) = next value
 and_then next (Err complaint) = Err complaint
 
+abbrev pub theme_named : (name : Text) → Result Theme Complaint
+theme_named name =
+    cond (bytes_eq name (codes "dark")) (Ok Dark)
+    (cond (bytes_eq name (codes "light")) (Ok Light)
+    (cond (bytes_eq name (codes "green")) (Ok Green) (cond (bytes_eq name (codes "amber")) (Ok Amber) (Err NoTheme))))
+
+-- without a name it is dark
+abbrev pub theme_of : Option Text → Result Theme Complaint
+theme_of None = Ok Dark
+theme_of (Some name) = theme_named name
+
+abbrev pub cursor_named : (name : Text) → Result CursorShape Complaint
+cursor_named name =
+    cond (bytes_eq name (codes "outline")) (Ok Outline)
+    (cond (bytes_eq name (codes "block")) (Ok Block)
+    (cond (bytes_eq name (codes "underline")) (Ok Underline) (cond (bytes_eq name (codes "hidden")) (Ok Hidden) (Err NoShape))))
+
+-- without a name it is the outline
+abbrev pub cursor_of : Option Text → Result CursorShape Complaint
+cursor_of None = Ok Outline
+cursor_of (Some name) = cursor_named name
+
+abbrev pub looks_with : (theme cursor : Option Text) → Result Looks Complaint
+looks_with theme cursor =
+    and_then (λ theme. and_then (λ cursor. Ok (record { theme = theme; cursor = cursor })) (cursor_of cursor)) (theme_of theme)
+
+-- the command of this name writes a picture that may move
+abbrev pub may_move : Text → Bool
+may_move command = bytes_eq command (codes "picture")
+
+-- by the name of the command, whether `--animate` is used, the texts of its options, and whether there is a title
+abbrev pub looks_of : (command : Text) → (animate : Bool) → (theme cursor : Option Text) → (titled : Bool) → Result (Option Looks) Complaint
+looks_of command animate theme cursor titled =
+    cond animate (cond (may_move command) (and_then (λ looks. Ok (Some looks)) (looks_with theme cursor)) (Err OnlyPicture))
+    (cond (is_some theme || (is_some cursor || titled)) (Err OnlyMoving) (Ok None))
+
+abbrev pub looks_in : (command : Text) → List Row → Result (Option Looks) Complaint
+looks_in command matches =
+    looks_of command (is_set (codes "animate") matches) (first_of (codes "theme") matches) (first_of (codes "cursor") matches)
+    (is_some (first_of (codes "title") matches))
+
+-- a picture that moves has a step for each time
+abbrev pub lacks_steps : Option Format → (timed : Bool) → Option Looks → Bool
+lacks_steps format timed looks = is_some looks && not (has_times format timed)
+
+-- ---- all of them
+
 -- without a name it is raw
 abbrev pub named : Option Text → Result (Option Format) Complaint
 named None = Ok (Some Raw)
 named (Some name) = format_named name
 
--- by the name of the command, whether there is a timing file, and the texts of the other options
-abbrev pub source_of : (command : Text) → (format : Option Text) → (timed : Bool) → (from until encoding terminal columns : Option Text)
+-- by the name of the command, the looks of a picture that moves, whether there is a timing file, and the texts of the other options
+abbrev pub source_of : (command : Text) → Option Looks → (format : Option Text) → (timed : Bool) → (from until encoding terminal columns : Option Text)
     → Result Source Complaint
-source_of command format timed from until encoding terminal columns =
+source_of command looks format timed from until encoding terminal columns =
     and_then (λ format. cond (timed && not (takes_timing format)) (Err NoTimingFile)
+    (cond (lacks_steps format timed looks) (Err NoSteps)
     (and_then (λ from. and_then (λ until. and_then (λ encoding. and_then (λ terminal. and_then (λ wide. Ok (record {
       format = format;
       from = from;
@@ -142,16 +197,18 @@ source_of command format timed from until encoding terminal columns =
       encoding = encoding;
       terminal = terminal;
       wide = wide;
+      looks = looks;
     })) (wide_of columns)) (terminal_of command encoding terminal)) (encoding_of encoding)) (moment_of format timed until))
-    (from_of command format timed from)))
+    (from_of command format timed from))))
     (named format)
 
 -- by a subcommand's name and matches
 abbrev pub source_in : (command : Text) → List Row → Result Source Complaint
 source_in command matches =
-    source_of command (first_of (codes "format") matches) (is_some (first_of (codes "timing") matches))
+    and_then (λ looks. source_of command looks (first_of (codes "format") matches) (is_some (first_of (codes "timing") matches))
     (first_of (codes "from") matches) (first_of (codes "until") matches) (first_of (codes "encoding") matches) (first_of (codes "terminal") matches)
-    (first_of (codes "columns") matches)
+    (first_of (codes "columns") matches))
+    (looks_in command matches)
 
 -- what is said of options that don't fit: the fault, and after some of them a line with a way out
 abbrev pub line_of : Complaint → List ℕ
@@ -166,5 +223,11 @@ line_of NoEncoding = codes "vt220: --encoding is dec, utf-8 or auto" ++ 0x0A ∷
 line_of NoTerminal = codes "vt220: --terminal is vt220, xterm or auto" ++ 0x0A ∷ []
 line_of NoColumns = codes "vt220: --columns is 80, 132 or auto" ++ 0x0A ∷ []
 line_of OnlyUtf8 = codes "vt220: --terminal xterm reads UTF-8, and not --encoding dec" ++ 0x0A ∷ []
+line_of OnlyPicture = codes "vt220: --animate goes with picture alone" ++ 0x0A ∷ []
+line_of OnlyMoving = codes "vt220: --theme, --cursor and --title go with picture --animate alone" ++ 0x0A ∷ []
+line_of NoSteps =
+    codes "vt220: the input has no times, and --animate needs them; give script its --timing FILE" ++ 0x0A ∷ codes "vt220: a recording by ttyrec or asciinema has times: add --format ttyrec, asciicast or auto" ++ 0x0A ∷ []
+line_of NoTheme = codes "vt220: --theme is dark, light, green or amber" ++ 0x0A ∷ []
+line_of NoShape = codes "vt220: --cursor is outline, block, underline or hidden" ++ 0x0A ∷ []
 line_of OnlyVt220 =
     codes "vt220: pages, trace and summary play no xterm" ++ 0x0A ∷ codes "vt220: text, show, picture, status, reports, repaint, log and content do" ++ 0x0A ∷ []

@@ -60,6 +60,8 @@ pub struct Request {
     pub until: Option<Moment>,
     /// Whether the table of events has all that the recording has: its heading, and the bytes of its output.
     pub full: bool,
+    /// The title of a picture that moves, or none for that of every picture.
+    pub title: Option<String>,
     /// Whether a recording may break its format: what came before is enough.
     pub partial: bool,
     /// Whether the notes on standard error are left out.

@@ -157,6 +157,26 @@ const ARGUMENTS: &[(&str, Takes, &str)] = &[
         "The columns of the screen: 80, 132 or auto [default: auto]",
     ),
     (
+        "animate",
+        Takes::Nothing,
+        "For picture: one that moves, with a step for each event of output; the recording has times",
+    ),
+    (
+        "theme",
+        Takes::Text("NAME"),
+        "The colours of a picture that moves: dark, light, green or amber [default: dark]",
+    ),
+    (
+        "cursor",
+        Takes::Text("SHAPE"),
+        "The cursor of a picture that moves: outline, block, underline or hidden [default: outline]",
+    ),
+    (
+        "title",
+        Takes::Text("TEXT"),
+        "The title of a picture that moves [default: VT220 screen]",
+    ),
+    (
         "full",
         Takes::Nothing,
         "For events: all that the recording has, with the bytes of its output",
@@ -185,6 +205,10 @@ Each command but help takes FILE, or standard input if no file is named, and the
   --encoding NAME  how the host's bytes are read: dec, utf-8 or auto [default: auto]
   --terminal NAME  the terminal for which the host sends: vt220, xterm or auto [default: auto]
   --columns N      the columns of the screen: 80, 132 or auto [default: auto]
+  --animate        for picture: one that moves, with a step for each event of output
+  --theme NAME     the colours of a picture that moves: dark, light, green or amber [default: dark]
+  --cursor SHAPE   its cursor: outline, block, underline or hidden [default: outline]
+  --title TEXT     its title [default: VT220 screen]
   --full           for events: all that the recording has, with the bytes of its output
   --partial        what came before a recording breaks is enough: that is printed, and no fault
   --quiet          no notes on standard error; faults are printed all the same
@@ -198,6 +222,9 @@ Example, with a recording made by script(1):
   vt220 text top.bin
   vt220 show top.bin | less -R
   vt220 picture top.bin > top.svg
+
+Example, a picture that moves, of a recording with times:
+  vt220 picture --animate --format ttyrec demo.tty > demo.svg
 
 Example, the screen as it stood twelve and a half seconds after the start:
   vt220 text --format ttyrec --until 12.5 demo.tty
@@ -434,6 +461,10 @@ fn is_plain(matches: &ArgMatches<'_>) -> bool
         && !is_given(matches, "encoding")
         && !is_given(matches, "terminal")
         && !is_given(matches, "columns")
+        && !is_set(matches, "animate")
+        && !is_given(matches, "theme")
+        && !is_given(matches, "cursor")
+        && !is_given(matches, "title")
         && !is_set(matches, "full")
         && !is_set(matches, "partial")
         && !is_set(matches, "quiet")

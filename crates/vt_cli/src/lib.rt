@@ -11,5 +11,6 @@ mod what;
 pub use asked::{Refused, Request, Settings};
 pub use command_line::settings;
 pub use requests::request;
+pub use vt_picture::{CursorShape, Theme};
 pub use vt_recording::{Encoding, Format, Moment, TerminalType};
-pub use what::{What, Word};
+pub use what::{Looks, What, Word};

@@ -1,10 +1,10 @@
 //! Reads what the arguments ask for: a word, its input, and how that was recorded.
-ghost use Rattle.std.specs.Prelude.{◌≡◌, ◌≢◌, [], IfOk, IfErr, IfSome, IfNone, Some, Ok};
+ghost use Rattle.std.specs.Prelude.{◌≡◌, ◌≢◌, [], IfOk, IfErr, IfSome, IfNone, Some, None, Ok};
 ghost use Rattle.clap.specs.Words.{found_of, rows_of, subcommand_rows_of};
 ghost use Rattle.vt_cli.specs.declared.what.Word.{Word};
 ghost use Rattle.vt_cli.specs.CommandLine.{word_name};
 ghost use Rattle.vt_cli.specs.Source.{source_in};
-ghost use Rattle.vt_cli.specs.Request.{IsFound, HasNoRequest, IsRequest, IsNoRequest, IsRequestRefusal};
+ghost use Rattle.vt_cli.specs.Request.{word_looks, IsFound, HasNoRequest, IsRequest, IsNoRequest, IsRequestRefusal};
 
 use crate::asked::{Refused, Request};
 use crate::command_line::{
@@ -12,14 +12,28 @@ use crate::command_line::{
     what_of,
 };
 use crate::source::{Source, source_in};
-use crate::what::Word;
+use crate::what::{Looks, Word};
 use clap::ArgMatches;
 use std::alloc::{AllocError, Global};
 
-/// Returns the word of this name.
-fn word_of(name: &str) -> Option<Word>
-    ensures some { IfSome result (λ word. name.now ≡ word_name word) }
-    ensures none { IfNone result ((word : Word) → name.now ≢ word_name word) }
+/// Returns the word of this name, with the looks of a picture that moves, if there are any.
+fn word_of(name: &str, looks: Option<Looks>) -> Option<Word>
+    ensures some { IfSome result (λ word. (name.now ≡ word_name word) × (looks ≡ word_looks word)) }
+    ensures none { IfNone result ((word : Word) → name.now ≡ word_name word → looks ≢ word_looks word) }
+{
+    match looks {
+        Some(looks) => match name {
+            "picture" => Some(Word::Animation(looks)),
+            _ => None,
+        },
+        None => still_word_of(name),
+    }
+}
+
+/// Returns the word of this name that isn't a picture that moves.
+fn still_word_of(name: &str) -> Option<Word>
+    ensures some { IfSome result (λ word. (name.now ≡ word_name word) × (None ≡ word_looks word)) }
+    ensures none { IfNone result ((word : Word) → name.now ≡ word_name word → None ≢ word_looks word) }
 {
     match name {
         "log" => Some(Word::Log),
@@ -43,7 +57,7 @@ fn request_of(
     ensures some { IfOk result (λ o. IfSome o (IsFound (Some (name.now, rows_of (found_of matches.now))))) }
     ensures none { IfOk result (λ o. IfNone o (HasNoRequest (Some (name.now, rows_of (found_of matches.now))))) }
 {
-    let Some(word) = word_of(name) else {
+    let Some(word) = word_of(name, source.looks) else {
         return Ok(None);
     };
     let Some(options) = options_of(alloc, matches)? else {
@@ -62,6 +76,7 @@ fn request_of(
         encoding: source.encoding,
         terminal: source.terminal,
         wide: source.wide,
+        title: file_of(alloc, matches, "title")?,
         full: is_set(matches, "full"),
         partial: is_set(matches, "partial"),
         quiet: is_set(matches, "quiet"),
@@ -93,7 +108,7 @@ fn request_among(alloc: Global, matches: &ArgMatches<'_>) -> Result<Request, Ref
 /// `trace`, `summary`, `events` and `content`. Each takes `--piece N`, `--limit N` and at most one FILE, and the options of a
 /// recording: `--format FORMAT` (raw, script, ttyrec, asciicast or auto, otherwise raw), `--timing FILE`, `--from MOMENT`,
 /// `--until MOMENT`, `--encoding NAME` (dec, utf-8 or auto), `--terminal NAME` (vt220, xterm or auto), `--columns N` (80, 132 or
-/// auto), `--full`, `--partial` and `--quiet`. With auto the beginning of the input decides on the format. Of encoding, terminal and columns auto is the default:
+/// auto), `--animate`, `--theme NAME`, `--cursor SHAPE`, `--title TEXT`, `--full`, `--partial` and `--quiet`. With auto the beginning of the input decides on the format. Of encoding, terminal and columns auto is the default:
 /// then the request leaves the decision to the recording. A moment is seconds (`12.5`), minutes and seconds (`12:31`), hours,
 /// minutes and seconds (`1:02:03`), a number of bytes (`4096b`), or the number of an event (`event:12`) or a marker (`marker:2`),
 /// counted from 1. Seconds have up to six decimals.
@@ -101,7 +116,8 @@ fn request_among(alloc: Global, matches: &ArgMatches<'_>) -> Result<Request, Ref
 /// `Err` is what to end with if there is no request: the help or the version that was asked for (status 0), a failed
 /// allocation (1), or what is wrong with the arguments (2). Such are also `--timing` with a format other than script, a
 /// moment in seconds with raw, or with script without `--timing`, `--from` with another subcommand than `events` and `content`, and
-/// xterm with dec, or with `pages`, `trace` or `summary`.
+/// xterm with dec, or with `pages`, `trace` or `summary`. `--animate` is for `picture` and a format with times. The theme is dark, light,
+/// green or amber, and the shape outline, block, underline or hidden. Both and the title need `--animate`.
 /// (this profile)
 pub fn request(alloc: Global, words: Vec<String>) -> Result<Request, Refused>
     ensures ok { IfOk result (IsRequest words.items) }

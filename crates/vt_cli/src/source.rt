@@ -3,10 +3,14 @@ ghost use Rattle.std.specs.Prelude.{◌≡◌, option_map};
 ghost use Rattle.clap.specs.Words.{found_of, rows_of};
 ghost use Rattle.vt_cli.specs.Source.{format_named, named, takes_timing, has_times, has_moment, moment_of, takes_start, from_of, source_of, source_in, line_of};
 ghost use Rattle.vt_cli.specs.Source.{encoding_named, encoding_of};
+ghost use Rattle.vt_cli.specs.Source.{theme_named, theme_of, cursor_named, cursor_of, looks_with, may_move, looks_of, looks_in, lacks_steps};
 ghost use Rattle.vt_cli.specs.Source.{plays_xterm, xterm_for, terminal_named, terminal_of, wide_named, wide_of};
 
+use crate::command_line::is_set;
 use crate::moment::moment;
+use crate::what::Looks;
 use clap::ArgMatches;
+use vt_picture::{CursorShape, Theme};
 use vt_recording::{Encoding, Format, Moment, TerminalType};
 
 /// How the input was recorded, the moments between which it is wanted, the encoding, the terminal, and its columns.
@@ -24,6 +28,8 @@ pub(crate) struct Source {
     pub(crate) terminal: Option<TerminalType>,
     /// Whether the screen has 132 columns, or none if the recording decides.
     pub(crate) wide: Option<bool>,
+    /// The looks of a picture that moves, if one is asked for.
+    pub(crate) looks: Option<Looks>,
 }
 
 /// Why the options of a recording are refused.
@@ -49,6 +55,16 @@ pub(crate) enum Complaint {
     OnlyUtf8,
     /// `--terminal xterm` is given for a command that plays a VT220 alone.
     OnlyVt220,
+    /// `--animate` is given for a command other than picture.
+    OnlyPicture,
+    /// `--theme`, `--cursor` or `--title` is given without `--animate`.
+    OnlyMoving,
+    /// `--animate` is given, and the recording has no times.
+    NoSteps,
+    /// `--theme` names no theme.
+    NoTheme,
+    /// `--cursor` names no shape.
+    NoShape,
 }
 
 impl Complaint {
@@ -74,6 +90,16 @@ impl Complaint {
             Complaint::NoTerminal => "vt220: --terminal is vt220, xterm or auto\n",
             Complaint::NoColumns => "vt220: --columns is 80, 132 or auto\n",
             Complaint::OnlyUtf8 => "vt220: --terminal xterm reads UTF-8, and not --encoding dec\n",
+            Complaint::OnlyPicture => "vt220: --animate goes with picture alone\n",
+            Complaint::OnlyMoving => {
+                "vt220: --theme, --cursor and --title go with picture --animate alone\n"
+            }
+            Complaint::NoSteps => {
+                "vt220: the input has no times, and --animate needs them; give script its --timing FILE\n\
+                 vt220: a recording by ttyrec or asciinema has times: add --format ttyrec, asciicast or auto\n"
+            }
+            Complaint::NoTheme => "vt220: --theme is dark, light, green or amber\n",
+            Complaint::NoShape => "vt220: --cursor is outline, block, underline or hidden\n",
             Complaint::OnlyVt220 => {
                 "vt220: pages, trace and summary play no xterm\n\
                  vt220: text, show, picture, status, reports, repaint, log and content do\n"
@@ -273,10 +299,123 @@ fn wide_of(name: Option<&str>) -> Result<Option<bool>, Complaint>
     }
 }
 
+/// Returns the theme of a name.
+fn theme_named(name: &str) -> Result<Theme, Complaint>
+    ensures { result ≡ theme_named name.now }
+{
+    match name {
+        "dark" => Ok(Theme::Dark),
+        "light" => Ok(Theme::Light),
+        "green" => Ok(Theme::Green),
+        "amber" => Ok(Theme::Amber),
+        _ => Err(Complaint::NoTheme),
+    }
+}
+
+/// Returns the theme of a name. Without a name it is dark.
+fn theme_of(name: Option<&str>) -> Result<Theme, Complaint>
+    ensures { result ≡ theme_of (option_map (λ n. n.now) name.entry) }
+{
+    match name {
+        Some(name) => theme_named(name),
+        None => Ok(Theme::Dark),
+    }
+}
+
+/// Returns the shape of a name.
+fn cursor_named(name: &str) -> Result<CursorShape, Complaint>
+    ensures { result ≡ cursor_named name.now }
+{
+    match name {
+        "outline" => Ok(CursorShape::Outline),
+        "block" => Ok(CursorShape::Block),
+        "underline" => Ok(CursorShape::Underline),
+        "hidden" => Ok(CursorShape::Hidden),
+        _ => Err(Complaint::NoShape),
+    }
+}
+
+/// Returns the shape of a name. Without a name it is the outline.
+fn cursor_of(name: Option<&str>) -> Result<CursorShape, Complaint>
+    ensures { result ≡ cursor_of (option_map (λ n. n.now) name.entry) }
+{
+    match name {
+        Some(name) => cursor_named(name),
+        None => Ok(CursorShape::Outline),
+    }
+}
+
+/// Returns the looks of the names of a theme and a shape.
+fn looks_with(theme: Option<&str>, cursor: Option<&str>) -> Result<Looks, Complaint>
+    ensures { result ≡ looks_with (option_map (λ t. t.now) theme.entry) (option_map (λ c. c.now) cursor.entry) }
+{
+    let theme = match theme_of(theme) {
+        Ok(theme) => theme,
+        Err(complaint) => return Err(complaint),
+    };
+    match cursor_of(cursor) {
+        Ok(cursor) => Ok(Looks { theme, cursor }),
+        Err(complaint) => Err(complaint),
+    }
+}
+
+/// Returns whether the command of this name writes a picture that may move.
+fn may_move(command: &str) -> bool
+    ensures { result ≡ may_move command.now }
+{
+    matches!(command, "picture")
+}
+
+/// Returns the looks of a picture that moves that options give for a command, if they ask for one.
+fn looks_of(
+    command: &str,
+    animate: bool,
+    theme: Option<&str>,
+    cursor: Option<&str>,
+    titled: bool,
+) -> Result<Option<Looks>, Complaint>
+    ensures { result ≡ looks_of command.now animate (option_map (λ t. t.now) theme.entry) (option_map (λ c. c.now) cursor.entry) titled }
+{
+    if !animate {
+        if theme.is_some() || cursor.is_some() || titled {
+            return Err(Complaint::OnlyMoving);
+        }
+        return Ok(None);
+    }
+    if !may_move(command) {
+        return Err(Complaint::OnlyPicture);
+    }
+    match looks_with(theme, cursor) {
+        Ok(looks) => Ok(Some(looks)),
+        Err(complaint) => Err(complaint),
+    }
+}
+
+/// Returns the looks of a picture that moves, if the options of the subcommand of this name ask for one.
+fn looks_in(command: &str, matches: &ArgMatches<'_>) -> Result<Option<Looks>, Complaint>
+    ensures { result ≡ looks_in command.now (rows_of (found_of matches.now)) }
+{
+    looks_of(
+        command,
+        is_set(matches, "animate"),
+        matches.get_str("theme"),
+        matches.get_str("cursor"),
+        matches.get_str("title").is_some(),
+    )
+}
+
+/// Returns whether a picture that moves is asked for, of a recording without times.
+fn lacks_steps(format: Option<Format>, timed: bool, looks: Option<Looks>) -> bool
+    ensures { result ≡ lacks_steps format timed looks }
+{
+    looks.is_some() && !has_times(format, timed)
+}
+
 /// Returns the source that options give for a command: the name of a format, whether there is a timing file, the texts of two
-/// moments, the names of an encoding and of a terminal, and a number of columns.
+/// moments, the names of an encoding and of a terminal, a number of columns, and the looks of a picture that moves.
 fn source_of(
     command: &str,
+    looks: Option<Looks>,
     format: Option<&str>,
     timed: bool,
     from: Option<&str>,
@@ -285,7 +424,7 @@ fn source_of(
     terminal: Option<&str>,
     columns: Option<&str>,
 ) -> Result<Source, Complaint>
-    ensures { result ≡ source_of command.now (option_map (λ f. f.now) format.entry) timed
+    ensures { result ≡ source_of command.now looks (option_map (λ f. f.now) format.entry) timed
         (option_map (λ f. f.now) from.entry) (option_map (λ u. u.now) until.entry) (option_map (λ e. e.now) encoding.entry)
         (option_map (λ t. t.now) terminal.entry) (option_map (λ n. n.now) columns.entry) }
 {
@@ -295,6 +434,9 @@ fn source_of(
     };
     if timed && !takes_timing(format) {
         return Err(Complaint::NoTimingFile);
+    }
+    if lacks_steps(format, timed, looks) {
+        return Err(Complaint::NoSteps);
     }
     let from = match from_of(command, format, timed, from) {
         Ok(from) => from,
@@ -320,6 +462,7 @@ fn source_of(
             encoding,
             terminal,
             wide,
+            looks,
         }),
         Err(complaint) => Err(complaint),
     }
@@ -329,8 +472,13 @@ fn source_of(
 pub(crate) fn source_in(command: &str, matches: &ArgMatches<'_>) -> Result<Source, Complaint>
     ensures { result ≡ source_in command.now (rows_of (found_of matches.now)) }
 {
+    let looks = match looks_in(command, matches) {
+        Ok(looks) => looks,
+        Err(complaint) => return Err(complaint),
+    };
     source_of(
         command,
+        looks,
         matches.get_str("format"),
         matches.get_str("timing").is_some(),
         matches.get_str("from"),

@@ -1,5 +1,7 @@
 //! Names what the program writes.
 
+use vt_picture::{CursorShape, Theme};
+
 /// The output of a replay.
 #[derive(Clone, Copy, Debug, PartialEq, Eq)]
 pub enum What {
@@ -18,11 +20,22 @@ pub enum What {
     Picture,
 }
 
+/// The colours and the cursor of a picture that moves.
+#[derive(Clone, Copy, Debug, PartialEq, Eq)]
+pub struct Looks {
+    /// The colours.
+    pub theme: Theme,
+    /// The shape of the cursor.
+    pub cursor: CursorShape,
+}
+
 /// The work that the program does with its input.
 #[derive(Clone, Copy, Debug, PartialEq, Eq)]
 pub enum Word {
     /// A replay.
     Replay(What),
+    /// The picture that moves: the screen after each event of output of a recording.
+    Animation(Looks),
     /// The lines that scroll off the top of the screen, as they come, and the text of the screen after the whole input.
     Log,
     /// The log, and before each event that blanks the whole screen its lines.

@@ -41,7 +41,7 @@ line_of Read = codes "vt220: read failed"
 line_of Write = codes "vt220: write failed"
 line_of TooLong = codes "vt220: input is longer than the limit"
 line_of (Broken place) = broken_part place.part
-line_of NoTimes = codes "vt220: the input has no times; give the moment in bytes, as 4096b"
+line_of NoTimes = codes "vt220: the input has no times"
 
 -- the line that is printed: after that of a broken recording comes the place
 abbrev pub message_of : Fault → List ℕ

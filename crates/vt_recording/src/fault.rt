@@ -77,7 +77,7 @@ impl Fault {
                 Part::Recording => "vt220: the recording is broken",
                 Part::Timing => "vt220: the timing file is broken",
             },
-            Fault::NoTimes => "vt220: the input has no times; give the moment in bytes, as 4096b",
+            Fault::NoTimes => "vt220: the input has no times",
         }
     }
 }

@@ -3,7 +3,7 @@
 use Rattle.std.specs.Prelude.{ℕ, List, [], ◌∷◌, ◌++◌, codes, Bool, false, cond, nat_eq, Option, Some, None, unwrap_or}
 use Rattle.vt_cli.specs.declared.asked.Request.{Request}
 use Rattle.vt_cli.specs.declared.what.Word.{Word}
-use Rattle.vt_cli.specs.declared.what.Word.TheVariants.{Replay, Log, Pages, Trace, Summary, Events, Content}
+use Rattle.vt_cli.specs.declared.what.Word.TheVariants.{Replay, Animation, Log, Pages, Trace, Summary, Events, Content}
 use Rattle.vt_recording.specs.declared.format.Encoding.{Encoding}
 use Rattle.vt_recording.specs.declared.format.Encoding.TheVariants.{Dec, Utf8}
 use Rattle.vt_recording.specs.declared.format.Format.{Format}
@@ -42,6 +42,7 @@ wide_for None None = false
 -- whether the terminal that the recording names decides: events and content are what the host sent, for whatever terminal that is
 abbrev pub named_for : Word → (named : Option TerminalType) → Option TerminalType
 named_for (Replay what) named = named
+named_for (Animation looks) named = named
 named_for Log named = named
 named_for Pages named = named
 named_for Trace named = named
@@ -75,9 +76,11 @@ abbrev pub widening_shown : TerminalType → List ℕ
 widening_shown Vt220 = []
 widening_shown Xterm = widening Xterm
 
--- the bytes that are played before those of a recording. A trace and a summary are of what the host sent alone
+-- the bytes that are played before those of a recording. A trace and a summary are of what the host sent alone. A picture that
+-- moves is ready before it is written
 abbrev pub opening : Word → Host → List ℕ
 opening (Replay what) host = cond host.wide (widening host.terminal) []
+opening (Animation looks) host = []
 opening Log host = cond host.wide (widening host.terminal) []
 opening Pages host = cond host.wide (widening host.terminal) []
 opening Trace host = []

@@ -1,3 +1,4 @@
+pub mod Animated
 pub mod Due
 pub mod Encoding
 pub mod EventTable

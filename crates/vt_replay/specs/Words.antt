@@ -9,7 +9,7 @@ use Rattle.vt_trace.specs.Utf8.{trace_utf8, tracer_utf8, summary_utf8}
 use Rattle.vt_recording.specs.declared.format.TerminalType.{TerminalType}
 use Rattle.vt_recording.specs.declared.format.TerminalType.TheVariants.{Xterm}
 use Rattle.vt_cli.specs.declared.what.Word.{Word}
-use Rattle.vt_cli.specs.declared.what.Word.TheVariants.{Replay, Log, Pages, Trace, Summary, Events, Content}
+use Rattle.vt_cli.specs.declared.what.Word.TheVariants.{Replay, Animation, Log, Pages, Trace, Summary, Events, Content}
 use Rattle.vt_recording.specs.declared.fault.Fault.{Fault}
 use Rattle.vt_recording.specs.declared.format.Encoding.{Encoding}
 use Rattle.vt_recording.specs.declared.format.Encoding.TheVariants.{Dec, Utf8}
@@ -58,9 +58,10 @@ of_decoded encoding written ending = record {
   there = always;
 }
 
--- a row a word, for a terminal and in an encoding. The table of events is ready before it is written. A replay and a log play xterm; what content writes then is below
+-- a row a word, for a terminal and in an encoding. A picture that moves and the table of events are ready before they are written. A replay and a log play xterm; what content writes then is below
 abbrev pub due_of : Word → TerminalType → Encoding → Due
 due_of (Replay what) terminal encoding = replayed (language_of terminal encoding) what
+due_of (Animation looks) terminal encoding = of_decoded Dec all nothing
 due_of Log terminal encoding =
     let language = language_of terminal encoding in
     record { written = lines_in language; ending = screen_in language; there = always }

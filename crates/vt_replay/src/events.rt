@@ -195,7 +195,7 @@ fn push_listed(
 }
 
 /// Returns an event by its index.
-fn event_at(events: &[Event], i: usize) -> Event
+pub(crate) fn event_at(events: &[Event], i: usize) -> Event
     requires { i < length events.now }
     ensures { drop i events.now ≡ result ∷ drop (i + 1) events.now }
 {

@@ -77,6 +77,7 @@ fn named_for(word: Word, named: Option<TerminalType>) -> Option<TerminalType>
 {
     match word {
         Word::Replay(_) => named,
+        Word::Animation(_) => named,
         Word::Log => named,
         Word::Pages => named,
         Word::Trace => named,
@@ -140,6 +141,7 @@ pub(crate) fn opening(word: Word, host: Host) -> &'static [u8]
     }
     match word {
         Word::Replay(_) => widening(host.terminal),
+        Word::Animation(_) => b"",
         Word::Log => widening(host.terminal),
         Word::Pages => widening(host.terminal),
         Word::Trace => b"",

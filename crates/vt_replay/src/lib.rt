@@ -2,6 +2,7 @@
 //! re-exports the command line of the crate vt_cli.
 #![tactic(auto)]
 
+mod animated;
 mod blanks;
 mod characters;
 mod converting;
@@ -28,8 +29,8 @@ pub use output::{front_for, write_output_from};
 pub use pages::{PAGE_LIMIT, feed_pages, feed_pages_reserved};
 pub use requests::{Outcome, carry_out, format_of, lacks_times};
 pub use vt_cli::{
-    Encoding, Format, Moment, Refused, Request, Settings, TerminalType, What, Word, request,
-    settings,
+    CursorShape, Encoding, Format, Looks, Moment, Refused, Request, Settings, TerminalType, Theme,
+    What, Word, request, settings,
 };
 pub use vt_device::Watched;
 pub use vt_output::{Output, write_output};

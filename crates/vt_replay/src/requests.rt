@@ -4,9 +4,10 @@ ghost use Rattle.std.specs.Io.KnownBytes.{IsAtEnd};
 ghost use Rattle.vt_device.specs.Runs.{Moves};
 ghost use Rattle.vt_device.specs.Writing.{Gives};
 ghost use Rattle.vt_replay.specs.Words.{WordTable};
-ghost use Rattle.vt_replay.specs.Request.{asks_wide, is_streamed, lists_events, needs_whole, format_of, lacks_times, ended_of, IsStreamed, IsTakenBy, IsPrepared, IsPlayed, OutcomeTable};
+ghost use Rattle.vt_replay.specs.Request.{asks_wide, is_streamed, takes_whole, needs_whole, format_of, lacks_times, ended_of, IsStreamed, IsTakenBy, IsPrepared, IsPlayed, OutcomeTable};
 ghost use Rattle.vt_replay.specs.Host.{host_of, opening};
 
+use crate::animated::{animation_taken, title_of};
 use crate::characters::{write_summary, write_trace};
 use crate::converting::Converter;
 use crate::engine::run_from;
@@ -17,7 +18,7 @@ use crate::logging::write_log_from;
 use crate::outputs::{ContentOutput, PageOutput, write_word};
 use std::alloc::{AllocError, Global};
 use std::io::{Read, Write};
-use vt_cli::{Encoding, Format, Moment, Request, TerminalType, Word};
+use vt_cli::{Encoding, Format, Moment, Request, TerminalType, What, Word};
 use vt_device::{Source, Watched};
 use vt_output::write_by;
 use vt_recording::{
@@ -51,7 +52,7 @@ fn carry_out_word<S: Source, W: Write>(
         }
         Word::Trace => write_trace(alloc, reader, writer, encoding, piece, limit),
         Word::Summary => write_summary(alloc, reader, writer, encoding, piece, limit),
-        Word::Events => {
+        Word::Events | Word::Animation(_) => {
             write_word::<ContentOutput, S, W>(alloc, reader, writer, Encoding::Dec, piece, limit)
         }
         Word::Content => match host.terminal {
@@ -96,18 +97,18 @@ fn is_streamed(format: Format, until: Option<Moment>, wide: Option<bool>, whole:
     }
 }
 
-/// Returns whether a word lists the events of a recording, and plays nothing of it.
-fn lists_events(word: Word) -> bool
-    ensures { result ≡ lists_events word }
+/// Returns whether a word writes what is made of a whole recording.
+fn takes_whole(word: Word) -> bool
+    ensures { result ≡ takes_whole word }
 {
-    matches!(word, Word::Events)
+    matches!(word, Word::Events | Word::Animation(_))
 }
 
-/// Returns whether a request needs the whole input, since its word lists events or begins in the middle.
+/// Returns whether a request needs the whole input, since its word writes what is made of it or begins in the middle.
 fn needs_whole(request: &Request) -> bool
     ensures { result ≡ needs_whole request.now }
 {
-    lists_events(request.word) || request.from.is_some()
+    takes_whole(request.word) || request.from.is_some()
 }
 
 /// Returns how a request ends whose word ended so, on a recording that is broken there.
@@ -176,7 +177,7 @@ pub fn lacks_times(format: Format, timed: bool, until: Option<Moment>) -> bool
 /// 132. Then bytes that set DECCOLM are played first, except for trace and summary.
 ///
 /// If the format is raw, all of the input is wanted, and 132 columns weren't asked for, the word is carried out on the bytes as they come. Events
-/// are a table of the whole recording, which is written in the place of its content. Otherwise the
+/// are a table of the whole recording, and a picture that moves has a frame for each event of output. Both are written in the place of its content. Otherwise the
 /// input is read whole, and the word is carried out on its content between the moments. If the recording is broken, that is
 /// the fault, after what came before was played and written.
 pub fn carry_out<R: Read, W: Write>(
@@ -242,22 +243,30 @@ struct Prepared {
     replaced: u64,
 }
 
-/// Takes out of a recording what a request's word is for: the table of its events, or its content.
+/// Takes out of a recording what a request's word is for: the table of its events, a picture that moves, or its content.
 fn taken_for(
     alloc: Global,
     bytes: &[u8],
     timing: Option<&[u8]>,
     format: Format,
-    encoding: Encoding,
+    host: Host,
     request: &Request,
 ) -> Result<Taken, AllocError>
-    ensures { IfOk result (λ t. IsTakenBy (lists_events request.now.word) request.now.full format encoding request.now.from request.now.until (option_map (λ b. b.now) timing.entry) bytes.now t.content.items t.broken t.replaced) }
+    ensures { IfOk result (λ t. IsTakenBy request.now.word request.now format host (option_map (λ b. b.now) timing.entry) bytes.now t.content.items t.broken t.replaced) }
 {
     let (from, until) = (request.from, request.until);
-    if lists_events(request.word) {
-        events_taken(alloc, bytes, timing, format, request.full, from, until)
-    } else {
-        take_between(alloc, bytes, timing, format, encoding, from, until)
+    match request.word {
+        Word::Events => events_taken(alloc, bytes, timing, format, request.full, from, until),
+        Word::Animation(looks) => {
+            let first = opening(Word::Replay(What::Picture), host);
+            let title = title_of(&request.title);
+            animation_taken(
+                alloc, bytes, timing, format, host, first, looks, title, until,
+            )
+        }
+        Word::Replay(_) | Word::Log | Word::Pages | Word::Trace | Word::Summary | Word::Content => {
+            take_between(alloc, bytes, timing, format, host.encoding, from, until)
+        }
     }
 }
 
@@ -272,7 +281,7 @@ fn prepare(
     ensures { IfOk result (λ p. IsPrepared request.now format (option_map (λ t. t.now) timing.entry) bytes.now p.host p.bytes.items p.broken p.replaced) }
 {
     let host = host_for(request, format, heading_of(alloc, bytes, format)?);
-    let taken = taken_for(alloc, bytes, timing, format, host.encoding, request)?;
+    let taken = taken_for(alloc, bytes, timing, format, host, request)?;
     let broken = taken.broken;
     let replaced = taken.replaced;
     Ok(Prepared {

@@ -1,13 +1,13 @@
 //! The calls of vt_recording/src/reached.
 ghost use Rattle.promises.specs.v0_3.recording.Gathered.{events_of};
-ghost use Rattle.promises.specs.v0_3.recording.Reached.{has_characters, nothing_passed, passed};
+ghost use Rattle.promises.specs.v0_3.recording.Moment.{micros_of};
+ghost use Rattle.promises.specs.v0_3.recording.Reached.{has_characters, nothing_passed, passed, steps_in};
 ghost use Rattle.std.specs.Prelude.{IfOk, option_map, ◌≡◌};
 ghost use Rattle.vt_recording.specs.Reached.{IsTakenBetween};
 ghost use Rattle.vt_recording.specs.Timeline as timeline;
 
 use std::alloc::{AllocError, Global};
-use vt_recording::{Encoding, Format, Moment, Passed, Taken, Timeline};
-
+use vt_recording::{Encoding, Event, Format, Moment, Passed, Taken, Timeline};
 /// Promises what `vt_recording::passed_before` promises.
 pub fn passed_before(
     timeline: &Timeline,
@@ -20,6 +20,20 @@ pub fn passed_before(
         (events_of timeline.now.events.items timeline.now.text.items) }
 {
     vt_recording::passed_before(timeline, format, encoding, moment, through)
+}
+
+/// Promises what `vt_recording::steps_of` promises.
+pub fn steps_of(
+    alloc: Global,
+    timeline: &Timeline,
+    format: Format,
+    encoding: Encoding,
+    until: Option<Moment>,
+) -> Result<Vec<Event>, AllocError>
+    ensures { IfOk result (λ steps. steps.items ≡ steps_in (has_characters format encoding) (micros_of until)
+        (events_of timeline.now.events.items timeline.now.text.items)) }
+{
+    vt_recording::steps_of(alloc, timeline, format, encoding, until)
 }
 
 /// Promises what `vt_recording::take_between` promises.

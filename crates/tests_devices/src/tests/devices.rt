@@ -106,6 +106,7 @@ fn replayed(
         timing: None,
         from: None,
         until: None,
+        title: None,
         full: false,
         partial: false,
         quiet: false,

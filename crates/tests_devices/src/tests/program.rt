@@ -65,12 +65,7 @@ fn has_line(
 
 const FAULTS: &[(Fault, u8, &str, &str)] = &[
     (Fault::Memory, 1, "vt220: out of memory", ""),
-    (
-        Fault::NoTimes,
-        2,
-        "vt220: the input has no times; give the moment in bytes, as 4096b",
-        "",
-    ),
+    (Fault::NoTimes, 2, "vt220: the input has no times", ""),
     (Fault::Partial, 3, "vt220: input ends inside a sequence", ""),
     (Fault::Read, 4, "vt220: read failed", ""),
     (Fault::Write, 5, "vt220: write failed", ""),

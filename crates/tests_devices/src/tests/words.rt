@@ -46,6 +46,7 @@ fn carried_out(
         timing: None,
         from: asked.from,
         until: asked.until,
+        title: None,
         full: false,
         partial: false,
         quiet: false,

@@ -3,7 +3,8 @@ use super::common::{Failed, holds};
 use std::alloc::{AllocError, Global};
 use std::process::Abort;
 use vt_replay::{
-    Encoding, Format, Moment, Request, Settings, TerminalType, What, Word, request, settings,
+    CursorShape, Encoding, Format, Looks, Moment, Request, Settings, TerminalType, Theme, What,
+    Word, request, settings,
 };
 
 /// Returns the words of a line, cut at each space.
@@ -161,7 +162,7 @@ fn words_ask_for_a_log(rt: HostRuntime) {
 }
 
 /// The request that the options of a line make: the format (none for auto), the timing file, the moments, the encoding, the terminal,
-/// whether a table is full, whether what came before a break is enough, and whether the notes are left out.
+/// the title, whether a table is full, whether what came before a break is enough, and whether the notes are left out.
 #[derive(Clone, Copy)]
 struct Options {
     format: Option<Format>,
@@ -171,6 +172,7 @@ struct Options {
     encoding: Option<Encoding>,
     terminal: Option<TerminalType>,
     wide: Option<bool>,
+    title: Option<&'static str>,
     full: bool,
     partial: bool,
     quiet: bool,
@@ -185,6 +187,7 @@ const NONE: Options = Options {
     encoding: None,
     terminal: None,
     wide: None,
+    title: None,
     full: false,
     partial: false,
     quiet: false,
@@ -449,6 +452,56 @@ const FOR_TERMINALS: &[Asked] = &[
     ("vt220 content --terminal xterm a", Word::Content, XTERM),
 ];
 
+/// The looks of a picture that moves, if nothing else is asked for.
+const PLAIN: Looks = Looks {
+    theme: Theme::Dark,
+    cursor: CursorShape::Outline,
+};
+
+/// Lines that ask for a picture that moves.
+const MOVING: &[Asked] = &[
+    (
+        "vt220 picture --format auto --animate a",
+        Word::Animation(PLAIN),
+        AUTO,
+    ),
+    (
+        "vt220 picture --animate --format ttyrec --theme green --cursor block",
+        Word::Animation(Looks {
+            theme: Theme::Green,
+            cursor: CursorShape::Block,
+        }),
+        TTYREC,
+    ),
+    (
+        "vt220 picture --theme=amber --animate --format ttyrec --title a<b",
+        Word::Animation(Looks {
+            theme: Theme::Amber,
+            ..PLAIN
+        }),
+        Options {
+            title: Some("a<b"),
+            ..TTYREC
+        },
+    ),
+    (
+        "vt220 picture --theme light --cursor hidden --animate --format ttyrec",
+        Word::Animation(Looks {
+            theme: Theme::Light,
+            cursor: CursorShape::Hidden,
+        }),
+        TTYREC,
+    ),
+    (
+        "vt220 picture --theme dark --cursor underline --animate --format ttyrec",
+        Word::Animation(Looks {
+            cursor: CursorShape::Underline,
+            ..PLAIN
+        }),
+        TTYREC,
+    ),
+];
+
 /// Returns whether a request asks for a recording as these options do.
 fn is_recorded(found: &Request, options: &Options) -> bool {
     found.format == options.format
@@ -462,6 +515,7 @@ fn is_played(found: &Request, options: &Options) -> bool {
     found.encoding == options.encoding
         && found.terminal == options.terminal
         && found.wide == options.wide
+        && is_name(&found.title, &options.title)
         && found.full == options.full
         && found.partial == options.partial
         && found.quiet == options.quiet
@@ -491,6 +545,13 @@ fn words_ask_for_recordings(rt: HostRuntime) {
     for row in RECORDED {
         holds(&rt, row.0, is_refused(rt.alloc(), row.0, 2, NO_SETTINGS));
     }
+}
+
+#[test]
+fn words_ask_for_pictures_that_move(rt: HostRuntime) {
+    all_have_options(&rt, rt.alloc(), MOVING);
+    let line = "vt220 picture --animate --format auto";
+    holds(&rt, line, is_refused(rt.alloc(), line, 2, NO_SETTINGS));
 }
 
 #[test]
@@ -572,6 +633,38 @@ const MISFITS: [(&str, &str); 33] = [
     ("vt220 summary --terminal xterm --encoding utf-8", NO_XTERM),
 ];
 
+/// Lines whose options of a picture that moves don't fit, and what is said of them.
+const STILL: &[(&str, &str)] = &[
+    ("vt220 show --animate --format ttyrec", ONLY_PICTURE),
+    ("vt220 text --animate", ONLY_PICTURE),
+    ("vt220 picture --theme green", ONLY_MOVING),
+    ("vt220 text --cursor block", ONLY_MOVING),
+    ("vt220 picture --title a", ONLY_MOVING),
+    ("vt220 picture --animate", NO_STEPS),
+    ("vt220 picture --animate --format script a", NO_STEPS),
+    ("vt220 picture --animate --format raw", NO_STEPS),
+    (
+        "vt220 picture --animate --format ttyrec --theme blue",
+        NO_THEME,
+    ),
+    (
+        "vt220 picture --animate --format ttyrec --cursor bar",
+        NO_SHAPE,
+    ),
+];
+
+const ONLY_PICTURE: &str = "vt220: --animate goes with picture alone\n";
+
+const ONLY_MOVING: &str = "vt220: --theme, --cursor and --title go with picture --animate alone\n";
+
+const NO_STEPS: &str =
+    "vt220: the input has no times, and --animate needs them; give script its --timing FILE\n\
+     vt220: a recording by ttyrec or asciinema has times: add --format ttyrec, asciicast or auto\n";
+
+const NO_THEME: &str = "vt220: --theme is dark, light, green or amber\n";
+
+const NO_SHAPE: &str = "vt220: --cursor is outline, block, underline or hidden\n";
+
 const NO_TERMINAL: &str = "vt220: --terminal is vt220, xterm or auto\n";
 
 const NO_COLUMNS: &str = "vt220: --columns is 80, 132 or auto\n";
@@ -593,6 +686,9 @@ const NO_TIMES: &str =
 #[test]
 fn options_that_do_not_fit_are_refused(rt: HostRuntime) {
     for (line, text) in &MISFITS {
+        holds(&rt, line, has_no_request(rt.alloc(), line, 2, text));
+    }
+    for (line, text) in STILL {
         holds(&rt, line, has_no_request(rt.alloc(), line, 2, text));
     }
 }

@@ -292,6 +292,7 @@ fn request_is_refused(alloc: Global, input: &[u8], word: Word, what: What) -> Re
             timing: None,
             from: None,
             until: None,
+            title: None,
             full: false,
             partial: false,
             quiet: false,

@@ -1,15 +1,12 @@
 -- 0.3: vt_cli/specs/Request is today's.
-use Rattle.clap.specs.Words.{first_of, Kinds, Row, Text}
+use Rattle.clap.specs.Words.{Kinds, Row, Text}
 use Rattle.promises.specs.v0_3.cli.Request as frozen
 use Rattle.std.proofs.Common.{refl, ◌≡◌}
-use Rattle.std.specs.Option.{option_map}
-use Rattle.std.specs.Prelude.{[], codes, List, Ok, Option, Some, string_bytes, ℕ, ◌++◌, ◌∷◌, ◌≡◌, ◌≤◌}
+use Rattle.std.specs.Prelude.{List, Option, ℕ, ◌≡◌}
 use Rattle.std.specs.declared.alloc.Global.{Global}
 use Rattle.std.specs.declared.string.String.{String}
-use Rattle.vt_cli.specs.CommandLine.{faults_in, found_in, is_set, IsNumberOf, word_name}
 use Rattle.vt_cli.specs.Request as today
-use Rattle.vt_cli.specs.Request.{AreOptions, HasNoRequest, IsFound}
-use Rattle.vt_cli.specs.Source.{source_in}
+use Rattle.vt_cli.specs.Request.{AreOptions, HasNoRequest, IsFound, word_looks}
 use Rattle.vt_cli.specs.declared.asked.Refused.{Refused}
 use Rattle.vt_cli.specs.declared.asked.Request.{Request}
 
@@ -31,6 +28,9 @@ AreOptions-read matches piece limit file ρ = record {
   file_is = ρ.file_is;
 }
 
+pub word_looks-same : frozen.word_looks ≡ today.word_looks
+word_looks-same = refl
+
 pub IsFound-made : (found : Option (Text × List Row)) (r : Request) → frozen.IsFound' found r → today.IsFound found r
 IsFound-made found r ρ = record {
   matches = ρ.matches;
@@ -38,6 +38,7 @@ IsFound-made found r ρ = record {
   options = ρ.options;
   source = ρ.source;
   timing = ρ.timing;
+  title = ρ.title;
   full = ρ.full;
   partial = ρ.partial;
   quiet = ρ.quiet;
@@ -50,6 +51,7 @@ IsFound-read found r ρ = record {
   options = ρ.options;
   source = ρ.source;
   timing = ρ.timing;
+  title = ρ.title;
   full = ρ.full;
   partial = ρ.partial;
   quiet = ρ.quiet;

@@ -17,3 +17,9 @@ takes_start-same = refl
 
 pub plays_xterm-same : frozen.plays_xterm ≡ today.plays_xterm
 plays_xterm-same = refl
+
+pub may_move-same : frozen.may_move ≡ today.may_move
+may_move-same = refl
+
+pub lacks_steps-same : frozen.lacks_steps ≡ today.lacks_steps
+lacks_steps-same = refl

@@ -3,10 +3,10 @@ use Rattle.promises.proofs.v0_3.recording.Taken.{IsTaken-same}
 use Rattle.promises.proofs.v0_3.recording.Timeline.{IsTimelineOf-same}
 use Rattle.promises.specs.v0_3.recording.Reached as frozen
 use Rattle.std.proofs.Common.{refl, ◌≡◌}
-use Rattle.std.specs.Prelude.{[], Bool, cond, drop, false, List, None, Option, Some, true, ℕ, ◌∷◌, ◌≡◌}
+use Rattle.std.specs.Prelude.{[], Bool, cond, false, List, None, Option, Some, true, ℕ, ◌∷◌, ◌≡◌}
 use Rattle.vt_recording.specs.Reached as today
 use Rattle.vt_recording.specs.Reached.{has_characters, is_reached, IsAmong, nothing_passed, with_event}
-use Rattle.vt_recording.specs.Timeline.{Event, Timeline}
+use Rattle.vt_recording.specs.Timeline.{Event}
 use Rattle.vt_recording.specs.declared.format.Break.{Break}
 use Rattle.vt_recording.specs.declared.format.Encoding.{Encoding}
 use Rattle.vt_recording.specs.declared.format.Format.{Format}
@@ -25,6 +25,15 @@ length_of-same = refl
 
 pub played-same : frozen.played ≡ today.played
 played-same = refl
+
+pub step_of-same : frozen.step_of ≡ today.step_of
+step_of-same = refl
+
+pub step_in-same : frozen.step_in ≡ today.step_in
+step_in-same = refl
+
+pub steps_in-same : frozen.steps_in ≡ today.steps_in
+steps_in-same = refl
 
 pub is_marker-same : frozen.is_marker ≡ today.is_marker
 is_marker-same = refl

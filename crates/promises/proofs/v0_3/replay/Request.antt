@@ -8,11 +8,10 @@ use Rattle.std.specs.Prelude.{Bool, false, List, None, Option, Some, ℕ, ◌≡
 use Rattle.vt_cli.specs.declared.asked.Request.{Request}
 use Rattle.vt_device.specs.Runs.{Flags}
 use Rattle.vt_recording.specs.declared.format.Break.{Break}
-use Rattle.vt_recording.specs.declared.format.Format.TheVariants as format
 use Rattle.vt_recording.specs.declared.format.Format.{Format}
 use Rattle.vt_replay.specs.Host.{plain_host}
 use Rattle.vt_replay.specs.Request as today
-use Rattle.vt_replay.specs.Request.{shown_format}
+use Rattle.vt_replay.specs.Request.{ended_of, IsPlayed, IsPrepared, IsTakenBy, shown_format}
 use Rattle.vt_replay.specs.declared.host.Host.{Host}
 use Rattle.vt_replay.specs.declared.requests.Outcome.{Outcome}
 
@@ -22,8 +21,8 @@ asks_wide-same = refl
 pub is_streamed-same : frozen.is_streamed ≡ today.is_streamed
 is_streamed-same = refl
 
-pub lists_events-same : frozen.lists_events ≡ today.lists_events
-lists_events-same = refl
+pub takes_whole-same : frozen.takes_whole ≡ today.takes_whole
+takes_whole-same = refl
 
 pub needs_whole-same : frozen.needs_whole ≡ today.needs_whole
 needs_whole-same = refl

@@ -10,7 +10,7 @@ use Rattle.promises.proofs.v0_3.trace.Utf8.{summary_utf8-same, trace_utf8-same, 
 use Rattle.promises.specs.v0_3.replay.Words as frozen
 use Rattle.std.proofs.Common.{◌≡◌}
 use Rattle.std.specs.Prelude.{[], List, Result, ℕ}
-use Rattle.vt_cli.specs.declared.what.Word.TheVariants.{Content, Events, Log, Pages, Replay, Summary, Trace}
+use Rattle.vt_cli.specs.declared.what.Word.TheVariants.{Animation, Content, Events, Log, Pages, Replay, Summary, Trace}
 use Rattle.vt_cli.specs.declared.what.Word.{Word}
 use Rattle.vt_device.specs.Runs.{Flags}
 use Rattle.vt_output.specs.Output.{all, always, nothing, OutputTable}
@@ -63,6 +63,7 @@ of_decoded-same = λ ι encoding written ending. record {
 
 pub due_of-at : (x0 : Word) (x1 : TerminalType) (x2 : Encoding) → frozen.due_of x0 x1 x2 ≡ today.due_of x0 x1 x2
 due_of-at (Replay what) terminal encoding = λ ι. (replayed-same ι) (language_of terminal encoding) what
+due_of-at (Animation looks) terminal encoding = λ ι. (of_decoded-same ι) Dec all nothing
 due_of-at Log terminal encoding = λ ι.
     let language = language_of terminal encoding in
     record { written = (lines_in-same ι) language; ending = (screen_in-same ι) language; there = always }

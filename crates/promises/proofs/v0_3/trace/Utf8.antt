@@ -7,7 +7,7 @@ use Rattle.promises.proofs.v0_3.utf8.Play.{play_utf8-same}
 use Rattle.promises.proofs.v0_3.utf8.Translation.{translation-same}
 use Rattle.promises.specs.v0_3.trace.Utf8 as frozen
 use Rattle.std.proofs.Common.{refl, ◌≡◌}
-use Rattle.std.specs.Prelude.{[], false, if◌then◌else◌, length, List, map, nat_lt, None, Option, Some, ℕ, ◌++◌, ◌+◌}
+use Rattle.std.specs.Prelude.{[], false, if◌then◌else◌, length, List, map, nat_lt, None, Option, Some, ℕ, ◌++◌}
 use Rattle.std.specs.Prelude.{◌==◌, ◌∷◌}
 use Rattle.vt_term.specs.State.{State}
 use Rattle.vt_trace.specs.Utf8 as today

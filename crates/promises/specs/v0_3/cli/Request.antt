@@ -2,7 +2,7 @@
 use Rattle.clap.specs.Words.{first_of, Kinds, Row, Text}
 use Rattle.promises.specs.v0_3.cli.CommandLine.{faults_in, found_in, is_set, word_name}
 use Rattle.std.specs.Option.{option_map}
-use Rattle.std.specs.Prelude.{[], codes, List, Ok, Option, Some, string_bytes, ℕ, ◌++◌, ◌∷◌, ◌≡◌, ◌≤◌, ◌⊎◌}
+use Rattle.std.specs.Prelude.{[], codes, List, None, Ok, Option, Some, string_bytes, ℕ, ◌++◌, ◌∷◌, ◌≡◌, ◌≤◌, ◌⊎◌}
 use Rattle.std.specs.declared.alloc.Global.{Global}
 use Rattle.std.specs.declared.string.String.{String}
 use Rattle.vt_cli.specs.CommandLine.{IsFault, IsMemory, IsNumberOf}
@@ -10,6 +10,9 @@ use Rattle.vt_cli.specs.Request.{AreOptions, IsFound, IsMisfit, IsStrayRequest}
 use Rattle.vt_cli.specs.Source.{source_in}
 use Rattle.vt_cli.specs.declared.asked.Refused.{Refused}
 use Rattle.vt_cli.specs.declared.asked.Request.{Request}
+use Rattle.vt_cli.specs.declared.what.Looks.{Looks}
+use Rattle.vt_cli.specs.declared.what.Word.TheVariants.{Animation}
+use Rattle.vt_cli.specs.declared.what.Word.{Word}
 
 -- the numbers and the file of a subcommand's matches
 pub record AreOptions' (matches : List Row) (piece limit : ℕ) (file : Option (String Global)) : Type 0 where
@@ -19,13 +22,19 @@ pub record AreOptions' (matches : List Row) (piece limit : ℕ) (file : Option (
   pub limit_in_range : limit ≤ 1099511627776
   pub file_is : option_map (λ f. string_bytes f) file ≡ first_of (codes "file") matches
 
+-- the looks of a picture that moves
+abbrev pub word_looks : Word → Option Looks
+word_looks (Animation looks) = Some looks
+word_looks word = None
+
 -- r is what the subcommand that clap found, and its matches, ask for
 pub record IsFound' (found : Option (Text × List Row)) (r : Request) : Type 0 where
   pub matches : List Row
   pub word : found ≡ Some (word_name r.word, matches)
   pub options : AreOptions matches r.piece r.limit r.file
-  pub source : source_in (word_name r.word) matches ≡ Ok (record { format = r.format; from = r.from; until = r.until; encoding = r.encoding; terminal = r.terminal; wide = r.wide })
+  pub source : source_in (word_name r.word) matches ≡ Ok (record { format = r.format; from = r.from; until = r.until; encoding = r.encoding; terminal = r.terminal; wide = r.wide; looks = word_looks r.word })
   pub timing : option_map (λ f. string_bytes f) r.timing ≡ first_of (codes "timing") matches
+  pub title : option_map (λ t. string_bytes t) r.title ≡ first_of (codes "title") matches
   pub full : r.full ≡ is_set (codes "full") matches
   pub partial : r.partial ≡ is_set (codes "partial") matches
   pub quiet : r.quiet ≡ is_set (codes "quiet") matches

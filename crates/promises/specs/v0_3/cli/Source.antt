@@ -1,6 +1,7 @@
 -- 0.3: vt_cli/specs/Source.
 use Rattle.clap.specs.Words.{Text}
-use Rattle.std.specs.Prelude.{Bool, bytes_eq, codes, false, None, not, Option, Some, true, ◌&&◌, ◌||◌}
+use Rattle.std.specs.Prelude.{Bool, bytes_eq, codes, false, is_some, None, not, Option, Some, true, ◌&&◌, ◌||◌}
+use Rattle.vt_cli.specs.declared.what.Looks.{Looks}
 use Rattle.vt_recording.specs.declared.format.Format.TheVariants.{Asciicast, Raw, Script, Ttyrec}
 use Rattle.vt_recording.specs.declared.format.Format.{Format}
 use Rattle.vt_recording.specs.declared.format.Moment.TheVariants.{Bytes, Event, Marker, Micros}
@@ -38,3 +39,11 @@ abbrev pub plays_xterm : Text → Bool
 plays_xterm command =
     not (bytes_eq command (codes "pages"))
     && (not (bytes_eq command (codes "trace")) && not (bytes_eq command (codes "summary")))
+
+-- the command of this name writes a picture that may move
+abbrev pub may_move : Text → Bool
+may_move command = bytes_eq command (codes "picture")
+
+-- a picture that moves has a step for each time
+abbrev pub lacks_steps : Option Format → (timed : Bool) → Option Looks → Bool
+lacks_steps format timed looks = is_some looks && not (has_times format timed)

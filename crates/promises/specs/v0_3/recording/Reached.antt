@@ -1,7 +1,7 @@
 -- 0.3: vt_recording/specs/Reached.
 use Rattle.promises.specs.v0_3.recording.Taken.{IsTaken}
-use Rattle.promises.specs.v0_3.recording.Timeline.{is_output, IsTimelineOf}
-use Rattle.std.specs.List.{filter}
+use Rattle.promises.specs.v0_3.recording.Timeline.{is_heard, is_output, IsTimelineOf}
+use Rattle.std.specs.List.{filter, flat_map}
 use Rattle.std.specs.Prelude.{[], Bool, cond, drop, false, length, List, nat_le, nat_lt, None, not, Option, Some}
 use Rattle.std.specs.Prelude.{true, ℕ, ◌&&◌, ◌+◌, ◌∷◌, ◌≡◌}
 use Rattle.vt_recording.specs.Reached.{IsAmong}
@@ -14,6 +14,7 @@ use Rattle.vt_recording.specs.declared.format.Format.{Format}
 use Rattle.vt_recording.specs.declared.format.Moment.TheVariants as moment
 use Rattle.vt_recording.specs.declared.format.Moment.{Moment}
 use Rattle.vt_recording.specs.declared.reached.Passed.{Passed}
+use Rattle.vt_recording.specs.declared.timeline.Event as declared
 use Rattle.vt_recording.specs.declared.timeline.EventKind.TheVariants as kind
 use Rattle.vt_recording.specs.declared.timeline.EventKind.{EventKind}
 
@@ -32,6 +33,17 @@ length_of false text = length text
 
 abbrev pub played : (characters : Bool) → Event → ℕ
 played characters e = cond (is_output e.kind) (length_of characters e.text) 0
+
+-- an event with the number of its bytes in the content
+abbrev pub step_of : (characters : Bool) → Event → declared.Event
+step_of characters e = record { micros = e.micros; kind = kind.Output; length = length_of characters e.text }
+
+abbrev pub step_in : (characters : Bool) → (until : Option ℕ) → Event → List declared.Event
+step_in characters until e = cond (is_heard until e) (step_of characters e ∷ []) []
+
+-- a step for each event of output that isn't later
+abbrev pub steps_in : (characters : Bool) → (until : Option ℕ) → List Event → List declared.Event
+steps_in characters until events = flat_map (λ e. step_in characters until e) events
 
 abbrev pub is_marker : EventKind → Bool
 is_marker kind.Output = false

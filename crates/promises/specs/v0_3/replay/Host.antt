@@ -2,7 +2,8 @@
 use Rattle.promises.specs.v0_3.recording.Heading.{heading_of}
 use Rattle.std.specs.Prelude.{[], Bool, codes, cond, false, List, nat_eq, None, Option, Some, unwrap_or, ℕ, ◌++◌, ◌∷◌}
 use Rattle.vt_cli.specs.declared.asked.Request.{Request}
-use Rattle.vt_cli.specs.declared.what.Word.TheVariants.{Content, Events, Log, Pages, Replay, Summary, Trace}
+use Rattle.vt_cli.specs.declared.what.Word.TheVariants.{Animation, Content, Events, Log, Pages, Replay, Summary}
+use Rattle.vt_cli.specs.declared.what.Word.TheVariants.{Trace}
 use Rattle.vt_cli.specs.declared.what.Word.{Word}
 use Rattle.vt_recording.specs.declared.format.Encoding.TheVariants.{Dec, Utf8}
 use Rattle.vt_recording.specs.declared.format.Encoding.{Encoding}
@@ -41,6 +42,7 @@ wide_for None None = false
 -- whether the terminal that the recording names decides: events and content are what the host sent, for whatever terminal that is
 abbrev pub named_for : Word → (named : Option TerminalType) → Option TerminalType
 named_for (Replay what) named = named
+named_for (Animation looks) named = named
 named_for Log named = named
 named_for Pages named = named
 named_for Trace named = named
@@ -74,9 +76,11 @@ abbrev pub widening_shown : TerminalType → List ℕ
 widening_shown Vt220 = []
 widening_shown Xterm = widening Xterm
 
--- the bytes that are played before those of a recording. A trace and a summary are of what the host sent alone
+-- the bytes that are played before those of a recording. A trace and a summary are of what the host sent alone. A picture that
+-- moves is ready before it is written
 abbrev pub opening : Word → Host → List ℕ
 opening (Replay what) host = cond host.wide (widening host.terminal) []
+opening (Animation looks) host = []
 opening Log host = cond host.wide (widening host.terminal) []
 opening Pages host = cond host.wide (widening host.terminal) []
 opening Trace host = []

@@ -3,11 +3,14 @@ use Rattle.promises.specs.v0_3.recording.Detection.{detected}
 use Rattle.promises.specs.v0_3.recording.Reading.{ReadTable}
 use Rattle.promises.specs.v0_3.replay.EventTable.{IsTableTaken}
 use Rattle.promises.specs.v0_3.replay.Host.{host_of, opening, plain_host}
+use Rattle.promises.specs.v0_3.replay.Playing.{language_of}
 use Rattle.promises.specs.v0_3.replay.Words.{WordTable}
 use Rattle.std.specs.Prelude.{[], Bool, Err, false, is_some, length, List, None, not, Ok, Option, Result, Some, true}
 use Rattle.std.specs.Prelude.{ℕ, ◌&&◌, ◌++◌, ◌||◌, ◌≡◌, ◌≤◌, ◌⊎◌}
 use Rattle.vt_cli.specs.declared.asked.Request.{Request}
-use Rattle.vt_cli.specs.declared.what.Word.TheVariants.{Content, Events, Log, Pages, Replay, Summary, Trace}
+use Rattle.vt_cli.specs.declared.what.What.TheVariants.{Picture}
+use Rattle.vt_cli.specs.declared.what.Word.TheVariants.{Animation, Content, Events, Log, Pages, Replay, Summary}
+use Rattle.vt_cli.specs.declared.what.Word.TheVariants.{Trace}
 use Rattle.vt_cli.specs.declared.what.Word.{Word}
 use Rattle.vt_device.specs.Runs.{Flags}
 use Rattle.vt_recording.specs.Reached.{IsTakenBetween}
@@ -16,11 +19,11 @@ use Rattle.vt_recording.specs.declared.detection.Detected.{Detected}
 use Rattle.vt_recording.specs.declared.fault.Fault.TheVariants as fault
 use Rattle.vt_recording.specs.declared.fault.Fault.{Fault}
 use Rattle.vt_recording.specs.declared.format.Break.{Break}
-use Rattle.vt_recording.specs.declared.format.Encoding.{Encoding}
 use Rattle.vt_recording.specs.declared.format.Format.TheVariants as format
 use Rattle.vt_recording.specs.declared.format.Format.{Format}
 use Rattle.vt_recording.specs.declared.format.Moment.TheVariants.{Bytes, Event, Marker, Micros}
 use Rattle.vt_recording.specs.declared.format.Moment.{Moment}
+use Rattle.vt_replay.specs.Animated.{IsAnimation, title_of}
 use Rattle.vt_replay.specs.Request.{IsPlayed, IsPrepared, IsStreamed, IsTakenApart, IsUnread}
 use Rattle.vt_replay.specs.declared.host.Host.{Host}
 use Rattle.vt_replay.specs.declared.requests.Outcome.{Outcome}
@@ -39,19 +42,20 @@ is_streamed format.Script until wide whole = false
 is_streamed format.Ttyrec until wide whole = false
 is_streamed format.Asciicast until wide whole = false
 
--- the word lists the events of a recording, and plays nothing of it
-abbrev pub lists_events : Word → Bool
-lists_events (Replay what) = false
-lists_events Log = false
-lists_events Pages = false
-lists_events Trace = false
-lists_events Summary = false
-lists_events Events = true
-lists_events Content = false
+-- the word writes what is made of a whole recording: the table of its events, or a picture that moves
+abbrev pub takes_whole : Word → Bool
+takes_whole (Replay what) = false
+takes_whole (Animation looks) = true
+takes_whole Log = false
+takes_whole Pages = false
+takes_whole Trace = false
+takes_whole Summary = false
+takes_whole Events = true
+takes_whole Content = false
 
--- the word needs the whole input: it lists events, or begins in the middle
+-- the word needs the whole input: it writes what is made of it, or begins in the middle
 abbrev pub needs_whole : Request → Bool
-needs_whole r = lists_events r.word || is_some r.from
+needs_whole r = takes_whole r.word || is_some r.from
 
 -- how a request ends: a fault of the word comes first, then that the recording is broken
 abbrev pub ended_of : (broken : Option Break) → Result (Unit {0}) Fault → Result (Unit {0}) Fault
@@ -78,20 +82,23 @@ pub record IsPlayed' (o : Outcome) (r : Request) (host : Host) (content : List �
   pub ended : o.ended ≡ ended_of broken played
   pub replaces : o.replaced ≡ replaced
 
--- what is taken out of a recording for a word: the table of its events, or its content
-abbrev pub IsTakenBy : (events full : Bool) → Format → Encoding → (from until : Option Moment) → (timing : Option (List ℕ)) → (bytes content : List ℕ)
+-- what is taken out of a recording for a word: the table of its events, a picture that moves, or its content
+abbrev pub IsTakenBy : Word → Request → Format → Host → (timing : Option (List ℕ)) → (bytes content : List ℕ)
     → (broken : Option Break) → (replaced : ℕ) → Type 0
-IsTakenBy true full format encoding from until timing bytes content broken replaced =
-    IsTableTaken format full from until timing bytes content broken replaced
-IsTakenBy false full format encoding from until timing bytes content broken replaced =
-    IsTakenBetween format encoding from until timing bytes content broken replaced
+IsTakenBy Events r format host timing bytes content broken replaced =
+    IsTableTaken format r.full r.from r.until timing bytes content broken replaced
+IsTakenBy (Animation looks) r format host timing bytes content broken replaced =
+    IsAnimation looks (title_of r.title) (opening (Replay Picture) host) (language_of host.terminal host.encoding) format host.encoding r.until
+    timing bytes content broken replaced
+IsTakenBy word r format host timing bytes content broken replaced =
+    IsTakenBetween format host.encoding r.from r.until timing bytes content broken replaced
 
 -- what is played of a recording: the opening and the content
 pub record IsPrepared' (r : Request) (format : Format) (timing : Option (List ℕ)) (b : List ℕ) (host : Host) (bytes : List ℕ)
     (broken : Option Break) (replaced : ℕ) : Type 0 where
   pub host_is : host ≡ host_of r format b
   pub content : List ℕ
-  pub taken : IsTakenBy (lists_events r.word) r.full format host.encoding r.from r.until timing b content broken replaced
+  pub taken : IsTakenBy r.word r format host timing b content broken replaced
   pub joined : bytes ≡ opening r.word host ++ content
 
 -- the input was read whole and taken apart, and the word was carried out on what is played of it

@@ -10,7 +10,7 @@ use Rattle.promises.specs.v0_3.trace.Summary.{summary}
 use Rattle.promises.specs.v0_3.trace.Trace.{end_lines, trace, tracer_all, tracer_at_start}
 use Rattle.promises.specs.v0_3.trace.Utf8.{summary_utf8, trace_utf8, tracer_utf8}
 use Rattle.std.specs.Prelude.{[], List, Result, ℕ}
-use Rattle.vt_cli.specs.declared.what.Word.TheVariants.{Content, Events, Log, Pages, Replay, Summary, Trace}
+use Rattle.vt_cli.specs.declared.what.Word.TheVariants.{Animation, Content, Events, Log, Pages, Replay, Summary, Trace}
 use Rattle.vt_cli.specs.declared.what.Word.{Word}
 use Rattle.vt_device.specs.Runs.{Flags}
 use Rattle.vt_recording.specs.declared.fault.Fault.{Fault}
@@ -51,9 +51,10 @@ of_decoded encoding written ending = record {
   there = always;
 }
 
--- a row a word, for a terminal and in an encoding. The table of events is ready before it is written. A replay and a log play xterm; what content writes then is below
+-- a row a word, for a terminal and in an encoding. A picture that moves and the table of events are ready before they are written. A replay and a log play xterm; what content writes then is below
 abbrev pub due_of : Word → TerminalType → Encoding → Due
 due_of (Replay what) terminal encoding = replayed (language_of terminal encoding) what
+due_of (Animation looks) terminal encoding = of_decoded Dec all nothing
 due_of Log terminal encoding =
     let language = language_of terminal encoding in
     record { written = lines_in language; ending = screen_in language; there = always }

@@ -1,10 +1,8 @@
 -- The table of the events of marks, at one of them.
-use Rattle.std.proofs.Common.{◌≡◌, ◌+◌, ◌-◌, ◌≤◌, ◌++◌, ◌∷◌, ◌∙◌, [], ℕ, List, length, take, drop, min, Bool, true, false, Option, refl, sym, ap, arith, append-nil, append_assoc, length-drop, nat_le}
-use Rattle.std.proofs.lemmas.List.{drop_all, drop-drop, take_all, length-take}
-use Rattle.std.proofs.lemmas.Bool.Decides.{nat_tests}
+use Rattle.std.proofs.Common.{◌≡◌, ◌+◌, ◌-◌, ◌≤◌, ◌++◌, ◌∷◌, ◌∙◌, ℕ, List, length, take, drop, min, Bool, Option, refl, sym, ap, arith, append-nil, append_assoc}
+use Rattle.std.proofs.lemmas.List.{drop_all}
 use Rattle.vt_recording.specs.declared.format.Moment.{Moment}
 use Rattle.vt_recording.specs.declared.timeline.Event.{Event}
-use Rattle.vt_recording.specs.Timeline as timeline
 use Rattle.vt_recording.specs.Gathered.{events_of}
 use Rattle.vt_recording.proofs.Marks.{event, front, rest}
 use Rattle.vt_replay.specs.EventTable.{is_asked, listed, place_then, table}

@@ -17,7 +17,7 @@ use Rattle.vt_glyph.specs.Invocation.{has_no_glyph}
 use Rattle.vt_term.specs.Functions.{Function, FunctionTable, no_function, function_in, controls, plain_escapes, space_escapes}
 use Rattle.vt_term.specs.Functions.{number_sign_escapes, set_name, designation, escape_tables, escape_function}
 use Rattle.vt_term.specs.Functions.{marker_tables, intermediate_tables, sequences_of}
-use Rattle.vt_term.specs.Names.{name_with, name_of, control_name, plain_escape_name, escape_with_name, sequence_name}
+use Rattle.vt_term.specs.Names.{name_with, name_of, control_name, plain_escape_name, escape_with_name, sequence_name_on}
 use Rattle.vt_term.proofs.Tables.{AllRows, looked_up-holds}
 use Rattle.vt_trace.specs.Names.{names, numbered}
 use Rattle.vt_trace.specs.Skipped.{all_kinds}
@@ -132,7 +132,7 @@ both_true false b h = absurd cc
 
 -- a function of these values has one of all names
 abbrev IsNamed : List ℕ → ℕ → Function → Type 0
-IsNamed values key f = f.takes values ≡ true → is_one f.name ≡ true
+IsNamed values key f = f.takes 24 values ≡ true → is_one f.name ≡ true
 
 abbrev are_ones : FunctionTable → Bool
 are_ones table = list_all (λ row. is_one row.1.name) table
@@ -196,9 +196,9 @@ tables_one None (Some inter) =
 tables_one (Some marker) (Some inter) = refl
 
 -- the name of a function that takes the values
-named_one : (values : List ℕ) (f : Function) (name : List ℕ) → (f.takes values ≡ true → is_one f.name ≡ true)
-    → name_with values f ≡ Some name → is_one name ≡ true
-named_one values f name one h = go (f.takes values) one h
+named_one : (values : List ℕ) (f : Function) (name : List ℕ) → (f.takes 24 values ≡ true → is_one f.name ≡ true)
+    → name_with 24 values f ≡ Some name → is_one name ≡ true
+named_one values f name one h = go (f.takes 24 values) one h
   where
     go : (t : Bool) → (t ≡ true → is_one f.name ≡ true) → (if t then Some f.name else None) ≡ Some name
         → is_one name ≡ true
@@ -211,7 +211,7 @@ print_one false name h = let same : codes "text" ≡ name = cc in ap is_one (sym
 
 -- each name of an event is one of all names
 name_is_one : (event : Event) (name : List ℕ) → name_of event ≡ Some name → is_one name ≡ true
-unfolding control_name plain_escape_name escape_with_name sequence_name
+unfolding control_name plain_escape_name escape_with_name sequence_name_on
 name_is_one (Print b) name h = print_one (has_no_glyph b) name h
 name_is_one (Control b) name h =
     named_one (0 ∷ []) (function_in controls b) name (table_named (0 ∷ []) controls refl b) h

@@ -15,6 +15,7 @@ use Rattle.vt_glyph.specs.Invocation.{designated, has_no_glyph, glyph_read, afte
 use Rattle.vt_screen.specs.declared.cell.Rendition.{Rendition}
 use Rattle.vt_screen.specs.Same.{same_bool}
 use Rattle.vt_term.specs.declared.state.Modes.{Modes}
+use Rattle.vt_screen.specs.Sizes.{vt220_size}
 use Rattle.vt_term.specs.State.{Display, display_at_power_up, has_stop_at}
 use Rattle.vt_term.specs.Sound.{IsSoundDisplay}
 use Rattle.vt_term.specs.Parameters.{first, second}
@@ -28,12 +29,12 @@ use Rattle.vt_term.specs.Tabs.{clear_tabs, no_stops}
 use Rattle.vt_term.specs.Writing.{print, write_if_read}
 use Rattle.vt_term.specs.Answers.{Reports, silent, primary_reports, secondary_reports, status_reports, private_reports}
 use Rattle.vt_term.specs.Functions.{Function, FunctionTable, no_function, function_in, numbers_of, changing, selected, paired}
-use Rattle.vt_term.specs.Functions.{of_first, of_any, of_pair, erasing, reporting, modal, designate_to, designation}
+use Rattle.vt_term.specs.Functions.{of_first, of_any, of_pair, of_margins, erasing, reporting, modal, designate_to, designation}
 use Rattle.vt_term.specs.Functions.{controls, control, plain_escapes, plain_escape, space_escapes, number_sign_escapes}
 use Rattle.vt_term.specs.Functions.{escape_tables, escape_function, escape_with, marker_tables, intermediate_tables}
 use Rattle.vt_term.specs.Functions.{sequences_of, sequence_in, effect}
 use Rattle.vt_term.specs.Reports.{report, control_report, sequence_report}
-use Rattle.vt_term.specs.Names.{name_with, name_of, print_name, control_name, plain_escape_name, escape_with_name, sequence_name}
+use Rattle.vt_term.specs.Names.{name_with, name_of, print_name, control_name, plain_escape_name, escape_with_name, sequence_name_on}
 use Rattle.vt_term.proofs.Tables.{AllRows, looked_up-holds}
 use Rattle.vt_trace.specs.Ignored.{LeavesAlone, DoesSomething}
 use Rattle.vt_trace.proofs.Tables.{no_some, all_rows, absent, among, looked_true, none_known, one_known}
@@ -41,12 +42,12 @@ use Rattle.laws_trace.proofs.Witnesses.{Acts, at_end, all_off, all_on, acts_at_e
 
 -- `taken` are the values that the function takes or doesn't, and `given` those of its effect
 record Fits (taken given : List ℕ) (says : Function → Display → List ℕ) (key : ℕ) (f : Function) : Type 0 where
-  alone : f.takes taken ≡ false → (s : Display) → (f.effect given s ≡ s) × (says f s ≡ [])
-  acts : f.takes taken ≡ true → Acts (f.effect given) (says f)
+  alone : f.takes 24 taken ≡ false → (s : Display) → s.grid.size ≡ vt220_size → (f.effect given s ≡ s) × (says f s ≡ [])
+  acts : f.takes 24 taken ≡ true → Acts (f.effect given) (says f)
 
 none-fits : (taken given : List ℕ) (says : Function → Display → List ℕ) (key : ℕ)
     → ((s : Display) → says no_function s ≡ []) → Fits taken given says key no_function
-none-fits taken given says key quiet = record { alone = λ h s. (refl, quiet s); acts = λ h. absurd cc }
+none-fits taken given says key quiet = record { alone = λ h s sized. (refl, quiet s); acts = λ h. absurd cc }
 
 found-fits : (taken given : List ℕ) (says : Function → Display → List ℕ) → ((s : Display) → says no_function s ≡ [])
     → (table : FunctionTable) → AllRows (Fits taken given says) table → (b : ℕ)
@@ -65,22 +66,22 @@ nothing f = silent
 
 module _ (base : IsSoundDisplay display_at_power_up) {taken given : List ℕ} {says : Function → Display → List ℕ} {key : ℕ}
     {f : Function} where
-  always : f.takes taken ≡ true → Acts (f.effect given) (says f) → Fits taken given says key f
+  always : f.takes 24 taken ≡ true → Acts (f.effect given) (says f) → Fits taken given says key f
   always takes acts = record { alone = λ h. absurd cc; acts = λ h. acts }
 
-  wraps : f.takes taken ≡ true → (f.effect given at_end).cursor.wrap ≡ false → Fits taken given says key f
+  wraps : f.takes 24 taken ≡ true → (f.effect given at_end).cursor.wrap ≡ false → Fits taken given says key f
   wraps takes after = always takes (resets_wrap base (f.effect given) (says f) after)
 
   -- a test that a display passes, and that it doesn't pass after the function
-  at_end_fits : (test : Display → Bool) → f.takes taken ≡ true → test at_end ≡ true → test (f.effect given at_end) ≡ false
+  at_end_fits : (test : Display → Bool) → f.takes 24 taken ≡ true → test at_end ≡ true → test (f.effect given at_end) ≡ false
       → Fits taken given says key f
   at_end_fits test takes before after = always takes (acts_at_end base (f.effect given) (says f) test before after)
 
-  all_on_fits : (test : Display → Bool) → f.takes taken ≡ true → test all_on ≡ true → test (f.effect given all_on) ≡ false
+  all_on_fits : (test : Display → Bool) → f.takes 24 taken ≡ true → test all_on ≡ true → test (f.effect given all_on) ≡ false
       → Fits taken given says key f
   all_on_fits test takes before after = always takes (acts_all_on base (f.effect given) (says f) test before after)
 
-  all_off_fits : (test : Display → Bool) → f.takes taken ≡ true → test all_off ≡ true
+  all_off_fits : (test : Display → Bool) → f.takes 24 taken ≡ true → test all_off ≡ true
       → test (f.effect given all_off) ≡ false → Fits taken given says key f
   all_off_fits test takes before after = always takes (acts_all_off base (f.effect given) (says f) test before after)
 
@@ -89,7 +90,7 @@ request : IsSoundDisplay display_at_power_up → (taken given : List ℕ) (key :
     → AllRows (λ n text. slice_index (text at_end) 0 ≡ 0x1B) texts
     → Fits taken given (by_first taken) key (reporting name texts)
 request base taken given key name texts all = record {
-  alone = λ h s.
+  alone = λ h s sized.
       (refl, ap (λ (o : Option (Display → List ℕ)). unwrap_or o silent s) (absent texts (first taken) h));
   acts = λ h. reports base ((reporting name texts).effect given) (by_first taken (reporting name texts))
       (among (λ n text. slice_index (text at_end) 0 ≡ 0x1B) texts (first taken) silent h all);
@@ -146,7 +147,7 @@ module _ (base : IsSoundDisplay display_at_power_up) (slot : ℕ)
 
   designation-fits : (name : List ℕ) (last : ℕ) → Fits [] [] nothing last (designation slot name last)
   designation-fits name last = record {
-    alone = λ h s. (option_alone (set_of_final last) h s, refl);
+    alone = λ h s sized. (option_alone (set_of_final last) h s, refl);
     acts = λ h. option_acts (set_of_final last) h;
   }
 
@@ -235,10 +236,10 @@ attributes_agree =
     all_rows Agrees (λ p change. (a b : Rendition) → agree (change a) (change b) ≡ true)
     (λ p change set a b. one_true (same_flags (change a) (change b)) set.0 (set.1 a b)) rendition_changes attribute_rows
 
-no_margins : (p q : ℕ) (s : Display) → are_margins p q ≡ false → set_margins p q s ≡ s
-no_margins p q s h = rw h refl
+no_margins : (p q : ℕ) (s : Display) → s.grid.size ≡ vt220_size → are_margins 24 p q ≡ false → set_margins p q s ≡ s
+no_margins p q s sized h = rw (sized, h) refl
 
-margins_wrap : (p q : ℕ) → are_margins p q ≡ true → (set_margins p q at_end).cursor.wrap ≡ false
+margins_wrap : (p q : ℕ) → are_margins 24 p q ≡ true → (set_margins p q at_end).cursor.wrap ≡ false
 margins_wrap p q h = rw h refl
 
 no_level : (o : Option Bool) (s : Display) → is_some o ≡ false → soft_reset_to o s ≡ s
@@ -279,7 +280,7 @@ module _ (base : IsSoundDisplay display_at_power_up) (values : List ℕ) where
       → ((p : ℕ) (s : Display) → names_area p ≡ false → erase p s ≡ s)
       → ((p : ℕ) → names_area p ≡ true → (erase p at_end).cursor.wrap ≡ false) → Fit key (erasing name erase)
   area key name erase none some = record {
-    alone = λ h s. (none (first values) s h, refl);
+    alone = λ h s sized. (none (first values) s h, refl);
     acts = λ h. resets_wrap base (erase (first values)) silent (some (first values) h);
   }
 
@@ -313,7 +314,7 @@ module _ (base : IsSoundDisplay display_at_power_up) (values : List ℕ) where
 
     sets : (key : ℕ) (name : List ℕ) → one_has flags true all_off all_off ≡ false → Fit key (modal name modes true)
     sets key name before = record {
-      alone = λ h s. (unchanged true h s, refl);
+      alone = λ h s sized. (unchanged true h s, refl);
       acts = λ h.
           acts_all_off base (change_modes modes true values) silent (λ s. not (one_has flags true s s)) (ap not before)
           (ap not (changed true h all_off));
@@ -321,7 +322,7 @@ module _ (base : IsSoundDisplay display_at_power_up) (values : List ℕ) where
 
     resets : (key : ℕ) (name : List ℕ) → one_has flags false all_on all_on ≡ false → Fit key (modal name modes false)
     resets key name before = record {
-      alone = λ h s. (unchanged false h s, refl);
+      alone = λ h s sized. (unchanged false h s, refl);
       acts = λ h.
           acts_all_on base (change_modes modes false values) silent (λ s. not (one_has flags false s s)) (ap not before)
           (ap not (changed false h all_on));
@@ -334,7 +335,7 @@ module _ (base : IsSoundDisplay display_at_power_up) (values : List ℕ) where
   rendition : (key : ℕ) (name : List ℕ) → Fit key (sgr name)
   unfolding with_attribute agree same_flags
   rendition key name = record {
-    alone = λ h s. (
+    alone = λ h s sized. (
       ap (λ (r : Rendition). with_rendition r s)
           (none_known rendition_changes (λ r. r) (λ change r. change r) (λ r. refl) values s.brush.rendition h),
       refl,
@@ -359,14 +360,14 @@ module _ (base : IsSoundDisplay display_at_power_up) (values : List ℕ) where
   tabs : (key : ℕ) (name : List ℕ) → Fit key (of_first (0 ∷ 3 ∷ []) (selected name clear_tabs))
   unfolding no_stops
   tabs key name = record {
-    alone = λ h s. (no_tabs (first values) s h, refl);
+    alone = λ h s sized. (no_tabs (first values) s h, refl);
     acts = λ h.
         acts_all_on base (clear_tabs (first values)) silent (λ s. has_stop_at s.stops 9) refl (tabs_off (first values) h);
   }
 
-  margins : (key : ℕ) (name : List ℕ) → Fit key (of_pair are_margins (paired name set_margins))
+  margins : (key : ℕ) (name : List ℕ) → Fit key (of_margins (paired name set_margins))
   margins key name = record {
-    alone = λ h s. (no_margins (first values) (second values) s h, refl);
+    alone = λ h s sized. (no_margins (first values) (second values) s sized h, refl);
     acts = λ h.
         resets_wrap base (set_margins (first values) (second values)) silent
         (margins_wrap (first values) (second values) h);
@@ -374,7 +375,7 @@ module _ (base : IsSoundDisplay display_at_power_up) (values : List ℕ) where
 
   level : (key : ℕ) (name : List ℕ) → Fit key (of_pair is_level (paired name set_conformance_level))
   level key name = record {
-    alone = λ h s. (no_level (asked_form (first values) (second values)) s h, refl);
+    alone = λ h s sized. (no_level (asked_form (first values) (second values)) s h, refl);
     acts = λ h.
         resets_wrap base (set_conformance_level (first values) (second values)) silent
         (level_wraps (asked_form (first values) (second values)) h);
@@ -382,7 +383,7 @@ module _ (base : IsSoundDisplay display_at_power_up) (values : List ℕ) where
 
   protection : (key : ℕ) (name : List ℕ) → Fit key (of_first (0 ∷ 1 ∷ 2 ∷ []) (selected name select_character_attribute))
   protection key name = record {
-    alone = λ h s. (no_protection (first values) s h, refl);
+    alone = λ h s sized. (no_protection (first values) s h, refl);
     acts = λ h.
         go (eqb_tells (first values) 1) (λ k. either 0 2 (first values) (grind (arith, nat_tests, h, k)));
   }
@@ -422,15 +423,15 @@ module _ (base : IsSoundDisplay display_at_power_up) (values : List ℕ) where
 
 -- ---- events
 
-untaken : (taken : List ℕ) (f : Function) → name_with taken f ≡ None → f.takes taken ≡ false
-untaken taken f h = go (f.takes taken) h
+untaken : (taken : List ℕ) (f : Function) → name_with 24 taken f ≡ None → f.takes 24 taken ≡ false
+untaken taken f h = go (f.takes 24 taken) h
   where
     go : (t : Bool) → (if t then Some f.name else None) ≡ None → t ≡ false
     go true k = absurd (no_some _ (sym k))
     go false k = refl
 
-taken_as : (taken : List ℕ) (f : Function) (name : List ℕ) → name_with taken f ≡ Some name → f.takes taken ≡ true
-taken_as taken f name h = go (f.takes taken) h
+taken_as : (taken : List ℕ) (f : Function) (name : List ℕ) → name_with 24 taken f ≡ Some name → f.takes 24 taken ≡ true
+taken_as taken f name h = go (f.takes 24 taken) h
   where
     go : (t : Bool) → (if t then Some f.name else None) ≡ Some name → t ≡ true
     go true k = refl
@@ -484,21 +485,21 @@ module _ (base : IsSoundDisplay display_at_power_up) where
   does : (event : Event) → Acts (effect event) (report event) → DoesSomething event
   does event acts = record { display = acts.display; sound = acts.sound; acts = acts.acts }
 
-  pub nameless_alone : (event : Event) → name_of event ≡ None → (s : Display) → LeavesAlone event s
-  unfolding control_name plain_escape_name escape_with_name sequence_name control plain_escape escape_with sequence_in control_report sequence_report
-  nameless_alone (Print b) h s = left (Print b) s (print_alone b (print_test b h) s, refl)
-  nameless_alone (Control b) h s = left (Control b) s ((control_fits b).alone (untaken (0 ∷ []) (function_in controls b) h) s)
-  nameless_alone (Escape None last) h s =
-      left (Escape None last) s ((plain_fits last).alone (untaken [] (function_in plain_escapes last) h) s)
-  nameless_alone (Escape (Some inter) last) h s =
-      left (Escape (Some inter) last) s ((escapes-fit base inter last).alone (untaken [] (escape_function inter last) h) s)
-  nameless_alone (Sequence marker params inter last) h s =
+  pub nameless_alone : (event : Event) → name_of event ≡ None → (s : Display) → s.grid.size ≡ vt220_size → LeavesAlone event s
+  unfolding control_name plain_escape_name escape_with_name sequence_name_on control plain_escape escape_with sequence_in control_report sequence_report
+  nameless_alone (Print b) h s sized = left (Print b) s (print_alone b (print_test b h) s, refl)
+  nameless_alone (Control b) h s sized = left (Control b) s ((control_fits b).alone (untaken (0 ∷ []) (function_in controls b) h) s sized)
+  nameless_alone (Escape None last) h s sized =
+      left (Escape None last) s ((plain_fits last).alone (untaken [] (function_in plain_escapes last) h) s sized)
+  nameless_alone (Escape (Some inter) last) h s sized =
+      left (Escape (Some inter) last) s ((escapes-fit base inter last).alone (untaken [] (escape_function inter last) h) s sized)
+  nameless_alone (Sequence marker params inter last) h s sized =
       left (Sequence marker params inter last) s
       ((sequence_fits params.items marker inter last).alone
-      (untaken params.items (function_in (sequences_of marker inter) last) h) s)
+      (untaken params.items (function_in (sequences_of marker inter) last) h) s sized)
 
   pub named_acts : (event : Event) (name : List ℕ) → name_of event ≡ Some name → DoesSomething event
-  unfolding control_name plain_escape_name escape_with_name sequence_name control plain_escape escape_with sequence_in control_report sequence_report
+  unfolding control_name plain_escape_name escape_with_name sequence_name_on control plain_escape escape_with sequence_in control_report sequence_report
   named_acts (Print b) name h = does (Print b) (print_acts base b (printed b name h))
   named_acts (Control b) name h =
       does (Control b) ((control_fits b).acts (taken_as (0 ∷ []) (function_in controls b) name h))

@@ -3,6 +3,7 @@ use Rattle.std.proofs.Common.{◌≡◌, ℕ, Bool, true, false, List, [], ◌�
 use Rattle.std.specs.Prelude.{slice_index, fold, ◌⊎◌, ◌≢◌}
 use Rattle.vt_glyph.specs.declared.set.Set.TheVariants.{German}
 use Rattle.vt_screen.specs.Grid.{blank_grid}
+use Rattle.vt_screen.specs.Sizes.{vt220_size}
 use Rattle.vt_screen.proofs.SoundGrids.{blank_grid-sound}
 use Rattle.vt_term.specs.declared.state.Modes.{Modes}
 use Rattle.vt_term.specs.State.{Display, display_at_power_up, at_place, full_margins, saved_at_power_up, stops_where}
@@ -24,12 +25,12 @@ all_modes on =
 
 -- power-up, with no mode and no tab stop set
 abbrev pub all_off : Display
-all_off = record display_at_power_up { stops = no_stops; modes = all_modes false }
+all_off = record display_at_power_up { stops = no_stops 132; modes = all_modes false }
 
 -- 132 columns, a tab stop at the cursor and everywhere, all modes and attributes set, and other sets
 abbrev pub all_on : Display
 all_on = record {
-  grid = blank_grid true;
+  grid = blank_grid vt220_size true;
   cursor = at_place 1 9;
   brush = record {
     rendition = record { bold = true; underline = true; blink = true; reverse = true };
@@ -37,12 +38,12 @@ all_on = record {
   };
   sets = record { g = German ∷ German ∷ German ∷ German ∷ []; left = 1; right = 1; pending = None };
   margins = full_margins;
-  stops = stops_where (λ c. true);
+  stops = stops_where 132 (λ c. true);
   modes = all_modes true;
   saved = saved_at_power_up;
 }
 
-length-no_stops : length no_stops ≡ 132
+length-no_stops : length (no_stops 132) ≡ 132
 unfolding no_stops
 length-no_stops = refl
 
@@ -55,10 +56,11 @@ pub record Acts (effect : Display → Display) (report : Display → List ℕ) :
 module _ (base : IsSoundDisplay display_at_power_up) where
   at_end-sound : IsSoundDisplay at_end
   at_end-sound = record {
+    of_size = refl;
     grid = base.grid;
     cursor = record {
       row_1 = omega arith;
-      row_24 = omega arith;
+      row_last = omega arith;
       col_1 = omega arith;
       col_last = omega arith;
       wrap_last = λ e. refl;
@@ -74,6 +76,7 @@ module _ (base : IsSoundDisplay display_at_power_up) where
 
   all_off-sound : IsSoundDisplay all_off
   all_off-sound = record {
+    of_size = refl;
     grid = base.grid;
     cursor = base.cursor;
     wrap = λ e. absurd cc;
@@ -87,10 +90,11 @@ module _ (base : IsSoundDisplay display_at_power_up) where
 
   all_on-sound : IsSoundDisplay all_on
   all_on-sound = record {
-    grid = blank_grid-sound true;
+    of_size = refl;
+    grid = blank_grid-sound vt220_size true base.grid.shape.size;
     cursor = record {
       row_1 = omega arith;
-      row_24 = omega arith;
+      row_last = omega arith;
       col_1 = omega arith;
       col_last = omega arith;
       wrap_last = λ e. absurd cc;
@@ -107,7 +111,7 @@ module _ (base : IsSoundDisplay display_at_power_up) where
     stops = refl;
     saved = record {
       row_1 = omega arith;
-      row_24 = omega arith;
+      row_last = omega arith;
       col_1 = omega arith;
       col_last = omega arith;
       wrap_last = λ e. absurd cc;

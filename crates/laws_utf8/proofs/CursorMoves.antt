@@ -40,6 +40,21 @@ next_line-wide d = go (d.cursor.row == d.margins.bottom)
     go true = refl
     go false = refl
 
+next_line-size : (d : Display) → (next_line d).grid.size ≡ d.grid.size
+next_line-size d = go (d.cursor.row == d.margins.bottom)
+  where
+    go : (b : Bool) → (if b then scroll_up d.grid d.margins.top d.margins.bottom 1 else d.grid).size ≡ d.grid.size
+    go true = refl
+    go false = refl
+
+put-size : (n : ℕ) (d : Display) → (put_glyph n d).grid.size ≡ d.grid.size
+put-size n d = go d.modes.irm
+  where
+    go : (b : Bool) → (if b then put_inserting d.grid d.cursor.row d.cursor.col (cell_of n d.brush)
+        else put d.grid d.cursor.row d.cursor.col (cell_of n d.brush)).size ≡ d.grid.size
+    go true = refl
+    go false = refl
+
 put-wide : (n : ℕ) (d : Display) → last_column (put_glyph n d) ≡ last_column d
 put-wide n d = go d.modes.irm
   where
@@ -57,6 +72,7 @@ record SameBut (d e : Display) : Type 0 where
   margins : d.margins ≡ e.margins
   modes : d.modes ≡ e.modes
   wide : last_column d ≡ last_column e
+  size : d.grid.size ≡ e.grid.size
 
 same-put : (m n : ℕ) (d e : Display) → SameBut d e → SameBut (put_glyph m d) (put_glyph n e)
 same-put m n d e same = record {
@@ -64,6 +80,7 @@ same-put m n d e same = record {
   margins = same.margins;
   modes = same.modes;
   wide = put-wide m d ∙ same.wide ∙ sym (put-wide n e);
+  size = put-size m d ∙ same.size ∙ sym (put-size n e);
 }
   where
     place : next_place d ≡ next_place e
@@ -75,10 +92,11 @@ same-next d e same = record {
   margins = same.margins;
   modes = same.modes;
   wide = next_line-wide d ∙ same.wide ∙ sym (next_line-wide e);
+  size = next_line-size d ∙ same.size ∙ sym (next_line-size e);
 }
   where
     place : (next_line d).cursor ≡ (next_line e).cursor
-    place = rw (same.cursor, same.margins) refl
+    place = rw (same.cursor, same.margins, same.size) refl
 
 same-write : (m n : ℕ) (d e : Display) → SameBut d e → SameBut (write_glyph m d) (write_glyph n e)
 same-write m n d e same = go d.cursor.wrap e.cursor.wrap (ap (λ (x : Cursor). x.wrap) same.cursor)
@@ -91,7 +109,7 @@ same-write m n d e same = go d.cursor.wrap e.cursor.wrap (ap (λ (x : Cursor). x
     go false false h = same-put m n d e same
 
 same-self : (d : Display) → SameBut d d
-same-self d = record { cursor = refl; margins = refl; modes = refl; wide = refl }
+same-self d = record { cursor = refl; margins = refl; modes = refl; wide = refl; size = refl }
 
 not-last : (col width : ℕ) → col + 2 ≤ width → (col == width) ≡ false
 not-last col width fits = grind (arith, nat_tests)

@@ -22,6 +22,8 @@ use Rattle.vt_glyph.specs.Laws.{SpellingLaws}
 use Rattle.vt_glyph.proofs.Lists.{all_in_range}
 use Rattle.vt_glyph.proofs.EachSet.{glyph_passes}
 use Rattle.vt_screen.specs.declared.cell.Cell.{Cell}
+use Rattle.vt_screen.specs.declared.size.Size.{Size}
+use Rattle.vt_screen.specs.Sizes.{vt220_size}
 use Rattle.vt_screen.specs.Cells.{blank, cell_of, cell_like}
 use Rattle.vt_screen.specs.Grid.{Grid, IsGrid, IsSoundGrid, AllCells, cell_at, row_of, last_row, put_run}
 use Rattle.vt_screen.specs.Laws.{PlaceLaws, RowLaws, RunLaws, TestLaws}
@@ -237,18 +239,19 @@ unfolding sequence_in sequences_of
 row-effect row d = refl
 
 -- the first column of a row that is there
-row-place : (row : ℕ) (d : Display) → d.modes.decom ≡ false → 1 ≤ row → row ≤ last_row → 1 ≤ last_column d
+row-place : (row : ℕ) (d : Display) → d.grid.size ≡ vt220_size → d.modes.decom ≡ false → 1 ≤ row → row ≤ last_row
+    → 1 ≤ last_column d
     → cursor_position row 1 d ≡ record d { cursor = at_place row 1 }
-row-place row d absolute first last wide =
+row-place row d sized absolute first last wide =
     let line : min (max row 1) last_row ≡ row = grind arith in
     let column : min 1 (last_column d) ≡ 1 = grind arith in
-    rw (absolute, line, column) refl
+    rw (absolute, sized, line, column) refl
 
 module _ (spelled : SpellingLaw) where
-  row-plays : (s : State) (row : ℕ) → TakesText s → 1 ≤ row → row ≤ last_row → 1 ≤ last_column s.display
+  row-plays : (s : State) (row : ℕ) → s.display.grid.size ≡ vt220_size → TakesText s → 1 ≤ row → row ≤ last_row → 1 ≤ last_column s.display
       → play s (spell_event (to_row row)) ≡ silently s (record s.display { cursor = at_place row 1 })
   unfolding play
-  row-plays s row takes first last wide =
+  row-plays s row sized takes first last wide =
       let d = s.display in
       let event = to_row row in
       let bytes = spell_event event in
@@ -263,7 +266,7 @@ module _ (spelled : SpellingLaw) where
         left,
         row-silent row d,
         row-effect row d,
-        row-place row d takes.absolute first last wide,
+        row-place row d sized takes.absolute first last wide,
       ) refl
 
 -- ---- glyphs without the spaces at their end
@@ -373,9 +376,11 @@ with_glyphs h row ns like r c =
     else cell_at h row c) else cell_at h r c
 
 module _ (places : PlaceLaws) (h : Grid) (row : ℕ) (ns : List ℕ) (like : Cell) (r c : ℕ) (first : 1 ≤ r) (last : r ≤ last_row)
-    (left : 1 ≤ c) (right : c ≤ h.width) where
+    (sized : h.size ≡ vt220_size) (left : 1 ≤ c) (right : c ≤ h.width) where
   run-place : cell_at (put_run h row 1 ns like) r c ≡ with_glyphs h row ns like r c
-  run-place = places.at_place h.width (with_glyphs h row ns like) r c first last left right
+  run-place =
+      places.at_place h.size h.width (with_glyphs h row ns like) r c first (subst (λ (z : Size). r ≤ z.rows) (sym sized) last)
+      left right
 
   run-other : (r == row) ≡ false → glyph_at (put_run h row 1 ns like) r c ≡ glyph_at h r c
   run-other other = ap (λ (cell : Cell). cell.glyph) run-place ∙ rw other refl
@@ -467,7 +472,7 @@ module _ (spelled : SpellingLaw) (spelling : SpellingLaws) (places : PlaceLaws) 
         let low = row-low row first last in
         let d : Display = record s.display { cursor = at_place row 1 } in
         let t : State = record s { display = d } in
-        let there : play s a ≡ silently s d = row-plays spelled s row takes first last wide in
+        let there : play s a ≡ silently s d = row-plays spelled s row sound.display.of_size takes first last wide in
         utf8-append none two keeps s [] a b sound
         ∙ ap (λ (p : List ℕ). both (play_utf8 s [] a) (play_utf8 (play_utf8 s [] a).state p b)) (ascii-pending a low)
         ∙ ap (λ (p : Played). both p (play_utf8 p.state [] b)) (ascii-played s a low ∙ there)
@@ -492,7 +497,7 @@ module _ (spelled : SpellingLaw) (spelling : SpellingLaws) (places : PlaceLaws) 
       let ns = trimmed (glyphs_of (row_of g row)) in
       let are = trimmed-glyphs (glyphs_of (row_of g row)) (row-glyphs rows tests g row is) in
       let last : row ≤ last_row = omega (arith, end) in
-      let bounds = width-bounds g.width is.shape.width in
+      let bounds = width-bounds g.size g.width is.shape.size is.shape.width in
       let some : 1 ≤ last_column s.display = omega (arith, wide, bounds) in
       let few : length ns ≤ last_column s.display =
       omega (arith, wide, trimmed-few (glyphs_of (row_of g row)), row-long rows g row) in
@@ -513,8 +518,8 @@ module _ (spelled : SpellingLaw) (spelling : SpellingLaws) (places : PlaceLaws) 
       wide (omega arith) (omega (arith, end)) (λ r c above below left right.
       go r c above (omega (arith, below, last)) left right (r == row) refl (omega (arith, below)))
       (λ r c above below left right.
-      run-other places s.display.grid row ns (cell_of space s.display.brush) r c (omega (arith, above)) below left
-      (omega (arith, right, wide)) (is-after r row above)
+      run-other places s.display.grid row ns (cell_of space s.display.brush) r c (omega (arith, above)) below
+      sound.display.of_size left (omega (arith, right, wide)) (is-after r row above)
       ∙ after r c (omega (arith, above)) below left right) in
       subst (λ (p : Played). IsPlaced g p) (sym whole)
       (record { silent = rest.silent; wide = rest.wide; glyphs = rest.glyphs })
@@ -525,14 +530,14 @@ module _ (spelled : SpellingLaw) (spelling : SpellingLaws) (places : PlaceLaws) 
       go r c above below left right true e up_to =
           let same : r ≡ row = eqb-true r row e in
           run-here places s.display.grid row (trimmed (glyphs_of (row_of g row))) (cell_of space s.display.brush) r c above
-          below left (omega (arith, right, wide)) e
+          below sound.display.of_size left (omega (arith, right, wide)) e
           (after row c (omega arith) (omega (arith, same, below)) left right)
           ∙ trimmed-same (glyphs_of (row_of g row)) (c - 1)
           ∙ row-glyph rows g row c space left right
           ∙ ap (λ (k : ℕ). glyph_at g k c) (sym same)
       go r c above below left right false e up_to =
           run-other places s.display.grid row (trimmed (glyphs_of (row_of g row))) (cell_of space s.display.brush) r c above
-          below left (omega (arith, right, wide)) e
+          below sound.display.of_size left (omega (arith, right, wide)) e
           ∙ before r c above (is-before r row e up_to) left right
 
   -- ---- a screen
@@ -554,7 +559,11 @@ module _ (spelled : SpellingLaw) (spelling : SpellingLaws) (places : PlaceLaws) 
       → text (play_utf8 t [] (placed_rows s.display.grid)).state ≡ text s
   text-back s t sound_s sound takes empty wide =
       let left = screen-left s t sound_s sound takes empty wide in
-      same-text rows s.display.grid (play_utf8 t [] (placed_rows s.display.grid)).state.display.grid left.wide left.glyphs
+      let u = (play_utf8 t [] (placed_rows s.display.grid)).state in
+      let sized : u.display.grid.size ≡ vt220_size = (utf8-sound none two keeps t [] (placed_rows s.display.grid) sound).display.of_size in
+      ap (λ (z : Size). lines_text z.rows u.display.grid) sized
+      ∙ same-text rows s.display.grid u.display.grid left.wide left.glyphs
+      ∙ ap (λ (z : Size). lines_text z.rows s.display.grid) (sym sound_s.display.of_size)
 
   pub text-silent : (s t : State) → IsSound s → IsSound t → TakesText t → AllCells shows_space t.display.grid
       → last_column t.display ≡ last_column s.display
@@ -565,4 +574,4 @@ module _ (spelled : SpellingLaw) (spelling : SpellingLaws) (places : PlaceLaws) 
       → text (play_utf8 power_up [] (placed_rows s.display.grid)).state ≡ text s
   power-up-back sound s sound_s wide =
       text-back s power_up sound_s sound (record { between = refl; ascii = refl; replaces = refl; absolute = refl })
-      (tests.formula shows_space 80 (λ r c. blank) (λ r c above below left right. refl)) (sym wide)
+      (tests.formula shows_space vt220_size 80 (λ r c. blank) (λ r c above below left right. refl)) (sym wide)

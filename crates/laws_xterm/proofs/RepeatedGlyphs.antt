@@ -1,13 +1,14 @@
 -- REP after a glyph.
-use Rattle.std.proofs.Common.{arith, ◌≡◌, ℕ, ◌≤◌, ◌+◌, ◌-◌, Bool, true, false, zero, suc, refl, ap, ◌∙◌}
+use Rattle.std.proofs.Common.{arith, ◌≡◌, ℕ, ◌≤◌, ◌+◌, ◌-◌, Bool, true, false, zero, suc, refl, ap, subst, sym, ◌∙◌}
 use Rattle.std.specs.Prelude.{◌==◌, min, nat_lt, slice_index_or, if◌then◌else◌}
 use Rattle.std.proofs.lemmas.Bool.Decides.{nat_tests}
 use Rattle.vt_screen.specs.declared.cell.Cell.{Cell}
 use Rattle.vt_screen.specs.Cells.{blank, cell_of}
-use Rattle.vt_screen.specs.Grid.{row_of, cell_at, put, put_inserting}
+use Rattle.vt_screen.specs.declared.size.Size.{Size}
+use Rattle.vt_screen.specs.Grid.{row_of, cell_at, put, put_inserting, scroll_up}
 use Rattle.vt_screen.specs.Laws.{PlaceLaws, RowLaws}
 use Rattle.vt_term.specs.State.{Display, last_column, at_place}
-use Rattle.vt_term.specs.Sound.{IsSoundDisplay}
+use Rattle.vt_term.specs.Sound.{IsSoundDisplay, IsSoundDisplayAt}
 use Rattle.vt_term.specs.Moving.{next_line}
 use Rattle.vt_term.specs.Writing.{after_wrap, with_glyph, put_glyph, write_glyph}
 use Rattle.vt_term.proofs.SoundEffects.{next_line-keeps}
@@ -21,11 +22,23 @@ times-first (suc n) f s = ap f (times-first n f s)
 times-more : (n : ℕ) (f : Display → Display) (s : Display) → times n f (f s) ≡ times (n + 1) f s
 times-more n f s = let e : n + 1 ≡ suc n = omega arith in rw e (times-first n f s)
 
+next_line-size : (s : Display) → (next_line s).grid.size ≡ s.grid.size
+next_line-size s = go (s.cursor.row == s.margins.bottom)
+  where
+    go : (b : Bool) → (if b then scroll_up s.grid s.margins.top s.margins.bottom 1 else s.grid).size ≡ s.grid.size
+    go true = refl
+    go false = refl
+
+next_line-sound : (s : Display) → IsSoundDisplay s → IsSoundDisplay (next_line s)
+next_line-sound s i =
+    subst (λ (z : Size). IsSoundDisplayAt z (next_line s)) (next_line-size s ∙ i.of_size)
+    (next_line-keeps s (subst (λ (z : Size). IsSoundDisplayAt z s) (sym i.of_size) i))
+
 wrapped-sound : (s : Display) → IsSoundDisplay s → IsSoundDisplay (after_wrap s)
 wrapped-sound s i = go s.cursor.wrap
   where
     go : (b : Bool) → IsSoundDisplay (if b then next_line s else s)
-    go true = next_line-keeps s i
+    go true = next_line-sound s i
     go false = i
 
 wrapped-modes : (s : Display) → (after_wrap s).modes.decawm ≡ s.modes.decawm
@@ -72,14 +85,17 @@ module _ (places : PlaceLaws) (rows : RowLaws) where
       cell : Cell
       cell = cell_of glyph t.brush
 
+      last : t.cursor.row ≤ t.grid.size.rows
+      last = subst (λ (z : Size). t.cursor.row ≤ z.rows) (sym i.of_size) i.cursor.row_last
+
       go : (b : Bool) → (cell_at (if b then put_inserting t.grid row col cell else put t.grid row col cell) row col).glyph
           ≡ glyph
       go true =
-          ap (λ (x : Cell). x.glyph) (places.at_place t.grid.width _ row col i.cursor.row_1 i.cursor.row_24 i.cursor.col_1
+          ap (λ (x : Cell). x.glyph) (places.at_place t.grid.size t.grid.width _ row col i.cursor.row_1 last i.cursor.col_1
           i.cursor.col_last)
           ∙ rw (equal-numbers row, equal-numbers col) refl
       go false =
-          ap (λ (x : Cell). x.glyph) (places.at_place t.grid.width _ row col i.cursor.row_1 i.cursor.row_24 i.cursor.col_1
+          ap (λ (x : Cell). x.glyph) (places.at_place t.grid.size t.grid.width _ row col i.cursor.row_1 last i.cursor.col_1
           i.cursor.col_last)
           ∙ rw (equal-numbers row, equal-numbers col) refl
 

@@ -21,11 +21,11 @@ use Rattle.vt_xterm.specs.Log.{first_rows, function_off, page_line_off, xterm_li
 use Rattle.laws_xterm.specs.Scrolls.{scroll_up_event, is_scrolling}
 
 -- row 1 stays if the rows that move begin below it
-above-stays : (g : Grid) (top bottom n : ℕ) → 2 ≤ top → row_of (scroll_up g top bottom n) 1 ≡ row_of g 1
-above-stays g top bottom n low =
+above-stays : (g : Grid) (top bottom n : ℕ) → 2 ≤ g.size.rows → 2 ≤ top → row_of (scroll_up g top bottom n) 1 ≡ row_of g 1
+above-stays g top bottom n some low =
     let outside : is_within top bottom 1 ≡ false = grind (arith, nat_tests) in
-    sym (row_of-same g.width (λ r c. if is_within top bottom r then (
-    if nat_le (r + n) bottom then cell_at g (r + n) c else blank) else cell_at g r c) 1 (row_of g 1) (omega arith) (omega arith)
+    sym (row_of-same g.size g.width (λ r c. if is_within top bottom r then (
+    if nat_le (r + n) bottom then cell_at g (r + n) c else blank) else cell_at g r c) 1 (row_of g 1) (omega arith) (omega (arith, some))
     (length-row_of g 1)
     (λ c left right. get_or-row_of g 1 c blank left right
     ∙ ap (λ (b : Bool). if b then (if nat_le (1 + n) bottom then cell_at g (1 + n) c else blank) else cell_at g 1 c) (sym outside)))
@@ -58,7 +58,7 @@ rows-stay params s sound other =
     let bottom = s.display.margins.bottom in
     let n = count params.items in
     let g = s.display.grid in (
-      above-stays g s.display.margins.top bottom n (not-one s.display.margins.top sound.margins.from_row_1 other),
+      above-stays g s.display.margins.top bottom n sound.grid.shape.size.rows.0 (not-one s.display.margins.top sound.margins.from_row_1 other),
       ap (λ (b : Bool). if b then first_rows (min bottom n) g else []) other,
     )
 
@@ -100,7 +100,7 @@ glyph-stays s sound h = go s.cursor.wrap (s.margins.top == 1) (s.cursor.row == s
     go false top bottom is h = refl
     go true true true is h = absurd cc
     go true top false is h = refl
-    go true false true is h = above-stays s.grid s.margins.top s.margins.bottom 1 (not-one s.margins.top sound.margins.from_row_1 is)
+    go true false true is h = above-stays s.grid s.margins.top s.margins.bottom 1 sound.grid.shape.size.rows.0 (not-one s.margins.top sound.margins.from_row_1 is)
 
 -- ---- all other events
 

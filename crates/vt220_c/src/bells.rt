@@ -10,8 +10,8 @@ ghost use Rattle.vt220_c.specs.BellCuts.{rung_by_character};
 
 use vt_syntax::EventKind;
 use vt_syntax::laws::{controls, spelled};
-use vt_term::laws::happened;
-use vt_term::{Held, Lines, Observer, ROW_TEXT_LIMIT, Terminal};
+use vt_term::laws::{happened, sized_happened};
+use vt_term::{Held, Lines, Observer, ROW_TEXT_LIMIT, SizedTerminal, Terminal};
 
 /// BEL.
 const BEL: u8 = 0x07;
@@ -94,30 +94,30 @@ impl Observer for Bells {
     }
 
     #[inline(always)]
-    fn lets(&self, terminal: &Terminal, kind: EventKind, values: &[u16]) -> bool {
+    fn lets(&self, terminal: &SizedTerminal, kind: EventKind, values: &[u16]) -> bool {
         true
     }
 
     #[inline(always)]
-    fn event(&mut self, terminal: &Terminal, bytes: &[u8], kind: EventKind, values: &[u16]) {
-        happened();
+    fn event(&mut self, terminal: &SizedTerminal, bytes: &[u8], kind: EventKind, values: &[u16]) {
+        sized_happened();
         self.count += rung_by(kind);
     }
 
     #[inline(always)]
-    fn limit(&self, terminal: &Terminal) -> usize {
+    fn limit(&self, terminal: &SizedTerminal) -> usize {
         usize::MAX
     }
 
     #[inline(always)]
-    fn run(&mut self, terminal: &Terminal, bytes: &[u8]) {
-        happened();
+    fn run(&mut self, terminal: &SizedTerminal, bytes: &[u8]) {
+        sized_happened();
         spelled();
     }
 
     #[inline(always)]
     fn part(&mut self, bytes: &[u8]) {
-        happened();
+        sized_happened();
     }
 }
 
@@ -186,10 +186,11 @@ pub(crate) fn feed_log_counting(
     ensures lines_capacity { vec_capacity lines.old ≤ vec_capacity lines.new }
 {
     let _ = terminal.width();
-    happened();
+    sized_happened();
     let end = lines.len().saturating_add(most);
     let mut log = Lines {
         lines,
+        limit: ROW_TEXT_LIMIT,
         end,
         beside: Bells { count: 0 },
     };

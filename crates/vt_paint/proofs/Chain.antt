@@ -8,6 +8,8 @@ use Rattle.vt_glyph.specs.Spell.{AreSpellingSets}
 use Rattle.vt_screen.specs.declared.cell.Brush.{Brush}
 use Rattle.vt_screen.specs.declared.cell.Cell.{Cell}
 use Rattle.vt_screen.specs.Cells.{blank, brush_of, plain_brush}
+use Rattle.vt_screen.specs.declared.size.Size.{Size}
+use Rattle.vt_screen.specs.Sizes.{vt220_size, IsSize}
 use Rattle.vt_screen.specs.Grid.{Grid, IsGrid, cell_at, grid_of, blank_grid, columns}
 use Rattle.vt_term.specs.declared.state.Cursor.{Cursor}
 use Rattle.vt_term.specs.declared.state.Margins.{Margins}
@@ -55,11 +57,11 @@ part s modes cursor brush sets margins origin = record s {
 -- ---- margins and origin
 
 margins_leaves : (s : Display) (modes : Modes) (cursor : Cursor) (brush : Brush) (sets : GraphicSets) (m : Margins)
-    (origin : Bool) → AreSoundMargins m
+    (origin : Bool) → s.grid.size.rows ≡ 24 → AreSoundMargins 24 m
     → MakesSome (margins_item m) (part s modes cursor brush sets full_margins origin)
     (λ cursor. part s modes cursor brush sets m origin)
 unfolding display_after margins_item sequence_in sequences_of
-margins_leaves s modes cursor brush sets m origin sound = go (eqb m.top 1 && eqb m.bottom 24) refl
+margins_leaves s modes cursor brush sets m origin rows sound = go (eqb m.top 1 && eqb m.bottom 24) refl
   where
     made : ℕ → ℕ → Margins
     made t b = record { top = t; bottom = b }
@@ -81,7 +83,7 @@ margins_leaves s modes cursor brush sets m origin sound = go (eqb m.top 1 && eqb
     go false e =
         let top : max m.top 1 ≡ m.top = omega (arith, sound) in
         let none : eqb m.bottom 0 ≡ false = ne_eqb m.bottom 0 (omega (arith, sound)) in
-        let bottom : min m.bottom 24 ≡ m.bottom = omega (arith, sound) in
+        let bottom : min m.bottom s.grid.size.rows ≡ m.bottom = omega (arith, sound, rows) in
         let less : ltb m.top m.bottom ≡ true = lt-ltb m.top m.bottom sound.two_rows in
         record { some = at_place (cond origin m.top 1) 1; makes = record { is = rw (top, none, bottom, less) refl } }
 
@@ -102,14 +104,14 @@ origin_leaves false s modes cursor brush sets m now false h = record { some = at
 
 line_back : (s : Display) → IsSoundDisplay s
     → (cond s.modes.decom (min (s.margins.top + max (line_of_cursor s) 1 - 1) s.margins.bottom)
-    (min (max (line_of_cursor s) 1) 24)) ≡ s.cursor.row
+    (min (max (line_of_cursor s) 1) s.grid.size.rows)) ≡ s.cursor.row
 line_back s i = go s.modes.decom refl
   where
     go : (b : Bool) → s.modes.decom ≡ b
         → cond b (min (s.margins.top + max (cond b (s.cursor.row - s.margins.top + 1) s.cursor.row) 1 - 1)
-        s.margins.bottom) (min (max (cond b (s.cursor.row - s.margins.top + 1) s.cursor.row) 1) 24) ≡ s.cursor.row
+        s.margins.bottom) (min (max (cond b (s.cursor.row - s.margins.top + 1) s.cursor.row) 1) s.grid.size.rows) ≡ s.cursor.row
     go true e = let o = i.origin e in omega (arith, o)
-    go false e = omega (arith, i.cursor.row_1, i.cursor.row_24)
+    go false e = omega (arith, i.cursor.row_1, i.cursor.row_last, ap (λ (z : Size). z.rows) i.of_size)
 
 position_leaves : (s : Display) (modes : Modes) (cursor : Cursor) (brush : Brush) (sets : GraphicSets)
     → IsSoundDisplay s
@@ -166,9 +168,10 @@ recorded s modes = record s {
   saved = saved_at_power_up;
 }
 
-line_on : (origin : Bool) (r : ℕ) → 1 ≤ r → r ≤ 24 → cond origin (min (1 + max r 1 - 1) 24) (min (max r 1) 24) ≡ r
-line_on true r h k = omega arith
-line_on false r h k = omega arith
+line_on : (rows : ℕ) (origin : Bool) (r : ℕ) → 1 ≤ r → r ≤ 24 → rows ≡ 24
+    → cond origin (min (1 + max r 1 - 1) 24) (min (max r 1) rows) ≡ r
+line_on rows true r h k is = omega arith
+line_on rows false r h k is = omega (arith, is)
 
 save_leaves : (s : Display) (modes : Modes) (sets : GraphicSets)
     → effect save_cursor (with_sets (part (recorded s modes) modes (saved_cursor s.saved) s.saved.brush sets
@@ -181,7 +184,7 @@ save_leaves s modes sets = refl
 -- by the events of its wrap flag, and then some others
 pub record_leaves : (s z : Display) (modes : Modes) (cursor : Cursor) (brush made : Brush) (sets : GraphicSets)
     (wraps rest : List Event)
-    → IsPlace s.grid.width s.saved.row s.saved.col s.saved.wrap → AreSoundSets (saved_sets s.saved) → length sets.g ≡ 4
+    → s.grid.size.rows ≡ 24 → IsPlace 24 s.grid.width s.saved.row s.saved.col s.saved.wrap → AreSoundSets (saved_sets s.saved) → length sets.g ≡ 4
     → Makes wraps
     (part (recorded s modes) modes (at_place s.saved.row s.saved.col) brush sets full_margins s.saved.origin)
     (part (recorded s modes) modes (saved_cursor s.saved) made sets full_margins s.saved.origin)
@@ -191,12 +194,12 @@ pub record_leaves : (s z : Display) (modes : Modes) (cursor : Cursor) (brush mad
     ++ (cursor_position s.saved.row s.saved.col ∷ (wraps ++ (brush_events s.saved.brush
     ++ (sets_events (saved_sets s.saved) ++ save_cursor ∷ rest)))))
     (part (recorded s modes) modes cursor brush sets full_margins false) z
-record_leaves s z modes cursor brush made sets wraps rest place sound four wrapped behind =
+record_leaves s z modes cursor brush made sets wraps rest rows place sound four wrapped behind =
     let d = recorded s modes in
     let origin = s.saved.origin in
     let w = origin_leaves true d modes cursor brush sets full_margins false origin (λ e. refl) in
     then_makes w.makes (then_makes (one_makes (cursor_leaves (part d modes w.some brush sets full_margins origin)
-    s.saved.row s.saved.row s.saved.col place.col_1 place.col_last (line_on origin s.saved.row place.row_1 place.row_24)))
+    s.saved.row s.saved.row s.saved.col place.col_1 place.col_last (line_on s.grid.size.rows origin s.saved.row place.row_1 place.row_last rows)))
     (then_makes wrapped (then_makes (brush_leaves _ s.saved.brush)
     (then_makes (sets_leaves (part d modes (saved_cursor s.saved) s.saved.brush sets full_margins origin)
     (saved_sets s.saved) four sound) (then_makes (one_makes (save_leaves s modes sets)) behind)))))
@@ -209,9 +212,12 @@ with_saved wide stops saved cursor = record (with_stops wide stops cursor) {
   sets = saved_sets saved;
 }
 
+vt220-sized : IsSize vt220_size
+vt220-sized = record { rows = (omega arith, omega arith); narrow = omega arith; wide = omega arith; columns = omega arith }
+
 -- a space in the last column of a blank grid leaves a blank cell, and the wrap flag
-space_leaves : (wide : Bool) (s : Display) → IsPlace (columns wide) s.saved.row s.saved.col s.saved.wrap
-    → s.grid ≡ blank_grid wide
+space_leaves : (wide : Bool) (s : Display) → IsPlace 24 (columns wide) s.saved.row s.saved.col s.saved.wrap
+    → s.grid ≡ blank_grid vt220_size wide
     → Makes (when s.saved.wrap (Print space ∷ []))
     (part (recorded s modes_at_power_up) modes_at_power_up (at_place s.saved.row s.saved.col) plain_brush sets_at_power_up
     full_margins s.saved.origin)
@@ -229,10 +235,10 @@ space_leaves wide s place on_blank = go s.saved.wrap refl
     go false e = none_makes (ap shape (sym e))
     go true e =
         let here : blank ≡ cell_at s.grid s.saved.row s.saved.col =
-        rw on_blank (sym (cell_at-grid_of (columns wide) (λ r c. blank) s.saved.row s.saved.col place.row_1
-        place.row_24 place.col_1 place.col_last)) in
+        rw on_blank (sym (cell_at-grid_of vt220_size (columns wide) (λ r c. blank) s.saved.row s.saved.col place.row_1
+        place.row_last place.col_1 place.col_last)) in
         let last : s.saved.col ≡ s.grid.width = rw on_blank (place.wrap_last e) in
-        let is : IsGrid s.grid = rw on_blank (IsGrid-grid_of (columns wide) _ (wide, refl)) in
+        let is : IsGrid s.grid = rw on_blank (IsGrid-grid_of vt220_size (columns wide) _ vt220-sized (wide, refl)) in
         record {
           is = put_again (shape false) s.saved.row s.saved.col blank here last is refl refl ∙ ap shape (sym e);
         }
@@ -252,13 +258,13 @@ origin_when true = refl
 origin_when false = refl
 
 pub saved_leaves : (wide : Bool) (s : Display) (cursor : Cursor)
-    → IsPlace (columns wide) s.saved.row s.saved.col s.saved.wrap → AreSoundSets (saved_sets s.saved)
+    → IsPlace 24 (columns wide) s.saved.row s.saved.col s.saved.wrap → AreSoundSets (saved_sets s.saved)
     → MakesSome (saved_item s.saved) (with_stops wide s.stops cursor) (with_saved wide s.stops s.saved)
 unfolding saved_item saved_events
 saved_leaves wide s cursor place sets = go (same_saved s.saved saved_at_power_up) refl
   where
     on_blank : Display
-    on_blank = record s { grid = blank_grid wide }
+    on_blank = record s { grid = blank_grid vt220_size wide }
 
     go : (b : Bool) → same_saved s.saved saved_at_power_up ≡ b
         → MakesSome (when (not b) (saved_events s.saved)) (with_stops wide s.stops cursor) (with_saved wide s.stops s.saved)
@@ -272,7 +278,7 @@ saved_leaves wide s cursor place sets = go (same_saved s.saved saved_at_power_up
           some = w.some;
           makes =
               rw (← origin_when s.saved.origin) (record_leaves on_blank _ modes_at_power_up cursor plain_brush plain_brush
-              sets_at_power_up _ _ place sets refl (space_leaves wide on_blank place refl) w.makes);
+              sets_at_power_up _ _ refl place sets refl (space_leaves wide on_blank place refl) w.makes);
         }
 
 -- ---- the cells
@@ -286,20 +292,21 @@ pub record HasCells (s x : Display) : Type 0 where
   pub none : sets.pending ≡ None
   pub spells : s.cursor.wrap ≡ true → AreSpellingSets sets
 
-blank_grid-is : (wide : Bool) (g : Grid) → g.width ≡ columns wide → IsGrid g → is_blank_grid g ≡ true
-    → blank_grid wide ≡ g
+blank_grid-is : (wide : Bool) (g : Grid) → g.width ≡ columns wide → IsGrid g → g.size ≡ vt220_size → is_blank_grid g ≡ true
+    → blank_grid vt220_size wide ≡ g
 unfolding is_blank_grid
-blank_grid-is wide g w is h =
-    ap (λ n. grid_of n (λ r c. blank)) (sym w)
-    ∙ grid_of-same g.width (λ r c. blank) (cell_at g)
+blank_grid-is wide g w is size h =
+    ap (λ n. grid_of vt220_size n (λ r c. blank)) (sym w)
+    ∙ grid_of-same vt220_size g.width (λ r c. blank) (cell_at g)
     (λ r c r1 r24 c1 cw. sym (is_blank-is (cell_at g r c) (blank_at g 24 r c h r1 (omega arith) c1 cw)))
+    ∙ ap (λ z. grid_of z g.width (cell_at g)) (sym size)
     ∙ grid_of-cell_at g is.cells
 
 pub cells_leaves : (wide : Bool) (s : Display) (cursor : Cursor) → s.grid.width ≡ columns wide → IsGrid s.grid
-    → AreGlyphs s.grid → AreSoundSets (saved_sets s.saved)
+    → s.grid.size ≡ vt220_size → AreGlyphs s.grid → AreSoundSets (saved_sets s.saved)
     → HasCells s (display_after (with_saved wide s.stops s.saved cursor) (cells_item s.grid s.cursor.wrap))
 unfolding display_after cells_item
-cells_leaves wide s cursor w is are sets = go (is_blank_grid s.grid && not s.cursor.wrap) refl
+cells_leaves wide s cursor w is size are sets = go (is_blank_grid s.grid && not s.cursor.wrap) refl
   where
     x0 : Display
     x0 = with_saved wide s.stops s.saved cursor
@@ -318,7 +325,7 @@ cells_leaves wide s cursor w is are sets = go (is_blank_grid s.grid && not s.cur
           cursor = cursor;
           brush = s.saved.brush;
           sets = saved_sets s.saved;
-          is = ap (λ g. record x0 { grid = g }) (blank_grid-is wide s.grid w is p.0);
+          is = ap (λ g. record x0 { grid = g }) (blank_grid-is wide s.grid w is size p.0);
           four = sets.four;
           none = refl;
           spells = λ h. absurd (cc (h, not_true s.cursor.wrap p.1));
@@ -326,11 +333,11 @@ cells_leaves wide s cursor w is are sets = go (is_blank_grid s.grid && not s.cur
     go false e =
         let spells = spelling_sets_are (saved_sets s.saved) sets.four refl in
         let ready : IsReady base = record { sets = spells; irm = refl; decawm = refl; decom = refl } in
-        let on_blank : blank_grid wide ≡ painted all_blank s.grid 1 1 =
-        ap (λ n. grid_of n all_blank) (sym w) ∙ painted_none all_blank s.grid in
+        let on_blank : blank_grid vt220_size wide ≡ painted all_blank s.grid 1 1 =
+        ap (λ n. grid_of vt220_size n all_blank) (sym w) ∙ painted_none all_blank s.grid in
         let painted_is = (spelling_sets_leaves x0).is ∙ ap (λ g. shown base g cursor s.saved.brush) on_blank in
         let v = pieces_leaves base s.grid (display_after x0 spelling_sets_events) cursor s.saved.brush
-        ready is are painted_is in
+        ready is size are painted_is in
         record {
           cursor = v.cursor;
           brush = v.brush;
@@ -351,7 +358,7 @@ pub last_leaves : (known : Bool) (s : Display) (modes : Modes) (cursor : Cursor)
     → Makes (last_items known s) (part s modes cursor brush sets full_margins origin) s
 unfolding last_items
 last_leaves known s modes cursor brush sets origin is_known was irm decawm i are four none spells =
-    let w1 = margins_leaves s modes cursor brush sets s.margins origin i.margins in
+    let w1 = margins_leaves s modes cursor brush sets s.margins origin (ap (λ (z : Size). z.rows) i.of_size) i.margins in
     let w2 = origin_leaves known s modes w1.some brush sets s.margins origin s.modes.decom was in
     let w4 = wrap_leaves s modes brush sets irm decawm i.grid.shape i.cursor.wrap_last are spells in
     let x5 = part s modes s.cursor s.brush sets s.margins s.modes.decom in

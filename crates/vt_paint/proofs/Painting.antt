@@ -3,6 +3,7 @@ use Rattle.std.proofs.Common.{◌≡◌, Bool, cond, ◌&&◌, ◌||◌, ℕ, �
 use Rattle.std.proofs.Common.{true, false, not, ◌-◌, min, max, [], ◌∷◌, ◌++◌, sym}
 use Rattle.vt_screen.proofs.Places.{cell_at-grid_of, grid_of-same, grid_of-cell_at}
 use Rattle.std.proofs.lemmas.Bool.Decides.{nat_tests}
+use Rattle.vt_screen.specs.Sizes.{vt220_size}
 use Rattle.vt_screen.specs.declared.cell.Cell.{Cell}
 use Rattle.vt_screen.specs.Cells.{blank, brush_of}
 use Rattle.vt_screen.specs.Grid.{Grid, IsGrid, grid_of, cell_at, put}
@@ -43,21 +44,22 @@ unfoldable pub painted_cell : (ℕ → ℕ → Cell) → Grid → ℕ → ℕ �
 painted_cell under g r c i j = cond (is_before r c i j) (cell_at g i j) (under i j)
 
 abbrev pub painted : (ℕ → ℕ → Cell) → Grid → ℕ → ℕ → Grid
-painted under g r c = grid_of g.width (painted_cell under g r c)
+painted under g r c = grid_of vt220_size g.width (painted_cell under g r c)
 
 -- nothing is underneath
 abbrev pub all_blank : ℕ → ℕ → Cell
 all_blank i j = blank
 
-pub painted_none : (under : ℕ → ℕ → Cell) (g : Grid) → grid_of g.width under ≡ painted under g 1 1
+pub painted_none : (under : ℕ → ℕ → Cell) (g : Grid) → grid_of vt220_size g.width under ≡ painted under g 1 1
 unfolding painted_cell
 painted_none under g =
-    grid_of-same g.width under (painted_cell under g 1 1) (λ i j i1 i24 j1 jw. grind (arith, nat_tests))
+    grid_of-same vt220_size g.width under (painted_cell under g 1 1) (λ i j i1 i24 j1 jw. grind (arith, nat_tests))
 
-painted_all : (under : ℕ → ℕ → Cell) (g : Grid) → IsGrid g → painted under g 25 1 ≡ g
+painted_all : (under : ℕ → ℕ → Cell) (g : Grid) → IsGrid g → g.size ≡ vt220_size → painted under g 25 1 ≡ g
 unfolding painted_cell
-painted_all under g is =
-    grid_of-same g.width (painted_cell under g 25 1) (cell_at g) (λ i j i1 i24 j1 jw. grind (arith, nat_tests))
+painted_all under g is size =
+    grid_of-same vt220_size g.width (painted_cell under g 25 1) (cell_at g) (λ i j i1 i24 j1 jw. grind (arith, nat_tests))
+    ∙ ap (λ z. grid_of z g.width (cell_at g)) (sym size)
     ∙ grid_of-cell_at g is.cells
 
 -- a row is done
@@ -65,7 +67,7 @@ painted_row : (under : ℕ → ℕ → Cell) (g : Grid) (r : ℕ)
     → painted under g r (g.width + 1) ≡ painted under g (r + 1) 1
 unfolding painted_cell
 painted_row under g r =
-    grid_of-same g.width (painted_cell under g r (g.width + 1)) (painted_cell under g (r + 1) 1)
+    grid_of-same vt220_size g.width (painted_cell under g r (g.width + 1)) (painted_cell under g (r + 1) 1)
     (λ i j i1 i24 j1 jw. grind (arith, nat_tests))
 
 -- the next cell is the one underneath
@@ -73,7 +75,7 @@ painted_skip : (under : ℕ → ℕ → Cell) (g : Grid) (r c : ℕ) → cell_at
     → painted under g r c ≡ painted under g r (c + 1)
 unfolding painted_cell
 painted_skip under g r c is =
-    grid_of-same g.width (painted_cell under g r c) (painted_cell under g r (c + 1))
+    grid_of-same vt220_size g.width (painted_cell under g r c) (painted_cell under g r (c + 1))
     (λ i j i1 i24 j1 jw. grind (arith, nat_tests, is))
 
 -- the next cell is put
@@ -81,17 +83,17 @@ painted_put : (under : ℕ → ℕ → Cell) (g : Grid) (r c : ℕ) → put (pai
     ≡ painted under g r (c + 1)
 unfolding painted_cell
 painted_put under g r c =
-    grid_of-same g.width
+    grid_of-same vt220_size g.width
     (λ i j. cond (eqb i r) (cond (eqb j c) (cell_at g r c) (cell_at (painted under g r c) r j))
     (cell_at (painted under g r c) i j)) (painted_cell under g r (c + 1))
     (λ i j i1 i24 j1 jw.
-    let was = cell_at-grid_of g.width (painted_cell under g r c) i j i1 i24 j1 jw in
+    let was = cell_at-grid_of vt220_size g.width (painted_cell under g r c) i j i1 i24 j1 jw in
     grind (arith, nat_tests, was))
 
 -- a cell that is put again
 put_same : (g : Grid) (r c : ℕ) → IsGrid g → put g r c (cell_at g r c) ≡ g
 put_same g r c is =
-    grid_of-same g.width
+    grid_of-same g.size g.width
     (λ i j. cond (eqb i r) (cond (eqb j c) (cell_at g r c) (cell_at g r j)) (cell_at g i j)) (cell_at g)
     (λ i j i1 i24 j1 jw. grind (arith, nat_tests))
     ∙ grid_of-cell_at g is.cells
@@ -138,11 +140,11 @@ module _ (before : Before) (base : Display) (under : ℕ → ℕ → Cell) (g : 
         at = λ l. first (r + 1) row.cursor row.brush;
       }
 
-  grid_leaves : (x : Display) (cursor : Cursor) (brush : Brush) → IsGrid g
+  grid_leaves : (x : Display) (cursor : Cursor) (brush : Brush) → IsGrid g → g.size ≡ vt220_size
       → x ≡ shown base (painted under g 1 1) cursor brush
       → IsShown base g
       (display_after x (flat_map (λ r. flat_map (events r) (range_with_len 1 g.width)) (range_with_len 1 24)))
-  grid_leaves x cursor brush is start =
+  grid_leaves x cursor brush is size start =
       let w = range_leaves (λ r x. IsWritten before base under g r 1 x)
       (λ r. flat_map (events r) (range_with_len 1 g.width)) 24 1 25 refl
       (λ r x r1 r24 w. row_leaves r x r1 (omega arith) w) x
@@ -150,7 +152,7 @@ module _ (before : Before) (base : Display) (under : ℕ → ℕ → Cell) (g : 
       record {
         cursor = w.cursor;
         brush = w.brush;
-        is = w.is ∙ ap (λ y. shown base y w.cursor w.brush) (painted_all under g is);
+        is = w.is ∙ ap (λ y. shown base y w.cursor w.brush) (painted_all under g is size);
       }
 
 -- what a spelling is read as is written
@@ -192,7 +194,7 @@ IsPainted base g r c x = IsWritten (AreAt g) base all_blank g r c x
 
 -- CUP, which names a row by its line
 pub cursor_leaves : (x : Display) (line r c : ℕ) → 1 ≤ c → c ≤ x.grid.width
-    → cond x.modes.decom (min (x.margins.top + max line 1 - 1) x.margins.bottom) (min (max line 1) 24) ≡ r
+    → cond x.modes.decom (min (x.margins.top + max line 1 - 1) x.margins.bottom) (min (max line 1) x.grid.size.rows) ≡ r
     → effect (cursor_position line c) x ≡ record x { cursor = at_place r c }
 unfolding sequence_in sequences_of
 cursor_leaves x line r c c1 cw row =
@@ -200,7 +202,7 @@ cursor_leaves x line r c c1 cw row =
     rw (row, col) refl
 
 -- without origin mode
-cursor_position_leaves : (x : Display) (r c : ℕ) → x.modes.decom ≡ false → 1 ≤ r → r ≤ 24 → 1 ≤ c
+cursor_position_leaves : (x : Display) (r c : ℕ) → x.modes.decom ≡ false → 1 ≤ r → r ≤ x.grid.size.rows → 1 ≤ c
     → c ≤ x.grid.width → effect (cursor_position r c) x ≡ record x { cursor = at_place r c }
 cursor_position_leaves x r c o r1 r24 c1 cw = cursor_leaves x r r c c1 cw (rw o (omega arith))
 
@@ -258,7 +260,7 @@ AreGlyphs g = (r c : ℕ) → IsGlyph (cell_at g r c).glyph
 
 -- after the header
 header_leaves : (base : Display) (g grid : Grid) (r c : ℕ) (cursor : Cursor) (brush : Brush) → IsReady base
-    → grid.width ≡ g.width → 1 ≤ r → r ≤ 24 → 1 ≤ c → c ≤ g.width → AreAt g r c cursor brush
+    → grid.width ≡ g.width → 1 ≤ r → r ≤ grid.size.rows → 1 ≤ c → c ≤ g.width → AreAt g r c cursor brush
     → Makes (header r c (left_of g r c) (cell_at g r c)) (shown base grid cursor brush)
     (shown base grid (at_place r c) (brush_of (cell_at g r c)))
 unfolding header
@@ -318,12 +320,12 @@ unfolding left_of
 first_leaves g r cursor brush n = absurd (cc n)
 
 pub pieces_leaves : (base : Display) (g : Grid) (x : Display) (cursor : Cursor) (brush : Brush) → IsReady base
-    → IsGrid g → AreGlyphs g → x ≡ shown base (painted all_blank g 1 1) cursor brush
+    → IsGrid g → g.size ≡ vt220_size → AreGlyphs g → x ≡ shown base (painted all_blank g 1 1) cursor brush
     → IsShown base g (display_after x (pieces g))
 unfolding pieces
-pieces_leaves base g x cursor brush ready is are start =
+pieces_leaves base g x cursor brush ready is size are start =
     grid_leaves (AreAt g) base all_blank g (λ r c. piece g r c)
-    (λ r c x r1 r24 c1 cw w. piece_leaves base g r c x ready are r1 r24 c1 cw w) (first_leaves g) x cursor brush is start
+    (λ r c x r1 r24 c1 cw w. piece_leaves base g r c x ready are r1 r24 c1 cw w) (first_leaves g) x cursor brush is size start
 
 -- ---- the brush
 
@@ -393,12 +395,13 @@ change_leaves marks base b g r c x ready are marked r1 r24 c1 cw w =
     }
 
 pub changed_cells_leaves : (marks : List (List Bool)) (base : Display) (b g : Grid) (cursor : Cursor) (brush : Brush)
-    → IsReady base → IsGrid b → IsGrid g → b.width ≡ g.width → AreGlyphs g → AreMarked marks b g
+    → IsReady base → IsGrid b → IsGrid g → b.size ≡ vt220_size → g.size ≡ vt220_size → b.width ≡ g.width → AreGlyphs g → AreMarked marks b g
     → IsShown base g (display_after (shown base b cursor brush) (changed_cells marks g))
 unfolding changed_cells
-changed_cells_leaves marks base b g cursor brush ready is_b is_g same are marked =
+changed_cells_leaves marks base b g cursor brush ready is_b is_g b_size g_size same are marked =
     grid_leaves anywhere base (cell_at b) g (λ r c. change marks g r c)
     (λ r c x r1 r24 c1 cw w. change_leaves marks base b g r c x ready are marked r1 r24 c1 cw w)
-    (λ r cursor brush. tt) (shown base b cursor brush) cursor brush is_g
+    (λ r cursor brush. tt) (shown base b cursor brush) cursor brush is_g g_size
     (ap (λ y. shown base y cursor brush) (sym (grid_of-cell_at b is_b.cells)
-    ∙ ap (λ n. grid_of n (cell_at b)) same ∙ painted_none (cell_at b) g))
+    ∙ ap (λ z. grid_of z b.width (cell_at b)) b_size
+    ∙ ap (λ n. grid_of vt220_size n (cell_at b)) same ∙ painted_none (cell_at b) g))

@@ -8,9 +8,10 @@ use Rattle.std.proofs.Math.ListN.{length-set}
 use Rattle.std.proofs.lemmas.List.FromFn.{get_or-map-range_with_len, length-map-range_with_len}
 use Rattle.std.proofs.lemmas.Bool.Decides.{eqb_tells}
 use Rattle.vt_syntax.specs.declared.event.Event.{Event}
+use Rattle.vt_screen.specs.Sizes.{vt220_size}
 use Rattle.vt_screen.specs.Grid.{blank_grid, columns}
 use Rattle.vt_term.specs.declared.state.Cursor.{Cursor}
-use Rattle.vt_term.specs.State.{Display, at_place, stops_at_power_up, display_at_power_up}
+use Rattle.vt_term.specs.State.{Display, at_place, stops_of, stops_at_power_up, display_of, display_at_power_up}
 use Rattle.vt_term.specs.Tabs.{no_stops}
 use Rattle.vt_term.specs.Modes.{with_mode}
 use Rattle.vt_term.specs.Functions.{control, plain_escape, sequence_in, sequences_of}
@@ -23,7 +24,7 @@ use Rattle.vt_paint.proofs.Equality.{same_bool-decides}
 
 -- power-up with this width, these stops and this cursor
 abbrev pub with_stops : Bool → List Bool → Cursor → Display
-with_stops wide stops cursor = record display_at_power_up { grid = blank_grid wide; stops = stops; cursor = cursor }
+with_stops wide stops cursor = record display_at_power_up { grid = blank_grid vt220_size wide; stops = stops; cursor = cursor }
 
 -- the stops of the columns before c are made
 record AreMade (stops made : List Bool) (c : ℕ) : Type 0 where
@@ -31,7 +32,7 @@ record AreMade (stops made : List Bool) (c : ℕ) : Type 0 where
   before : (j : ℕ) → j + 1 < c → get_or made j false ≡ get_or stops j false
   after : (j : ℕ) → c ≤ j + 1 → j < 132 → get_or made j false ≡ false
 
-none_made : (stops : List Bool) → AreMade stops no_stops 1
+none_made : (stops : List Bool) → AreMade stops (no_stops 132) 1
 unfolding no_stops
 none_made stops = record {
   len = length-map-range_with_len (λ c. false) 1 132;
@@ -113,14 +114,14 @@ unfolding display_after sequence_in sequences_of with_mode
 wide_leaves true = record { some = at_place 1 1; makes = record { is = refl } }
 wide_leaves false = record { some = at_place 1 1; makes = record { is = refl } }
 
-pub reset_leaves : (t : Display) → Makes (reset_to_initial_state ∷ []) t display_at_power_up
+pub reset_leaves : (t : Display) → t.grid.size ≡ vt220_size → Makes (reset_to_initial_state ∷ []) t display_at_power_up
 unfolding display_after plain_escape
-reset_leaves t = record { is = refl }
+reset_leaves t size = record { is = ap display_of size }
 
 start : (stops : List Bool)
     → IsMade stops 1 (display_after display_at_power_up (private_mode 3 true ∷ clear_all_tabs ∷ []))
-unfolding display_after sequence_in sequences_of with_mode
-start stops = record { made = no_stops; cursor = at_place 1 1; is = refl; are = none_made stops }
+unfolding display_after sequence_in sequences_of with_mode stops_of
+start stops = record { made = no_stops 132; cursor = at_place 1 1; is = refl; are = none_made stops }
 
 pub stops_leaves : (wide : Bool) (stops : List Bool) → length stops ≡ 132
     → MakesSome (stops_item (columns wide) stops) display_at_power_up (with_stops wide stops)

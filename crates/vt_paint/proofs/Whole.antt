@@ -5,7 +5,7 @@ use Rattle.vt_glyph.specs.GraphicSets.{GraphicSets}
 use Rattle.vt_glyph.specs.Invocation.{sets_at_power_up}
 use Rattle.vt_screen.specs.Cells.{plain_brush}
 use Rattle.vt_term.specs.declared.state.Modes.{Modes}
-use Rattle.vt_term.specs.State.{Display, full_margins, saved_at_power_up, display_at_power_up, State}
+use Rattle.vt_term.specs.State.{Display, full_margins, saved_at_power_up, display_at_power_up, State, margins_of}
 use Rattle.vt_term.specs.State.{modes_at_power_up}
 use Rattle.vt_term.specs.Sound.{IsSoundDisplay, IsPlace, IsSound}
 use Rattle.vt_term.specs.Resets.{soft_reset}
@@ -29,6 +29,8 @@ use Rattle.vt_syntax.specs.Steps.{step_to}
 use Rattle.vt_syntax.proofs.Steps.{same_held, same_events}
 use Rattle.vt_syntax.proofs.Spelled.{events_steps}
 use Rattle.vt_syntax.proofs.Cutting.{read, escape}
+use Rattle.vt_screen.specs.declared.size.Size.{Size}
+use Rattle.vt_screen.specs.Sizes.{vt220_size, width_of}
 use Rattle.vt_term.specs.Play.{after_events, play}
 use Rattle.vt_paint.specs.Items.{stops_item, cells_item}
 use Rattle.vt_paint.specs.Repaint.{made_events, paint}
@@ -51,9 +53,9 @@ started t = record t {
   saved = saved_at_power_up;
 }
 
-start_leaves : (t : Display) → Makes start_item t (started t)
+start_leaves : (t : Display) → t.grid.size ≡ vt220_size → Makes start_item t (started t)
 unfolding display_after start_item sequence_in sequences_of with_mode start_modes
-start_leaves t = record { is = refl }
+start_leaves t size = record { is = ap (λ z. record (started t) { margins = margins_of z }) size }
 
 changes_leaves : (marks : List (List Bool)) (s t : Display) → IsSoundDisplay s → IsSoundDisplay t → AreGlyphs s.grid
     → AreChanges marks t s → Makes (change_events marks s) t s
@@ -64,15 +66,15 @@ changes_leaves marks s t i j are changes =
     let spells = spelling_sets_are sets_at_power_up refl refl in
     let ready : IsReady base = record { sets = spells; irm = refl; decawm = refl; decom = refl } in
     let w3 = changed_cells_leaves marks base t.grid s.grid base.cursor base.brush ready j.grid.shape i.grid.shape
-    changes.width are changes.marked in
+    j.of_size i.of_size changes.width are changes.marked in
     let cells : Makes (changed_cells marks s.grid) base
     (part (recorded s modes) modes w3.cursor w3.brush base.sets full_margins false) =
     record { is = w3.is ∙ ap (λ (z : List Bool). record (shown base s.grid w3.cursor w3.brush) { stops = z }) changes.stops } in
     let w4 = wrap_leaves (recorded s modes) modes w3.brush base.sets refl refl i.grid.shape i.saved.wrap_last are
     (λ h. spells) in
     let made : GraphicSets = record base.sets { g = s.saved.g; left = s.saved.gl; right = s.saved.gr } in
-    then_makes (start_leaves t) (then_makes (spelling_sets_leaves (started t)) (then_makes cells (then_makes
-    (record_leaves s _ modes w3.cursor w3.brush w4.some base.sets _ [] i.saved i.saved_sets
+    then_makes (start_leaves t j.of_size) (then_makes (spelling_sets_leaves (started t)) (then_makes cells (then_makes
+    (record_leaves s _ modes w3.cursor w3.brush w4.some base.sets _ [] (ap (λ (z : Size). z.rows) i.of_size) i.saved i.saved_sets
     (spelling_sets_four sets_at_power_up refl) w4.makes (none_makes refl))
     (then_makes (spelling_sets_leaves (part s modes (saved_cursor s.saved) s.saved.brush made full_margins s.saved.origin))
     (last_leaves false s modes (saved_cursor s.saved) s.saved.brush (spelling_sets made) s.saved.origin
@@ -98,12 +100,12 @@ pub made_leaves : (s : Display) → IsSoundDisplay s → Makes (made_events s) d
 unfolding made_events
 made_leaves s i =
     let wide = i.grid.shape.width.0 in
-    let is_width = i.grid.shape.width.1 in
+    let is_width = i.grid.shape.width.1 ∙ ap (λ (z : Size). width_of z wide) i.of_size in
     let are = sound_glyphs s i in
-    let place = subst (λ (w : ℕ). IsPlace w s.saved.row s.saved.col s.saved.wrap) is_width i.saved in
+    let place = subst (λ (w : ℕ). IsPlace 24 w s.saved.row s.saved.col s.saved.wrap) is_width i.saved in
     let w1 = stops_leaves wide s.stops i.stops in
     let w2 = saved_leaves wide s w1.some place i.saved_sets in
-    let w3 = cells_leaves wide s w2.some is_width i.grid.shape are i.saved_sets in
+    let w3 = cells_leaves wide s w2.some is_width i.grid.shape i.of_size are i.saved_sets in
     let cells : Makes (cells_item s.grid s.cursor.wrap) (with_saved wide s.stops s.saved w2.some)
     (part s modes_at_power_up w3.cursor w3.brush w3.sets full_margins false) = record { is = w3.is } in
     let stops = subst (λ (n : ℕ). Makes (stops_item n s.stops) display_at_power_up (with_stops wide s.stops w1.some))
@@ -112,8 +114,8 @@ made_leaves s i =
     (last_leaves true s modes_at_power_up w3.cursor w3.brush w3.sets false (λ e. refl) (λ e. refl) refl refl i are
     w3.four w3.none w3.spells)))
 
-repaint_leaves : (s t : Display) → IsSoundDisplay s → Makes (repaint_events s) t s
-repaint_leaves s t i = then_makes (reset_leaves t) (made_leaves s i)
+repaint_leaves : (s t : Display) → IsSoundDisplay s → t.grid.size ≡ vt220_size → Makes (repaint_events s) t s
+repaint_leaves s t i size = then_makes (reset_leaves t size) (made_leaves s i)
 
 pub short : (s : State) → IsSound s → length (paint s) ≤ 93512
 unfolding paint
@@ -131,7 +133,7 @@ pub rebuilds_all : (s : State) → IsSound s → s.held ≡ Nothing → (t : Sta
 unfolding paint
 rebuilds_all s i between t j =
     played 93512 (repaint_events s.display) _ s t (repaint_within s.display i.display) refl j.held
-    between (repaint_leaves s.display t.display i.display)
+    between (repaint_leaves s.display t.display i.display j.display.of_size)
 
 pub few : (marks : List (List Bool)) (s t : Display) (before : List ℕ) → IsSoundDisplay s → AreChanges marks t s
     → length (before ++ spell_events (change_events marks s)) ≤ length before + 28 * differing t.grid s.grid + 230

@@ -2,6 +2,7 @@
 use Rattle.vt_controls.specs.Controls.{reset_to_initial_state, clear_all_tabs, sequence_of}
 use Rattle.vt_controls.specs.Controls.{private_mode, cursor_position, brush_events, set_tab, left_event, right_event}
 use Rattle.vt_controls.specs.Controls.{sets_events, spelling_sets_events, spelling_events, save_cursor}
+use Rattle.vt_screen.specs.declared.size.Size.{Size}
 use Rattle.vt_screen.proofs.Composed.{test-at}
 use Rattle.vt_screen.proofs.Places.{width-bounds}
 use Rattle.vt_glyph.proofs.Charts.{space_is_glyph}
@@ -267,8 +268,8 @@ line_small : (s : Display) → IsSoundDisplay s → line_of_cursor s ≤ 24
 line_small s i = go s.modes.decom
   where
     go : (b : Bool) → cond b (s.cursor.row - s.margins.top + 1) s.cursor.row ≤ 24
-    go true = omega (arith, i.cursor.row_24, i.margins.from_row_1)
-    go false = i.cursor.row_24
+    go true = omega (arith, i.cursor.row_last, i.margins.from_row_1)
+    go false = i.cursor.row_last
 
 -- a mode by its event and its value; its event is as long when it is reset
 abbrev cost : ModeRow → ℕ
@@ -304,7 +305,12 @@ start_within = computed 10 start_item refl
 -- ---- the cells
 
 width_small : (s : Display) → IsSoundDisplay s → last_column s ≤ 132
-width_small s i = (width-bounds s.grid.width i.grid.shape.width).1
+width_small s i =
+    omega (
+      arith,
+      (width-bounds s.grid.size s.grid.width i.grid.shape.size i.grid.shape.width).1,
+      ap (λ (z : Size). z.wide) i.of_size,
+    )
 
 -- each place of a sound grid has a glyph
 pub sound_glyphs : (s : Display) → IsSoundDisplay s → AreGlyphs s.grid
@@ -384,7 +390,7 @@ made_within s i =
     let w = width_small s i in
     let saved_col : s.saved.col ≤ 132 = omega (arith, i.saved.col_last, w) in
     upto (omega arith) (then_within (stops_within (last_column s) s.stops)
-    (then_within (saved_within s.saved i.saved.row_24 saved_col)
+    (then_within (saved_within s.saved i.saved.row_last saved_col)
     (then_within (cells_within s.grid s.cursor.wrap (sound_glyphs s i) w) (last_within true s i))))
 
 -- the events of a repaint
@@ -403,5 +409,5 @@ changes_within marks s t i changes =
     let saved_col : s.saved.col ≤ 132 = omega (arith, i.saved.col_last, w) in
     upto (omega arith) (then_within start_within (then_within (computed 10 spelling_sets_events refl)
     (then_within (changed_within marks t.grid s.grid are changes.marked w)
-    (then_within (record_within s.grid s.saved are i.saved.row_24 saved_col)
+    (then_within (record_within s.grid s.saved are i.saved.row_last saved_col)
     (then_within (computed 10 spelling_sets_events refl) (last_within false s i))))))

@@ -1,28 +1,34 @@
 -- The events that blank the screen leave a blank cell at each place.
-use Rattle.std.proofs.Common.{◌≡◌, ℕ, ◌+◌, ◌≤◌, Bool, true, false, List, [], ◌∷◌, eqb, Some, None, refl, sym}
+use Rattle.std.proofs.Common.{◌≡◌, ℕ, ◌+◌, ◌≤◌, Bool, true, false, List, [], ◌∷◌, eqb, Some, None, refl, sym, ap}
 use Rattle.std.proofs.Common.{subst, ◌∙◌, arith, inl, inr, nat_le}
 use Rattle.std.specs.Prelude.{◌==◌, ◌||◌, ◌&&◌, codes}
 use Rattle.std.proofs.lemmas.Bool.{and_parts, eqb-true, false≢true}
-use Rattle.std.proofs.lemmas.Bool.Decides.{eqb_tells, nat_tests}
+use Rattle.std.proofs.lemmas.Bool.Decides.{eqb_tells, leb_tells, nat_tests}
 use Rattle.vt_syntax.specs.declared.event.Event.{Event}
 use Rattle.vt_syntax.specs.declared.event.Event.TheVariants.{Print, Control, Escape, Sequence}
 use Rattle.vt_glyph.specs.LookUp.{contains}
 use Rattle.vt_glyph.proofs.Lists.{either}
 use Rattle.vt_screen.specs.declared.cell.Cell.{Cell}
+use Rattle.vt_screen.specs.declared.size.Size.{Size}
 use Rattle.vt_screen.specs.Cells.{blank}
-use Rattle.vt_screen.specs.Grid.{grid_of, blank_grid, erase_area, is_within, scroll_up, scroll_down}
+use Rattle.vt_screen.specs.Grid.{Grid, grid_of, blank_grid, erase_area, is_within, scroll_up, scroll_down}
 use Rattle.vt_screen.specs.Laws.{PlaceLaws}
 use Rattle.vt_term.specs.State.{Display}
 use Rattle.vt_term.specs.Parameters.{first, count}
 use Rattle.vt_term.specs.Editing.{names_area, display_area, erase_in_display, insert_line, delete_line, is_inside}
 use Rattle.vt_term.specs.Modes.{with_mode, change_modes, private_modes}
 use Rattle.vt_term.specs.Functions.{effect, plain_escape, sequence_in, sequences_of, byte}
+use Rattle.vt_term.proofs.SizeKept.{effect-size}
 use Rattle.vt_replay.specs.Pages.{erases_all, moves_all, blanks_screen, IsBlank}
 
 -- a formula that is blank at each place
-formula-blank : PlaceLaws → (w : ℕ) (f : ℕ → ℕ → Cell) → ((r c : ℕ) → 1 ≤ r → r ≤ 24 → 1 ≤ c → c ≤ w → f r c ≡ blank)
-    → IsBlank (grid_of w f)
-formula-blank places w f are r c r1 r24 c1 cw = places.at_place w f r c r1 r24 c1 cw ∙ are r c r1 r24 c1 cw
+formula-blank : PlaceLaws → (size : Size) (w : ℕ) (f : ℕ → ℕ → Cell)
+    → ((r c : ℕ) → 1 ≤ r → r ≤ size.rows → 1 ≤ c → c ≤ w → f r c ≡ blank) → IsBlank (grid_of size w f)
+formula-blank places size w f are r c r1 rn c1 cw = places.at_place size w f r c r1 rn c1 cw ∙ are r c r1 rn c1 cw
+
+-- a grid without rows is blank
+none-blank : (g : Grid) → g.size.rows ≡ 0 → IsBlank g
+none-blank g none = λ r c r1 rn c1 cw. absurd (omega (arith, none, r1, rn))
 
 -- a mode other than DECCOLM leaves the cells
 other-mode : (on : Bool) (p : ℕ) (s : Display) → eqb p 3 ≡ false → (with_mode private_modes on p s).grid ≡ s.grid
@@ -34,19 +40,19 @@ module _ (places : PlaceLaws) where
   erased-all p s all =
       let named : names_area p ≡ true = grind (arith, nat_tests, all) in
       let grid : (erase_in_display false p s).grid ≡ erase_area s.grid (display_area p s.cursor) false = rw named refl in
-      subst IsBlank (sym grid) (formula-blank places s.grid.width _ (λ r c r1 r24 c1 cw.
+      subst IsBlank (sym grid) (formula-blank places s.grid.size s.grid.width _ (λ r c r1 rn c1 cw.
       let inside : display_area p s.cursor r c ≡ true = grind (arith, nat_tests, all) in
       rw inside refl))
 
-  module _ (params : List ℕ) (s : Display) (all : moves_all params s ≡ true) where
+  module _ (params : List ℕ) (s : Display) (some : 1 ≤ s.grid.size.rows) (all : moves_all params s ≡ true) where
     inside : is_inside s ≡ true
-    inside = grind (arith, nat_tests, all)
+    inside = grind (arith, nat_tests, all, some)
 
     moved-down : IsBlank (insert_line (count params) s).grid
     moved-down =
         let grid : (insert_line (count params) s).grid
         ≡ scroll_down s.grid s.cursor.row s.margins.bottom (count params) = rw inside refl in
-        subst IsBlank (sym grid) (formula-blank places s.grid.width _ (λ r c r1 r24 c1 cw.
+        subst IsBlank (sym grid) (formula-blank places s.grid.size s.grid.width _ (λ r c r1 rn c1 cw.
         let within : is_within s.cursor.row s.margins.bottom r ≡ true = grind (arith, nat_tests, all) in
         let far : nat_le (s.cursor.row + count params) r ≡ false = grind (arith, nat_tests, all) in
         rw (within, far) refl))
@@ -55,19 +61,19 @@ module _ (places : PlaceLaws) where
     moved-up =
         let grid : (delete_line (count params) s).grid
         ≡ scroll_up s.grid s.cursor.row s.margins.bottom (count params) = rw inside refl in
-        subst IsBlank (sym grid) (formula-blank places s.grid.width _ (λ r c r1 r24 c1 cw.
+        subst IsBlank (sym grid) (formula-blank places s.grid.size s.grid.width _ (λ r c r1 rn c1 cw.
         let within : is_within s.cursor.row s.margins.bottom r ≡ true = grind (arith, nat_tests, all) in
         let far : nat_le (r + count params) s.margins.bottom ≡ false = grind (arith, nat_tests, all) in
         rw (within, far) refl))
 
   -- a blank grid
-  new-blank : (wide : Bool) → IsBlank (blank_grid wide)
-  new-blank wide = formula-blank places _ (λ r c. blank) (λ r c r1 r24 c1 cw. refl)
+  new-blank : (size : Size) (wide : Bool) → IsBlank (blank_grid size wide)
+  new-blank size wide = formula-blank places size _ (λ r c. blank) (λ r c r1 rn c1 cw. refl)
 
   -- DECCOLM makes the screen blank, and every other mode leaves the cells
   column-blank : (on : Bool) (s : Display) → IsBlank (with_mode private_modes on 3 s).grid
   unfolding with_mode
-  column-blank on s = new-blank on
+  column-blank on s = new-blank s.grid.size on
 
   mode-keeps : (on : Bool) (p : ℕ) (s : Display) → IsBlank s.grid → IsBlank (with_mode private_modes on p s).grid
   mode-keeps on p s are = elim (eqb_tells p 3) [
@@ -89,13 +95,13 @@ module _ (places : PlaceLaws) where
       (subst (λ (q : ℕ). IsBlank (with_mode private_modes on q s).grid) (sym (eqb-true p 3 is)) (column-blank on s)))
       (λ later. column-changed on params (with_mode private_modes on p s) later)
 
-  pub blanked : (event : Event) (s : Display) → blanks_screen event s ≡ true → IsBlank (effect event s).grid
+  blanked-some : (event : Event) (s : Display) → 1 ≤ s.grid.size.rows → blanks_screen event s ≡ true → IsBlank (effect event s).grid
   unfolding plain_escape sequence_in sequences_of
-  blanked (Print b) s is = absurd (false≢true is)
-  blanked (Control b) s is = absurd (false≢true is)
-  blanked (Escape None last) s is = rw (eqb-true last (byte (codes "c")) is) (new-blank false)
-  blanked (Escape (Some inter) last) s is = absurd (false≢true is)
-  blanked (Sequence None params None last) s is =
+  blanked-some (Print b) s some is = absurd (false≢true is)
+  blanked-some (Control b) s some is = absurd (false≢true is)
+  blanked-some (Escape None last) s some is = rw (eqb-true last (byte (codes "c")) is) (new-blank s.grid.size false)
+  blanked-some (Escape (Some inter) last) s some is = absurd (false≢true is)
+  blanked-some (Sequence None params None last) s some is =
       let P : Type 0 = IsBlank (effect (Sequence None params None last) s).grid in
       either P (last == byte (codes "J") && erases_all (first params.items) s) _ is
       (λ e.
@@ -104,9 +110,9 @@ module _ (places : PlaceLaws) where
       (λ e.
       let parts = and_parts _ _ e in
       either P (last == byte (codes "L")) (last == byte (codes "M")) parts.0
-      (λ l. rw (eqb-true last (byte (codes "L")) l) (moved-down params.items s parts.1))
-      (λ m. rw (eqb-true last (byte (codes "M")) m) (moved-up params.items s parts.1)))
-  blanked (Sequence (Some marker) params None last) s is =
+      (λ l. rw (eqb-true last (byte (codes "L")) l) (moved-down params.items s some parts.1))
+      (λ m. rw (eqb-true last (byte (codes "M")) m) (moved-up params.items s some parts.1)))
+  blanked-some (Sequence (Some marker) params None last) s some is =
       let P : Type 0 = IsBlank (effect (Sequence (Some marker) params None last) s).grid in
       let ends : Bool = last == byte (codes "h") || last == byte (codes "l") in
       let parts = and_parts (marker == byte (codes "?") && ends) (contains params.items 3) is in
@@ -115,5 +121,12 @@ module _ (places : PlaceLaws) where
       either P (last == byte (codes "h")) (last == byte (codes "l")) front.1
       (λ h. rw (mark, eqb-true last (byte (codes "h")) h) (column-changed true params.items s parts.1))
       (λ l. rw (mark, eqb-true last (byte (codes "l")) l) (column-changed false params.items s parts.1))
-  blanked (Sequence None params (Some inter) last) s is = absurd (false≢true is)
-  blanked (Sequence (Some marker) params (Some inter) last) s is = absurd (false≢true is)
+  blanked-some (Sequence None params (Some inter) last) s some is = absurd (false≢true is)
+  blanked-some (Sequence (Some marker) params (Some inter) last) s some is = absurd (false≢true is)
+
+  pub blanked : (event : Event) (s : Display) → blanks_screen event s ≡ true → IsBlank (effect event s).grid
+  blanked event s is = elim (leb_tells 1 s.grid.size.rows) [
+    | inl e ↦ blanked-some event s (omega (arith, e)) is
+    | inr e ↦ none-blank (effect event s).grid
+        (ap (λ (size : Size). size.rows) (effect-size event s) ∙ omega (arith, e))
+  ]

@@ -1,6 +1,7 @@
 -- The lines and pages of an event, of graphic bytes and of bytes without an event.
 use Rattle.std.proofs.Common.{◌≡◌, ℕ, ◌+◌, ◌≤◌, List, [], ◌∷◌, ◌++◌, length, map, refl, sym, ap, ◌∙◌, append-nil, arith}
-use Rattle.std.proofs.Common.{All}
+use Rattle.std.proofs.Common.{All, subst}
+use Rattle.std.proofs.lemmas.List.Elements.{All-weaker}
 use Rattle.std.specs.List.{flat_map}
 use Rattle.std.proofs.lemmas.Grind.{flat_map-append}
 use Rattle.vt_glyph.specs.Invocation.{HasGlyph}
@@ -11,8 +12,9 @@ use Rattle.vt_syntax.specs.Held.{events_from}
 use Rattle.vt_syntax.specs.Laws.{SplitLaw, SpellingLaw}
 use Rattle.vt_term.specs.State.{Display, State}
 use Rattle.vt_term.specs.Functions.{effect}
-use Rattle.vt_term.specs.Sound.{IsSound}
-use Rattle.vt_term.specs.Happenings.{happenings}
+use Rattle.vt_term.specs.Sound.{IsSoundSized}
+use Rattle.vt_screen.specs.Sizes.{vt220_size}
+use Rattle.vt_term.specs.Happenings.{Happening, happening, happenings}
 use Rattle.vt_term.specs.Text.{line_text}
 use Rattle.vt_term.specs.Scrolling.{line_off, lines_off, scrolled_off}
 use Rattle.std.specs.Prelude.{slice_index}
@@ -22,7 +24,7 @@ use Rattle.vt_term.proofs.Scrolled.{run-line}
 use Rattle.vt_term.proofs.Bytes.{graphic-events}
 use Rattle.vt_term.proofs.Happened.{happened, length-happenings}
 use Rattle.vt_replay.specs.Pages.{taken_off, pages_off, pages}
-use Rattle.vt_replay.specs.PageCuts.{IsPaged, pages_at, pages_in, pages-none, pages-append}
+use Rattle.vt_replay.specs.PageCuts.{AreFew, IsFew, IsPaged, pages_at, pages_in, pages-none, pages-append}
 
 prints-pages : (bytes : List ℕ) (s : Display)
     → pages_off (map Print bytes) s ≡ flat_map line_text (lines_off (map Print bytes) s)
@@ -49,21 +51,32 @@ unfolding pages
 one-page s bytes event is = rw is (append-nil (taken_off event s.display))
 
 -- the pages of bytes are those of what happens at them
-pub pages-happened : SplitLaw → (s : State) (bytes : List ℕ) → IsSound s → pages_in (happenings s bytes) ≡ pages s bytes
+pub pages-happened : SplitLaw → (s : State) (bytes : List ℕ) → IsSoundSized s → pages_in (happenings s bytes) ≡ pages s bytes
 unfolding pages
 pages-happened split s bytes sound =
     happened split pages_at pages (pages-none split) (pages-append split) (λ s b. refl) s bytes sound.held
 
-pub paged-one : SplitLaw → (s : State) (bytes xs ys text : List ℕ) → IsSound s → 1 ≤ length bytes → pages s bytes ≡ text
-    → ys ≡ xs ++ text → length ys ≤ length xs + 9528 → IsPaged (happenings s bytes) xs ys
-paged-one split s bytes xs ys text sound some is told few = record {
-  lines = rw (pages-happened split s bytes sound, is) told;
-  bounded = omega (arith, some, few, length-happenings s bytes);
+-- the first of the texts
+first-few : (s : State) (bytes : List ℕ) → 1 ≤ length bytes → All IsFew (happenings s bytes) → AreFew s.display.grid.size
+first-few s [] some few = absurd (omega (arith, some))
+first-few s (b ∷ bytes) some few = few 0 (happening s b) (omega arith)
+
+-- the texts of a VT220's screens
+pub vt220-few : (hs : List Happening) → All (λ h. h.before.grid.size ≡ vt220_size) hs → All IsFew hs
+vt220-few hs same =
+    All-weaker (λ h. h.before.grid.size ≡ vt220_size) IsFew
+    (λ h is. subst AreFew (sym is) (omega arith, omega arith)) hs same
+
+pub paged-one : SplitLaw → (s : State) (bytes xs ys text : List ℕ) → IsSoundSized s → 1 ≤ length bytes → pages s bytes ≡ text
+    → (AreFew s.display.grid.size → ys ≡ xs ++ text) → length ys ≤ length xs + 9528 → IsPaged (happenings s bytes) xs ys
+paged-one split s bytes xs ys text sound some is told bounded = record {
+  lines = λ few. rw (pages-happened split s bytes sound, is) (told (first-few s bytes some few));
+  bounded = omega (arith, some, bounded, length-happenings s bytes);
 }
 
-pub paged-none : SplitLaw → (s : State) (bytes xs : List ℕ) → IsSound s → events_from s.held bytes ≡ []
+pub paged-none : SplitLaw → (s : State) (bytes xs : List ℕ) → IsSoundSized s → events_from s.held bytes ≡ []
     → IsPaged (happenings s bytes) xs xs
 paged-none split s bytes xs sound none = record {
-  lines = rw (pages-happened split s bytes sound, no-pages s bytes none) (sym (append-nil xs));
+  lines = λ few. rw (pages-happened split s bytes sound, no-pages s bytes none) (sym (append-nil xs));
   bounded = omega arith;
 }

@@ -1,4 +1,4 @@
--- The pages: the 24 lines of the screen before each event that blanks all of it. (EK-VT220-RM: ED, IL, DL, RIS and DECCOLM;
+-- The pages: the lines of the screen before each event that blanks all of it. (EK-VT220-RM: ED, IL, DL, RIS and DECCOLM;
 -- that their lines are written is this profile's)
 use Rattle.std.specs.Prelude.{◌≡◌, ◌≤◌, ℕ, List, [], ◌∷◌, ◌++◌, Bool, false, Option, Some, None, length, codes}
 use Rattle.std.specs.Prelude.{◌==◌, ◌||◌, ◌&&◌, nat_le, if◌then◌else◌, flat_map}
@@ -7,7 +7,7 @@ use Rattle.vt_syntax.specs.declared.event.Event.TheVariants.{Print, Control, Esc
 use Rattle.vt_syntax.specs.Held.{events_from}
 use Rattle.vt_glyph.specs.LookUp.{contains}
 use Rattle.vt_screen.specs.Cells.{blank}
-use Rattle.vt_screen.specs.Grid.{Grid, last_row, cell_at}
+use Rattle.vt_screen.specs.Grid.{Grid, cell_at}
 use Rattle.vt_term.specs.State.{Display, State, last_column}
 use Rattle.vt_term.specs.Parameters.{first, count}
 use Rattle.vt_term.specs.Functions.{effect, byte}
@@ -18,11 +18,12 @@ use Rattle.vt_term.specs.Scrolling.{line_off}
 abbrev pub erases_all : ℕ → Display → Bool
 erases_all p s =
     p == 2 || (p == 0 && s.cursor.row == 1 && s.cursor.col == 1)
-    || (p == 1 && s.cursor.row == last_row && s.cursor.col == last_column s)
+    || (p == 1 && s.cursor.row == s.grid.size.rows && s.cursor.col == last_column s)
 
--- IL and DL move every line off: from row 1, between full margins, by 24 lines or more
+-- IL and DL move every line off: from row 1, between full margins, by as many lines or more
 abbrev pub moves_all : List ℕ → Display → Bool
-moves_all params s = s.cursor.row == 1 && s.margins.top == 1 && s.margins.bottom == last_row && nat_le last_row (count params)
+moves_all params s =
+    s.cursor.row == 1 && s.margins.top == 1 && s.margins.bottom == s.grid.size.rows && nat_le s.grid.size.rows (count params)
 
 -- by the marker and the intermediate: ED, IL and DL, and DECCOLM set or reset
 abbrev pub blanks_by : Option ℕ → Option ℕ → List ℕ → ℕ → Display → Bool
@@ -48,11 +49,11 @@ blanks_screen (Sequence marker params inter last) s = blanks_by marker inter par
 
 -- a blank cell at each place
 abbrev pub IsBlank : Grid → Type 0
-IsBlank g = (r c : ℕ) → 1 ≤ r → r ≤ last_row → 1 ≤ c → c ≤ g.width → cell_at g r c ≡ blank
+IsBlank g = (r c : ℕ) → 1 ≤ r → r ≤ g.size.rows → 1 ≤ c → c ≤ g.width → cell_at g r c ≡ blank
 
--- the 24 lines as they are, unless all are empty: each has its LF, so these are the 24 bytes
+-- the lines as they are, unless all are empty: each has its LF, so these are as many bytes as there are rows
 abbrev pub page : Display → List ℕ
-page s = if length (grid_text s.grid) == last_row then [] else grid_text s.grid
+page s = if length (grid_text s.grid) == s.grid.size.rows then [] else grid_text s.grid
 
 -- what an event takes off the screen: all lines, or line 1
 abbrev pub taken_off : Event → Display → List ℕ

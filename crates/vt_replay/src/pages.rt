@@ -5,14 +5,14 @@ ghost use Rattle.vt_term.specs.Play.{play};
 ghost use Rattle.std.specs.Bool.{OnTrue, OnFalse};
 ghost use Rattle.vt_syntax.specs.Event.{event_of};
 ghost use Rattle.vt_replay.specs.Pages.{pages, taken_off};
-ghost use Rattle.vt_replay.specs.PageCuts.{takes_off};
+ghost use Rattle.vt_replay.specs.PageCuts.{AreFew, takes_off};
 
 use crate::blanks::{blanks_screen, push_page, takes_off};
 use std::alloc::AllocError;
 use vt_syntax::EventKind;
 use vt_syntax::laws::{one_split, spelled};
-use vt_term::laws::happened;
-use vt_term::{Observer, REPORT_LIMIT, TEXT_LIMIT, Terminal};
+use vt_term::laws::sized_happened;
+use vt_term::{Observer, REPORT_LIMIT, SizedTerminal, TEXT_LIMIT, Terminal};
 
 /// The most bytes of lines for each byte of a piece: the 24 lines of the screen.
 pub const PAGE_LIMIT: usize = TEXT_LIMIT;
@@ -80,7 +80,7 @@ pub fn feed_pages_reserved(
 {
     let _ = terminal.width();
     one_split();
-    happened();
+    sized_happened();
     let mut observer = Pages { lines };
     terminal.feed_observed(piece, &mut observer, reports)
 }
@@ -102,20 +102,23 @@ impl Pages<'_> {
         self.lines.capacity() - self.lines.len() >= PAGE_LIMIT
     }
 
-    /// Appends what an event takes off the screen.
+    /// Appends what an event takes off the screen, if its text has at most `PAGE_LIMIT` bytes.
     #[inline(always)]
-    fn keep(&mut self, terminal: &Terminal, kind: EventKind, values: &[u16])
+    fn keep(&mut self, terminal: &SizedTerminal, kind: EventKind, values: &[u16])
         requires { takes_off (event_of kind values.now) terminal.now.display ≡ true
             → vec_len self.old.lines.now + PAGE_LIMIT ≤ vec_capacity self.old.lines.now }
         ensures same_reference { self.new.lines.ghost_name ≡ self.old.lines.ghost_name }
-        ensures lines { self.new.lines.now.items ≡ self.old.lines.now.items
+        ensures lines { AreFew terminal.now.display.grid.size → self.new.lines.now.items ≡ self.old.lines.now.items
             ++ taken_off (event_of kind values.now) terminal.now.display }
         ensures bounded { vec_len self.new.lines.now ≤ vec_len self.old.lines.now + PAGE_LIMIT }
         ensures capacity { vec_capacity self.old.lines.now ≤ vec_capacity self.new.lines.now }
     {
+        let _ = terminal.size();
         if blanks_screen(terminal, kind, values) {
-            push_page(terminal, self.lines);
-        } else if terminal.scrolls_off(kind) {
+            if terminal.text_limit() <= PAGE_LIMIT {
+                push_page(terminal, self.lines);
+            }
+        } else if terminal.scrolls_off(kind) && terminal.row_text_limit() <= PAGE_LIMIT {
             terminal.row_text_reserved(1, self.lines);
         }
     }
@@ -150,23 +153,23 @@ impl Observer for Pages<'_> {
     }
 
     #[inline(always)]
-    fn lets(&self, terminal: &Terminal, kind: EventKind, values: &[u16]) -> bool {
+    fn lets(&self, terminal: &SizedTerminal, kind: EventKind, values: &[u16]) -> bool {
         self.has_room() || !takes_off(terminal, kind, values)
     }
 
     #[inline(always)]
-    fn event(&mut self, terminal: &Terminal, bytes: &[u8], kind: EventKind, values: &[u16]) {
+    fn event(&mut self, terminal: &SizedTerminal, bytes: &[u8], kind: EventKind, values: &[u16]) {
         one_split();
         self.keep(terminal, kind, values)
     }
 
     #[inline(always)]
-    fn limit(&self, terminal: &Terminal) -> usize {
+    fn limit(&self, terminal: &SizedTerminal) -> usize {
         terminal.row_limit(self.has_room())
     }
 
     #[inline(always)]
-    fn run(&mut self, terminal: &Terminal, bytes: &[u8]) {
+    fn run(&mut self, terminal: &SizedTerminal, bytes: &[u8]) {
         one_split();
         spelled();
         self.keep(terminal, EventKind::Print(bytes[0]), &[])

@@ -10,41 +10,43 @@ use Rattle.std.proofs.lemmas.List.FromFn.{get_or-map-range_with_len, length-map-
 use Rattle.std.proofs.Math.ListN.{get_or-append}
 use Rattle.std.proofs.Math.Nat.{mod-lt, div-lt_iff_lt-mul}
 use Rattle.std.proofs.Math.Dec.{leb, ltb}
-use Rattle.vt_screen.proofs.Places.{grid_of-same, grid_of-cell_at, cell_at-grid_of}
+use Rattle.vt_screen.proofs.Places.{grid_of-same, grid_of-cell_at, cell_at-grid_of, columns-any}
 use Rattle.vt_screen.proofs.Maps.{among-before}
 use Rattle.vt_screen.specs.declared.cell.Cell.{Cell}
 use Rattle.vt_screen.specs.Cells.{blank, erased, selectively_erased, cell_like}
-use Rattle.vt_screen.specs.Grid.{Grid, IsGrid, AllCells, last_row, grid_of, cells_of, cell_at, with_row, put, put_run}
+use Rattle.vt_screen.specs.Grid.{Grid, IsGrid, AllCells, grid_of, cells_of, cell_at, with_row, put, put_run}
 use Rattle.vt_screen.specs.Grid.{erase_area}
+use Rattle.vt_screen.specs.declared.size.Size.{Size}
 
 -- ---- grids
 
-pub grids-same : (g h : Grid) → IsGrid g → IsGrid h → g.width ≡ h.width
-    → ((r c : ℕ) → 1 ≤ r → r ≤ last_row → 1 ≤ c → c ≤ g.width → cell_at g r c ≡ cell_at h r c) → g ≡ h
-grids-same g h is_g is_h wide same =
+pub grids-same : (g h : Grid) → IsGrid g → IsGrid h → g.size ≡ h.size → g.width ≡ h.width
+    → ((r c : ℕ) → 1 ≤ r → r ≤ g.size.rows → 1 ≤ c → c ≤ g.width → cell_at g r c ≡ cell_at h r c) → g ≡ h
+grids-same g h is_g is_h sizes wide same =
     sym (grid_of-cell_at g is_g.cells)
-    ∙ grid_of-same g.width (cell_at g) (cell_at h) same
-    ∙ ap (λ w. grid_of w (cell_at h)) wide
+    ∙ grid_of-same g.size g.width (cell_at g) (cell_at h) same
+    ∙ ap (λ w. grid_of g.size w (cell_at h)) wide
+    ∙ ap (λ s. grid_of s h.width (cell_at h)) sizes
     ∙ grid_of-cell_at h is_h.cells
 
 -- the row that a formula gives, and the others
-cell_at-with_row : (g : Grid) (row : ℕ) (f : ℕ → Cell) (c : ℕ) → 1 ≤ row → row ≤ last_row → 1 ≤ c → c ≤ g.width
+cell_at-with_row : (g : Grid) (row : ℕ) (f : ℕ → Cell) (c : ℕ) → 1 ≤ row → row ≤ g.size.rows → 1 ≤ c → c ≤ g.width
     → cell_at (with_row g row f) row c ≡ f c
 cell_at-with_row g row f c row1 row24 c1 cw =
-    cell_at-grid_of g.width (λ r c. if r == row then f c else cell_at g r c) row c row1 row24 c1 cw
+    cell_at-grid_of g.size g.width (λ r c. if r == row then f c else cell_at g r c) row c row1 row24 c1 cw
     ∙ elim (eqb_tells row row) [ inl e ↦ rw e.0 refl | inr e ↦ absurd (e.1 refl) ]
 
-cell_at-other_row : (g : Grid) (row : ℕ) (f : ℕ → Cell) (r c : ℕ) → 1 ≤ r → r ≤ last_row → 1 ≤ c → c ≤ g.width
+cell_at-other_row : (g : Grid) (row : ℕ) (f : ℕ → Cell) (r c : ℕ) → 1 ≤ r → r ≤ g.size.rows → 1 ≤ c → c ≤ g.width
     → r ≢ row → cell_at (with_row g row f) r c ≡ cell_at g r c
 cell_at-other_row g row f r c r1 r24 c1 cw other =
-    cell_at-grid_of g.width (λ r c. if r == row then f c else cell_at g r c) r c r1 r24 c1 cw
+    cell_at-grid_of g.size g.width (λ r c. if r == row then f c else cell_at g r c) r c r1 r24 c1 cw
     ∙ elim (eqb_tells r row) [ inl e ↦ absurd (other e.1) | inr e ↦ rw e.0 refl ]
 
 -- ---- runs
 
 pub run-none : (g : Grid) (row col : ℕ) (like : Cell) → IsGrid g → put_run g row col [] like ≡ g
 run-none g row col like is_grid =
-    grid_of-same g.width _ (cell_at g) (λ r c r1 r24 c1 cw. elim (eqb_tells r row) [
+    grid_of-same g.size g.width _ (cell_at g) (λ r c r1 r24 c1 cw. elim (eqb_tells r row) [
       | inl e ↦ elim (among-before col (col + length {A = ℕ} []) c) [
         | inl t ↦ absurd (omega (arith, t))
         | inr t ↦ rw (e.0, e.1, t.0) refl
@@ -56,7 +58,7 @@ run-none g row col like is_grid =
 pub run-one : (g : Grid) (row col code : ℕ) (like : Cell)
     → put_run g row col (code ∷ []) like ≡ put g row col (cell_like like code)
 run-one g row col code like =
-    grid_of-same g.width _ _ (λ r c r1 r24 c1 cw. elim (eqb_tells r row) [
+    grid_of-same g.size g.width _ _ (λ r c r1 r24 c1 cw. elim (eqb_tells r row) [
       | inl e ↦ elim (among-before col (col + length (code ∷ [])) c) [
         | inl t ↦ elim (eqb_tells c col) [
           | inl f ↦
@@ -112,7 +114,7 @@ pub run-append : (g : Grid) (row col : ℕ) (a b : List ℕ) (like : Cell)
 run-append g row col a b like =
     let first : ℕ → Cell = λ c. if leb col c && ltb c (col + length a) then cell_like like (get_or a (c - col) 0) else
     cell_at g row c in
-    grid_of-same g.width _ _ (λ r c r1 r24 c1 cw. elim (eqb_tells r row) [
+    grid_of-same g.size g.width _ _ (λ r c r1 r24 c1 cw. elim (eqb_tells r row) [
       | inl e ↦ rw e.0 (run-cell (cell_at g row c) col a b like c
           ∙ ap (λ x. if leb (col + length a) c && ltb c (col + length a + length b) then cell_like like
           (get_or b (c - (col + length a)) 0) else x)
@@ -126,9 +128,9 @@ pub area-none : (g : Grid) (selective : Bool) → IsGrid g → erase_area g (λ 
 area-none g selective is_grid = grid_of-cell_at g is_grid.cells
 
 pub area-same : (g : Grid) (a b : ℕ → ℕ → Bool) (selective : Bool)
-    → ((r c : ℕ) → 1 ≤ r → r ≤ last_row → 1 ≤ c → c ≤ g.width → a r c ≡ b r c)
+    → ((r c : ℕ) → 1 ≤ r → r ≤ g.size.rows → 1 ≤ c → c ≤ g.width → a r c ≡ b r c)
     → erase_area g a selective ≡ erase_area g b selective
-area-same g a b selective same = grid_of-same g.width _ _ (λ r c r1 r24 c1 cw. rw (same r c r1 r24 c1 cw) refl)
+area-same g a b selective same = grid_of-same g.size g.width _ _ (λ r c r1 r24 c1 cw. rw (same r c r1 r24 c1 cw) refl)
 
 -- what is erased stays so when it is erased again
 erased-erased : (selective : Bool) (cell : Cell) → erased selective (erased selective cell) ≡ erased selective cell
@@ -150,8 +152,8 @@ erased-both false false selective cell = refl
 
 pub area-both : (g : Grid) (a b : ℕ → ℕ → Bool) (selective : Bool)
     → erase_area (erase_area g a selective) b selective ≡ erase_area g (λ r c. a r c || b r c) selective
-area-both g a b selective = grid_of-same g.width _ _ (λ r c r1 r24 c1 cw.
-    let here = cell_at-grid_of g.width (λ r c. if a r c then erased selective (cell_at g r c) else cell_at g r c) r c
+area-both g a b selective = grid_of-same g.size g.width _ _ (λ r c r1 r24 c1 cw.
+    let here = cell_at-grid_of g.size g.width (λ r c. if a r c then erased selective (cell_at g r c) else cell_at g r c) r c
     r1 r24 c1 cw in
     ap (λ x. if b r c then erased selective x else x) here ∙ erased-both (a r c) (b r c) selective (cell_at g r c))
 
@@ -165,14 +167,14 @@ test-at test g r c on_blank all = elim (cases_lt ((r - 1) * g.width + (c - 1)) (
   | inr l ↦ rw (get_or_past g.cells ((r - 1) * g.width + (c - 1)) blank l) on_blank
 ]
 
-pub test-formula : (test : Cell → Bool) (w : ℕ) (f : ℕ → ℕ → Cell)
-    → ((r c : ℕ) → 1 ≤ r → r ≤ last_row → 1 ≤ c → c ≤ w → IsTrue (test (f r c))) → AllCells test (grid_of w f)
+pub test-formula : (test : Cell → Bool) (s : Size) (w : ℕ) (f : ℕ → ℕ → Cell)
+    → ((r c : ℕ) → 1 ≤ r → r ≤ s.rows → 1 ≤ c → c ≤ w → IsTrue (test (f r c))) → AllCells test (grid_of s w f)
 unfolding cells_of
-test-formula test w f each = λ k d within.
+test-formula test s w f each = λ k d within.
     let F : ℕ → Cell = λ k. f (k / w + 1) (k % w + 1) in
-    let low : k < last_row * w = omega (arith, length-map-range_with_len F 0 (last_row * w)) in
-    let wide : 0 < w = omega arith in
-    let row : k / w < last_row = (div-lt_iff_lt-mul wide).1 low in
+    let low : k < s.rows * w = omega (arith, length-map-range_with_len F 0 (s.rows * w)) in
+    let wide : 0 < w = columns-any s.rows w k low in
+    let row : k / w < s.rows = (div-lt_iff_lt-mul wide).1 low in
     let col : k % w < w = mod-lt k wide in
-    rw (get_or-map-range_with_len F 0 (last_row * w) k k d low (omega arith))
+    rw (get_or-map-range_with_len F 0 (s.rows * w) k k d low (omega arith))
     (each (k / w + 1) (k % w + 1) (omega arith) (omega arith) (omega arith) (omega arith))

@@ -67,3 +67,10 @@ first-behind (x ∷ rest) ys some long moved last =
     ]) in
     subst (λ zs. IsPermutation (x ∷ rest) zs) (sym behind)
     (IsPermutation-sym (rest ++ x ∷ []) (x ∷ rest) (IsPermutation-to_front rest x))
+
+-- the front of a list that begins with another
+pub take-front : (n : ℕ) (ys zs : List ℕ) → length ys ≡ n → take n (ys ++ zs) ≡ ys
+take-front n ys zs long =
+    let len : length (take n (ys ++ zs)) ≡ n = rw length-take (omega (arith, length-append ys zs)) in
+    same_number_lists (take n (ys ++ zs)) ys (len ∙ sym long) (λ k h.
+    get_or-take n (ys ++ zs) k 0 (omega (arith, h, len)) ∙ get_or-append ys zs 0 k (omega (arith, h, len)))

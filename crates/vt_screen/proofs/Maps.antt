@@ -16,31 +16,32 @@ use Rattle.vt_screen.proofs.Orders.{start-below, start-apart}
 use Rattle.vt_screen.proofs.Rows.{row-written}
 use Rattle.vt_screen.specs.declared.cell.Cell.{Cell}
 use Rattle.vt_screen.specs.Cells.{blank, erased, cell_like}
-use Rattle.vt_screen.specs.Order.{IsOrder, start_of, stored, stride, room}
+use Rattle.vt_screen.specs.Order.{Order, IsOrder, start_of, stored}
+use Rattle.vt_screen.specs.Sizes.{stride, room}
 use Rattle.vt_screen.specs.Grid.{Grid, grid_of, cell_at, with_row, put, put_inserting, put_run, erase, insert_cells}
-use Rattle.vt_screen.specs.Grid.{delete_cells, scroll_up, scroll_down, is_within, last_row}
+use Rattle.vt_screen.specs.Grid.{delete_cells, scroll_up, scroll_down, is_within}
 
 -- a cell of the row before
-before : (o : List ℕ) (xs : List Cell) (w row c : ℕ) → 1 ≤ row → row ≤ last_row → 1 ≤ c → c ≤ w
-    → get_or xs (start_of o row + (c - 1)) blank ≡ cell_at (grid_of w (stored o xs)) row c
-before o xs w row c row1 row24 c1 cw = sym (cell_at-grid_of w (stored o xs) row c row1 row24 c1 cw)
+before : (o : Order) (xs : List Cell) (w row c : ℕ) → 1 ≤ row → row ≤ o.size.rows → 1 ≤ c → c ≤ w
+    → get_or xs (start_of o row + (c - 1)) blank ≡ cell_at (grid_of o.size w (stored o xs)) row c
+before o xs w row c row1 row24 c1 cw = sym (cell_at-grid_of o.size w (stored o xs) row c row1 row24 c1 cw)
 
 -- the same, read in a part of the row
-mid-before : (o : List ℕ) (xs : List Cell) (w row at a k i c : ℕ) → 1 ≤ row → row ≤ last_row → at ≡ start_of o row + a
+mid-before : (o : Order) (xs : List Cell) (w row at a k i c : ℕ) → 1 ≤ row → row ≤ o.size.rows → at ≡ start_of o row + a
     → c ≡ a + i + 1 → i < k → c ≤ w
-    → get_or (mid_of at k xs) i blank ≡ cell_at (grid_of w (stored o xs)) row c
+    → get_or (mid_of at k xs) i blank ≡ cell_at (grid_of o.size w (stored o xs)) row c
 mid-before o xs w row at a k i c row1 row24 here is low cw =
     let place : at + i ≡ start_of o row + (c - 1) = omega arith in
     get_or-mid_of at k xs i blank low ∙ ap (λ x. get_or xs x blank) place
     ∙ before o xs w row c row1 row24 (omega arith) cw
 
 -- a part of a row is written over, and the rest of the row stays
-part-written : (o : List ℕ) (xs ys : List Cell) (w row at a k : ℕ) (f : ℕ → Cell) → IsOrder o → length xs ≡ room
-    → 1 ≤ row → row ≤ last_row → w ≤ stride
+part-written : (o : Order) (xs ys : List Cell) (w row at a k : ℕ) (f : ℕ → Cell) → IsOrder o → length xs ≡ room o.size
+    → 1 ≤ row → row ≤ o.size.rows → w ≤ stride o.size
     → at ≡ start_of o row + a → a + k ≤ w → length ys ≡ k
     → ((i c : ℕ) → c ≡ a + i + 1 → i < k → get_or ys i blank ≡ f c)
-    → ((c : ℕ) → 1 ≤ c → c ≤ w → (c ≤ a) ⊎ (a + k < c) → cell_at (grid_of w (stored o xs)) row c ≡ f c)
-    → grid_of w (stored o (put_mid at k xs ys)) ≡ with_row (grid_of w (stored o xs)) row f
+    → ((c : ℕ) → 1 ≤ c → c ≤ w → (c ≤ a) ⊎ (a + k < c) → cell_at (grid_of o.size w (stored o xs)) row c ≡ f c)
+    → grid_of o.size w (stored o (put_mid at k xs ys)) ≡ with_row (grid_of o.size w (stored o xs)) row f
 part-written o xs ys w row at a k f order long row1 row24 narrow here fits len inside outside =
     let below = start-below o order row row1 row24 in
     let within : at ≤ length xs = omega arith in
@@ -64,20 +65,20 @@ part-written o xs ys w row at a k f order long row1 row24 narrow here fits len i
     ])
 
 -- a whole row is written over
-row-rewritten : (o : List ℕ) (xs ys : List Cell) (w row at k : ℕ) (f : ℕ → Cell) → IsOrder o → length xs ≡ room
-    → 1 ≤ row → row ≤ last_row → w ≤ stride
+row-rewritten : (o : Order) (xs ys : List Cell) (w row at k : ℕ) (f : ℕ → Cell) → IsOrder o → length xs ≡ room o.size
+    → 1 ≤ row → row ≤ o.size.rows → w ≤ stride o.size
     → at ≡ start_of o row → k ≡ w → length ys ≡ k
     → ((i c : ℕ) → c ≡ i + 1 → i < k → get_or ys i blank ≡ f c)
-    → grid_of w (stored o (put_mid at k xs ys)) ≡ with_row (grid_of w (stored o xs)) row f
+    → grid_of o.size w (stored o (put_mid at k xs ys)) ≡ with_row (grid_of o.size w (stored o xs)) row f
 row-rewritten o xs ys w row at k f order long row1 row24 narrow here wide len inside =
     part-written o xs ys w row at 0 k f order long row1 row24 narrow (omega arith) (omega arith) len
     (λ i c is low. inside i c (omega arith) low)
     (λ c c1 cw out. absurd (elim out [ inl l ↦ omega arith | inr l ↦ omega arith ]))
 
-pub put-row : (o : List ℕ) (xs : List Cell) (w row col at : ℕ) (cell : Cell) → IsOrder o → length xs ≡ room → 1 ≤ row
-    → row ≤ last_row → w ≤ stride
+pub put-row : (o : Order) (xs : List Cell) (w row col at : ℕ) (cell : Cell) → IsOrder o → length xs ≡ room o.size → 1 ≤ row
+    → row ≤ o.size.rows → w ≤ stride o.size
     → 1 ≤ col → col ≤ w → at ≡ start_of o row + col - 1
-    → grid_of w (stored o (set xs at cell)) ≡ put (grid_of w (stored o xs)) row col cell
+    → grid_of o.size w (stored o (set xs at cell)) ≡ put (grid_of o.size w (stored o xs)) row col cell
 put-row o xs w row col at cell order long row1 row24 narrow col1 colw here =
     let below = start-below o order row row1 row24 in
     row-written o xs (set xs at cell) w row _ order row1 row24 narrow
@@ -91,13 +92,13 @@ put-row o xs w row col at cell order long row1 row24 narrow col1 colw here =
     ])
     (λ i h. get_or-set_other xs at i cell blank (λ q. elim h [ inl l ↦ omega arith | inr l ↦ omega arith ]))
 
-pub put_inserting-row : (o : List ℕ) (xs ys : List Cell) (w row col at k : ℕ) (cell : Cell) → IsOrder o
-    → length xs ≡ room → 1 ≤ row → row ≤ last_row → w ≤ stride
+pub put_inserting-row : (o : Order) (xs ys : List Cell) (w row col at k : ℕ) (cell : Cell) → IsOrder o
+    → length xs ≡ room o.size → 1 ≤ row → row ≤ o.size.rows → w ≤ stride o.size
     → 1 ≤ col → col ≤ w → at ≡ start_of o row → k ≡ w → length ys ≡ length (mid_of at k xs)
     → get_or ys (col - 1) blank ≡ cell
     → ((i : ℕ) → col - 1 < i → i < length (mid_of at k xs) → get_or ys i blank ≡ get_or (mid_of at k xs) (i - 1) blank)
     → ((i : ℕ) → i < col - 1 → get_or ys i blank ≡ get_or (mid_of at k xs) i blank)
-    → grid_of w (stored o (put_mid at k xs ys)) ≡ put_inserting (grid_of w (stored o xs)) row col cell
+    → grid_of o.size w (stored o (put_mid at k xs ys)) ≡ put_inserting (grid_of o.size w (stored o xs)) row col cell
 put_inserting-row o xs ys w row col at k cell order long row1 row24 narrow col1 colw here wide len written moved front =
     let below = start-below o order row row1 row24 in
     let mid : length (mid_of at k xs) ≡ k = length-mid_of at k xs (omega arith) in
@@ -116,14 +117,14 @@ put_inserting-row o xs ys w row col at k cell order long row1 row24 narrow col1 
       ]
     ])
 
-pub insert_cells-row : (o : List ℕ) (xs ys : List Cell) (w row col n m at k : ℕ) → IsOrder o → length xs ≡ room
-    → 1 ≤ row → row ≤ last_row → w ≤ stride
+pub insert_cells-row : (o : Order) (xs ys : List Cell) (w row col n m at k : ℕ) → IsOrder o → length xs ≡ room o.size
+    → 1 ≤ row → row ≤ o.size.rows → w ≤ stride o.size
     → 1 ≤ col → col ≤ w → m ≡ min n (w + 1 - col) → at ≡ start_of o row → k ≡ w → length ys ≡ length (mid_of at k xs)
     → ((i : ℕ) → col - 1 ≤ i → i < col - 1 + m → get_or ys i blank ≡ blank)
     → ((i : ℕ) → col - 1 + m ≤ i → i < length (mid_of at k xs)
     → get_or ys i blank ≡ get_or (mid_of at k xs) (i - m) blank)
     → ((i : ℕ) → i < col - 1 → get_or ys i blank ≡ get_or (mid_of at k xs) i blank)
-    → grid_of w (stored o (put_mid at k xs ys)) ≡ insert_cells (grid_of w (stored o xs)) row col n
+    → grid_of o.size w (stored o (put_mid at k xs ys)) ≡ insert_cells (grid_of o.size w (stored o xs)) row col n
 insert_cells-row o xs ys w row col n m at k order long row1 row24 narrow col1 colw is_min here wide len gap moved front
     =
     let below = start-below o order row row1 row24 in
@@ -142,14 +143,14 @@ insert_cells-row o xs ys w row col n m at k order long row1 row24 narrow col1 co
       ]
     ])
 
-pub delete_cells-row : (o : List ℕ) (xs ys : List Cell) (w row col n m at k : ℕ) → IsOrder o → length xs ≡ room
-    → 1 ≤ row → row ≤ last_row → w ≤ stride
+pub delete_cells-row : (o : Order) (xs ys : List Cell) (w row col n m at k : ℕ) → IsOrder o → length xs ≡ room o.size
+    → 1 ≤ row → row ≤ o.size.rows → w ≤ stride o.size
     → 1 ≤ col → col ≤ w → m ≡ min n (w + 1 - col) → at ≡ start_of o row → k ≡ w → length ys ≡ length (mid_of at k xs)
     → ((i : ℕ) → col - 1 ≤ i → i + m < length (mid_of at k xs)
     → get_or ys i blank ≡ get_or (mid_of at k xs) (i + m) blank)
     → ((i : ℕ) → i < length (mid_of at k xs) → length (mid_of at k xs) ≤ i + m → get_or ys i blank ≡ blank)
     → ((i : ℕ) → i < col - 1 → get_or ys i blank ≡ get_or (mid_of at k xs) i blank)
-    → grid_of w (stored o (put_mid at k xs ys)) ≡ delete_cells (grid_of w (stored o xs)) row col n
+    → grid_of o.size w (stored o (put_mid at k xs ys)) ≡ delete_cells (grid_of o.size w (stored o xs)) row col n
 delete_cells-row o xs ys w row col n m at k order long row1 row24 narrow col1 colw is_min here wide len moved end front
     =
     let below = start-below o order row row1 row24 in
@@ -193,12 +194,12 @@ among-before a b c = elim (leb_tells a c) [
   | inr f ↦ inr (rw f.0 refl, inl f.1)
 ]
 
-pub put_run-row : (o : List ℕ) (xs ys : List Cell) (w row col at k : ℕ) (codes : List ℕ) (like : Cell) → IsOrder o
-    → length xs ≡ room → 1 ≤ row → row ≤ last_row → w ≤ stride
+pub put_run-row : (o : Order) (xs ys : List Cell) (w row col at k : ℕ) (codes : List ℕ) (like : Cell) → IsOrder o
+    → length xs ≡ room o.size → 1 ≤ row → row ≤ o.size.rows → w ≤ stride o.size
     → 1 ≤ col → col + length codes ≤ w + 1 → at ≡ start_of o row + col - 1 → k ≡ length codes
     → length ys ≡ length (mid_of at k xs)
     → ((i : ℕ) → i < length codes → get_or ys i blank ≡ cell_like like (get_or codes i 0))
-    → grid_of w (stored o (put_mid at k xs ys)) ≡ put_run (grid_of w (stored o xs)) row col codes like
+    → grid_of o.size w (stored o (put_mid at k xs ys)) ≡ put_run (grid_of o.size w (stored o xs)) row col codes like
 put_run-row o xs ys w row col at k codes like order long row1 row24 narrow col1 fits here is_long len written =
     let below = start-below o order row row1 row24 in
     let mid : length (mid_of at k xs) ≡ k = length-mid_of at k xs (omega arith) in
@@ -215,19 +216,19 @@ put_run-row o xs ys w row col at k codes like order long row1 row24 narrow col1 
       | inr t ↦ rw t.0 refl
     ])
 
-pub erase-row : (o : List ℕ) (xs ys : List Cell) (w row from to at k : ℕ) (selective : Bool) → IsOrder o
-    → length xs ≡ room → 1 ≤ row → row ≤ last_row → w ≤ stride
+pub erase-row : (o : Order) (xs ys : List Cell) (w row from to at k : ℕ) (selective : Bool) → IsOrder o
+    → length xs ≡ room o.size → 1 ≤ row → row ≤ o.size.rows → w ≤ stride o.size
     → 1 ≤ from → from ≤ to → to ≤ w → at ≡ start_of o row + from - 1 → k ≡ to + 1 - from
     → length ys ≡ length (mid_of at k xs)
     → ((i : ℕ) → i < length (mid_of at k xs) → get_or ys i blank ≡ erased selective (get_or (mid_of at k xs) i blank))
-    → grid_of w (stored o (put_mid at k xs ys)) ≡ erase (grid_of w (stored o xs)) row from to selective
+    → grid_of o.size w (stored o (put_mid at k xs ys)) ≡ erase (grid_of o.size w (stored o xs)) row from to selective
 erase-row o xs ys w row from to at k selective order long row1 row24 narrow from1 from_to tow here is_long len written =
     let below = start-below o order row row1 row24 in
     let mid : length (mid_of at k xs) ≡ k = length-mid_of at k xs (omega arith) in
     let long_part : length ys ≡ k = len ∙ mid in
     part-written o xs ys w row at (from - 1) k
-    (λ c. if is_within from to c then erased selective (cell_at (grid_of w (stored o xs)) row c) else cell_at
-    (grid_of w (stored o xs)) row c)
+    (λ c. if is_within from to c then erased selective (cell_at (grid_of o.size w (stored o xs)) row c) else cell_at
+    (grid_of o.size w (stored o xs)) row c)
     order long row1 row24 narrow (omega arith) (omega arith) long_part
     (λ i c is low. elim (among from to c) [
       | inl t ↦ rw t.0 (written i (omega arith) ∙ ap (erased selective)
@@ -238,22 +239,22 @@ erase-row o xs ys w row from to at k selective order long row1 row24 narrow from
       | inl t ↦ absurd (elim out [ inl l ↦ omega (arith, t) | inr l ↦ omega (arith, t) ])
       | inr t ↦ rw t.0 refl
     ])
-    ∙ grid_of-same w _ _ (λ r c r1 r24 c1 cw. elim (eqb_tells r row) [
+    ∙ grid_of-same o.size w _ _ (λ r c r1 r24 c1 cw. elim (eqb_tells r row) [
       | inl e ↦ rw (e.0, e.1) refl
       | inr e ↦ rw e.0 refl
     ])
 
 -- rows that moved up, and blank ones where nothing came up
-pub scroll_up-rows : (o o' : List ℕ) (xs zs : List Cell) (w t b n m : ℕ) → 1 ≤ t → t ≤ b → b ≤ last_row
+pub scroll_up-rows : (o o' : Order) (xs zs : List Cell) (w t b n m : ℕ) → 1 ≤ t → t ≤ b → b ≤ o.size.rows
     → m ≡ min n (b + 1 - t)
     → ((r : ℕ) → t ≤ r → r + m ≤ b → start_of o' r ≡ start_of o (r + m))
     → ((r : ℕ) → 1 ≤ r → (r < t) ⊎ (b < r) → start_of o' r ≡ start_of o r)
     → ((r c : ℕ) → b + 1 - m ≤ r → r < b + 1 → 1 ≤ c → c ≤ w → stored o' zs r c ≡ blank)
-    → ((r c : ℕ) → 1 ≤ r → r ≤ last_row → (r < b + 1 - m) ⊎ (b + 1 ≤ r) → 1 ≤ c → c ≤ w
+    → ((r c : ℕ) → 1 ≤ r → r ≤ o.size.rows → (r < b + 1 - m) ⊎ (b + 1 ≤ r) → 1 ≤ c → c ≤ w
     → stored o' zs r c ≡ stored o' xs r c)
-    → grid_of w (stored o' zs) ≡ scroll_up (grid_of w (stored o xs)) t b n
+    → grid_of o.size w (stored o' zs) ≡ scroll_up (grid_of o.size w (stored o xs)) t b n
 scroll_up-rows o o' xs zs w t b n m t1 tb b24 is_min moved rest blanked kept =
-    grid_of-same w _ _ (λ r c r1 r24 c1 cw. elim (among t b r) [
+    grid_of-same o.size w _ _ (λ r c r1 r24 c1 cw. elim (among t b r) [
       | inl k ↦ elim (leb_tells (r + n) b) [
         | inl j ↦
             let same : m ≡ n = omega (arith, k) in
@@ -271,15 +272,15 @@ scroll_up-rows o o' xs zs w t b n m t1 tb b24 is_min moved rest blanked kept =
     ])
 
 -- rows that moved down, and blank ones where nothing came down
-pub scroll_down-rows : (o o' : List ℕ) (xs zs : List Cell) (w t b n m : ℕ) → 1 ≤ t → t ≤ b → b ≤ last_row
+pub scroll_down-rows : (o o' : Order) (xs zs : List Cell) (w t b n m : ℕ) → 1 ≤ t → t ≤ b → b ≤ o.size.rows
     → m ≡ min n (b + 1 - t)
     → ((r : ℕ) → t + m ≤ r → r ≤ b → start_of o' r ≡ start_of o (r - m))
     → ((r : ℕ) → 1 ≤ r → (r < t) ⊎ (b < r) → start_of o' r ≡ start_of o r)
     → ((r c : ℕ) → t ≤ r → r < t + m → 1 ≤ c → c ≤ w → stored o' zs r c ≡ blank)
-    → ((r c : ℕ) → 1 ≤ r → r ≤ last_row → (r < t) ⊎ (t + m ≤ r) → 1 ≤ c → c ≤ w → stored o' zs r c ≡ stored o' xs r c)
-    → grid_of w (stored o' zs) ≡ scroll_down (grid_of w (stored o xs)) t b n
+    → ((r c : ℕ) → 1 ≤ r → r ≤ o.size.rows → (r < t) ⊎ (t + m ≤ r) → 1 ≤ c → c ≤ w → stored o' zs r c ≡ stored o' xs r c)
+    → grid_of o.size w (stored o' zs) ≡ scroll_down (grid_of o.size w (stored o xs)) t b n
 scroll_down-rows o o' xs zs w t b n m t1 tb b24 is_min moved rest blanked kept =
-    grid_of-same w _ _ (λ r c r1 r24 c1 cw. elim (among t b r) [
+    grid_of-same o.size w _ _ (λ r c r1 r24 c1 cw. elim (among t b r) [
       | inl k ↦ elim (leb_tells (t + n) r) [
         | inl j ↦
             let same : m ≡ n = omega (arith, k) in
@@ -297,12 +298,12 @@ scroll_down-rows o o' xs zs w t b n m t1 tb b24 is_min moved rest blanked kept =
     ])
 
 -- one row is written over with one cell
-pub row-filled : (o : List ℕ) (xs ys : List Cell) (w row at k : ℕ) (cell : Cell) → IsOrder o → length xs ≡ room
-    → 1 ≤ row → row ≤ last_row → w ≤ stride
+pub row-filled : (o : Order) (xs ys : List Cell) (w row at k : ℕ) (cell : Cell) → IsOrder o → length xs ≡ room o.size
+    → 1 ≤ row → row ≤ o.size.rows → w ≤ stride o.size
     → at ≡ start_of o row → k ≡ w → length ys ≡ length (mid_of at k xs)
     → ((i : ℕ) → i < length (mid_of at k xs) → get_or ys i blank ≡ cell)
     → ((c : ℕ) → 1 ≤ c → c ≤ w → stored o (put_mid at k xs ys) row c ≡ cell)
-    × ((r c : ℕ) → 1 ≤ r → r ≤ last_row → r ≢ row → 1 ≤ c → c ≤ w → stored o (put_mid at k xs ys) r c ≡ stored o xs r c)
+    × ((r c : ℕ) → 1 ≤ r → r ≤ o.size.rows → r ≢ row → 1 ≤ c → c ≤ w → stored o (put_mid at k xs ys) r c ≡ stored o xs r c)
 row-filled o xs ys w row at k cell order long row1 row24 narrow here wide len written =
     let below = start-below o order row row1 row24 in
     let within : at ≤ length xs = omega arith in
@@ -317,19 +318,19 @@ row-filled o xs ys w row at k cell order long row1 row24 narrow here wide len wr
     )
 
 -- blank cells show at every place, wherever the rows are kept
-pub stored-replicate : (o : List ℕ) (n r c : ℕ) → stored o (replicate n blank) r c ≡ blank
+pub stored-replicate : (o : Order) (n r c : ℕ) → stored o (replicate n blank) r c ≡ blank
 stored-replicate o n r c = elim (cases_lt (start_of o r + (c - 1)) n) [
   | inl l ↦ get_or-replicate n (start_of o r + (c - 1)) blank blank l
   | inr l ↦ get_or_past (replicate n blank) (start_of o r + (c - 1)) blank (rw length-replicate l)
 ]
 
 -- a part of the kept cells was lent and written over: a fact of the lent cells is one of the kept ones
-pub edited : (cells : Vec Cell) (o : List ℕ) (w : ℕ) (xs : List Cell) (at k : ℕ) (ys : List Cell) (map : Grid → Grid)
+pub edited : (cells : Vec Cell) (o : Order) (w : ℕ) (xs : List Cell) (at k : ℕ) (ys : List Cell) (map : Grid → Grid)
     → xs ≡ cells.items → length ys ≡ length (mid_of at k xs)
-    → grid_of w (stored o (put_mid at k xs ys)) ≡ map (grid_of w (stored o xs))
-    → grid_of w (stored o (with_items cells (put_mid at k xs ys)).items) ≡ map (grid_of w (stored o cells.items))
+    → grid_of o.size w (stored o (put_mid at k xs ys)) ≡ map (grid_of o.size w (stored o xs))
+    → grid_of o.size w (stored o (with_items cells (put_mid at k xs ys)).items) ≡ map (grid_of o.size w (stored o cells.items))
 edited cells o w xs at k ys map same len fact =
-    ap (λ (x : List Cell). grid_of w (stored o x))
+    ap (λ (x : List Cell). grid_of o.size w (stored o x))
     (with_items_is cells (put_mid at k xs ys) (same_len_mid at k xs ys len ∙ ap length same ∙ sym cells.ok.0))
     ∙ fact
-    ∙ ap (λ (x : List Cell). map (grid_of w (stored o x))) same
+    ∙ ap (λ (x : List Cell). map (grid_of o.size w (stored o x))) same

@@ -7,9 +7,10 @@ use Rattle.std.specs.Global.{Vec}
 use Rattle.std.specs.Vec.{with_items}
 use Rattle.vt_glyph.specs.Tables.{IsGlyph, is_glyph}
 use Rattle.vt_screen.specs.declared.cell.Cell.{Cell}
-use Rattle.vt_screen.specs.Order.{room}
+use Rattle.vt_screen.specs.declared.size.Size.{Size}
+use Rattle.vt_screen.specs.Sizes.{width_of, IsSize}
 use Rattle.vt_screen.specs.Cells.{blank, erased, cell_like}
-use Rattle.vt_screen.specs.Grid.{Grid, IsSoundGrid, grid_of, cell_at, with_row, blank_grid, columns, put, put_inserting}
+use Rattle.vt_screen.specs.Grid.{Grid, IsSoundGrid, grid_of, cell_at, with_row, blank_grid, put, put_inserting}
 use Rattle.vt_screen.specs.Grid.{put_run, insert_cells, delete_cells, erase_area, scroll_up, scroll_down, fill}
 use Rattle.vt_screen.specs.Grid.{is_within}
 use Rattle.vt_screen.proofs.Places.{IsGrid-grid_of}
@@ -17,9 +18,9 @@ use Rattle.vt_screen.proofs.Maps.{among-before}
 use Rattle.vt_screen.proofs.Composed.{test-at, test-formula}
 
 -- cells that are written over are as many
-pub as_many : (cells : Vec Cell) (new : List Cell) → cells.len ≡ length cells.items → length cells.items ≡ room
-    → length (with_items cells new).items ≡ room
-as_many cells new ok long = sym (length_refill cells.len cells.items new ok) ∙ ok ∙ long
+pub as_many : (n : ℕ) (cells : Vec Cell) (new : List Cell) → cells.len ≡ length cells.items → length cells.items ≡ n
+    → length (with_items cells new).items ≡ n
+as_many n cells new ok long = sym (length_refill cells.len cells.items new ok) ∙ ok ∙ long
 
 -- a cell shows a glyph
 unfoldable shown : Cell → Bool
@@ -49,11 +50,11 @@ erased-shown false cell h = blank-shown
 
 -- a formula that gives glyphs
 made : (g : Grid) (f : ℕ → ℕ → Cell) → IsSoundGrid g → ((r c : ℕ) → IsTrue (shown (f r c)))
-    → IsSoundGrid (grid_of g.width f)
+    → IsSoundGrid (grid_of g.size g.width f)
 unfolding shown
 made g f sound each = record {
-  shape = IsGrid-grid_of g.width f sound.shape.width;
-  glyphs = test-formula (λ cell. is_glyph cell.glyph) g.width f (λ r c r1 r24 c1 cw. each r c);
+  shape = IsGrid-grid_of g.size g.width f sound.shape.size sound.shape.width;
+  glyphs = test-formula (λ cell. is_glyph cell.glyph) g.size g.width f (λ r c r1 r24 c1 cw. each r c);
 }
 
 row-sound : (g : Grid) (row : ℕ) (f : ℕ → Cell) → IsSoundGrid g → ((c : ℕ) → IsTrue (shown (f c)))
@@ -103,9 +104,9 @@ scroll_down-sound g top bottom n sound = made g _ sound (λ r c. chosen (is_with
 pub fill-sound : (g : Grid) (cell : Cell) → IsSoundGrid g → IsGlyph cell.glyph → IsSoundGrid (fill g cell)
 fill-sound g cell sound glyph = made g _ sound (λ r c. by_glyph cell glyph)
 
-pub blank_grid-sound : (wide : Bool) → IsSoundGrid (blank_grid wide)
+pub blank_grid-sound : (s : Size) (wide : Bool) → IsSize s → IsSoundGrid (blank_grid s wide)
 unfolding is_glyph
-blank_grid-sound wide = record {
-  shape = IsGrid-grid_of (columns wide) (λ r c. blank) (wide, refl);
-  glyphs = test-formula (λ cell. is_glyph cell.glyph) (columns wide) (λ r c. blank) (λ r c r1 r24 c1 cw. refl);
+blank_grid-sound s wide sized = record {
+  shape = IsGrid-grid_of s (width_of s wide) (λ r c. blank) sized (wide, refl);
+  glyphs = test-formula (λ cell. is_glyph cell.glyph) s (width_of s wide) (λ r c. blank) (λ r c r1 r24 c1 cw. refl);
 }

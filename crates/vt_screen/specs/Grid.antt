@@ -6,27 +6,30 @@ use Rattle.std.specs.List.{range_with_len}
 use Rattle.vt_glyph.specs.Tables.{IsGlyph}
 use Rattle.vt_screen.specs.declared.cell.Cell.{Cell}
 use Rattle.vt_screen.specs.Cells.{blank, erased, cell_like}
+use Rattle.vt_screen.specs.declared.size.Size.{Size}
+use Rattle.vt_screen.specs.Sizes.{vt220_size, width_of, IsSize}
 
--- the rows of the screen
+-- the rows of a VT220's screen
 abbrev pub last_row : ℕ
-last_row = 24
+last_row = vt220_size.rows
 
--- the columns of a narrow and of a wide screen (VT220 manual, DECCOLM)
+-- the columns of a VT220's narrow and wide screen
 abbrev pub columns : Bool → ℕ
-columns wide = if wide then 132 else 80
+columns wide = width_of vt220_size wide
 
--- a width, and the cells of all places, row by row
+-- a size, a width, and the cells of all places, row by row
 pub record Grid : Type 0 where
+  pub size : Size
   pub width : ℕ
   pub cells : List Cell
 
 -- the cells that a formula gives for the places
-unfoldable pub cells_of : ℕ → (ℕ → ℕ → Cell) → List Cell
-cells_of width formula = map (λ k. formula (k / width + 1) (k % width + 1)) (range_with_len 0 (last_row * width))
+unfoldable pub cells_of : Size → ℕ → (ℕ → ℕ → Cell) → List Cell
+cells_of size width formula = map (λ k. formula (k / width + 1) (k % width + 1)) (range_with_len 0 (size.rows * width))
 
 -- the grid that a formula gives
-abbrev pub grid_of : ℕ → (ℕ → ℕ → Cell) → Grid
-grid_of width formula = record { width = width; cells = cells_of width formula }
+abbrev pub grid_of : Size → ℕ → (ℕ → ℕ → Cell) → Grid
+grid_of size width formula = record { size = size; width = width; cells = cells_of size width formula }
 
 -- the cell at a place
 unfoldable pub cell_at : Grid → ℕ → ℕ → Cell
@@ -38,10 +41,11 @@ row_of g r = map (cell_at g r) (range_with_len 1 g.width)
 
 -- one of the two widths, and one cell for each place
 pub record IsGrid (g : Grid) : Type 0 where
-  pub width : (wide : Bool) × (g.width ≡ columns wide)
-  pub cells : length g.cells ≡ last_row * g.width
+  pub size : IsSize g.size
+  pub width : (wide : Bool) × (g.width ≡ width_of g.size wide)
+  pub cells : length g.cells ≡ g.size.rows * g.width
 
--- 80 or 132 columns, one cell for each place, and one of the 204 glyphs in each
+-- one of the two widths, one cell for each place, and one of the 204 glyphs in each
 pub record IsSoundGrid (g : Grid) : Type 0 where
   pub shape : IsGrid g
   pub glyphs : All (λ cell. IsGlyph cell.glyph) g.cells
@@ -57,18 +61,18 @@ is_within a b n = nat_le a n && nat_le n b
 -- ---- every place
 
 -- a narrow or a wide grid, all blank (DECCOLM)
-abbrev pub blank_grid : Bool → Grid
-blank_grid wide = grid_of (columns wide) (λ r c. blank)
+abbrev pub blank_grid : Size → Bool → Grid
+blank_grid size wide = grid_of size (width_of size wide) (λ r c. blank)
 
 -- one cell everywhere (DECALN)
 abbrev pub fill : Grid → Cell → Grid
-fill g cell = grid_of g.width (λ r c. cell)
+fill g cell = grid_of g.size g.width (λ r c. cell)
 
 -- ---- one row
 
 -- a row gets the cells that a formula gives for its columns; the other rows stay
 abbrev pub with_row : Grid → ℕ → (ℕ → Cell) → Grid
-with_row g row formula = grid_of g.width (λ r c. if r == row then formula c else cell_at g r c)
+with_row g row formula = grid_of g.size g.width (λ r c. if r == row then formula c else cell_at g r c)
 
 -- the cell at a place is written over
 abbrev pub put : Grid → ℕ → ℕ → Cell → Grid
@@ -99,7 +103,7 @@ delete_cells g row col n = with_row g row (λ c.
 
 -- the places of an area are erased (ED, EL, ECH; selectively DECSED, DECSEL)
 abbrev pub erase_area : Grid → (ℕ → ℕ → Bool) → Bool → Grid
-erase_area g area selective = grid_of g.width (λ r c. if area r c then erased selective (cell_at g r c) else cell_at g
+erase_area g area selective = grid_of g.size g.width (λ r c. if area r c then erased selective (cell_at g r c) else cell_at g
     r c)
 
 -- some columns of one row
@@ -114,10 +118,10 @@ erase g row from to selective = erase_area g (columns_of row from to) selective
 
 -- the rows from top to bottom move up by n; blank rows come in below them (IND, DL)
 abbrev pub scroll_up : Grid → ℕ → ℕ → ℕ → Grid
-scroll_up g top bottom n = grid_of g.width (λ r c.
+scroll_up g top bottom n = grid_of g.size g.width (λ r c.
     if is_within top bottom r then (if nat_le (r + n) bottom then cell_at g (r + n) c else blank) else cell_at g r c)
 
 -- the rows from top to bottom move down by n; blank rows come in above them (RI, IL)
 abbrev pub scroll_down : Grid → ℕ → ℕ → ℕ → Grid
-scroll_down g top bottom n = grid_of g.width (λ r c.
+scroll_down g top bottom n = grid_of g.size g.width (λ r c.
     if is_within top bottom r then (if nat_le (top + n) r then cell_at g (r - n) c else blank) else cell_at g r c)

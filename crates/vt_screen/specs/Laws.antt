@@ -3,26 +3,28 @@ use Rattle.std.specs.Prelude.{◌≡◌, ℕ, ◌+◌, ◌*◌, ◌-◌, ◌≤�
 use Rattle.std.specs.Prelude.{false, ◌||◌, IsTrue}
 use Rattle.vt_screen.specs.declared.cell.Cell.{Cell}
 use Rattle.vt_screen.specs.Cells.{blank, cell_like}
-use Rattle.vt_screen.specs.Grid.{Grid, IsGrid, AllCells, last_row, grid_of, cell_at, row_of, blank_grid}
+use Rattle.vt_screen.specs.declared.size.Size.{Size}
+use Rattle.vt_screen.specs.Sizes.{IsSize}
+use Rattle.vt_screen.specs.Grid.{Grid, IsGrid, AllCells, grid_of, cell_at, row_of, blank_grid}
 use Rattle.vt_screen.specs.Grid.{put, put_run, erase_area, fill}
 
 -- what a formula's grid has at a place, and when two grids are equal
 pub record PlaceLaws : Type 0 where
   -- the cell at a place is what the formula gives there
-  pub at_place : (w : ℕ) (f : ℕ → ℕ → Cell) (r c : ℕ) → 1 ≤ r → r ≤ last_row → 1 ≤ c → c ≤ w
-      → cell_at (grid_of w f) r c ≡ f r c
+  pub at_place : (s : Size) (w : ℕ) (f : ℕ → ℕ → Cell) (r c : ℕ) → 1 ≤ r → r ≤ s.rows → 1 ≤ c → c ≤ w
+      → cell_at (grid_of s w f) r c ≡ f r c
   -- formulas that agree at every place make one grid
-  pub same_formulas : (w : ℕ) (f g : ℕ → ℕ → Cell)
-      → ((r c : ℕ) → 1 ≤ r → r ≤ last_row → 1 ≤ c → c ≤ w → f r c ≡ g r c) → grid_of w f ≡ grid_of w g
+  pub same_formulas : (s : Size) (w : ℕ) (f g : ℕ → ℕ → Cell)
+      → ((r c : ℕ) → 1 ≤ r → r ≤ s.rows → 1 ≤ c → c ≤ w → f r c ≡ g r c) → grid_of s w f ≡ grid_of s w g
   -- a grid is the one that its own cells make
-  pub own_cells : (g : Grid) → IsGrid g → grid_of g.width (cell_at g) ≡ g
+  pub own_cells : (g : Grid) → IsGrid g → grid_of g.size g.width (cell_at g) ≡ g
   -- grids of one width with the same cell at every place are equal
-  pub same_grids : (g h : Grid) → IsGrid g → IsGrid h → g.width ≡ h.width
-      → ((r c : ℕ) → 1 ≤ r → r ≤ last_row → 1 ≤ c → c ≤ g.width → cell_at g r c ≡ cell_at h r c) → g ≡ h
+  pub same_grids : (g h : Grid) → IsGrid g → IsGrid h → g.size ≡ h.size → g.width ≡ h.width
+      → ((r c : ℕ) → 1 ≤ r → r ≤ g.size.rows → 1 ≤ c → c ≤ g.width → cell_at g r c ≡ cell_at h r c) → g ≡ h
   -- a formula's grid has a cell for each place, and a map of a grid is a grid
-  pub len : (w : ℕ) (f : ℕ → ℕ → Cell) → length (grid_of w f).cells ≡ last_row * w
-  pub blank : (wide : Bool) → IsGrid (blank_grid wide)
-  pub map : (g : Grid) (f : ℕ → ℕ → Cell) → IsGrid g → IsGrid (grid_of g.width f)
+  pub len : (s : Size) (w : ℕ) (f : ℕ → ℕ → Cell) → length (grid_of s w f).cells ≡ s.rows * w
+  pub blank : (s : Size) (wide : Bool) → IsSize s → IsGrid (blank_grid s wide)
+  pub map : (g : Grid) (f : ℕ → ℕ → Cell) → IsGrid g → IsGrid (grid_of g.size g.width f)
 
 -- a row has the cells of its columns, in order
 pub record RowLaws : Type 0 where
@@ -46,7 +48,7 @@ pub record AreaLaws : Type 0 where
       → erase_area (erase_area g a selective) b selective ≡ erase_area g (λ r c. a r c || b r c) selective
   -- areas of the same places are one area
   pub same : (g : Grid) (a b : ℕ → ℕ → Bool) (selective : Bool)
-      → ((r c : ℕ) → 1 ≤ r → r ≤ last_row → 1 ≤ c → c ≤ g.width → a r c ≡ b r c)
+      → ((r c : ℕ) → 1 ≤ r → r ≤ g.size.rows → 1 ≤ c → c ≤ g.width → a r c ≡ b r c)
       → erase_area g a selective ≡ erase_area g b selective
 
 -- a test that a blank cell and each cell of a grid pass is passed at every place; a formula's grid passes a test that
@@ -54,5 +56,5 @@ pub record AreaLaws : Type 0 where
 pub record TestLaws : Type 0 where
   pub at : (test : Cell → Bool) (g : Grid) (r c : ℕ) → IsTrue (test blank) → AllCells test g
       → IsTrue (test (cell_at g r c))
-  pub formula : (test : Cell → Bool) (w : ℕ) (f : ℕ → ℕ → Cell)
-      → ((r c : ℕ) → 1 ≤ r → r ≤ last_row → 1 ≤ c → c ≤ w → IsTrue (test (f r c))) → AllCells test (grid_of w f)
+  pub formula : (test : Cell → Bool) (s : Size) (w : ℕ) (f : ℕ → ℕ → Cell)
+      → ((r c : ℕ) → 1 ≤ r → r ≤ s.rows → 1 ≤ c → c ≤ w → IsTrue (test (f r c))) → AllCells test (grid_of s w f)

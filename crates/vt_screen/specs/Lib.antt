@@ -1,5 +1,6 @@
 pub mod Cells
 pub mod Same
+pub mod Sizes
 pub mod Grid
 pub mod Order
 pub mod Words

@@ -1,5 +1,5 @@
-//! The screen of a terminal: 24 rows of 80 or 132 cells, and all changes that a terminal makes to them. Rows and
-//! columns count from 1.
+//! The screen of a terminal: rows of cells, and all changes that a terminal makes to them. That of a VT220 has 24 rows of 80 or
+//! 132 cells. Rows and columns count from 1.
 #![tactic(auto)]
 
 mod cell;
@@ -7,8 +7,9 @@ pub mod laws;
 mod line;
 mod order;
 mod screen;
+mod size;
 
 pub use cell::{Brush, Cell, Rendition};
 pub use line::same_cells;
-pub use order::{COLUMNS, ROWS};
 pub use screen::Screen;
+pub use size::{COLUMNS, MOST, ROWS, Size};

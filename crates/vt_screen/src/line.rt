@@ -24,8 +24,8 @@ pub fn fill_cells(cells: &mut [Cell], cell: &Cell)
     fill_each(&mut cells[at..], cell);
 }
 
-/// Writes one cell at every position of a line of at least 80 cells. Speed: the first part is filled by a loop of a
-/// fixed length.
+/// Writes one cell at every position of a line. Speed: of a line of at least 80 cells the first part is filled by a loop
+/// of a fixed length.
 #[inline(always)]
 pub fn fill_line(line: &mut [Cell], cell: &Cell)
     requires { 80 ≤ length line.old }

@@ -1,26 +1,25 @@
 //! The screen, and all changes that a terminal makes to it.
 ghost use Rattle.std.specs.Prelude.{◌≡◌, ℕ, ◌+◌, ◌<◌, ◌≤◌, ◌⊎◌, ◌↔◌, false, IsTrue, IfOk, All, length, map};
 ghost use Rattle.vt_glyph.specs.Invocation.{HasGlyph, glyph_in_use};
-ghost use Rattle.vt_screen.specs.Grid.{last_row};
-ghost use Rattle.vt_screen.specs.Order.{stored, stride, room};
+ghost use Rattle.vt_screen.specs.Sizes.{stride, room};
+ghost use Rattle.vt_screen.specs.Order.{stored};
 
 use crate::cell::Cell;
 use crate::line::{
     erase_cells, fill_line, insert_blanks, insert_cell, remove_cells, same_cells, write_codes,
     write_graphics,
 };
-use crate::order::{COLUMNS, ROWS, RowOrder};
+use crate::order::RowOrder;
+use crate::size::{ROWS, Size};
 use std::alloc::{AllocError, Global};
 use std::marker::Model;
 use vt_glyph::InUse;
 use vt_glyph::laws::glyphs;
 
-/// The number of columns of the narrow screen. The wide one has `COLUMNS`.
-const NARROW: usize = 80;
-
-/// A grid of 24 rows of 80 or 132 cells, initially blank. (VT220 manual, chapter 4: DECCOLM sets the width)
+/// A grid of cells of one of two widths, initially blank. (VT220 manual, chapter 4: DECCOLM sets the width. The VT220
+/// has 24 rows of 80 or 132 cells.)
 ///
-/// Rows count from 1 to 24, and columns from 1 to the width. Only `new` allocates, and only `new` can fail.
+/// Rows and columns count from 1. Only `new` and `with_size` allocate, and only they can fail.
 #[derive(Drop)]
 pub struct Screen {
     cells: Vec<Cell>,
@@ -31,13 +30,15 @@ pub struct Screen {
 impl Model for Screen {
     ghost use Rattle.std.specs.Prelude.{◌≡◌, length};
     ghost use Rattle.vt_screen.specs.Grid.{Grid, IsSoundGrid, grid_of};
-    ghost use Rattle.vt_screen.specs.Order.{stored, room};
+    ghost use Rattle.vt_screen.specs.Sizes.{room};
+    ghost use Rattle.vt_screen.specs.Order.{stored};
 
     ghost Value = { Grid };
 
-    ghost view = { λ s. grid_of s.width (stored s.order s.cells.items) };
+    ghost view = { λ s. grid_of s.order.size s.width (stored s.order s.cells.items) };
 
-    ghost invariant = { λ s. (length s.cells.items ≡ room) × IsSoundGrid (grid_of s.width (stored s.order s.cells.items)) };
+    ghost invariant = { λ s. (length s.cells.items ≡ room s.order.size)
+        × IsSoundGrid (grid_of s.order.size s.width (stored s.order s.cells.items)) };
 }
 
 /// Writes one cell over the rows from `first` to `end`, `end` excluded.
@@ -50,11 +51,11 @@ fn fill_rows(
     width: usize,
     cell: &Cell,
 )
-    requires room { length cells.old ≡ room }
-    requires rows { (1 ≤ first) × (first ≤ end) × (end ≤ last_row + 1) }
-    requires width { (80 ≤ width) × (width ≤ stride) }
+    requires room { length cells.old ≡ room order.now.size }
+    requires rows { (1 ≤ first) × (first ≤ end) × (end ≤ order.now.size.rows + 1) }
+    requires width { (80 ≤ width) × (width ≤ stride order.now.size) }
     ensures inside { (r c : ℕ) → first ≤ r → r < end → 1 ≤ c → c ≤ width → stored order.now cells.new r c ≡ cell.now }
-    ensures outside { (r c : ℕ) → 1 ≤ r → r ≤ last_row → (r < first) ⊎ (end ≤ r) → 1 ≤ c → c ≤ width
+    ensures outside { (r c : ℕ) → 1 ≤ r → r ≤ order.now.size.rows → (r < first) ⊎ (end ≤ r) → 1 ≤ c → c ≤ width
         → stored order.now cells.new r c ≡ stored order.now cells.old r c }
 {
     for row in first..end {
@@ -64,23 +65,44 @@ fn fill_rows(
 }
 
 impl Screen {
+    ghost use Rattle.vt_screen.specs.Sizes.{vt220_size, IsSize};
     ghost use Rattle.vt_screen.specs.Grid.{IsGrid, IsSoundGrid, cell_at, row_of, put, put_inserting, put_run, erase};
     ghost use Rattle.vt_screen.specs.Grid.{insert_cells, delete_cells, scroll_up, scroll_down, fill, blank_grid};
 
-    /// Returns a narrow screen, all blank. It allocates memory for a wide one, 24 rows of 132 cells. Returns `Err` if
-    /// allocation fails.
+    /// Returns a narrow screen of the VT220's size, all blank. It allocates memory for a wide one, 24 rows of 132 cells.
+    /// Returns `Err` if allocation fails.
     pub fn new(alloc: Global) -> Result<Screen, AllocError>
-        ensures { IfOk result (λ screen. screen ≡ blank_grid false) }
+        ensures { IfOk result (λ screen. screen ≡ blank_grid vt220_size false) }
     {
+        Screen::with_size(alloc, Size::vt220())
+    }
+
+    /// Returns a narrow screen of a size, all blank. It allocates memory for a wide one. Returns `Err` if allocation
+    /// fails.
+    pub fn with_size(alloc: Global, size: Size) -> Result<Screen, AllocError>
+        requires { IsSize size }
+        ensures { IfOk result (λ screen. screen ≡ blank_grid size false) }
+    {
+        let order = RowOrder::new(size);
         Ok(Screen {
-            cells: vec![in alloc; Cell::blank(); ROWS * COLUMNS]?,
-            order: RowOrder::new(),
-            width: NARROW,
+            cells: vec![in alloc; Cell::blank(); size.rows * size.wide]?,
+            order,
+            width: size.narrow,
         })
     }
 
-    /// Makes the screen equal to another one.
+    /// Returns the size: the rows, and the columns of the narrow and of the wide screen.
+    #[inline(always)]
+    pub fn size(&self) -> Size
+        ensures size { result ≡ self.now.size }
+        ensures sound { IsSize self.now.size }
+    {
+        self.order.size()
+    }
+
+    /// Makes the screen equal to another one of the same size.
     pub fn copy_from(&mut self, other: &Screen)
+        requires { self.old.size ≡ other.now.size }
         ensures { self.new ≡ other.now }
     {
         self.cells.copy_from_slice(&other.cells);
@@ -88,7 +110,7 @@ impl Screen {
         self.width = other.width;
     }
 
-    /// Returns the number of columns: 80 or 132.
+    /// Returns the number of columns.
     pub fn width(&self) -> usize
         ensures width { result ≡ self.now.width }
         ensures grid { IsGrid self.now }
@@ -97,18 +119,18 @@ impl Screen {
         self.width
     }
 
-    /// Returns the cell at a row, 1 to 24, and a column, 1 to the width.
+    /// Returns the cell at a row and a column, from 1.
     pub fn cell(&self, row: usize, column: usize) -> Cell
-        requires row { (1 ≤ row) × (row ≤ last_row) }
+        requires row { (1 ≤ row) × (row ≤ self.now.size.rows) }
         requires column { (1 ≤ column) × (column ≤ self.now.width) }
         ensures { result ≡ cell_at self.now row column }
     {
         self.cells[self.order.start(row) + column - 1]
     }
 
-    /// Returns the cells of a row, 1 to 24: as many as the screen has columns.
+    /// Returns the cells of a row: as many as the screen has columns.
     pub fn row(&self, row: usize) -> &[Cell]
-        requires { (1 ≤ row) × (row ≤ last_row) }
+        requires { (1 ≤ row) × (row ≤ self.now.size.rows) }
         ensures cells { result.now ≡ row_of self.now row }
         ensures len { length result.now ≡ self.now.width }
         ensures grid { IsGrid self.now }
@@ -118,14 +140,18 @@ impl Screen {
         &self.cells[start..start + self.width]
     }
 
-    /// Returns whether the two screens have the same width and the same cells.
+    /// Returns whether the two screens have the same size, the same width and the same cells.
     pub fn same(&self, other: &Screen) -> bool
         ensures { IsTrue result ↔ (self.now ≡ other.now) }
     {
+        let size = self.order.size();
+        if !size.same(other.order.size()) {
+            return false;
+        }
         if self.width != other.width {
             return false;
         }
-        for row in 1..ROWS + 1 {
+        for row in 1..size.rows + 1 {
             if !same_cells(self.row(row), other.row(row)) {
                 return false;
             }
@@ -136,7 +162,7 @@ impl Screen {
     /// Writes a cell over the one at a row and a column.
     #[inline(always)]
     pub fn put(&mut self, row: usize, column: usize, cell: Cell)
-        requires row { (1 ≤ row) × (row ≤ last_row) }
+        requires row { (1 ≤ row) × (row ≤ self.old.size.rows) }
         requires column { (1 ≤ column) × (column ≤ self.old.width) }
         ensures grid { self.new ≡ put self.old row column cell }
         ensures sound { IsSoundGrid self.new }
@@ -150,7 +176,7 @@ impl Screen {
     /// is lost. (VT220 manual: insert mode, IRM)
     #[inline(never)]
     pub fn put_inserting(&mut self, row: usize, column: usize, cell: Cell)
-        requires row { (1 ≤ row) × (row ≤ last_row) }
+        requires row { (1 ≤ row) × (row ≤ self.old.size.rows) }
         requires column { (1 ≤ column) × (column ≤ self.old.width) }
         ensures grid { self.new ≡ put_inserting self.old row column cell }
         ensures sound { IsSoundGrid self.new }
@@ -167,7 +193,7 @@ impl Screen {
     /// (The clause is stated in glyphs: that of an ASCII code has the same number.)
     #[inline(always)]
     pub fn put_run(&mut self, row: usize, column: usize, codes: &[u8], like: Cell)
-        requires row { (1 ≤ row) × (row ≤ last_row) }
+        requires row { (1 ≤ row) × (row ≤ self.old.size.rows) }
         requires column { (1 ≤ column) × (column ≤ self.old.width) }
         requires codes { All (λ code. (0x20 ≤ code) × (code ≤ 0x7E)) codes.now }
         requires room { column + length codes.now ≤ self.old.width + 1 }
@@ -191,7 +217,7 @@ impl Screen {
         table: &InUse,
         like: Cell,
     )
-        requires row { (1 ≤ row) × (row ≤ last_row) }
+        requires row { (1 ≤ row) × (row ≤ self.old.size.rows) }
         requires column { (1 ≤ column) × (column ≤ self.old.width) }
         requires bytes { All HasGlyph bytes.now }
         requires room { column + length bytes.now ≤ self.old.width + 1 }
@@ -214,7 +240,7 @@ impl Screen {
     /// Erased cells are blank, even if they were protected. A selective erase leaves protected cells unchanged. It
     /// clears the glyph of the other cells, and their attributes stay.
     pub fn erase(&mut self, row: usize, from: usize, to: usize, selective: bool)
-        requires row { (1 ≤ row) × (row ≤ last_row) }
+        requires row { (1 ≤ row) × (row ≤ self.old.size.rows) }
         requires columns { (1 ≤ from) × (from ≤ to) × (to ≤ self.old.width) }
         ensures grid { self.new ≡ erase self.old row from to selective }
         ensures sound { IsSoundGrid self.new }
@@ -226,7 +252,7 @@ impl Screen {
     /// Inserts `n` blank cells at a row and a column. The cells starting there move right, and those that pass the last
     /// column are lost. (VT220 manual: ICH)
     pub fn insert_cells(&mut self, row: usize, column: usize, n: u16)
-        requires row { (1 ≤ row) × (row ≤ last_row) }
+        requires row { (1 ≤ row) × (row ≤ self.old.size.rows) }
         requires column { (1 ≤ column) × (column ≤ self.old.width) }
         ensures grid { self.new ≡ insert_cells self.old row column n }
         ensures sound { IsSoundGrid self.new }
@@ -243,7 +269,7 @@ impl Screen {
     /// Deletes `n` cells starting at a row and a column. The cells after them move left, and blank cells are added at
     /// the end of the row. (VT220 manual: DCH)
     pub fn delete_cells(&mut self, row: usize, column: usize, n: u16)
-        requires row { (1 ≤ row) × (row ≤ last_row) }
+        requires row { (1 ≤ row) × (row ≤ self.old.size.rows) }
         requires column { (1 ≤ column) × (column ≤ self.old.width) }
         ensures grid { self.new ≡ delete_cells self.old row column n }
         ensures sound { IsSoundGrid self.new }
@@ -261,18 +287,18 @@ impl Screen {
     /// (VT220 manual: IND, DL)
     #[inline(always)]
     pub fn scroll_up(&mut self, top: usize, bottom: usize, n: u16)
-        requires { (1 ≤ top) × (top ≤ bottom) × (bottom ≤ last_row) }
+        requires { (1 ≤ top) × (top ≤ bottom) × (bottom ≤ self.old.size.rows) }
         ensures grid { self.new ≡ scroll_up self.old top bottom n }
         ensures sound { IsSoundGrid self.new }
     {
         if n == 1 {
-            // The whole screen has a separate call: its table is moved by a copy of a fixed size.
+            // The whole screen of the VT220 has a separate call: its table is moved by a copy of a fixed size.
             if top == 1 && bottom == ROWS {
                 return self.scroll_up_once(1, ROWS);
             }
             return self.scroll_up_once(top, bottom);
         }
-        let count = (n as usize).min(bottom + 1 - top);
+        let count = (n as usize).min(bottom - top + 1);
         self.order.move_up(top, bottom, count);
         let (first, end) = (bottom + 1 - count, bottom + 1);
         fill_rows(
@@ -289,14 +315,14 @@ impl Screen {
     /// manual: RI, IL)
     #[inline(always)]
     pub fn scroll_down(&mut self, top: usize, bottom: usize, n: u16)
-        requires { (1 ≤ top) × (top ≤ bottom) × (bottom ≤ last_row) }
+        requires { (1 ≤ top) × (top ≤ bottom) × (bottom ≤ self.old.size.rows) }
         ensures grid { self.new ≡ scroll_down self.old top bottom n }
         ensures sound { IsSoundGrid self.new }
     {
         if n == 1 {
             return self.scroll_down_once(top, bottom);
         }
-        let count = (n as usize).min(bottom + 1 - top);
+        let count = (n as usize).min(bottom - top + 1);
         self.order.move_down(top, bottom, count);
         fill_rows(
             &mut self.cells,
@@ -311,7 +337,7 @@ impl Screen {
     /// Moves the rows `top` to `bottom` up by 1, without a loop. Speed: most scrolls are by one row.
     #[inline(always)]
     fn scroll_up_once(&mut self, top: usize, bottom: usize)
-        requires { (1 ≤ top) × (top ≤ bottom) × (bottom ≤ last_row) }
+        requires { (1 ≤ top) × (top ≤ bottom) × (bottom ≤ self.old.size.rows) }
         ensures grid { self.new ≡ scroll_up self.old top bottom 1 }
         ensures sound { IsSoundGrid self.new }
     {
@@ -329,7 +355,7 @@ impl Screen {
     /// Moves the rows `top` to `bottom` down by 1, without a loop. Speed: most scrolls are by one row.
     #[inline(always)]
     fn scroll_down_once(&mut self, top: usize, bottom: usize)
-        requires { (1 ≤ top) × (top ≤ bottom) × (bottom ≤ last_row) }
+        requires { (1 ≤ top) × (top ≤ bottom) × (bottom ≤ self.old.size.rows) }
         ensures grid { self.new ≡ scroll_down self.old top bottom 1 }
         ensures sound { IsSoundGrid self.new }
     {
@@ -350,21 +376,22 @@ impl Screen {
         ensures sound { IsSoundGrid self.new }
     {
         let _ = cell.glyph.to_char();
-        fill_rows(&mut self.cells, &self.order, 1, ROWS + 1, self.width, &cell);
+        let end = self.order.size().rows + 1;
+        fill_rows(&mut self.cells, &self.order, 1, end, self.width, &cell);
     }
 
-    /// Makes the screen wide, 132 columns, or narrow, 80 columns. It blanks every cell, even if the width doesn't
-    /// change. (VT220 manual: DECCOLM)
+    /// Makes the screen wide or narrow. It blanks every cell, even if the width doesn't change. (VT220 manual: DECCOLM)
     pub fn set_width(&mut self, wide: bool)
-        ensures grid { self.new ≡ blank_grid wide }
+        ensures grid { self.new ≡ blank_grid self.old.size wide }
         ensures sound { IsSoundGrid self.new }
     {
-        self.width = if wide { COLUMNS } else { NARROW };
+        let size = self.order.size();
+        self.width = size.columns(wide);
         fill_rows(
             &mut self.cells,
             &self.order,
             1,
-            ROWS + 1,
+            size.rows + 1,
             self.width,
             &Cell::blank(),
         );

@@ -10,12 +10,12 @@ use Rattle.vt_term.specs.State.{Display}
 pub erase_in_display-0 : AreaLaws → (selective : Bool) (s : Display)
     → record (erase_in_line selective 0 s) {
       grid =
-          erase_area (erase_in_line selective 0 s).grid (rows_between (s.cursor.row + 1) 25) selective;
+          erase_area (erase_in_line selective 0 s).grid (rows_between (s.cursor.row + 1) (s.grid.size.rows + 1)) selective;
     }
     ≡ erase_in_display selective 0 s
 erase_in_display-0 areas selective s =
     ap (λ (g : Grid). with_grid g s)
-    (areas.both s.grid (line_area 0 s.cursor) (rows_between (s.cursor.row + 1) 25) selective
+    (areas.both s.grid (line_area 0 s.cursor) (rows_between (s.cursor.row + 1) (s.grid.size.rows + 1)) selective
     ∙ areas.same s.grid _ (display_area 0 s.cursor) selective (λ r c r1 r24 c1 cw. grind (arith, nat_tests)))
 
 -- ED up to the cursor: the part of the line, and then the rows above

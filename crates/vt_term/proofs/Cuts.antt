@@ -5,7 +5,7 @@ use Rattle.vt_syntax.specs.declared.event.Event.{Event}
 use Rattle.vt_syntax.specs.Held.{events_from, held_from}
 use Rattle.vt_syntax.specs.Laws.{SplitLaw}
 use Rattle.vt_term.specs.State.{Display, State}
-use Rattle.vt_term.specs.Sound.{IsSound}
+use Rattle.vt_term.specs.Sound.{IsSoundSized}
 use Rattle.vt_term.specs.Functions.{effect}
 use Rattle.vt_term.specs.Reports.{report}
 use Rattle.vt_term.specs.Play.{Played, after_events, reports_of, play, both, play_all, joined}
@@ -34,12 +34,12 @@ module _ (split : SplitLaw) where
         reports_of-append first second s.display,
       ) refl
 
-  pub play-nothing : (s : State) → IsSound s → play s [] ≡ record { state = s; reports = [] }
+  pub play-nothing : (s : State) → IsSoundSized s → play s [] ≡ record { state = s; reports = [] }
   unfolding play
   play-nothing s sound = rw (split.events_nil s.held sound.held, split.held_nil s.held sound.held) refl
 
-  pub play_all-joined : ((s : State) (bytes : List ℕ) → IsSound s → IsSound (play s bytes).state)
-      → (s : State) (pieces : List (List ℕ)) → IsSound s → play_all s pieces ≡ play s (joined pieces)
+  pub play_all-joined : ((s : State) (bytes : List ℕ) → IsSoundSized s → IsSoundSized (play s bytes).state)
+      → (s : State) (pieces : List (List ℕ)) → IsSoundSized s → play_all s pieces ≡ play s (joined pieces)
   play_all-joined keeps s [] sound = sym (play-nothing s sound)
   play_all-joined keeps s (piece ∷ pieces) sound =
       ap (λ (t : Played). both (play s piece) t)

@@ -16,7 +16,7 @@ use Rattle.vt_term.specs.Writing.{after_wrap, put_glyph, write_glyph, write_if_r
 
 -- a grid of the display's width
 abbrev pub grid_with : Display → List Cell → Grid
-grid_with d xs = record { width = d.grid.width; cells = xs }
+grid_with d xs = record { size = d.grid.size; width = d.grid.width; cells = xs }
 
 -- the display with other cells, and the cursor elsewhere
 abbrev pub here : Display → List Cell → Cursor → Display
@@ -28,7 +28,7 @@ IsOutside d k r = (r < d.margins.top) ⊎ (k ≤ r)
 
 -- the same cells in these rows
 abbrev pub SameFrom : Display → ℕ → List Cell → List Cell → Type 0
-SameFrom d k xs ys = (r c : ℕ) → 1 ≤ r → r ≤ 24 → 1 ≤ c → c ≤ d.grid.width → IsOutside d k r
+SameFrom d k xs ys = (r c : ℕ) → 1 ≤ r → r ≤ d.grid.size.rows → 1 ≤ c → c ≤ d.grid.width → IsOutside d k r
     → cell_at (grid_with d xs) r c ≡ cell_at (grid_with d ys) r c
 
 -- a function that leaves the cursor in the bottom margin's row and changes cells of the scroll region alone, whatever the
@@ -127,27 +127,27 @@ module _ (d : Display) where
     -- a function that gives each place a cell by a formula
     acts-formula : (n : ℕ) (f : Display → Display) (from to : Cursor) (formula : List Cell → ℕ → ℕ → Cell)
         → to.row ≡ d.margins.bottom
-        → ((xs : List Cell) → f (here d xs from) ≡ here d (cells_of d.grid.width (formula xs)) to)
+        → ((xs : List Cell) → f (here d xs from) ≡ here d (cells_of d.grid.size d.grid.width (formula xs)) to)
         → ((xs : List Cell) (r c : ℕ) → IsOutside d (d.margins.bottom + 1) r
         → formula xs r c ≡ cell_at (grid_with d xs) r c)
         → ((k next : ℕ) (xs ys : List Cell) → k ≤ d.margins.bottom + 1 → k ≤ next + n → SameFrom d k xs ys
-        → (r c : ℕ) → 1 ≤ r → r ≤ 24 → 1 ≤ c → c ≤ d.grid.width → IsOutside d next r → formula xs r c ≡ formula ys r c)
+        → (r c : ℕ) → 1 ≤ r → r ≤ d.grid.size.rows → 1 ≤ c → c ≤ d.grid.width → IsOutside d next r → formula xs r c ≡ formula ys r c)
         → Acts d n f from
     acts-formula n f from to formula row is keeps agrees = record {
       to = to;
-      cells = λ xs. cells_of d.grid.width (formula xs);
+      cells = λ xs. cells_of d.grid.size d.grid.width (formula xs);
       in_row = row;
       acts = is;
       shape = λ xs h. places.map (grid_with d xs) (formula xs) h;
       outside = λ xs r c r1 r24 c1 cw out.
-          sym (keeps xs r c out) ∙ sym (places.at_place d.grid.width (formula xs) r c r1 r24 c1 cw);
+          sym (keeps xs r c out) ∙ sym (places.at_place d.grid.size d.grid.width (formula xs) r c r1 r24 c1 cw);
       forgets = λ k next xs ys low few same r c r1 r24 c1 cw out.
-          places.at_place d.grid.width (formula xs) r c r1 r24 c1 cw
+          places.at_place d.grid.size d.grid.width (formula xs) r c r1 r24 c1 cw
           ∙ agrees k next xs ys low few same r c r1 r24 c1 cw out
-          ∙ sym (places.at_place d.grid.width (formula ys) r c r1 r24 c1 cw);
+          ∙ sym (places.at_place d.grid.size d.grid.width (formula ys) r c r1 r24 c1 cw);
     }
 
-    module _ (top : d.margins.top ≤ d.margins.bottom) (bottom : d.margins.bottom ≤ 24) where
+    module _ (top : d.margins.top ≤ d.margins.bottom) (bottom : d.margins.bottom ≤ d.grid.size.rows) where
       -- ---- line feeds
 
       abbrev moved_up : List Cell → ℕ → ℕ → Cell
@@ -166,7 +166,7 @@ module _ (d : Display) where
           rw test refl
 
       up-agrees : (k next : ℕ) (xs ys : List Cell) → k ≤ d.margins.bottom + 1 → k ≤ next + 1 → SameFrom d k xs ys
-          → (r c : ℕ) → 1 ≤ r → r ≤ 24 → 1 ≤ c → c ≤ d.grid.width → IsOutside d next r
+          → (r c : ℕ) → 1 ≤ r → r ≤ d.grid.size.rows → 1 ≤ c → c ≤ d.grid.width → IsOutside d next r
           → moved_up xs r c ≡ moved_up ys r c
       up-agrees k next xs ys low few same r c r1 r24 c1 cw out = elim (leb_tells d.margins.top r) [
         | inl from ↦ elim (leb_tells r d.margins.bottom) [
@@ -227,7 +227,7 @@ module _ (d : Display) where
       column-0 : (xs : List Cell) (r : ℕ) → cell_at (grid_with d xs) r 0 ≡ cell_at (grid_with d xs) r 1
       column-0 xs r = zeroth (grid_with d xs) r
 
-      before-same : (k next : ℕ) (xs ys : List Cell) (r c : ℕ) → k ≤ next → SameFrom d k xs ys → 1 ≤ r → r ≤ 24 → 1 ≤ c
+      before-same : (k next : ℕ) (xs ys : List Cell) (r c : ℕ) → k ≤ next → SameFrom d k xs ys → 1 ≤ r → r ≤ d.grid.size.rows → 1 ≤ c
           → c ≤ d.grid.width → IsOutside d next r
           → cell_at (grid_with d xs) r (c - 1) ≡ cell_at (grid_with d ys) r (c - 1)
       before-same k next xs ys r c few same r1 r24 c1 cw out = elim (leb_tells 2 c) [

@@ -4,7 +4,7 @@ use Rattle.std.specs.List.{flat_map}
 use Rattle.vt_syntax.specs.Held.{events_from, spell, IsHeldPart}
 use Rattle.vt_syntax.specs.Laws.{SplitLaw}
 use Rattle.vt_term.specs.State.{State}
-use Rattle.vt_term.specs.Sound.{IsSound}
+use Rattle.vt_term.specs.Sound.{IsSoundSized}
 use Rattle.vt_term.specs.Play.{Played, play}
 use Rattle.vt_term.specs.Scrolling.{scrolled_off}
 use Rattle.vt_term.specs.Happenings.{Happening, happening, happenings, events_in, lines_in}
@@ -28,7 +28,7 @@ module _ (split : SplitLaw) where
       ap (λ (hs : List Happening). happening s x ∷ hs)
       (parts next a b still ∙ ap (λ (t : State). happenings next a ++ happenings t b) after)
 
-  pub happenings-append : (s : State) (a b : List ℕ) → IsSound s
+  pub happenings-append : (s : State) (a b : List ℕ) → IsSoundSized s
       → happenings s (a ++ b) ≡ happenings s a ++ happenings (play s a).state b
   happenings-append s a b sound = parts s a b (ap (λ (p : Played). p.state) (play-nothing split s sound))
 

@@ -1,6 +1,6 @@
 mod Stops
 mod Areas
-mod PowerUp
+pub mod PowerUp
 mod Cuts
 mod RowTexts
 mod Runs
@@ -11,6 +11,10 @@ pub mod SoundEffects
 pub mod Tables
 pub mod Silent
 pub mod SoundPlay
+pub mod SizeKept
+pub mod SizeHappened
+mod Staying
+pub mod OneSize
 pub mod Happened
 mod Playing
 mod Forgetting

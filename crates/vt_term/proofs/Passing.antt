@@ -21,7 +21,7 @@ use Rattle.vt_screen.specs.Grid.{Grid, IsGrid}
 use Rattle.vt_screen.specs.Laws.{PlaceLaws}
 use Rattle.vt_term.specs.declared.state.Cursor.{Cursor}
 use Rattle.vt_term.specs.State.{Display, State, at_place}
-use Rattle.vt_term.specs.Sound.{IsSound, IsSoundDisplay}
+use Rattle.vt_term.specs.Sound.{IsSoundSized, IsSoundSizedDisplay}
 use Rattle.vt_term.specs.Moving.{backspace, carriage_return}
 use Rattle.vt_term.specs.Tabs.{horizontal_tab}
 use Rattle.vt_term.specs.Functions.{control}
@@ -108,7 +108,7 @@ lines-silent (b ∷ bytes) all s =
 
 -- ---- what they do
 
-module _ (places : PlaceLaws) (d : Display) (top : d.margins.top ≤ d.margins.bottom) (bottom : d.margins.bottom ≤ 24)
+module _ (places : PlaceLaws) (d : Display) (top : d.margins.top ≤ d.margins.bottom) (bottom : d.margins.bottom ≤ d.grid.size.rows)
     (none : d.sets.pending ≡ None) where
   acts-byte : (from : Cursor) → from.row ≡ d.margins.bottom → (b : ℕ) → IsOfLines b
       → Acts d (fed b) (after_events (single_function b)) from
@@ -141,7 +141,7 @@ module _ (places : PlaceLaws) (d : Display) (top : d.margins.top ≤ d.margins.b
 
   -- lines that end with CR leave what CR leaves, but for cells of the scroll region; after 24 line feeds more these are gone
   forgotten : (a b : List ℕ) → All IsOfLines a → All IsOfLines b → IsGrid d.grid → d.cursor.row ≡ d.margins.bottom
-      → 24 ≤ feeds b
+      → d.grid.size.rows ≤ feeds b
       → after_events (line_events b) (carriage_return (after_events (line_events a) d))
       ≡ after_events (line_events b) (carriage_return d)
   forgotten a b of-a of-b shape row enough =
@@ -156,7 +156,7 @@ module _ (places : PlaceLaws) (d : Display) (top : d.margins.top ≤ d.margins.b
       let gone = second.forgets (d.margins.bottom + 1) 1 xs zs (omega arith) (omega (arith, bottom, enough)) (first.outside xs) in
       let grids : grid_with d (second.cells zs) ≡ grid_with d (second.cells xs) =
       sym (places.same_grids (grid_with d (second.cells xs)) (grid_with d (second.cells zs)) (second.shape xs shape)
-      (second.shape zs (first.shape xs shape)) refl (λ r c r1 r24 c1 cw. gone r c r1 r24 c1 cw (inr r1))) in
+      (second.shape zs (first.shape xs shape)) refl refl (λ r c r1 r24 c1 cw. gone r c r1 r24 c1 cw (inr r1))) in
       ap (after_events (line_events b)) start ∙ second.acts zs
       ∙ ap (λ (g : Grid). record d { grid = g; cursor = second.to }) grids ∙ sym (second.acts xs)
 
@@ -184,9 +184,9 @@ module _ (places : PlaceLaws) (split : SplitLaw) (spelling : SpellingLaw) where
       ∙ after_events-append (line_events a) (Control 0x0D ∷ []) d
 
   -- lines, the last bytes of them CR, and lines with 24 line feeds after them
-  pub passed : (d : Display) (a b more : List ℕ) → d.margins.top ≤ d.margins.bottom → d.margins.bottom ≤ 24
+  pub passed : (d : Display) (a b more : List ℕ) → d.margins.top ≤ d.margins.bottom → d.margins.bottom ≤ d.grid.size.rows
       → d.sets.pending ≡ None → IsGrid d.grid → d.cursor.row ≡ d.margins.bottom
-      → All IsOfLines (a ++ 0x0D ∷ []) → All IsOfLines b → 24 ≤ feeds b
+      → All IsOfLines (a ++ 0x0D ∷ []) → All IsOfLines b → d.grid.size.rows ≤ feeds b
       → play (record { display = carriage_return d; held = Nothing }) (b ++ more)
       ≡ play (record { display = d; held = Nothing }) ((a ++ 0x0D ∷ []) ++ (b ++ more))
   passed d a b more top bottom none shape row of-a of-b enough =
@@ -204,9 +204,9 @@ module _ (places : PlaceLaws) (split : SplitLaw) (spelling : SpellingLaw) where
 
 -- the lines at the front of a piece that nobody sees
 pub passed-piece : PlaceLaws → SplitLaw → SpellingLaw → (d : Display) (piece : List ℕ) (run at : ℕ)
-    → d.margins.top ≤ d.margins.bottom → d.margins.bottom ≤ 24 → d.sets.pending ≡ None → IsGrid d.grid
+    → d.margins.top ≤ d.margins.bottom → d.margins.bottom ≤ d.grid.size.rows → d.sets.pending ≡ None → IsGrid d.grid
     → d.cursor.row ≡ d.margins.bottom → run ≤ length piece → All IsOfLines (take run piece) → 1 ≤ at → at ≤ run
-    → get_or (take run piece) (at - 1) 0 ≡ 0x0D → 24 ≤ feeds (drop at (take run piece))
+    → get_or (take run piece) (at - 1) 0 ≡ 0x0D → d.grid.size.rows ≤ feeds (drop at (take run piece))
     → play (record { display = carriage_return d; held = Nothing }) (drop at piece)
     ≡ play (record { display = d; held = Nothing }) piece
 passed-piece places split spelling d piece run at top bottom none shape row fits lines some within end enough =
@@ -276,16 +276,16 @@ block-played split s t u rest before after n e order within same state told =
     )
 
 -- nothing is left
-pub nothing-left : SplitLaw → (s : State) (rest : List ℕ) → length rest ≡ 0 → IsSound s
+pub nothing-left : SplitLaw → (s : State) (rest : List ℕ) → length rest ≡ 0 → IsSoundSized s
     → play s rest ≡ record { state = s; reports = [] }
 nothing-left split s [] none sound = play-nothing split s sound
 nothing-left split s (b ∷ rest) none sound = absurd (omega (arith, none))
 
 -- the display after CR, as the parser's state stays
 pub passed-state : PlaceLaws → SplitLaw → SpellingLaw → (s t : Display) (h : Held) (piece : List ℕ) (run at : ℕ)
-    → IsSoundDisplay s → s.sets.pending ≡ None → s.cursor.row ≡ s.margins.bottom → h ≡ Nothing → t ≡ carriage_return s
+    → IsSoundSizedDisplay s → s.sets.pending ≡ None → s.cursor.row ≡ s.margins.bottom → h ≡ Nothing → t ≡ carriage_return s
     → run ≤ length piece → All IsOfLines (take run piece) → 1 ≤ at → at ≤ run
-    → get_or (take run piece) (at - 1) 0 ≡ 0x0D → 24 ≤ feeds (drop at (take run piece))
+    → get_or (take run piece) (at - 1) 0 ≡ 0x0D → s.grid.size.rows ≤ feeds (drop at (take run piece))
     → play (record { display = t; held = h }) (drop at piece) ≡ play (record { display = s; held = h }) piece
 passed-state places split spelling s t h piece run at sound none row between is fits lines some within end enough =
     rw (between, is) (passed-piece places split spelling s piece run at (omega (arith, sound.margins.two_rows))
@@ -293,9 +293,9 @@ passed-state places split spelling s t h piece run at sound none row between is 
 
 -- the same of the bytes of lines at the front
 pub passed-front : PlaceLaws → SplitLaw → SpellingLaw → (s t : Display) (h : Held) (piece : List ℕ) (run at : ℕ)
-    → IsSoundDisplay s → s.sets.pending ≡ None → s.cursor.row ≡ s.margins.bottom → h ≡ Nothing → t ≡ carriage_return s
+    → IsSoundSizedDisplay s → s.sets.pending ≡ None → s.cursor.row ≡ s.margins.bottom → h ≡ Nothing → t ≡ carriage_return s
     → run ≤ length piece → All IsOfLines (take run piece) → 1 ≤ at → at ≤ run
-    → get_or (take run piece) (at - 1) 0 ≡ 0x0D → 24 ≤ feeds (drop at (take run piece))
+    → get_or (take run piece) (at - 1) 0 ≡ 0x0D → s.grid.size.rows ≤ feeds (drop at (take run piece))
     → play (record { display = t; held = h }) (drop at (take run piece)) ≡ play (record { display = s; held = h }) (take run piece)
 passed-front places split spelling s t h piece run at sound none row between is fits lines some within end enough =
     let whole : take run (take run piece) ≡ take run piece = take-take run run piece (omega arith) in
@@ -311,7 +311,7 @@ lines-unreported split spelling s bytes between all =
     rw (between, lines-events split spelling bytes all) (lines-silent bytes all s.display)
 
 -- nor do no bytes
-pub none-unreported : SplitLaw → (s : State) (piece : List ℕ) (n : ℕ) → IsSound s → n ≡ 0
+pub none-unreported : SplitLaw → (s : State) (piece : List ℕ) (n : ℕ) → IsSoundSized s → n ≡ 0
     → (play s (take n piece)).reports ≡ []
 none-unreported split s piece n sound none =
     ap (λ (k : ℕ). (play s (take k piece)).reports) none ∙ ap (λ (p : Played). p.reports) (play-nothing split s sound)

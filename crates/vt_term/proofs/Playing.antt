@@ -14,7 +14,7 @@ use Rattle.vt_syntax.specs.Held.{events_from, held_from, spell, IsHeldPart}
 use Rattle.vt_syntax.specs.Laws.{SplitLaw, SpellingLaw}
 use Rattle.vt_glyph.specs.Invocation.{HasGlyph}
 use Rattle.vt_term.specs.State.{Display, State}
-use Rattle.vt_term.specs.Sound.{IsSound}
+use Rattle.vt_term.specs.Sound.{IsSoundSized}
 use Rattle.vt_term.specs.Functions.{effect}
 use Rattle.vt_term.specs.Machines.{Machine, PrintsAlike, screens_after, reports_after, vt220}
 use Rattle.vt_term.specs.Scrolling.{lines_off, scrolled_off}
@@ -113,7 +113,7 @@ module _ {S K : Type 0} (m : Machine S) (screens : Display → K → S) where
 
 module _ {S K : Type 0} (m : Machine S) (screens : Display → K → S) (split : SplitLaw) where
   -- no bytes
-  pub feeds-nothing : (s : State) (k : K) (out : List ℕ) → IsSound s → Feeds m screens s k [] s k out out
+  pub feeds-nothing : (s : State) (k : K) (out : List ℕ) → IsSoundSized s → Feeds m screens s k [] s k out out
   feeds-nothing s k out sound =
       feeds-events m screens s s k k [] [] out out (split.events_nil s.held sound.held)
       (sym (split.held_nil s.held sound.held)) refl (sym (append-nil out))
@@ -285,7 +285,7 @@ module _ {O : Type 0} (Saw : O → List Happening → O → Type 0) (Takes : O �
     module _ (split : SplitLaw) where
       -- one part of a piece, and the next
       pub saw-more : (o p q : O) (s t : State) (k l : K) (piece before out : List ℕ) (at n : ℕ)
-          → IsSound s → Feeds m screens s k (take at piece) t l before out
+          → IsSoundSized s → Feeds m screens s k (take at piece) t l before out
           → Saw o (happenings_of m screens s k (take at piece)) p
           → Saw p (happenings_of m screens t l (take n (drop at piece))) q
           → Saw o (happenings_of m screens s k (take (at + n) piece)) q
@@ -299,7 +299,7 @@ module _ {O : Type 0} (Saw : O → List Happening → O → Type 0) (Takes : O �
 
       -- the same by what is left of the piece
       pub saw-rest : (o p q : O) (s t : State) (k l : K) (piece rest before out : List ℕ) (n : ℕ)
-          → IsSound s → length rest ≤ length piece → n ≤ length rest → rest ≡ drop (taken piece rest) piece
+          → IsSoundSized s → length rest ≤ length piece → n ≤ length rest → rest ≡ drop (taken piece rest) piece
           → Feeds m screens s k (take (taken piece rest) piece) t l before out
           → Saw o (happenings_of m screens s k (take (taken piece rest) piece)) p
           → Saw p (happenings_of m screens t l (take n rest)) q

@@ -1,5 +1,5 @@
 -- Bytes that scroll no line off, and the event that does.
-use Rattle.std.proofs.Common.{◌≡◌, ℕ, ◌+◌, ◌≤◌, List, [], ◌∷◌, ◌++◌, length, map, refl, sym, ap, ◌∙◌}
+use Rattle.std.proofs.Common.{◌≡◌, ℕ, zero, suc, ◌*◌, ◌+◌, ◌<◌, ◌≤◌, List, [], ◌∷◌, ◌++◌, length, map, refl, sym, ap, ◌∙◌}
 use Rattle.std.specs.Prelude.{slice_index, ◌&&◌, not}
 use Rattle.std.specs.Bool.{OnTrue}
 use Rattle.std.proofs.Common.{Bool, append-nil, arith, rules, true, false, Option, Some, None, All, inl, inr}
@@ -14,14 +14,16 @@ use Rattle.vt_term.specs.State.{Display, State}
 use Rattle.vt_term.specs.Functions.{effect}
 use Rattle.vt_term.specs.Writing.{write_if_read, put_glyph}
 use Rattle.vt_term.specs.Scrolling.{is_at_end, line_off, lines_off, scrolled_off, scrolls_off, log}
-use Rattle.vt_term.specs.ScrollSteps.{EndInRow, Fits, Logs}
-use Rattle.vt_term.specs.Happenings.{happenings}
-use Rattle.vt_term.specs.Text.{line_text}
-use Rattle.vt_term.specs.Sound.{IsSound}
+use Rattle.vt_term.specs.ScrollSteps.{EndInRow, Fits, IsShort, Logs}
+use Rattle.vt_term.specs.Happenings.{happening, happenings}
+use Rattle.vt_term.specs.Text.{line_text, row_text_limit}
+use Rattle.vt_term.specs.Sound.{IsSoundSized}
 use Rattle.vt_term.specs.Play.{play}
 use Rattle.vt_term.specs.Observers.{scrolled-append, scrolled-nothing}
 use Rattle.std.specs.List.{flat_map}
+use Rattle.std.proofs.lemmas.Bool.{cases_lt}
 use Rattle.std.proofs.lemmas.Grind.{flat_map-append}
+use Rattle.std.proofs.lemmas.Nat.{mul-le}
 use Rattle.vt_term.proofs.Bytes.{graphic-events}
 use Rattle.vt_term.proofs.Happened.{length-happenings, lines-happened}
 
@@ -40,26 +42,38 @@ pub one-line : (s : State) (bytes : List ℕ) (event : Event) → events_from s.
 unfolding scrolled_off
 one-line s bytes event is = rw is (append-nil (line_off event s.display))
 
-pub logs-one : SplitLaw → (s : State) (bytes xs ys : List ℕ) (rows : List (List Cell)) → IsSound s → 1 ≤ length bytes
-    → scrolled_off s bytes ≡ rows → ys ≡ xs ++ flat_map line_text rows → length ys ≤ length xs + 397
-    → Logs (happenings s bytes) xs ys
-logs-one split s bytes xs ys rows sound some is told few = record {
-  lines = rw (lines-happened split s bytes sound.held, is) told;
-  bounded = omega (arith, some, few, length-happenings s bytes);
+at-least-one : (limit n len after k : ℕ) → 1 ≤ n → after ≤ len + limit → k ≡ n → after ≤ len + limit * k
+at-least-one limit (suc n) len after k some few is = rw is (omega (arith, few))
+at-least-one limit zero len after k some few is = absurd (omega (arith, some))
+
+-- the first of the rows is in reach
+first-short : (limit : ℕ) (s : State) (bytes : List ℕ) → 1 ≤ length bytes → All (IsShort limit) (happenings s bytes)
+    → row_text_limit s.display.grid.size ≤ limit
+first-short limit s [] some short = absurd (omega (arith, some))
+first-short limit s (b ∷ bytes) some short = short 0 (happening s b) (omega arith)
+
+pub logs-one : SplitLaw → (limit : ℕ) (s : State) (bytes xs ys : List ℕ) (rows : List (List Cell)) → IsSoundSized s
+    → 1 ≤ length bytes → scrolled_off s bytes ≡ rows
+    → (row_text_limit s.display.grid.size ≤ limit → ys ≡ xs ++ flat_map line_text rows)
+    → length ys ≤ length xs + limit → Logs limit (happenings s bytes) xs ys
+logs-one split limit s bytes xs ys rows sound some is told few = record {
+  lines = λ short. rw (lines-happened split s bytes sound.held, is) (told (first-short limit s bytes some short));
+  bounded = at-least-one limit (length bytes) (length xs) (length ys) (length (happenings s bytes)) some few
+      (length-happenings s bytes);
 }
 
-pub logs-none : SplitLaw → (s : State) (bytes xs : List ℕ) → IsSound s → events_from s.held bytes ≡ []
-    → Logs (happenings s bytes) xs xs
-logs-none split s bytes xs sound none = record {
-  lines = rw (lines-happened split s bytes sound.held, no-line s bytes none) (sym (append-nil xs));
+pub logs-none : SplitLaw → (limit : ℕ) (s : State) (bytes xs : List ℕ) → IsSoundSized s → events_from s.held bytes ≡ []
+    → Logs limit (happenings s bytes) xs xs
+logs-none split limit s bytes xs sound none = record {
+  lines = λ short. rw (lines-happened split s bytes sound.held, no-line s bytes none) (sym (append-nil xs));
   bounded = omega arith;
 }
 
 -- a line that is appended fits
-pub line-fits : (off : Bool) (len after end : ℕ) → len ≤ end → after ≤ len + 397 → (off ≡ true → len + 397 ≤ end)
-    → (off ≡ false → after ≡ len) → after ≤ end
-line-fits true len after end fits few room none = omega (arith, few, room refl)
-line-fits false len after end fits few room none = omega (arith, fits, none refl)
+pub line-fits : (limit : ℕ) (off : Bool) (len after end : ℕ) → len ≤ end → after ≤ len + limit
+    → (off ≡ true → len + limit ≤ end) → (off ≡ false → after ≡ len) → after ≤ end
+line-fits limit true len after end fits few room none = omega (arith, few, room refl)
+line-fits limit false len after end fits few room none = omega (arith, fits, none refl)
 
 both-of : (wrap none at : Bool) → ((wrap && not none) && at) ≡ true → (wrap && at) ≡ true
 both-of true true at off = absurd cc
@@ -77,7 +91,7 @@ log-append split s a b =
     ap (λ (rows : List (List Cell)). flat_map line_text rows) (scrolled-append split s a b)
     ∙ flat_map-append line_text (scrolled_off s a) (scrolled_off (play s a).state b)
 
-pub log-nothing : SplitLaw → (s : State) → IsSound s → log s [] ≡ []
+pub log-nothing : SplitLaw → (s : State) → IsSoundSized s → log s [] ≡ []
 unfolding log
 log-nothing split s sound = ap (λ (rows : List (List Cell)). flat_map line_text rows) (scrolled-nothing split s sound)
 
@@ -122,3 +136,13 @@ run-line spelling s bytes between have some fits =
         row-still (b ∷ bytes) s.display row ∙ sym none
     go (b ∷ []) some (inr one) = append-nil (line_off (Print b) s.display)
     go (b ∷ (c ∷ bytes)) some (inr one) = absurd (omega (arith, one))
+
+-- all bytes are played if there is capacity for a line for each
+pub all-fit : (n k limit len after capacity : ℕ) → k ≤ n → len + n * limit ≤ capacity → after ≤ len + limit * k
+    → (k < n → capacity < after + limit) → k ≡ n
+all-fit n k limit len after capacity within room few stop = elim (cases_lt k n) [
+  | inl lt ↦
+      let next : (k + 1) * limit ≤ n * limit = mul-le (k + 1) limit n limit (omega arith) (omega arith) in
+      absurd (omega (arith, next, room, few, stop lt))
+  | inr ge ↦ omega (arith, within, ge)
+]

@@ -1,15 +1,16 @@
 -- Every function keeps the display sound.
-use Rattle.std.proofs.Common.{rules, arith, ◌≡◌, ℕ, ◌≤◌, ◌+◌, ◌-◌, Bool, true, false, cond, zero, suc, List, length}
+use Rattle.std.proofs.Common.{rules, arith, ◌≡◌, ℕ, ◌≤◌, ◌<◌, ◌+◌, ◌-◌, Bool, true, false, cond, zero, suc, List, length}
 use Rattle.std.proofs.Common.{refl}
 use Rattle.std.specs.Prelude.{find, unwrap_or, if◌then◌else◌, Some}
 use Rattle.std.specs.List.{range_with_len}
 use Rattle.vt_glyph.specs.Tables.{IsGlyph, is_glyph, glyph_of}
 use Rattle.vt_screen.specs.Cells.{cell_of, plain_brush}
-use Rattle.vt_term.specs.State.{Display, last_column, has_stop_at}
-use Rattle.vt_term.specs.Sound.{IsSoundDisplay}
+use Rattle.vt_term.specs.State.{Display, bottom_row, last_column, has_stop_at}
+use Rattle.vt_term.specs.Sound.{IsSoundSizedDisplay}
 use Rattle.vt_term.specs.Moving.{backspace, carriage_return, cursor_up, cursor_down, cursor_forward}
 use Rattle.vt_term.specs.Moving.{cursor_backward, cursor_position, index, reverse_index, next_line, line_feed}
-use Rattle.vt_term.specs.Moving.{set_margins}
+use Rattle.vt_term.specs.Moving.{home, bottom_margin, are_margins, set_margins}
+use Rattle.vt_term.specs.Parameters.{from_one}
 use Rattle.vt_term.specs.Tabs.{horizontal_tab, set_tab, clear_tabs, next_stop_of, no_stops}
 use Rattle.vt_term.specs.Writing.{after_wrap, put_glyph, write_glyph}
 use Rattle.vt_term.specs.Editing.{insert_line, delete_line, insert_character, delete_character, erase_character}
@@ -20,7 +21,9 @@ use Rattle.vt_term.specs.Saving.{save_cursor, restore_cursor}
 use Rattle.vt_term.specs.Resets.{screen_alignment, reset_to_initial_state, soft_reset, set_conformance_level}
 use Rattle.vt_screen.proofs.SoundGrids.{scroll_up-sound, scroll_down-sound, insert_cells-sound, delete_cells-sound}
 use Rattle.vt_screen.proofs.SoundGrids.{erase_area-sound, blank_grid-sound, fill-sound, put-sound, put_inserting-sound}
-use Rattle.vt_term.proofs.PowerUp.{display_at_power_up-sound}
+use Rattle.std.proofs.lemmas.Bool.Decides.{nat_tests}
+use Rattle.vt_term.proofs.PowerUp.{display_of-sound}
+use Rattle.vt_term.proofs.Stops.{length-stops_where}
 
 letter_e : IsGlyph 0x45
 unfolding is_glyph glyph_of
@@ -48,11 +51,11 @@ next_stop-bounds stops col last col1 fits =
 
 -- a function keeps the display sound
 abbrev pub Keeps : (Display → Display) → Type 0
-Keeps f = (s : Display) → IsSoundDisplay s → IsSoundDisplay (f s)
+Keeps f = (s : Display) → IsSoundSizedDisplay s → IsSoundSizedDisplay (f s)
 
-length-no_stops : length no_stops ≡ 132
+pub length_no_stops : (columns : ℕ) → length (no_stops columns) ≡ columns
 unfolding no_stops
-length-no_stops = refl
+length_no_stops columns = length-stops_where columns (λ c. false)
 
 pub backspace-keeps : Keeps backspace
 backspace-keeps s i = search rules
@@ -87,8 +90,24 @@ next_line-keeps s i = search (rules, index-keeps, carriage_return-keeps)
 pub line_feed-keeps : Keeps line_feed
 line_feed-keeps s i = search (rules, index-keeps, next_line-keeps)
 
+-- a bottom margin is a row of the screen
+within : (p last : ℕ) → bottom_margin last p ≤ last
+within p last = grind (arith, nat_tests)
+
 pub set_margins-keeps : (p1 : ℕ) → (p2 : ℕ) → Keeps (set_margins p1 p2)
-set_margins-keeps p1 p2 s i = search rules
+set_margins-keeps p1 p2 s i =
+    go (are_margins (bottom_row s) p1 p2) (λ is. grind (arith, nat_tests))
+  where
+    go : (b : Bool) → (b ≡ true → from_one p1 < bottom_margin (bottom_row s) p2)
+        → IsSoundSizedDisplay (if b then home (record s {
+          margins = record { top = from_one p1; bottom = bottom_margin (bottom_row s) p2 };
+        }) else s)
+    go true two =
+        let rows : from_one p1 < bottom_margin (bottom_row s) p2 = two refl in
+        let low : 1 ≤ from_one p1 = omega arith in
+        let high : bottom_margin (bottom_row s) p2 ≤ bottom_row s = within p2 (bottom_row s) in
+        search (rules, rows, low, high)
+    go false two = i
 
 pub horizontal_tab-keeps : Keeps horizontal_tab
 horizontal_tab-keeps s i =
@@ -99,7 +118,7 @@ pub set_tab-keeps : Keeps set_tab
 set_tab-keeps s i = search rules
 
 pub clear_tabs-keeps : (p : ℕ) → Keeps (clear_tabs p)
-clear_tabs-keeps p s i = search (rules, length-no_stops)
+clear_tabs-keeps p s i = search (rules, length_no_stops)
 
 put_glyph-keeps : (g : ℕ) → IsGlyph g → Keeps (put_glyph g)
 put_glyph-keeps g shown s i = search (rules, put-sound, put_inserting-sound)
@@ -107,7 +126,7 @@ put_glyph-keeps g shown s i = search (rules, put-sound, put_inserting-sound)
 after_wrap-keeps : Keeps after_wrap
 after_wrap-keeps s i = go s.cursor.wrap
   where
-    go : (b : Bool) → IsSoundDisplay (cond b (next_line s) s)
+    go : (b : Bool) → IsSoundSizedDisplay (cond b (next_line s) s)
     go true = next_line-keeps s i
     go false = i
 
@@ -148,7 +167,7 @@ pub autowrap_mode-keeps : (selective : Bool) → Keeps (autowrap_mode selective)
 autowrap_mode-keeps selective s i = search rules
 
 pub column_mode-keeps : (selective : Bool) → Keeps (column_mode selective)
-column_mode-keeps selective s i = search (rules, blank_grid-sound)
+column_mode-keeps selective s i = search (rules, λ (wide : Bool). blank_grid-sound s.grid.size wide i.grid.shape.size)
 
 pub keypad_mode-keeps : (selective : Bool) → Keeps (keypad_mode selective)
 keypad_mode-keeps selective s i = search rules
@@ -168,7 +187,7 @@ screen_alignment-keeps s i =
     search rules
 
 pub reset_to_initial_state-keeps : Keeps reset_to_initial_state
-reset_to_initial_state-keeps s i = search (rules, display_at_power_up-sound)
+reset_to_initial_state-keeps s i = display_of-sound s.grid.size i.grid.shape.size
 
 pub soft_reset-keeps : Keeps soft_reset
 soft_reset-keeps s i = search rules

@@ -11,7 +11,7 @@ use Rattle.vt_glyph.specs.GraphicSets.{GraphicSets, AreSoundSets}
 use Rattle.vt_glyph.specs.declared.set.Set.{Set}
 use Rattle.vt_glyph.specs.Laws.{GlyphLaws, SetsLaws}
 use Rattle.vt_term.specs.State.{Display, State}
-use Rattle.vt_term.specs.Sound.{IsSoundDisplay, IsSound}
+use Rattle.vt_term.specs.Sound.{IsSoundSizedDisplay, IsSoundSized}
 use Rattle.vt_term.specs.Writing.{print, write_if_read, write_glyph}
 use Rattle.vt_term.specs.Modes.{with_mode, change_modes, ansi_modes, private_modes}
 use Rattle.vt_term.specs.Functions.{Function, FunctionTable, function_in, no_function}
@@ -20,7 +20,8 @@ use Rattle.vt_term.specs.Functions.{escape_tables, escape_with, designate, desig
 use Rattle.vt_term.specs.Functions.{marker_tables, intermediate_tables, sequence_in, sequences_of, effect}
 use Rattle.vt_term.specs.Play.{play, after_events}
 use Rattle.vt_term.proofs.Tables.{AllRows, looked_up-holds}
-use Rattle.vt_term.proofs.SoundEffects.{Keeps, keeping, write_glyph-keeps}
+use Rattle.vt_term.proofs.SoundEffects.{Keeps, keeping, write_glyph-keeps, save_cursor-keeps, restore_cursor-keeps}
+use Rattle.vt_term.proofs.SoundEffects.{keypad_mode-keeps, reset_to_initial_state-keeps}
 
 -- ---- tables
 
@@ -59,18 +60,18 @@ private_modes-keep = search (keeping, rules)
 
 -- ---- events
 
-with-sets : (s : Display) (new : GraphicSets) → IsSoundDisplay s → AreSoundSets new → IsSoundDisplay (record s { sets = new })
+with-sets : (s : Display) (new : GraphicSets) → IsSoundSizedDisplay s → AreSoundSets new → IsSoundSizedDisplay (record s { sets = new })
 with-sets s new i sound = search rules
 
 module _ (glyphs : GlyphLaws) (sets : SetsLaws) where
   print-keeps : (b : ℕ) → Keeps (print b)
   print-keeps b s i = go (glyph_read s.sets b) (glyphs.read s.sets b)
     where
-      after : IsSoundDisplay (record s { sets = after_read s.sets b })
+      after : IsSoundSizedDisplay (record s { sets = after_read s.sets b })
       after = with-sets s (after_read s.sets b) i (sets.read s.sets b i.sets)
 
       go : (glyph : Option ℕ) → IfSome glyph IsGlyph
-          → IsSoundDisplay (write_if_read glyph (record s { sets = after_read s.sets b }))
+          → IsSoundSizedDisplay (write_if_read glyph (record s { sets = after_read s.sets b }))
       go None h = after
       go (Some g) h = write_glyph-keeps g h _ after
 
@@ -86,7 +87,7 @@ module _ (glyphs : GlyphLaws) (sets : SetsLaws) where
   designate-keeps : (slot last : ℕ) → Keeps (designate slot last)
   designate-keeps slot last s i = go (set_of_final last)
     where
-      go : (set : Option Set) → IsSoundDisplay (designate_to slot set s)
+      go : (set : Option Set) → IsSoundSizedDisplay (designate_to slot set s)
       go None = i
       go (Some set) = with-sets s _ i (sets.designated s.sets slot set i.sets)
 
@@ -103,7 +104,22 @@ module _ (glyphs : GlyphLaws) (sets : SetsLaws) where
   plain_escape-keeps : (last : ℕ) → Keeps (plain_escape last)
   unfolding plain_escape AllRows
   plain_escape-keeps last =
-      function-keeps [] plain_escapes last (search (keeping, lock_left-keeps, lock_right-keeps, arith))
+      function-keeps [] plain_escapes last (
+        save_cursor-keeps,
+        (
+          restore_cursor-keeps,
+          (
+            keypad_mode-keeps true,
+            (
+              keypad_mode-keeps false,
+              (
+                reset_to_initial_state-keeps,
+                (search (keeping, lock_left-keeps, lock_right-keeps, arith)),
+              ),
+            ),
+          ),
+        ),
+      )
 
   -- by an intermediate, and then by a final byte
   escape_with-keeps : (inter last : ℕ) → Keeps (escape_with inter last)
@@ -150,8 +166,8 @@ module _ (glyphs : GlyphLaws) (sets : SetsLaws) where
   after_events-keeps [] s i = i
   after_events-keeps (event ∷ events) s i = after_events-keeps events (effect event s) (effect-keeps event s i)
 
-  pub play-sound : ((bytes : List ℕ) → IsHeldPart (held_after bytes)) → (s : State) (bytes : List ℕ) → IsSound s
-      → IsSound (play s bytes).state
+  pub play-sound : ((bytes : List ℕ) → IsHeldPart (held_after bytes)) → (s : State) (bytes : List ℕ) → IsSoundSized s
+      → IsSoundSized (play s bytes).state
   unfolding play
   play-sound held s bytes sound = record {
     display = after_events-keeps (events_from s.held bytes) s.display sound.display;

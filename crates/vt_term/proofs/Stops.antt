@@ -6,15 +6,15 @@ use Rattle.std.proofs.lemmas.List.FromFn.{get_or-map-range_with_len, length-map-
 use Rattle.vt_term.specs.State.{stops_where}
 
 -- stops that are those of a formula at every column
-pub stops-same : (f : ℕ → Bool) (stops : List Bool) → length stops ≡ 132
-    → ((k : ℕ) → k < 132 → get_or stops k false ≡ f (k + 1)) → stops ≡ stops_where f
-stops-same f stops long same =
-    fill_by_all (λ k. f (k + 1)) stops 132 false long same
-    ∙ sym (fill_by_all (λ k. f (k + 1)) (stops_where f) 132 false (length-map-range_with_len f 1 132) (λ k h.
-    get_or-map-range_with_len f 1 132 k (k + 1) false h (omega arith)))
+pub stops-same : (columns : ℕ) (f : ℕ → Bool) (stops : List Bool) → length stops ≡ columns
+    → ((k : ℕ) → k < columns → get_or stops k false ≡ f (k + 1)) → stops ≡ stops_where columns f
+stops-same columns f stops long same =
+    fill_by_all (λ k. f (k + 1)) stops columns false long same
+    ∙ sym (fill_by_all (λ k. f (k + 1)) (stops_where columns f) columns false (length-map-range_with_len f 1 columns) (λ k h.
+    get_or-map-range_with_len f 1 columns k (k + 1) false h (omega arith)))
 
-pub length-stops_where : (f : ℕ → Bool) → length (stops_where f) ≡ 132
-length-stops_where f = length-map-range_with_len f 1 132
+pub length-stops_where : (columns : ℕ) (f : ℕ → Bool) → length (stops_where columns f) ≡ columns
+length-stops_where columns f = length-map-range_with_len f 1 columns
 
 -- a range that is not empty is searched at its first number and then starting at the next
 pub find-range : (p : ℕ → Bool) (a b : ℕ) → a < b → p a ≡ false → find p (range_with_len a (b - a))

@@ -32,8 +32,8 @@ byte letter = slice_index_or letter 0 0
 -- a control function. An event that asks for it with other values is ignored
 pub record Function : Type 0 where
   pub name : List ℕ
-  -- of the values of a control sequence
-  pub takes : List ℕ → Bool
+  -- of the values of a control sequence, on a screen of so many rows
+  pub takes : ℕ → List ℕ → Bool
   pub effect : List ℕ → Display → Display
   -- by the first value, in the state before the event
   pub report : ℕ → Display → List ℕ
@@ -46,7 +46,7 @@ FunctionTable = List (ℕ × Function)
 
 -- a function of any values
 abbrev pub changing : List ℕ → (List ℕ → Display → Display) → Function
-changing name effect = record { name = name; takes = λ values. true; effect = effect; report = λ p. silent }
+changing name effect = record { name = name; takes = λ rows values. true; effect = effect; report = λ p. silent }
 
 -- a function without values
 abbrev pub plain : List ℕ → (Display → Display) → Function
@@ -66,7 +66,7 @@ paired name effect = changing name (λ values. effect (first values) (second val
 
 -- a function, if the values pass the test
 abbrev pub taking : (List ℕ → Bool) → Function → Function
-taking takes f = record f { takes = takes }
+taking takes f = record f { takes = λ rows values. takes values }
 
 -- a function, if the first value is one of these
 abbrev pub of_first : List ℕ → Function → Function
@@ -80,6 +80,10 @@ of_any numbers = taking (λ values. list_any (contains numbers) values)
 abbrev pub of_pair : (ℕ → ℕ → Bool) → Function → Function
 of_pair test = taking (λ values. test (first values) (second values))
 
+-- a function, if the first two values are margins of a screen of these rows
+abbrev pub of_margins : Function → Function
+of_margins f = record f { takes = λ rows values. are_margins rows (first values) (second values) }
+
 -- an area is erased
 abbrev pub erasing : List ℕ → (ℕ → Display → Display) → Function
 erasing name effect = taking (λ values. names_area (first values)) (selected name effect)
@@ -92,7 +96,7 @@ numbers_of rows = map (λ row. row.0) rows
 abbrev pub reporting : List ℕ → Reports → Function
 reporting name reports = record {
   name = name;
-  takes = λ values. contains (numbers_of reports) (first values);
+  takes = λ rows values. contains (numbers_of reports) (first values);
   effect = λ values s. s;
   report = reported reports;
 }
@@ -103,7 +107,7 @@ modal name modes on = of_any (numbers_of modes) (changing name (change_modes mod
 
 -- no function
 abbrev pub no_function : Function
-no_function = record { name = []; takes = λ values. false; effect = λ values s. s; report = λ p. silent }
+no_function = record { name = []; takes = λ rows values. false; effect = λ values s. s; report = λ p. silent }
 
 -- what the table has for the byte
 abbrev pub function_in : FunctionTable → ℕ → Function
@@ -185,7 +189,7 @@ designate slot last = designate_to slot (set_of_final last)
 abbrev pub designation : ℕ → List ℕ → ℕ → Function
 designation slot name last = record {
   name = name ++ unwrap_or (option_map set_name (set_of_final last)) [];
-  takes = λ values. is_some (set_of_final last);
+  takes = λ rows values. is_some (set_of_final last);
   effect = λ values. designate slot last;
   report = λ p. silent;
 }
@@ -234,7 +238,7 @@ plain_sequences =
     ∷ (byte (codes "l"), modal (codes "RM") ansi_modes false)
     ∷ (byte (codes "m"), of_any (numbers_of rendition_changes) (changing (codes "SGR") select_graphic_rendition))
     ∷ (byte (codes "n"), reporting (codes "DSR") status_reports)
-    ∷ (byte (codes "r"), of_pair are_margins (paired (codes "DECSTBM") set_margins))
+    ∷ (byte (codes "r"), of_margins (paired (codes "DECSTBM") set_margins))
     ∷ []
 
 -- after `?`

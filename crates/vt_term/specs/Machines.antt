@@ -27,6 +27,11 @@ reports_after m (event ∷ events) s = m.report event s ++ reports_after m event
 abbrev pub vt220 : Machine Display
 vt220 = record { display = λ s. s; effect = effect; report = report }
 
+-- events keep the size of the screen, and what is of its size in the screens
+pub record KeepsSize {S : Type 0} (m : Machine S) (OneSize : S → Type 0) : Type 0 where
+  pub one_size : (event : Event) (s : S) → OneSize s → OneSize (m.effect event s)
+  pub size : (event : Event) (s : S) → OneSize s → (m.display (m.effect event s)).grid.size ≡ (m.display s).grid.size
+
 -- screens are a display and what else a terminal keeps; a graphic byte has a VT220's effect on the display, and no report
 pub record PrintsAlike {S K : Type 0} (m : Machine S) (screens : Display → K → S) : Type 0 where
   pub display : (d : Display) (k : K) → m.display (screens d k) ≡ d

@@ -1,9 +1,10 @@
 -- Modes. (EK-VT220-RM; what DECCOLM clears and keeps is this profile's)
 use Rattle.std.specs.Prelude.{ℕ, List, [], ◌∷◌, Bool, false, ◌&&◌, min, unwrap_or, fold}
 use Rattle.vt_glyph.specs.LookUp.{look_up}
-use Rattle.vt_screen.specs.Grid.{columns, blank_grid}
+use Rattle.vt_screen.specs.Grid.{blank_grid}
+use Rattle.vt_screen.specs.Sizes.{width_of}
 use Rattle.vt_term.specs.declared.state.Modes.{Modes}
-use Rattle.vt_term.specs.State.{Display, full_margins}
+use Rattle.vt_term.specs.State.{Display, margins_of}
 use Rattle.vt_term.specs.Moving.{home}
 
 -- a mode that changes nothing else
@@ -25,9 +26,9 @@ autowrap_mode on s = record s {
 -- wrap flag is dropped
 abbrev pub column_mode : Bool → Display → Display
 column_mode wide s = home (record s {
-  grid = blank_grid wide;
-  margins = full_margins;
-  saved = record s.saved { col = min s.saved.col (columns wide); wrap = false };
+  grid = blank_grid s.grid.size wide;
+  margins = margins_of s.grid.size;
+  saved = record s.saved { col = min s.saved.col (width_of s.grid.size wide); wrap = false };
 })
 
 -- DECKPAM and DECKPNM

@@ -1,8 +1,8 @@
 -- Moving the cursor. Each of these resets the wrap flag, but for margins that have no effect. (EK-VT220-RM; the flag is
 -- this profile's)
 use Rattle.std.specs.Prelude.{ℕ, Bool, ◌+◌, ◌-◌, min, max, ◌==◌, nat_le, nat_lt, if◌then◌else◌}
-use Rattle.vt_screen.specs.Grid.{last_row, scroll_up, scroll_down}
-use Rattle.vt_term.specs.State.{Display, last_column, at_place}
+use Rattle.vt_screen.specs.Grid.{scroll_up, scroll_down}
+use Rattle.vt_term.specs.State.{Display, last_column, at_place, bottom_row}
 use Rattle.vt_term.specs.Parameters.{from_one}
 
 -- home is column 1 of row 1, or under DECOM of the top margin's row
@@ -26,7 +26,7 @@ cursor_up n s =
 -- CUD: down n, not past the bottom margin, or from below it not past the last row
 abbrev pub cursor_down : ℕ → Display → Display
 cursor_down n s =
-    let limit = if nat_le s.cursor.row s.margins.bottom then s.margins.bottom else last_row in
+    let limit = if nat_le s.cursor.row s.margins.bottom then s.margins.bottom else bottom_row s in
     record s { cursor = at_place (min (s.cursor.row + n) limit) s.cursor.col }
 
 -- CUF: right n, not past the last column
@@ -39,7 +39,7 @@ cursor_backward n s = record s { cursor = at_place s.cursor.row (max (s.cursor.c
 
 -- the row of a line: under DECOM counted from the top margin and not past the bottom one, else not past the last row
 abbrev pub row_of_line : ℕ → Display → ℕ
-row_of_line line s = if s.modes.decom then min (s.margins.top + line - 1) s.margins.bottom else min line last_row
+row_of_line line s = if s.modes.decom then min (s.margins.top + line - 1) s.margins.bottom else min line (bottom_row s)
 
 -- CUP and HVP: to a line and column, for which 0 means 1
 abbrev pub cursor_position : ℕ → ℕ → Display → Display
@@ -50,7 +50,7 @@ cursor_position line col s =
 abbrev pub index : Display → Display
 index s = record s {
   grid = if s.cursor.row == s.margins.bottom then scroll_up s.grid s.margins.top s.margins.bottom 1 else s.grid;
-  cursor = at_place (if s.cursor.row == s.margins.bottom then s.cursor.row else min (s.cursor.row + 1) last_row)
+  cursor = at_place (if s.cursor.row == s.margins.bottom then s.cursor.row else min (s.cursor.row + 1) (bottom_row s))
       s.cursor.col;
 }
 
@@ -69,15 +69,15 @@ next_line s = index (carriage_return s)
 abbrev pub line_feed : Display → Display
 line_feed s = if s.modes.lnm then next_line s else index s
 
-abbrev pub bottom_margin : ℕ → ℕ
-bottom_margin p = if p == 0 then last_row else min p last_row
+abbrev pub bottom_margin : ℕ → ℕ → ℕ
+bottom_margin last p = if p == 0 then last else min p last
 
 -- margins of at least two rows
-abbrev pub are_margins : ℕ → ℕ → Bool
-are_margins p1 p2 = nat_lt (from_one p1) (bottom_margin p2)
+abbrev pub are_margins : ℕ → ℕ → ℕ → Bool
+are_margins last p1 p2 = nat_lt (from_one p1) (bottom_margin last p2)
 
 -- DECSTBM: the cursor goes home; what are no margins has no effect
 abbrev pub set_margins : ℕ → ℕ → Display → Display
 set_margins p1 p2 s =
-    if are_margins p1 p2
-    then home (record s { margins = record { top = from_one p1; bottom = bottom_margin p2 } }) else s
+    if are_margins (bottom_row s) p1 p2
+    then home (record s { margins = record { top = from_one p1; bottom = bottom_margin (bottom_row s) p2 } }) else s

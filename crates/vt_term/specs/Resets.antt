@@ -3,17 +3,17 @@ use Rattle.std.specs.Prelude.{ℕ, Bool, true, false, Option, Some, None, is_som
 use Rattle.vt_glyph.specs.Invocation.{sets_at_power_up}
 use Rattle.vt_screen.specs.Cells.{plain_brush, cell_of}
 use Rattle.vt_screen.specs.Grid.{fill}
-use Rattle.vt_term.specs.State.{Display, full_margins, saved_at_power_up, display_at_power_up}
+use Rattle.vt_term.specs.State.{Display, margins_of, saved_at_power_up, display_of}
 use Rattle.vt_term.specs.Moving.{home}
 use Rattle.vt_term.specs.Modes.{report_form}
 
 -- DECALN: `E` everywhere, without attributes and unprotected; full margins, home
 abbrev pub screen_alignment : Display → Display
-screen_alignment s = home (record s { grid = fill s.grid (cell_of 0x45 plain_brush); margins = full_margins })
+screen_alignment s = home (record s { grid = fill s.grid (cell_of 0x45 plain_brush); margins = margins_of s.grid.size })
 
 -- RIS
 abbrev pub reset_to_initial_state : Display → Display
-reset_to_initial_state s = display_at_power_up
+reset_to_initial_state s = display_of s.grid.size
 
 -- DECSTR. Everything that isn't named here is left: the place, the cells, the stops, SRM, LNM, DECSCLM, DECSCNM, DECARM and the
 -- form of reports
@@ -22,7 +22,7 @@ soft_reset s = record s {
   cursor = record s.cursor { wrap = false };
   brush = plain_brush;
   sets = sets_at_power_up;
-  margins = full_margins;
+  margins = margins_of s.grid.size;
   modes = record s.modes {
     dectcem = true;
     irm = false;

@@ -1,9 +1,9 @@
 -- Runs of characters of which at most the first scrolls a line off, and the log's observer. Contracts of private functions and
 -- of `Terminal::row_limit` cite this, and no other public clause does.
-use Rattle.std.specs.Prelude.{◌≡◌, ℕ, ◌+◌, ◌*◌, ◌≤◌, ◌⊎◌, ◌++◌, List, length, false, flat_map}
+use Rattle.std.specs.Prelude.{◌≡◌, ℕ, ◌+◌, ◌*◌, ◌≤◌, ◌⊎◌, ◌++◌, List, length, false, flat_map, All}
 use Rattle.vt_term.specs.State.{Display, last_column}
 use Rattle.vt_term.specs.Happenings.{Happening, lines_in}
-use Rattle.vt_term.specs.Text.{line_text}
+use Rattle.vt_term.specs.Text.{line_text, row_text_limit}
 
 -- so many characters end in the cursor's row
 pub record EndInRow (count : ℕ) (s : Display) : Type 0 where
@@ -14,11 +14,15 @@ pub record EndInRow (count : ℕ) (s : Display) : Type 0 where
 abbrev pub Fits : ℕ → Display → Type 0
 Fits count s = EndInRow count s ⊎ (count ≤ 1)
 
--- a line fits after so many bytes, in a capacity and before an end
-abbrev pub HasRoom : ℕ → ℕ → ℕ → Type 0
-HasRoom len capacity end = (len + 397 ≤ capacity) × (len + 397 ≤ end)
+-- a line of at most so many bytes fits after so many, in a capacity and before an end
+abbrev pub HasRoom : ℕ → ℕ → ℕ → ℕ → Type 0
+HasRoom limit len capacity end = (len + limit ≤ capacity) × (len + limit ≤ end)
 
--- the texts of the lines that are scrolled off come after those before
-pub record Logs (hs : List Happening) (before after : List ℕ) : Type 0 where
-  pub lines : after ≡ before ++ flat_map line_text (lines_in hs)
-  pub bounded : length after ≤ length before + 397 * length hs
+-- the text of a row is at most so long
+abbrev pub IsShort : ℕ → Happening → Type 0
+IsShort limit h = row_text_limit h.before.grid.size ≤ limit
+
+-- the texts of the lines that are scrolled off, if they are at most so long, come after those before
+pub record Logs (limit : ℕ) (hs : List Happening) (before after : List ℕ) : Type 0 where
+  pub lines : All (IsShort limit) hs → after ≡ before ++ flat_map line_text (lines_in hs)
+  pub bounded : length after ≤ length before + limit * length hs

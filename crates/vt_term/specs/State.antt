@@ -7,7 +7,9 @@ use Rattle.vt_glyph.specs.GraphicSets.{GraphicSets}
 use Rattle.vt_glyph.specs.Invocation.{sets_at_power_up}
 use Rattle.vt_screen.specs.declared.cell.Brush.{Brush}
 use Rattle.vt_screen.specs.Cells.{plain_brush}
-use Rattle.vt_screen.specs.Grid.{Grid, blank_grid, columns, last_row}
+use Rattle.vt_screen.specs.Grid.{Grid, blank_grid}
+use Rattle.vt_screen.specs.Sizes.{vt220_size}
+use Rattle.vt_screen.specs.declared.size.Size.{Size}
 use Rattle.vt_term.specs.declared.state.Cursor.{Cursor}
 use Rattle.vt_term.specs.declared.state.Margins.{Margins}
 use Rattle.vt_term.specs.declared.state.Modes.{Modes}
@@ -29,7 +31,11 @@ pub record State : Type 0 where
   pub display : Display
   pub held : Held
 
--- the width of the screen, 80 or 132
+-- the number of rows of the screen
+abbrev pub bottom_row : Display → ℕ
+bottom_row s = s.grid.size.rows
+
+-- the width of the screen, that of a narrow or of a wide one
 abbrev pub last_column : Display → ℕ
 last_column s = s.grid.width
 
@@ -39,19 +45,20 @@ last_column s = s.grid.width
 abbrev pub at_place : ℕ → ℕ → Cursor
 at_place row col = record { row = row; col = col; wrap = false }
 
-abbrev pub full_margins : Margins
-full_margins = record { top = 1; bottom = last_row }
+-- all rows
+abbrev pub margins_of : Size → Margins
+margins_of size = record { top = 1; bottom = size.rows }
 
--- one truth value for each of the columns 1 to 132, whatever the width
-abbrev pub stops_where : (ℕ → Bool) → List Bool
-stops_where has_stop = map has_stop (range_with_len 1 (columns true))
+-- one truth value for each of these columns, as many as the wide screen has, whatever the width
+abbrev pub stops_where : ℕ → (ℕ → Bool) → List Bool
+stops_where columns has_stop = map has_stop (range_with_len 1 columns)
 
--- columns 9, 17, .. 129
+-- columns 9, 17, 25 ..
 abbrev pub is_stop_at_power_up : ℕ → Bool
 is_stop_at_power_up c = nat_lt 1 c && c % 8 == 1
 
-unfoldable pub stops_at_power_up : List Bool
-stops_at_power_up = stops_where is_stop_at_power_up
+unfoldable pub stops_of : ℕ → List Bool
+stops_of columns = stops_where columns is_stop_at_power_up
 
 abbrev pub has_stop_at : List Bool → ℕ → Bool
 has_stop_at stops c = slice_index_or stops (c - 1) false
@@ -94,17 +101,32 @@ saved_at_power_up = saved_of (at_place 1 1) plain_brush sets_at_power_up false
 abbrev pub saved_sets : Saved → GraphicSets
 saved_sets saved = record { g = saved.g; left = saved.gl; right = saved.gr; pending = None }
 
-abbrev pub display_at_power_up : Display
-display_at_power_up = record {
-  grid = blank_grid false;
+abbrev pub display_of : Size → Display
+display_of size = record {
+  grid = blank_grid size false;
   cursor = at_place 1 1;
   brush = plain_brush;
   sets = sets_at_power_up;
-  margins = full_margins;
-  stops = stops_at_power_up;
+  margins = margins_of size;
+  stops = stops_of size.wide;
   modes = modes_at_power_up;
   saved = saved_at_power_up;
 }
 
+abbrev pub state_of : Size → State
+state_of size = record { display = display_of size; held = Nothing }
+
+-- ---- those of a VT220
+
+abbrev pub full_margins : Margins
+full_margins = margins_of vt220_size
+
+-- columns 9, 17, .. 129
+abbrev pub stops_at_power_up : List Bool
+stops_at_power_up = stops_of vt220_size.wide
+
+abbrev pub display_at_power_up : Display
+display_at_power_up = display_of vt220_size
+
 abbrev pub power_up : State
-power_up = record { display = display_at_power_up; held = Nothing }
+power_up = state_of vt220_size

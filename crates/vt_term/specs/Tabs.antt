@@ -1,5 +1,5 @@
 -- Tab stops. (EK-VT220-RM)
-use Rattle.std.specs.Prelude.{ℕ, ◌+◌, ◌-◌, List, Bool, true, false, ◌==◌, if◌then◌else◌, find, unwrap_or, slice_set}
+use Rattle.std.specs.Prelude.{ℕ, ◌+◌, ◌-◌, List, Bool, true, false, ◌==◌, if◌then◌else◌, find, unwrap_or, slice_set, length}
 use Rattle.std.specs.List.{range_with_len}
 use Rattle.vt_term.specs.State.{Display, last_column, at_place, has_stop_at, stops_where}
 
@@ -15,12 +15,12 @@ horizontal_tab s = record s { cursor = at_place s.cursor.row (next_stop_of s.sto
 abbrev pub set_tab : Display → Display
 set_tab s = record s { stops = slice_set s.stops (s.cursor.col - 1) true }
 
--- no stop anywhere
-unfoldable pub no_stops : List Bool
-no_stops = stops_where (λ c. false)
+-- no stop in any of these columns
+unfoldable pub no_stops : ℕ → List Bool
+no_stops columns = stops_where columns (λ c. false)
 
 -- TBC: 0 clears the stop at the cursor's column, 3 all stops
 abbrev pub clear_tabs : ℕ → Display → Display
 clear_tabs p s =
     if p == 0 then record s { stops = slice_set s.stops (s.cursor.col - 1) false } else (
-    if p == 3 then record s { stops = no_stops } else s)
+    if p == 3 then record s { stops = no_stops (length s.stops) } else s)

@@ -1,9 +1,10 @@
 -- The text of a screen. (this profile)
-use Rattle.std.specs.Prelude.{ℕ, List, [], ◌∷◌, ◌++◌, map, flat_map, ◌==◌, encode_utf8_all, if◌then◌else◌}
+use Rattle.std.specs.Prelude.{◌*◌, ◌+◌, ℕ, List, [], ◌∷◌, ◌++◌, map, flat_map, ◌==◌, encode_utf8_all, if◌then◌else◌}
 use Rattle.std.specs.List.{range_with_len}
 use Rattle.vt_glyph.specs.Tables.{space}
 use Rattle.vt_screen.specs.declared.cell.Cell.{Cell}
-use Rattle.vt_screen.specs.Grid.{Grid, row_of, last_row}
+use Rattle.vt_screen.specs.declared.size.Size.{Size}
+use Rattle.vt_screen.specs.Grid.{Grid, row_of}
 use Rattle.vt_term.specs.State.{State}
 
 -- a glyph before others, unless it is a space and nothing is left of them
@@ -29,7 +30,15 @@ unfoldable pub lines_text : ℕ → Grid → List ℕ
 lines_text count g = flat_map (λ r. line_text (row_of g r)) (range_with_len 1 count)
 
 abbrev pub grid_text : Grid → List ℕ
-grid_text g = lines_text last_row g
+grid_text g = lines_text g.size.rows g
+
+-- the most bytes of the text of a row: three for each cell of the wide screen, and LF
+abbrev pub row_text_limit : Size → ℕ
+row_text_limit size = 3 * size.wide + 1
+
+-- the most bytes of a text
+abbrev pub text_limit : Size → ℕ
+text_limit size = size.rows * row_text_limit size
 
 abbrev pub text : State → List ℕ
 text s = grid_text s.display.grid

@@ -2,11 +2,12 @@
 ghost use Rattle.std.specs.Prelude.{◌≡◌};
 
 use crate::display::Display;
-use crate::terminal::Terminal;
+use crate::sized::SizedTerminal;
 
 impl Display {
-    /// Makes every part equal to that of another display.
+    /// Makes every part equal to that of another display of the same size.
     fn copy_from(&mut self, other: &Display)
+        requires { self.old.grid.size ≡ other.now.grid.size }
         ensures { self.new ≡ other.now }
     {
         self.screen.copy_from(&other.screen);
@@ -14,15 +15,17 @@ impl Display {
         self.pen = other.pen;
         self.sets = other.sets;
         self.margins = other.margins;
-        self.stops = other.stops;
+        self.stops = other.stops.copied();
         self.modes = other.modes;
         self.saved = other.saved;
     }
 }
 
-impl Terminal {
-    /// Makes the state equal to that of another terminal, the held part included. It never fails and allocates nothing.
-    pub fn copy_from(&mut self, other: &Terminal)
+impl SizedTerminal {
+    /// Makes the state equal to that of another terminal of the same size, the held part included. It never fails and
+    /// allocates nothing.
+    pub fn copy_from(&mut self, other: &SizedTerminal)
+        requires { self.old.display.grid.size ≡ other.now.display.grid.size }
         ensures { self.new ≡ other.now }
     {
         self.display.copy_from(&other.display);

@@ -5,8 +5,9 @@ ghost use Rattle.vt_term.specs.Moving.{cursor_backward, cursor_position, index, 
 ghost use Rattle.vt_term.specs.Moving.{set_margins};
 ghost use Rattle.vt_screen.specs.Grid.{scroll_up};
 
-use crate::display::{Display, ROWS};
+use crate::display::Display;
 use crate::state::{Cursor, Margins};
+use vt_screen::ROWS;
 
 impl Display {
     /// Moves the cursor home: to column 1 of row 1, or under DECOM of the top margin's row.
@@ -50,14 +51,14 @@ impl Display {
     }
 
     /// Carries out CUD: moves the cursor down by `n`, not past the bottom margin. If it starts below the margin, it
-    /// stops at row 24.
+    /// stops at the last row.
     pub(crate) fn cursor_down(&mut self, n: u16)
         ensures { self.new ≡ cursor_down n self.old }
     {
         let limit = if self.cursor.row <= self.margins.bottom {
             self.margins.bottom
         } else {
-            ROWS
+            self.screen.size().rows
         };
         let row = (self.cursor.row + n as usize).min(limit);
         self.cursor = Cursor::at(row, self.cursor.col);
@@ -89,7 +90,7 @@ impl Display {
     {
         let row = line as usize;
         let column = col as usize;
-        let is_row = row.wrapping_sub(1) < ROWS;
+        let is_row = row.wrapping_sub(1) < self.screen.size().rows;
         if !self.modes.decom && is_row && column.wrapping_sub(1) < self.screen.width() {
             self.cursor = Cursor::at(row, column);
             return;
@@ -106,13 +107,13 @@ impl Display {
         let row = if self.modes.decom {
             (self.margins.top + line - 1).min(self.margins.bottom)
         } else {
-            line.min(ROWS)
+            line.min(self.screen.size().rows)
         };
         let col = (col as usize).max(1).min(self.screen.width());
         self.cursor = Cursor::at(row, col);
     }
 
-    /// Carries out IND: moves the cursor down by one, not past row 24. At the bottom margin the scroll region moves up
+    /// Carries out IND: moves the cursor down by one, not past the last row. At the bottom margin the scroll region moves up
     /// instead.
     #[inline(never)]
     pub(crate) fn index(&mut self)
@@ -123,11 +124,11 @@ impl Display {
             self.cursor = Cursor::at(row, col);
             self.scroll_up_once();
         } else {
-            self.cursor = Cursor::at((row + 1).min(ROWS), col);
+            self.cursor = Cursor::at((row + 1).min(self.screen.size().rows), col);
         }
     }
 
-    /// Moves the scroll region up by one row. Speed: the whole screen has a separate call, which moves its rows by a
+    /// Moves the scroll region up by one row. Speed: the whole screen of a VT220 has a separate call, which moves its rows by a
     /// copy of a fixed size.
     #[inline(always)]
     fn scroll_up_once(&mut self)
@@ -196,9 +197,9 @@ impl Display {
     {
         let top = (top as usize).max(1);
         let bottom = if bottom == 0 {
-            ROWS
+            self.screen.size().rows
         } else {
-            (bottom as usize).min(ROWS)
+            (bottom as usize).min(self.screen.size().rows)
         };
         if top < bottom {
             self.margins = Margins { top, bottom };

@@ -1,18 +1,16 @@
 //! The display: all of a terminal except its parser. Events change it.
 ghost use Rattle.std.specs.Prelude.{◌≡◌, ◌↔◌, IsTrue, IfOk};
-ghost use Rattle.vt_term.specs.Sound.{IsSoundDisplay};
-ghost use Rattle.vt_term.specs.State.{display_at_power_up, stops_at_power_up, is_stop_at_power_up};
+ghost use Rattle.vt_term.specs.Sound.{IsSoundSizedDisplay};
+ghost use Rattle.vt_term.specs.State.{display_of};
+ghost use Rattle.vt_screen.specs.Sizes.{IsSize};
 
-use crate::same::{same_brush, same_modes, same_saved, same_stops};
+use crate::same::{same_brush, same_modes, same_saved};
 use crate::state::{Cursor, Margins, Modes, Saved};
+use crate::tabs::TabStops;
 use std::alloc::{AllocError, Global};
 use std::marker::Model;
 use vt_glyph::Sets;
-pub use vt_screen::ROWS;
-use vt_screen::{COLUMNS, Cell, Screen};
-
-/// The number of columns that may have a tab stop, at any width.
-pub const STOPS: usize = COLUMNS;
+use vt_screen::{Cell, Screen, Size};
 
 /// A terminal without its parser.
 #[derive(Drop)]
@@ -23,15 +21,14 @@ pub(crate) struct Display {
     pub(crate) pen: Cell,
     pub(crate) sets: Sets,
     pub(crate) margins: Margins,
-    /// Index c - 1 for column c.
-    pub(crate) stops: [bool; STOPS],
+    pub(crate) stops: TabStops,
     pub(crate) modes: Modes,
     pub(crate) saved: Saved,
 }
 
 impl Model for Display {
     ghost use Rattle.vt_term.specs.State.{Display as TheDisplay};
-    ghost use Rattle.vt_term.specs.Sound.{IsSoundDisplay};
+    ghost use Rattle.vt_term.specs.Sound.{IsSoundSizedDisplay};
     ghost use Rattle.vt_screen.specs.Cells.{brush_of};
 
     ghost Value = { TheDisplay };
@@ -47,7 +44,7 @@ impl Model for Display {
       saved = d.saved;
     } };
 
-    ghost invariant = { λ d. IsSoundDisplay (record {
+    ghost invariant = { λ d. IsSoundSizedDisplay (record {
       grid = d.screen;
       cursor = d.cursor;
       brush = brush_of d.pen;
@@ -60,36 +57,19 @@ impl Model for Display {
     }) };
 }
 
-/// Returns whether a column has a tab stop at power-up.
-fn has_stop_at_power_up(col: usize) -> bool
-    ensures { result ≡ is_stop_at_power_up col }
-{
-    1 < col && col % 8 == 1
-}
-
-/// Returns the tab stops at power-up, at columns 9, 17, .. 129: index c - 1 for column c. (This profile)
-pub fn stops_at_power_up() -> [bool; STOPS]
-    ensures { result ≡ stops_at_power_up }
-{
-    let mut stops = [false; STOPS];
-    for col in 1..STOPS + 1 {
-        stops[col - 1] = has_stop_at_power_up(col);
-    }
-    stops
-}
-
 impl Display {
-    /// Returns the display at power-up. Returns `Err` if allocation fails.
-    pub(crate) fn new(alloc: Global) -> Result<Display, AllocError>
-        ensures { IfOk result (λ d. d ≡ display_at_power_up) }
+    /// Returns the display of a size at power-up. Returns `Err` if allocation fails.
+    pub(crate) fn new(alloc: Global, size: Size) -> Result<Display, AllocError>
+        requires { IsSize size }
+        ensures { IfOk result (λ d. d ≡ display_of size) }
     {
         Ok(Display {
-            screen: Screen::new(alloc)?,
+            screen: Screen::with_size(alloc, size)?,
             cursor: Cursor::at(1, 1),
             pen: Cell::blank(),
             sets: Sets::power_up(),
-            margins: Margins::full(),
-            stops: stops_at_power_up(),
+            margins: Margins::full(size.rows),
+            stops: TabStops::power_up(size.wide),
             modes: Modes::power_up(),
             saved: Saved::power_up(),
         })
@@ -98,7 +78,7 @@ impl Display {
     /// States that the display is sound, for proofs. It does nothing when it runs.
     #[inline(always)]
     pub(crate) fn soundness(&self)
-        ensures { IsSoundDisplay self.now }
+        ensures { IsSoundSizedDisplay self.now }
     {
         let _ = &self.cursor;
     }
@@ -111,7 +91,7 @@ impl Display {
             && same_brush(&self.pen.brush(), &other.pen.brush())
             && self.sets == other.sets
             && self.margins == other.margins
-            && same_stops(&self.stops, &other.stops)
+            && self.stops.same(&other.stops)
             && same_modes(&self.modes, &other.modes)
             && same_saved(&self.saved, &other.saved)
             && self.screen.same(&other.screen)

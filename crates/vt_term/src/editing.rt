@@ -1,10 +1,10 @@
 //! Inserting, deleting and erasing. Each function resets the wrap flag, unless its parameter isn't listed.
-ghost use Rattle.std.specs.Prelude.{◌≡◌, ◌≤◌};
+ghost use Rattle.std.specs.Prelude.{◌+◌, ◌≡◌, ◌≤◌};
 ghost use Rattle.vt_term.specs.Editing.{insert_line, delete_line, insert_character, delete_character, erase_character};
 ghost use Rattle.vt_term.specs.Editing.{erase_in_display, erase_in_line, rows_between};
 ghost use Rattle.vt_screen.specs.Grid.{IsSoundGrid, erase_area};
 
-use crate::display::{Display, ROWS};
+use crate::display::Display;
 use crate::state::Cursor;
 use vt_screen::Screen;
 use vt_screen::laws::areas;
@@ -80,17 +80,18 @@ impl Display {
     {
         areas();
         let row = self.cursor.row;
+        let end = self.screen.size().rows + 1;
         match p {
             0 => {
                 self.erase_part_of_line(selective, 0);
-                self.erase_rows(row + 1, ROWS + 1, selective);
+                self.erase_rows(row + 1, end, selective);
             }
             1 => {
                 self.erase_part_of_line(selective, 1);
                 self.erase_rows(1, row, selective);
             }
             2 => {
-                self.erase_rows(1, ROWS + 1, selective);
+                self.erase_rows(1, end, selective);
                 self.cursor.wrap = false;
             }
             _ => {}
@@ -123,7 +124,7 @@ impl Display {
 
     /// Erases the rows from `first` to `end`, `end` excluded.
     fn erase_rows(&mut self, first: usize, end: usize, selective: bool)
-        requires { (1 ≤ first) × (first ≤ end) × (end ≤ 25) }
+        requires { (1 ≤ first) × (first ≤ end) × (end ≤ self.old.grid.size.rows + 1) }
         ensures { self.new ≡ record self.old { grid = erase_area self.old.grid (rows_between first end) selective } }
     {
         erase_rows(&mut self.screen, first, end, selective);
@@ -132,7 +133,7 @@ impl Display {
 
 /// Erases the rows from `first` to `end`, `end` excluded.
 fn erase_rows(screen: &mut Screen, first: usize, end: usize, selective: bool)
-    requires { (1 ≤ first) × (first ≤ end) × (end ≤ 25) }
+    requires { (1 ≤ first) × (first ≤ end) × (end ≤ screen.old.size.rows + 1) }
     ensures grid { screen.new ≡ erase_area screen.old (rows_between first end) selective }
     ensures sound { IsSoundGrid screen.new }
 {

@@ -16,7 +16,7 @@ ghost use Rattle.vt_term.specs.Observing.{Feeds, happenings_of};
 use crate::codes::{CR, LF, RIGHT};
 use crate::observing::{Nobody, Observer};
 use crate::profile::{Profile, Vt220};
-use crate::terminal::{REPORT_LIMIT, Terminal};
+use crate::sized::{REPORT_LIMIT, SizedTerminal};
 use crate::unseen::{LEAST, Passed};
 use std::alloc::AllocError;
 use vt_glyph::laws::in_use;
@@ -46,12 +46,14 @@ fn is_stop<O: Observer>(observer: &O, bytes: usize) -> bool
     observer.stops() && bytes == 0
 }
 
-impl Terminal {
+impl SizedTerminal {
     /// Plays a chunk of the host's bytes, and appends the reports to `out`.
     ///
     /// It first reserves ten bytes of capacity for each byte of the chunk. Returns `Err` if that fails, or is more than
     /// any vector may hold. Then the terminal and the contents of `out` are unchanged.
+    #[tactic(auto, using(crate::proofs::SizeKept::play_kept))]
     pub fn feed(&mut self, piece: &[u8], out: &mut Vec<u8>) -> Result<(), AllocError>
+        ensures size { self.new.display.grid.size ≡ self.old.display.grid.size }
         ensures state { OnOk result (self.new ≡ (play self.old piece.now).state) }
         ensures reports { OnOk result (out.new.items ≡ out.old.items ++ (play self.old piece.now).reports) }
         ensures bounded { vec_len out.new ≤ vec_len out.old + 10 * length piece.now }
@@ -156,6 +158,7 @@ impl Terminal {
     ) -> usize
         requires room { vec_len out.old + 10 * length piece.now ≤ vec_capacity out.old }
         requires takes { O.Takes observer.old (length piece.now) }
+        requires one_size { P.OneSize (P.screens self.old.display profile.old) }
         ensures within { result ≤ length piece.now }
         ensures all { result < length piece.now → O.Stopped observer.new }
         ensures fed { Feeds P.machine P.screens self.old profile.old (take result piece.now) self.new profile.new
@@ -165,6 +168,7 @@ impl Terminal {
         ensures capacity { vec_capacity out.old ≤ vec_capacity out.new }
     {
         self.soundness();
+        profile.keeps_size();
         one_split();
         let mut values = Values::new();
         let mut at = 0;
@@ -192,6 +196,7 @@ impl Terminal {
         requires some { 1 ≤ length piece.now }
         requires room { vec_len out.old + 10 * length piece.now ≤ vec_capacity out.old }
         requires takes { O.Takes observer.old (length piece.now) }
+        requires one_size { P.OneSize (P.screens self.old.display profile.old) }
         ensures some { OnFalse result.1 (1 ≤ result.0) }
         ensures within { result.0 ≤ length piece.now }
         ensures fed { Feeds P.machine P.screens self.old profile.old (take result.0 piece.now) self.new profile.new
@@ -202,6 +207,7 @@ impl Terminal {
         ensures capacity { vec_capacity out.old ≤ vec_capacity out.new }
     {
         self.soundness();
+        profile.keeps_size();
         one_split();
         if !self.parser.is_between() {
             let bytes = self.feed_by_parser(profile, piece, values, observer, out);
@@ -229,6 +235,7 @@ impl Terminal {
     ) -> usize
         requires room { vec_len out.old + 10 * length piece.now ≤ vec_capacity out.old }
         requires takes { O.Takes observer.old (length piece.now) }
+        requires one_size { P.OneSize (P.screens self.old.display profile.old) }
         requires between { self.old.held ≡ Nothing }
         ensures within { result ≤ length piece.now }
         ensures between { self.new.held ≡ Nothing }
@@ -239,6 +246,7 @@ impl Terminal {
         ensures capacity { vec_capacity out.old ≤ vec_capacity out.new }
     {
         self.soundness();
+        profile.keeps_size();
         one_split();
         let mut rest = piece;
         while !rest.is_empty() {
@@ -265,6 +273,7 @@ impl Terminal {
         requires some { 1 ≤ length piece.now }
         requires room { vec_len out.old + 10 * length piece.now ≤ vec_capacity out.old }
         requires takes { O.Takes observer.old (length piece.now) }
+        requires one_size { P.OneSize (P.screens self.old.display profile.old) }
         requires between { self.old.held ≡ Nothing }
         ensures within { result ≤ length piece.now }
         ensures between { self.new.held ≡ Nothing }
@@ -329,6 +338,7 @@ impl Terminal {
         requires some { 1 ≤ length piece.now }
         requires room { vec_len out.old + 10 ≤ vec_capacity out.old }
         requires takes { O.Takes observer.old (length piece.now) }
+        requires one_size { P.OneSize (P.screens self.old.display profile.old) }
         requires between { self.old.held ≡ Nothing }
         ensures within { result ≤ length piece.now }
         ensures between { self.new.held ≡ Nothing }
@@ -370,6 +380,7 @@ impl Terminal {
             (Sequence None (record { items = front_list front.now }) None front.now.last) }
         requires room { vec_len out.old + 10 ≤ vec_capacity out.old }
         requires takes { O.Takes observer.old (length piece.now) }
+        requires one_size { P.OneSize (P.screens self.old.display profile.old) }
         requires between { self.old.held ≡ Nothing }
         ensures within { result ≤ length piece.now }
         ensures between { self.new.held ≡ Nothing }
@@ -407,6 +418,7 @@ impl Terminal {
         requires some { 1 ≤ length piece.now }
         requires room { vec_len out.old + 10 ≤ vec_capacity out.old }
         requires takes { O.Takes observer.old (length piece.now) }
+        requires one_size { P.OneSize (P.screens self.old.display profile.old) }
         requires between { self.old.held ≡ Nothing }
         ensures within { result ≤ length piece.now }
         ensures between { self.new.held ≡ Nothing }
@@ -448,6 +460,7 @@ impl Terminal {
         requires front { IsFront piece.now bytes (event_of kind []) }
         requires room { vec_len out.old + 10 ≤ vec_capacity out.old }
         requires takes { O.Takes observer.old (length piece.now) }
+        requires one_size { P.OneSize (P.screens self.old.display profile.old) }
         requires between { self.old.held ≡ Nothing }
         ensures whole { 1 ≤ result → result ≡ bytes }
         ensures within { result ≤ length piece.now }
@@ -484,6 +497,7 @@ impl Terminal {
         requires plain { is_plain ≡ true → IsPlain (slice_index piece.now 0) }
         requires room { vec_len out.old + 10 ≤ vec_capacity out.old }
         requires takes { O.Takes observer.old (length piece.now) }
+        requires one_size { P.OneSize (P.screens self.old.display profile.old) }
         requires between { self.old.held ≡ Nothing }
         ensures within { result ≤ length piece.now }
         ensures between { self.new.held ≡ Nothing }
@@ -522,6 +536,7 @@ impl Terminal {
         requires fits { (n : ℕ) → n ≤ length piece.now → O.Fits observer.old self.old.display n }
         requires room { vec_len out.old + 10 ≤ vec_capacity out.old }
         requires takes { O.Takes observer.old (length piece.now) }
+        requires one_size { P.OneSize (P.screens self.old.display profile.old) }
         requires between { self.old.held ≡ Nothing }
         ensures within { result ≤ length piece.now }
         ensures between { self.new.held ≡ Nothing }
@@ -565,6 +580,7 @@ impl Terminal {
         requires carriage_return { slice_index piece.now 0 ≡ CR }
         requires room { vec_len out.old + 10 * length piece.now ≤ vec_capacity out.old }
         requires takes { O.Takes observer.old (length piece.now) }
+        requires one_size { P.OneSize (P.screens self.old.display profile.old) }
         requires between { self.old.held ≡ Nothing }
         ensures within { result ≤ length piece.now }
         ensures between { self.new.held ≡ Nothing }
@@ -575,6 +591,7 @@ impl Terminal {
         ensures capacity { vec_capacity out.old ≤ vec_capacity out.new }
     {
         self.soundness();
+        profile.keeps_size();
         one_split();
         let first = self.event_first(profile, piece, 1, EventKind::Control(CR), observer, out);
         if first == 0 || piece.len() < 2 || piece[1] != LF {
@@ -605,6 +622,7 @@ impl Terminal {
         requires some { 1 ≤ length piece.now }
         requires room { vec_len out.old + 10 ≤ vec_capacity out.old }
         requires takes { O.Takes observer.old (length piece.now) }
+        requires one_size { P.OneSize (P.screens self.old.display profile.old) }
         ensures within { result ≤ length piece.now }
         ensures fed { Feeds P.machine P.screens self.old profile.old (take result piece.now) self.new profile.new
             out.old.items out.new.items }

@@ -4,7 +4,7 @@ ghost use Rattle.std.specs.Prelude.{◌≡◌, ◌≤◌, ◌+◌, ◌++◌, IfS
 ghost use Rattle.vt_syntax.specs.Event.{event_of, event_in};
 ghost use Rattle.vt_syntax.specs.Held.{events_from, held_from};
 ghost use Rattle.vt_syntax.specs.Spelling.{IsEvent};
-ghost use Rattle.vt_screen.specs.Grid.{last_row, scroll_up, scroll_down};
+ghost use Rattle.vt_screen.specs.Grid.{scroll_up, scroll_down};
 ghost use Rattle.vt_term.specs.State.{at_place};
 ghost use Rattle.vt_term.specs.Functions.{effect};
 ghost use Rattle.vt_term.specs.Reports.{report};
@@ -15,12 +15,12 @@ ghost use Rattle.vt_term.specs.Modes.{change_modes, private_modes};
 ghost use Rattle.vt_term.specs.Saving.{save_cursor, restore_cursor};
 ghost use Rattle.vt_term.specs.Resets.{soft_reset};
 
+use crate::sized::SizedTerminal;
 use crate::state::{Cursor, Margins};
-use crate::terminal::Terminal;
 use vt_glyph::Glyph;
 use vt_syntax::{EventKind, Taken, Values};
 
-impl Terminal {
+impl SizedTerminal {
     /// Reads the front of a chunk up to the first event, and all of it if there is none. The event isn't carried out.
     /// Returns how many bytes it read, and the event. It writes the values of a control sequence into `values`.
     pub fn next_event(&mut self, piece: &[u8], values: &mut Values) -> Taken
@@ -49,7 +49,7 @@ impl Terminal {
 
     /// Moves the cursor to a row and a column, and resets the wrap flag. Under DECOM the row is inside the margins.
     pub fn move_to(&mut self, row: usize, col: usize)
-        requires row { (1 ≤ row) × (row ≤ last_row) }
+        requires row { (1 ≤ row) × (row ≤ self.old.display.grid.size.rows) }
         requires column { (1 ≤ col) × (col ≤ self.old.display.grid.width) }
         requires origin { self.old.display.modes.decom ≡ true
             → (self.old.display.margins.top ≤ row) × (row ≤ self.old.display.margins.bottom) }

@@ -1,16 +1,18 @@
 //! Laws over the definitions alone. A caller cites a law by a call of its function.
-ghost use Rattle.std.specs.Prelude.{◌≡◌, ℕ, List, [], ◌++◌, length, true, false, ◌==◌, None};
+ghost use Rattle.std.specs.Prelude.{◌≡◌, ℕ, All, List, [], ◌++◌, length, true, false, ◌==◌, None};
 ghost use Rattle.vt_syntax.specs.Held.{events_from};
 ghost use Rattle.vt_syntax.specs.declared.event.Event.TheVariants.{Print, Control};
 ghost use Rattle.vt_glyph.specs.Invocation.{has_no_glyph, glyph_read, after_read};
 ghost use Rattle.vt_glyph.specs.Tables.{substitute_glyph};
+ghost use Rattle.vt_screen.specs.declared.size.Size.{Size};
+ghost use Rattle.vt_screen.specs.Sizes.{IsSize};
 ghost use Rattle.vt_screen.specs.Grid.{scroll_up};
 ghost use Rattle.vt_term.specs.State.{Display, at_place};
 ghost use Rattle.vt_term.specs.Functions.{effect};
 ghost use Rattle.vt_term.specs.Writing.{put_glyph, write_if_read};
 ghost use Rattle.vt_term.specs.Scrolling.{is_line_feed, is_at_end, scrolls_off};
-ghost use Rattle.vt_term.specs.State.{State, power_up};
-ghost use Rattle.vt_term.specs.Sound.{IsSound};
+ghost use Rattle.vt_term.specs.State.{State, power_up, state_of};
+ghost use Rattle.vt_term.specs.Sound.{IsSoundAt, IsSound};
 ghost use Rattle.vt_term.specs.Scrolling.{scrolled_off, log};
 ghost use Rattle.vt_term.specs.Play.{play, both, play_all, joined};
 ghost use Rattle.vt_term.specs.Happenings.{happenings, events_in, lines_in};
@@ -18,14 +20,37 @@ ghost use Rattle.vt_term.specs.Happenings.{happenings, events_in, lines_in};
 use vt_glyph::laws::{glyphs, soundness as sets_soundness};
 use vt_syntax::laws::one_split;
 
-/// States that the state at power-up is sound, and that playing bytes keeps soundness.
-pub fn soundness()
-    ensures power_up { IsSound power_up }
-    ensures play { (s : State) (bytes : List ℕ) → IsSound s → IsSound (play s bytes).state }
+/// States that the state of a size at power-up is sound, and that playing bytes keeps it sound and of this size.
+pub fn sized_soundness()
+    ensures power_up { (size : Size) → IsSize size → IsSoundAt size (state_of size) }
+    ensures play { (size : Size) (s : State) (bytes : List ℕ) → IsSoundAt size s → IsSoundAt size (play s bytes).state }
 {
     one_split();
     glyphs();
     sets_soundness();
+}
+
+/// States that a VT220's state at power-up is sound, and that playing bytes keeps soundness.
+pub fn soundness()
+    ensures power_up { IsSound power_up }
+    ensures play { (s : State) (bytes : List ℕ) → IsSound s → IsSound (play s bytes).state }
+{
+    sized_soundness();
+}
+
+/// States that bytes may be cut anywhere, at any size: playing chunks in turn is playing them joined, and scrolls the same lines
+/// off.
+pub fn sized_cuts()
+    ensures none { (size : Size) (s : State) → IsSoundAt size s → play s [] ≡ record { state = s; reports = [] } }
+    ensures two { (s : State) (a b : List ℕ) → play s (a ++ b) ≡ both (play s a) (play (play s a).state b) }
+    ensures scrolled_none { (size : Size) (s : State) → IsSoundAt size s → scrolled_off s [] ≡ [] }
+    ensures scrolled_two { (s : State) (a b : List ℕ)
+        → scrolled_off s (a ++ b) ≡ scrolled_off s a ++ scrolled_off (play s a).state b }
+    ensures all { (size : Size) (s : State) (pieces : List (List ℕ)) → IsSoundAt size s
+        → play_all s pieces ≡ play s (joined pieces) }
+{
+    one_split();
+    sized_soundness();
 }
 
 /// States that bytes may be cut anywhere: playing chunks in turn is playing them joined, and scrolls the same lines off.
@@ -37,8 +62,24 @@ pub fn cuts()
         → scrolled_off s (a ++ b) ≡ scrolled_off s a ++ scrolled_off (play s a).state b }
     ensures all { (s : State) (pieces : List (List ℕ)) → IsSound s → play_all s pieces ≡ play s (joined pieces) }
 {
+    sized_cuts();
+}
+
+/// States that what happens at bytes are their events, and the lines that they scroll off, one happening for each byte, all on a
+/// screen of one size. It may be told in parts.
+pub fn sized_happened()
+    ensures events { (size : Size) (s : State) (bytes : List ℕ) → IsSoundAt size s
+        → events_in (happenings s bytes) ≡ events_from s.held bytes }
+    ensures lines { (size : Size) (s : State) (bytes : List ℕ) → IsSoundAt size s
+        → lines_in (happenings s bytes) ≡ scrolled_off s bytes }
+    ensures count { (s : State) (bytes : List ℕ) → length (happenings s bytes) ≡ length bytes }
+    ensures two { (size : Size) (s : State) (a b : List ℕ) → IsSoundAt size s
+        → happenings s (a ++ b) ≡ happenings s a ++ happenings (play s a).state b }
+    ensures size { (size : Size) (s : State) (bytes : List ℕ) → IsSoundAt size s
+        → All (λ h. h.before.grid.size ≡ size) (happenings s bytes) }
+{
     one_split();
-    soundness();
+    sized_soundness();
 }
 
 /// States that what happens at bytes are their events, and the lines that they scroll off, one happening for each byte. It may
@@ -50,6 +91,14 @@ pub fn happened()
     ensures two { (s : State) (a b : List ℕ) → IsSound s
         → happenings s (a ++ b) ≡ happenings s a ++ happenings (play s a).state b }
 {
+    sized_happened();
+}
+
+/// States that the log of chunks in turn is the log of the chunks joined, at any size.
+pub fn sized_log_cuts()
+    ensures none { (size : Size) (s : State) → IsSoundAt size s → log s [] ≡ [] }
+    ensures two { (s : State) (a b : List ℕ) → log s (a ++ b) ≡ log s a ++ log (play s a).state b }
+{
     one_split();
 }
 
@@ -58,7 +107,7 @@ pub fn log_cuts()
     ensures none { (s : State) → IsSound s → log s [] ≡ [] }
     ensures two { (s : State) (a b : List ℕ) → log s (a ++ b) ≡ log s a ++ log (play s a).state b }
 {
-    one_split();
+    sized_log_cuts();
 }
 
 /// States what the events do that scroll line 1 off: the rows up to the bottom margin move up by one. A line feed does nothing

@@ -7,20 +7,19 @@ ghost use Rattle.vt_glyph.specs.Tables.{space};
 ghost use Rattle.vt_screen.specs.Cells.{blank};
 ghost use Rattle.vt_term.specs.Text.{glyphs_of, line_text, trimmed};
 
-use crate::display::STOPS;
 use vt_glyph::Glyph;
-use vt_screen::Cell;
+use vt_screen::{Cell, MOST};
 use vt_syntax::plain_run;
 
-/// The most bytes of the text of a row of ASCII glyphs: one for each of 132 cells, and LF.
-const LINE: usize = STOPS + 1;
+/// The most bytes of the text of a row of ASCII glyphs: one for each cell, and LF.
+const LINE: usize = MOST + 1;
 
 /// How many spaces at the end are looked for at a time.
 const BLOCK: usize = 8;
 
 /// Appends the text of a row: its characters without the spaces at its end, and LF. `out` has capacity for it.
 pub(crate) fn push_line(cells: &[Cell], out: &mut Vec<u8>)
-    requires few { length cells.now ≤ 132 }
+    requires few { length cells.now ≤ 255 }
     requires room { vec_len out.old + 3 * length cells.now + 1 ≤ vec_capacity out.old }
     ensures items { out.new.items ≡ out.old.items ++ line_text cells.now }
     ensures bounded { vec_len out.new ≤ vec_len out.old + 3 * length cells.now + 1 }
@@ -41,7 +40,7 @@ pub(crate) fn push_line(cells: &[Cell], out: &mut Vec<u8>)
 /// Writes the code of each cell's glyph over the front of a line.
 #[inline(always)]
 fn put_codes(cells: &[Cell], codes: &mut [u8; LINE])
-    requires { length cells.now ≤ 132 }
+    requires { length cells.now ≤ 255 }
     ensures glyphs { (k : ℕ) → k < length cells.now
         → encoded_glyph (slice_index codes.new k) ≡ (slice_index_or cells.now k blank).glyph }
     ensures codes { (k : ℕ) → k < length cells.now

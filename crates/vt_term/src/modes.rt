@@ -81,7 +81,7 @@ impl Display {
         ensures { self.new ≡ column_mode wide self.old }
     {
         self.screen.set_width(wide);
-        self.margins = Margins::full();
+        self.margins = Margins::full(self.screen.size().rows);
         self.cursor = Cursor::at(1, 1);
         self.saved.col = self.saved.col.min(self.screen.width());
         self.saved.wrap = false;

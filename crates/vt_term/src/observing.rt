@@ -8,11 +8,11 @@ ghost use Rattle.vt_syntax.specs.Spelling.{IsEvent};
 ghost use Rattle.vt_syntax.specs.Event.{event_of};
 ghost use Rattle.vt_syntax.specs.Held.{events_from};
 ghost use Rattle.vt_term.specs.State.{State, Display};
-ghost use Rattle.vt_term.specs.Sound.{IsSound};
+ghost use Rattle.vt_term.specs.Sound.{IsSoundSized};
 ghost use Rattle.vt_term.specs.Happenings.{Happening, happenings};
 ghost use Rattle.vt_term.specs.Observing.{AreJoined};
 
-use crate::terminal::Terminal;
+use crate::sized::SizedTerminal;
 use vt_syntax::EventKind;
 
 /// An observer of a feed. A feed asks it before each event whether the event may be carried out, and then tells it of the
@@ -44,41 +44,41 @@ pub trait Observer {
         ensures { result ≡ Stops };
 
     /// Returns whether it lets an event be carried out. `terminal` has the display before the event.
-    fn lets(&self, terminal: &Terminal, kind: EventKind, values: &[u16]) -> bool
+    fn lets(&self, terminal: &SizedTerminal, kind: EventKind, values: &[u16]) -> bool
         ensures lets { OnTrue result (Lets self.now terminal.now.display (event_of kind values.now)) }
         ensures stops { OnFalse result (Stops ≡ true) }
         ensures stopped { OnFalse result (Stopped self.now) };
 
     /// Is told of the next event, which the last of these bytes completes. `terminal` has the display before the event.
-    fn event(&mut self, terminal: &Terminal, bytes: &[u8], kind: EventKind, values: &[u16])
+    fn event(&mut self, terminal: &SizedTerminal, bytes: &[u8], kind: EventKind, values: &[u16])
         requires some { 1 ≤ length bytes.now }
         requires event { IsEvent (event_of kind values.now) }
         requires lets { Lets self.old terminal.now.display (event_of kind values.now) }
         requires takes { Takes self.old (length bytes.now) }
-        ensures { (s : State) → IsSound s → s.display ≡ terminal.now.display
+        ensures { (s : State) → IsSoundSized s → s.display ≡ terminal.now.display
             → events_from s.held bytes.now ≡ event_of kind values.now ∷ []
             → events_from s.held (take (length bytes.now - 1) bytes.now) ≡ []
             → Saw self.old (happenings s bytes.now) self.new };
 
     /// Returns how many graphic bytes it lets be written at once. If it is none, the feed stops before the first one.
-    fn limit(&self, terminal: &Terminal) -> usize
+    fn limit(&self, terminal: &SizedTerminal) -> usize
         ensures fits { (n : ℕ) → n ≤ result → Fits self.now terminal.now.display n }
         ensures stops { result ≡ 0 → Stops ≡ true }
         ensures stopped { result ≡ 0 → Stopped self.now };
 
     /// Is told of graphic bytes between sequences, each an event, which are written at once.
-    fn run(&mut self, terminal: &Terminal, bytes: &[u8])
+    fn run(&mut self, terminal: &SizedTerminal, bytes: &[u8])
         requires some { 1 ≤ length bytes.now }
         requires graphic { All HasGlyph bytes.now }
         requires fits { Fits self.old terminal.now.display (length bytes.now) }
         requires takes { Takes self.old (length bytes.now) }
-        ensures { (s : State) → IsSound s → s.display ≡ terminal.now.display → s.held ≡ Nothing
+        ensures { (s : State) → IsSoundSized s → s.display ≡ terminal.now.display → s.held ≡ Nothing
             → Saw self.old (happenings s bytes.now) self.new };
 
     /// Is told of bytes without an event: of a sequence that isn't whole, or that asks for nothing.
     fn part(&mut self, bytes: &[u8])
         requires { Takes self.old (length bytes.now) }
-        ensures { (s : State) → IsSound s → events_from s.held bytes.now ≡ []
+        ensures { (s : State) → IsSoundSized s → events_from s.held bytes.now ≡ []
             → Saw self.old (happenings s bytes.now) self.new };
 
     /// The observer may be told in parts.
@@ -113,20 +113,20 @@ impl Observer for Nobody {
     ghost joined = { nobody_joined };
 
     #[inline(always)]
-    fn lets(&self, _: &Terminal, _: EventKind, _: &[u16]) -> bool {
+    fn lets(&self, _: &SizedTerminal, _: EventKind, _: &[u16]) -> bool {
         true
     }
 
     #[inline(always)]
-    fn event(&mut self, _: &Terminal, _: &[u8], _: EventKind, _: &[u16]) {}
+    fn event(&mut self, _: &SizedTerminal, _: &[u8], _: EventKind, _: &[u16]) {}
 
     #[inline(always)]
-    fn limit(&self, _: &Terminal) -> usize {
+    fn limit(&self, _: &SizedTerminal) -> usize {
         usize::MAX
     }
 
     #[inline(always)]
-    fn run(&mut self, _: &Terminal, _: &[u8]) {}
+    fn run(&mut self, _: &SizedTerminal, _: &[u8]) {}
 
     #[inline(always)]
     fn part(&mut self, _: &[u8]) {}
@@ -165,23 +165,23 @@ impl<A: Observer + Drop, B: Observer + Drop> Observer for Both<A, B> {
     }
 
     #[inline(always)]
-    fn lets(&self, terminal: &Terminal, kind: EventKind, values: &[u16]) -> bool {
+    fn lets(&self, terminal: &SizedTerminal, kind: EventKind, values: &[u16]) -> bool {
         self.a.lets(terminal, kind, values) && self.b.lets(terminal, kind, values)
     }
 
     #[inline(always)]
-    fn event(&mut self, terminal: &Terminal, bytes: &[u8], kind: EventKind, values: &[u16]) {
+    fn event(&mut self, terminal: &SizedTerminal, bytes: &[u8], kind: EventKind, values: &[u16]) {
         self.a.event(terminal, bytes, kind, values);
         self.b.event(terminal, bytes, kind, values);
     }
 
     #[inline(always)]
-    fn limit(&self, terminal: &Terminal) -> usize {
+    fn limit(&self, terminal: &SizedTerminal) -> usize {
         self.a.limit(terminal).min(self.b.limit(terminal))
     }
 
     #[inline(always)]
-    fn run(&mut self, terminal: &Terminal, bytes: &[u8]) {
+    fn run(&mut self, terminal: &SizedTerminal, bytes: &[u8]) {
         self.a.run(terminal, bytes);
         self.b.run(terminal, bytes);
     }

@@ -1,48 +1,49 @@
 //! Pages: what a terminal shows, and a caller may exchange.
 ghost use Rattle.std.specs.Prelude.{◌≡◌, Bool, IfOk};
-ghost use Rattle.vt_screen.specs.Grid.{columns};
-ghost use Rattle.vt_term.specs.State.{display_at_power_up, power_up};
-ghost use Rattle.vt_term.specs.Pages.{PageState, page_at_power_up, blanked, fitted, page_of, with_page};
+ghost use Rattle.vt_screen.specs.Sizes.{width_of, IsSize};
+ghost use Rattle.vt_term.specs.State.{display_of, state_of};
+ghost use Rattle.vt_term.specs.Pages.{PageState, IsSoundSizedPage, page_at_power_up, blank_page, blanked, fitted, page_of, with_page};
 
 use crate::display::Display;
+use crate::sized::SizedTerminal;
 use crate::state::Saved;
-use crate::terminal::Terminal;
 use std::alloc::{AllocError, Global};
 use std::marker::Model;
-use vt_screen::{COLUMNS, Screen};
+use vt_screen::{Screen, Size};
 use vt_syntax::Parser;
 
-/// A page: the cells of a screen, and the state that DECSC saved on it. `new` allocates its memory, and nothing else does.
+/// A page of any size: the cells of a screen, and the state that DECSC saved on it. `new` allocates its memory, and nothing else does.
 #[derive(Drop)]
-pub struct Page {
+pub struct SizedPage {
     screen: Screen,
     saved: Saved,
 }
 
-impl Model for Page {
-    ghost use Rattle.vt_term.specs.Pages.{PageState, IsSoundPage};
+impl Model for SizedPage {
+    ghost use Rattle.vt_term.specs.Pages.{PageState, IsSoundSizedPage};
 
     ghost Value = { PageState };
 
     ghost view = { λ p. record { grid = p.screen; saved = p.saved } };
 
-    ghost invariant = { λ p. IsSoundPage (record { grid = p.screen; saved = p.saved }) };
+    ghost invariant = { λ p. IsSoundSizedPage (record { grid = p.screen; saved = p.saved }) };
 }
 
-impl Page {
-    /// Returns a blank page of 80 columns, with the state that is saved at power-up. Returns `Err` if allocation fails.
-    pub fn new(alloc: Global) -> Result<Page, AllocError>
-        ensures { IfOk result (λ page. page ≡ page_at_power_up) }
+impl SizedPage {
+    /// Returns a blank narrow page of a size, with the state that is saved at power-up. Returns `Err` if allocation fails.
+    pub fn new(alloc: Global, size: Size) -> Result<SizedPage, AllocError>
+        requires { IsSize size }
+        ensures { IfOk result (λ page. page ≡ blank_page size) }
     {
-        Ok(Page {
-            screen: Screen::new(alloc)?,
+        Ok(SizedPage {
+            screen: Screen::with_size(alloc, size)?,
             saved: Saved::power_up(),
         })
     }
 
-    /// Makes the page as at power-up: blank, of 80 columns, with the state that is saved at power-up.
+    /// Makes the page as at power-up: blank and narrow, with the state that is saved at power-up.
     pub fn reset(&mut self)
-        ensures { self.new ≡ page_at_power_up }
+        ensures { self.new ≡ blank_page self.old.grid.size }
     {
         self.screen.set_width(false);
         self.saved = Saved::power_up();
@@ -52,36 +53,98 @@ impl Page {
     pub fn blank(&mut self)
         ensures { self.new ≡ blanked self.old }
     {
-        let wide = self.screen.width() == COLUMNS;
+        let wide = self.screen.width() == self.screen.size().wide;
         self.screen.set_width(wide);
     }
 
-    /// Makes the page equal to another one. It never fails and allocates nothing.
-    pub fn copy_from(&mut self, other: &Page)
+    /// Makes the page equal to another one of the same size. It never fails and allocates nothing.
+    pub fn copy_from(&mut self, other: &SizedPage)
+        requires { self.old.grid.size ≡ other.now.grid.size }
         ensures { self.new ≡ other.now }
     {
         self.screen.copy_from(&other.screen);
         self.saved = other.saved;
     }
 
+    /// States that the page is sound, for proofs. It does nothing when it runs.
+    #[inline(always)]
+    pub fn soundness(&self)
+        ensures { IsSoundSizedPage self.now }
+    {
+        let _ = &self.saved;
+    }
+
     /// Gives the page a width. If it has another one, it changes as by DECCOLM.
     fn fit(&mut self, width: usize)
-        requires { (wide : Bool) × (width ≡ columns wide) }
+        requires { (wide : Bool) × (width ≡ width_of self.old.grid.size wide) }
         ensures page { self.new ≡ fitted width self.old }
         ensures width { self.new.grid.width ≡ width }
     {
         if self.screen.width() == width {
             return;
         }
-        self.screen.set_width(width == COLUMNS);
+        self.screen.set_width(width == self.screen.size().wide);
         self.saved.col = self.saved.col.min(self.screen.width());
         self.saved.wrap = false;
     }
 }
 
+/// A page of a VT220's size: the cells of a screen, and the state that DECSC saved on it. `new` allocates its memory, and nothing
+/// else does.
+#[derive(Drop)]
+pub struct Page {
+    /// The page, whose size is a VT220's.
+    pub sized: SizedPage,
+}
+
+impl Model for Page {
+    ghost use Rattle.std.specs.Prelude.{◌≡◌};
+    ghost use Rattle.vt_screen.specs.Sizes.{vt220_size};
+    ghost use Rattle.vt_term.specs.Pages.{PageState};
+
+    ghost Value = { PageState };
+
+    ghost view = { λ p. p.sized };
+
+    ghost invariant = { λ p. p.sized.grid.size ≡ vt220_size };
+}
+
+impl Page {
+    /// Returns a blank page of 80 columns, with the state that is saved at power-up. Returns `Err` if allocation fails.
+    pub fn new(alloc: Global) -> Result<Page, AllocError>
+        ensures { IfOk result (λ page. page ≡ page_at_power_up) }
+    {
+        Ok(Page {
+            sized: SizedPage::new(alloc, Size::vt220())?,
+        })
+    }
+
+    /// Makes the page as at power-up: blank, of 80 columns, with the state that is saved at power-up.
+    pub fn reset(&mut self)
+        ensures { self.new ≡ page_at_power_up }
+    {
+        self.sized.reset();
+    }
+
+    /// Blanks the cells. The saved state stays.
+    pub fn blank(&mut self)
+        ensures { self.new ≡ blanked self.old }
+    {
+        self.sized.blank();
+    }
+
+    /// Makes the page equal to another one. It never fails and allocates nothing.
+    pub fn copy_from(&mut self, other: &Page)
+        ensures { self.new ≡ other.now }
+    {
+        self.sized.copy_from(&other.sized);
+    }
+}
+
 impl Display {
     /// Exchanges the cells and the saved state with those of a page.
-    fn exchange_page(&mut self, page: &mut Page)
+    fn exchange_page(&mut self, page: &mut SizedPage)
+        requires { self.old.grid.size ≡ page.old.grid.size }
         ensures shown { self.new ≡ with_page (fitted self.old.grid.width page.old) self.old }
         ensures page { page.new ≡ page_of self.old }
     {
@@ -91,8 +154,9 @@ impl Display {
     }
 
     /// Makes the display as at power-up, with the cells and the saved state of a page.
-    fn show_copy(&mut self, page: &Page)
-        ensures { self.new ≡ with_page page.now display_at_power_up }
+    fn show_copy(&mut self, page: &SizedPage)
+        requires { self.old.grid.size ≡ page.now.grid.size }
+        ensures { self.new ≡ with_page page.now (display_of self.old.grid.size) }
     {
         self.reset_to_initial_state();
         self.screen.copy_from(&page.screen);
@@ -100,10 +164,11 @@ impl Display {
     }
 }
 
-impl Terminal {
+impl SizedTerminal {
     /// Exchanges the page that is shown: its cells and what DECSC saved. Everything else stays. The page first gets the
     /// terminal's width: if it has another one, it changes as by DECCOLM, to blank cells.
-    pub fn exchange_page(&mut self, page: &mut Page)
+    pub fn exchange_page(&mut self, page: &mut SizedPage)
+        requires { self.old.display.grid.size ≡ page.old.grid.size }
         ensures shown { self.new ≡ record self.old {
           display = with_page (fitted self.old.display.grid.width page.old) self.old.display;
         } }
@@ -114,8 +179,11 @@ impl Terminal {
 
     /// Makes the terminal as at power-up, with a copy of the cells of a page and of what DECSC saved on it. It never fails and
     /// allocates nothing.
-    pub fn show_copy(&mut self, page: &Page)
-        ensures { self.new ≡ record power_up { display = with_page page.now display_at_power_up } }
+    pub fn show_copy(&mut self, page: &SizedPage)
+        requires { self.old.display.grid.size ≡ page.now.grid.size }
+        ensures { self.new ≡ record (state_of self.old.display.grid.size) {
+          display = with_page page.now (display_of self.old.display.grid.size);
+        } }
     {
         self.display.show_copy(page);
         self.parser = Parser::new();

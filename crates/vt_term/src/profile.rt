@@ -5,9 +5,9 @@ ghost use Rattle.vt_syntax.specs.Front.{AreFirst, front_list};
 ghost use Rattle.vt_syntax.specs.Spelling.{IsEvent};
 ghost use Rattle.vt_syntax.specs.declared.event.Event.TheVariants.{Sequence};
 ghost use Rattle.vt_term.specs.State.{Display};
-ghost use Rattle.vt_term.specs.Machines.{Machine, PrintsAlike};
+ghost use Rattle.vt_term.specs.Machines.{KeepsSize, Machine, PrintsAlike};
 
-use crate::terminal::Terminal;
+use crate::sized::SizedTerminal;
 use vt_syntax::{EventKind, FrontValues};
 
 /// A profile: what events do. A value of it is what such a terminal keeps besides a VT220's state, as a page that isn't shown.
@@ -22,16 +22,20 @@ pub trait Profile {
     /// What events do.
     ghost machine: { Machine Screens };
 
+    /// The screens are of one size: what the profile keeps is of the display's.
+    ghost OneSize: { Screens → Type 0 };
+
     /// Carries out an event: its kind, and the values of a control sequence. It appends the report in the state before the
     /// event to `out`: at most ten bytes, for which `out` has capacity.
     fn carry_out(
         &mut self,
-        terminal: &mut Terminal,
+        terminal: &mut SizedTerminal,
         kind: EventKind,
         values: &[u16],
         out: &mut Vec<u8>,
     )
         requires event { IsEvent (event_of kind values.now) }
+        requires one_size { OneSize (screens terminal.old.display self.old) }
         requires room { vec_len out.old + 10 ≤ vec_capacity out.old }
         ensures screens { screens terminal.new.display self.new
             ≡ machine.effect (event_of kind values.now) (screens terminal.old.display self.old) }
@@ -42,10 +46,16 @@ pub trait Profile {
         ensures capacity { vec_capacity out.old ≤ vec_capacity out.new };
 
     /// Carries out a control sequence of these values, as `carry_out` does. Speed: the values are in registers.
-    fn carry_out_values(&mut self, terminal: &mut Terminal, front: &FrontValues, out: &mut Vec<u8>)
+    fn carry_out_values(
+        &mut self,
+        terminal: &mut SizedTerminal,
+        front: &FrontValues,
+        out: &mut Vec<u8>,
+    )
         requires few { (1 ≤ front.now.count) × (front.now.count ≤ 3) }
         requires values { AreFirst front.now }
         requires event { IsEvent (Sequence None (record { items = front_list front.now }) None front.now.last) }
+        requires one_size { OneSize (screens terminal.old.display self.old) }
         requires room { vec_len out.old + 10 ≤ vec_capacity out.old }
         ensures screens { screens terminal.new.display self.new
             ≡ machine.effect (Sequence None (record { items = front_list front.now }) None front.now.last)
@@ -57,6 +67,10 @@ pub trait Profile {
         ensures bounded { vec_len out.new ≤ vec_len out.old + 10 }
         ensures capacity { vec_capacity out.old ≤ vec_capacity out.new };
 
+    /// States that the functions keep the size of the screen. It does nothing when it runs.
+    fn keeps_size(&self)
+        ensures { KeepsSize machine OneSize };
+
     /// Graphic bytes are a VT220's.
     ghost prints: { PrintsAlike machine screens };
 }
@@ -66,6 +80,7 @@ pub trait Profile {
 pub struct Vt220;
 
 impl Profile for Vt220 {
+    ghost use Rattle.std.specs.Prelude.{⊤};
     ghost use Rattle.vt_term.specs.State.{Display};
     ghost use Rattle.vt_term.specs.Machines.{vt220};
     ghost use Rattle.vt_term.specs.Observers.{vt220_prints};
@@ -76,12 +91,17 @@ impl Profile for Vt220 {
 
     ghost machine = { vt220 };
 
+    ghost OneSize = { λ d. ⊤ };
+
     ghost prints = { vt220_prints };
+
+    #[inline(always)]
+    fn keeps_size(&self) {}
 
     #[inline(always)]
     fn carry_out(
         &mut self,
-        terminal: &mut Terminal,
+        terminal: &mut SizedTerminal,
         kind: EventKind,
         values: &[u16],
         out: &mut Vec<u8>,
@@ -92,7 +112,7 @@ impl Profile for Vt220 {
     #[inline(always)]
     fn carry_out_values(
         &mut self,
-        terminal: &mut Terminal,
+        terminal: &mut SizedTerminal,
         front: &FrontValues,
         out: &mut Vec<u8>,
     ) {

@@ -2,31 +2,30 @@
 ghost use Rattle.std.specs.Prelude.{◌≡◌, ◌↔◌, ◌≤◌, ◌⊎◌, IsTrue, true, false, length};
 ghost use Rattle.vt_syntax.specs.Held.{IsHeldPart};
 ghost use Rattle.vt_syntax.specs.declared.held.Held.TheVariants.{Nothing};
-ghost use Rattle.vt_screen.specs.Grid.{columns, row_of, last_row};
-ghost use Rattle.vt_term.specs.Sound.{IsSound};
+ghost use Rattle.vt_screen.specs.Grid.{row_of};
+ghost use Rattle.vt_term.specs.Sound.{IsSoundSized};
 
-use crate::display::STOPS;
+use crate::sized::SizedTerminal;
 use crate::state::{Cursor, Margins, Modes, Saved};
-use crate::terminal::Terminal;
 use vt_glyph::Sets;
 use vt_screen::{Brush, Cell};
 use vt_syntax::{Held, Parser};
 
-impl Terminal {
-    /// Returns the cells of a row, 1 to 24: as many as the screen is wide.
+impl SizedTerminal {
+    /// Returns the cells of a row, from 1: as many as the screen is wide.
     pub fn row(&self, row: usize) -> &[Cell]
-        requires { (1 ≤ row) × (row ≤ last_row) }
+        requires { (1 ≤ row) × (row ≤ self.now.display.grid.size.rows) }
         ensures cells { result.now ≡ row_of self.now.display.grid row }
         ensures len { length result.now ≡ self.now.display.grid.width }
-        ensures width { (length result.now ≡ columns false) ⊎ (length result.now ≡ columns true) }
+        ensures width { (length result.now ≡ self.now.display.grid.size.narrow) ⊎ (length result.now ≡ self.now.display.grid.size.wide) }
     {
         self.display.screen.row(row)
     }
 
-    /// Returns the number of columns: 80 or 132.
+    /// Returns the number of columns: those of the narrow or of the wide screen.
     pub fn width(&self) -> usize
         ensures width { result ≡ self.now.display.grid.width }
-        ensures sound { IsSound self.now }
+        ensures sound { IsSoundSized self.now }
     {
         self.soundness();
         self.display.screen.width()
@@ -35,7 +34,7 @@ impl Terminal {
     /// Returns the cursor: the position of the next glyph, and whether it begins a new line.
     pub fn cursor(&self) -> Cursor
         ensures cursor { result ≡ self.now.display.cursor }
-        ensures sound { IsSound self.now }
+        ensures sound { IsSoundSized self.now }
     {
         self.soundness();
         self.display.cursor
@@ -62,11 +61,11 @@ impl Terminal {
         self.display.margins
     }
 
-    /// Returns the tab stops: index c - 1 for column c, from 1 to 132 at any width.
-    pub fn stops(&self) -> &[bool; STOPS]
+    /// Returns the tab stops: index c - 1 for column c, from 1 to the last one of the wide screen at any width.
+    pub fn stops(&self) -> &[bool]
         ensures { result.now ≡ self.now.display.stops }
     {
-        &self.display.stops
+        self.display.stops.as_slice()
     }
 
     /// Returns the modes, with those of the keypad and of the form of reports.
@@ -108,7 +107,7 @@ impl Terminal {
     }
 
     /// Returns whether the two terminals are in the same state, the held part included.
-    pub fn same_state(&self, other: &Terminal) -> bool
+    pub fn same_state(&self, other: &SizedTerminal) -> bool
         ensures { IsTrue result ↔ (self.now ≡ other.now) }
     {
         self.display.same(&other.display) && self.parser.held() == other.parser.held()

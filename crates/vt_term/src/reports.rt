@@ -7,11 +7,11 @@ ghost use Rattle.vt_term.specs.Reports.{report, control_report, sequence_report}
 use crate::codes::{CSI, DECID};
 use crate::display::Display;
 use crate::functions::first;
-use crate::terminal::Terminal;
+use crate::sized::SizedTerminal;
 use itoa::Buffer;
 use vt_syntax::EventKind;
 
-impl Terminal {
+impl SizedTerminal {
     /// Appends the report of an event in the present display: at most ten bytes, for which `out` has capacity. The event
     /// isn't carried out.
     #[inline(always)]

@@ -2,8 +2,9 @@
 ghost use Rattle.std.specs.Prelude.{◌≡◌};
 ghost use Rattle.vt_term.specs.Resets.{screen_alignment, reset_to_initial_state, soft_reset, set_conformance_level};
 
-use crate::display::{Display, stops_at_power_up};
+use crate::display::Display;
 use crate::state::{Cursor, Margins, Modes, Saved};
+use crate::tabs::TabStops;
 use vt_glyph::{Glyph, Sets};
 use vt_screen::{Brush, Cell};
 
@@ -15,7 +16,7 @@ impl Display {
     {
         let cell = Cell::new(Glyph::ascii(b'E'), Brush::plain());
         self.screen.fill(cell);
-        self.margins = Margins::full();
+        self.margins = Margins::full(self.screen.size().rows);
         self.cursor = Cursor::at(1, 1);
     }
 
@@ -27,8 +28,8 @@ impl Display {
         self.cursor = Cursor::at(1, 1);
         self.pen = Cell::blank();
         self.sets = Sets::power_up();
-        self.margins = Margins::full();
-        self.stops = stops_at_power_up();
+        self.margins = Margins::full(self.screen.size().rows);
+        self.stops = TabStops::power_up(self.screen.size().wide);
         self.modes = Modes::power_up();
         self.saved = Saved::power_up();
     }
@@ -41,7 +42,7 @@ impl Display {
         self.cursor.wrap = false;
         self.pen = Cell::blank();
         self.sets = Sets::power_up();
-        self.margins = Margins::full();
+        self.margins = Margins::full(self.screen.size().rows);
         self.modes.dectcem = true;
         self.modes.irm = false;
         self.modes.decom = false;

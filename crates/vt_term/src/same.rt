@@ -1,7 +1,6 @@
 //! Tests whether two parts are equal.
 ghost use Rattle.std.specs.Prelude.{◌≡◌, ◌↔◌, IsTrue};
 
-use crate::display::STOPS;
 use crate::state::{Modes, Saved};
 use vt_glyph::Set;
 use vt_screen::Brush;
@@ -12,7 +11,7 @@ pub(crate) fn same_brush(a: &Brush, b: &Brush) -> bool
     a.rendition == b.rendition && a.protected == b.protected
 }
 
-pub(crate) fn same_stops(a: &[bool; STOPS], b: &[bool; STOPS]) -> bool
+pub(crate) fn same_stops(a: &[bool], b: &[bool]) -> bool
     ensures { IsTrue result ↔ (a.now ≡ b.now) }
 {
     a == b

@@ -1,14 +1,14 @@
 //! The small parts of a terminal's state.
 ghost use Rattle.std.specs.Prelude.{◌≡◌};
-ghost use Rattle.vt_term.specs.State.{at_place, full_margins, modes_at_power_up, saved_at_power_up};
+ghost use Rattle.vt_term.specs.State.{at_place, modes_at_power_up, saved_at_power_up};
 
 use vt_glyph::{Set, Sets};
-use vt_screen::{Brush, ROWS};
+use vt_screen::Brush;
 
-/// The cursor: the position of the next glyph. Rows count from 1 to 24, columns from 1 to the width.
+/// The cursor: the position of the next glyph. Rows and columns count from 1. A VT220 has 24 rows.
 #[derive(Clone, Copy, Debug, PartialEq, Eq)]
 pub struct Cursor {
-    /// The row, 1 to 24.
+    /// The row, 1 to the last one.
     pub row: usize,
     /// The column, 1 to the width.
     pub col: usize,
@@ -29,23 +29,23 @@ impl Cursor {
     }
 }
 
-/// The scroll region: its first and last row, both from 1 to 24. The first is above the last.
+/// The scroll region: its first and last row, both from 1 to the screen's last one. The first is above the last.
 #[derive(Clone, Copy, Debug, PartialEq, Eq)]
 pub struct Margins {
-    /// The first row, 1 to 23.
+    /// The first row, 1 or more.
     pub top: usize,
-    /// The last row, 2 to 24.
+    /// The last row, 24 or less on a VT220.
     pub bottom: usize,
 }
 
 impl Margins {
-    /// Returns the margins of the whole screen.
-    pub(crate) fn full() -> Margins
-        ensures { result ≡ full_margins }
+    /// Returns the margins of a whole screen of so many rows.
+    pub(crate) fn full(rows: usize) -> Margins
+        ensures { result ≡ record { top = 1; bottom = rows } }
     {
         Margins {
             top: 1,
-            bottom: ROWS,
+            bottom: rows,
         }
     }
 }
@@ -105,11 +105,10 @@ impl Modes {
     }
 }
 
-/// The state that DECSC saves. Rows count from 1 to 24, and columns from 1 to the width. The row may be outside the
-/// margins.
+/// The state that DECSC saves. Rows and columns count from 1. The row may be outside the margins.
 #[derive(Clone, Copy, Debug, PartialEq, Eq)]
 pub struct Saved {
-    /// The row, 1 to 24.
+    /// The row, 1 to the last one.
     pub row: usize,
     /// The column, 1 to the width.
     pub col: usize,

@@ -1,5 +1,5 @@
 //! Speed: lines that nobody sees aren't written. At the bottom margin each line feed moves the scroll region up by one
-//! row. So what stood in it is gone after as many line feeds as it has rows, at most 24.
+//! row. So what stood in it is gone after as many line feeds as the screen has rows.
 ghost use Rattle.std.specs.Prelude.{◌≡◌, ◌≤◌, ◌-◌, [], ℕ, All, None, length, take, drop, slice_index};
 ghost use Rattle.std.specs.Bool.{OnTrue};
 ghost use Rattle.vt_syntax.specs.Class.{IsOfLines};
@@ -8,8 +8,8 @@ ghost use Rattle.vt_term.specs.Play.{play};
 ghost use Rattle.vt_term.specs.Unseen.{feeds};
 
 use crate::codes::{CR, LF};
-use crate::display::{Display, ROWS};
-use crate::terminal::Terminal;
+use crate::display::Display;
+use crate::sized::SizedTerminal;
 use memchr::{memchr, memrchr};
 use vt_screen::laws::places;
 use vt_syntax::laws::{one_split, spelled};
@@ -54,13 +54,13 @@ impl Display {
     }
 }
 
-impl Terminal {
+impl SizedTerminal {
     /// Passes lines at the front of a chunk that scroll out of the scroll region before the chunk ends. It doesn't write
     /// them. Playing what is left of the chunk then leaves the state and the reports of the whole chunk. So does playing what
     /// is left of the bytes that were looked at, which cause no report.
     ///
     /// It passes lines if nothing is held, no single shift is pending and the cursor is in the row of the bottom margin.
-    /// They consist of graphic bytes, BS, HT, LF, VT, FF, CR and DEL, and 24 line feeds follow them.
+    /// They consist of graphic bytes, BS, HT, LF, VT, FF, CR and DEL, and as many line feeds follow them as the screen has rows.
     #[inline(always)]
     pub fn pass_unseen(&mut self, piece: &[u8]) -> Passed
         ensures within { result.unseen ≤ result.looked_at }
@@ -71,6 +71,7 @@ impl Terminal {
         ensures silent { (play self.old (take result.looked_at piece.now)).reports ≡ [] }
         ensures lines { All IsOfLines (take result.looked_at piece.now) }
         ensures held { self.new.held ≡ self.old.held }
+        ensures size { self.new.display.grid.size ≡ self.old.display.grid.size }
     {
         self.soundness();
         one_split();
@@ -94,6 +95,7 @@ impl Terminal {
         ensures silent { (play self.old (take result.looked_at piece.now)).reports ≡ [] }
         ensures lines { All IsOfLines (take result.looked_at piece.now) }
         ensures held { self.new.held ≡ self.old.held }
+        ensures size { self.new.display.grid.size ≡ self.old.display.grid.size }
     {
         self.soundness();
         one_split();
@@ -109,7 +111,7 @@ impl Terminal {
                 looked_at,
             };
         }
-        let unseen = last_lines(&piece[..looked_at]);
+        let unseen = last_lines(&piece[..looked_at], self.size().rows);
         if unseen == 0 {
             return Passed { unseen, looked_at };
         }
@@ -118,14 +120,14 @@ impl Terminal {
     }
 }
 
-/// Returns where the last lines begin: after the last CR that 24 line feeds follow, or 0 if there is none.
-fn last_lines(lines: &[u8]) -> usize
+/// Returns where the last lines begin: after the last CR that so many line feeds follow, or 0 if there is none.
+fn last_lines(lines: &[u8], rows: usize) -> usize
     ensures within { result ≤ length lines.now }
     ensures begins { 1 ≤ result → slice_index lines.now (result - 1) ≡ CR }
-    ensures follow { 1 ≤ result → 24 ≤ feeds (drop result lines.now) }
+    ensures follow { 1 ≤ result → rows ≤ feeds (drop result lines.now) }
 {
     let mut at = lines.len();
-    for _ in 0..ROWS {
+    for _ in 0..rows {
         let Some(feed) = memrchr(LF, &lines[..at]) else {
             return 0;
         };

@@ -12,7 +12,7 @@ use crate::display::Display;
 use crate::state::Cursor;
 use vt_glyph::{Glyph, InUse};
 use vt_screen::laws::runs;
-use vt_screen::{COLUMNS, Cell};
+use vt_screen::{Cell, MOST};
 
 impl Display {
     /// Reads a graphic byte, 20..7E or A0..FF, through the sets, and writes its glyph.
@@ -157,7 +157,7 @@ impl Display {
     fn room(&self) -> usize
         ensures room { result + self.now.cursor.col ≡ self.now.grid.width + 1 }
         ensures some { 1 ≤ result }
-        ensures few { result ≤ COLUMNS }
+        ensures few { result ≤ MOST }
     {
         self.screen.width() + 1 - self.cursor.col
     }

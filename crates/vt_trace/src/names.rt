@@ -1,6 +1,7 @@
 //! The names of events, as the specification's tables have them.
 ghost use Rattle.std.specs.Prelude.{◌≡◌, ◌≤◌, ◌<◌, ℕ, [], length, IfSome, option_copied, option_map};
 ghost use Rattle.vt_syntax.specs.Event.{event_of};
+ghost use Rattle.vt_screen.specs.Grid.{last_row};
 ghost use Rattle.vt_term.specs.Functions.{designation};
 ghost use Rattle.vt_term.specs.Names.{name_of, name_with, control_name, plain_escape_name, escape_with_name, print_name};
 ghost use Rattle.vt_trace.specs.Ignored.{is_ignored};
@@ -163,7 +164,7 @@ fn escape(inter: u8, last: u8) -> Option<ControlFunction>
 
 /// Returns the SCS of a slot and a final byte, if the byte designates a set.
 fn scs(slot: Slot, last: u8) -> Option<ControlFunction>
-    ensures { (n : ℕ) → option_map word_of result ≡ name_with [] (designation n (slot_begins slot) last) }
+    ensures { (n : ℕ) → option_map word_of result ≡ name_with last_row [] (designation n (slot_begins slot) last) }
 {
     match Set::of_final(last) {
         Some(set) => Some(ControlFunction::Scs(slot, set)),

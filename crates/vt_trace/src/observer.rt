@@ -14,7 +14,7 @@ use crate::tracing::{TRACE_LIMIT, Tracer, is_text, place_of, push_event, push_te
 use vt_syntax::laws::{one_split, spelled};
 use vt_syntax::{EventKind, Parser, Values};
 use vt_term::laws::happened;
-use vt_term::{Observer, Terminal};
+use vt_term::{Observer, SizedTerminal, Terminal};
 
 /// Plays the front of a chunk that isn't empty, and appends its reports and its trace: as many bytes as `out` has capacity
 /// for. Returns how many bytes it played.
@@ -138,12 +138,12 @@ impl Observer for Tracing<'_> {
     }
 
     #[inline(always)]
-    fn lets(&self, terminal: &Terminal, kind: EventKind, values: &[u16]) -> bool {
+    fn lets(&self, terminal: &SizedTerminal, kind: EventKind, values: &[u16]) -> bool {
         true
     }
 
     #[inline(always)]
-    fn event(&mut self, terminal: &Terminal, bytes: &[u8], kind: EventKind, values: &[u16]) {
+    fn event(&mut self, terminal: &SizedTerminal, bytes: &[u8], kind: EventKind, values: &[u16]) {
         one_split();
         spelled();
         let last = bytes[bytes.len() - 1];
@@ -161,12 +161,12 @@ impl Observer for Tracing<'_> {
     }
 
     #[inline(always)]
-    fn limit(&self, terminal: &Terminal) -> usize {
+    fn limit(&self, terminal: &SizedTerminal) -> usize {
         usize::MAX
     }
 
     #[inline(always)]
-    fn run(&mut self, terminal: &Terminal, bytes: &[u8]) {
+    fn run(&mut self, terminal: &SizedTerminal, bytes: &[u8]) {
         one_split();
         spelled();
         let begin = self.tracer.place + (bytes.len() as u64 - 1);

@@ -2,6 +2,7 @@
 ghost use Rattle.std.specs.Prelude.{◌≡◌, ℕ, List, [], ◌∷◌, Some, None, option_map, if◌then◌else◌};
 ghost use Rattle.std.specs.List.{list_any};
 ghost use Rattle.vt_glyph.specs.LookUp.{contains};
+ghost use Rattle.vt_screen.specs.Grid.{last_row};
 ghost use Rattle.vt_term.specs.Parameters.{first, second};
 ghost use Rattle.vt_term.specs.Moving.{are_margins};
 ghost use Rattle.vt_term.specs.Modes.{ansi_modes, private_modes};
@@ -16,7 +17,7 @@ ghost use Rattle.vt_trace.specs.Names.{sequence_word};
 use crate::functions::Sequence::{self, *};
 
 /// Returns the name of a control sequence, if it has a function.
-#[tactic(auto, unfolding(vt_term::specs::Functions::sequences_of, vt_term::specs::Names::sequence_name))]
+#[tactic(auto, unfolding(vt_term::specs::Functions::sequences_of, vt_term::specs::Names::sequence_name_on))]
 pub(crate) fn sequence(
     marker: Option<u8>,
     values: &[u16],
@@ -58,7 +59,7 @@ fn second(values: &[u16]) -> u16
 
 /// Returns the sequence without a marker and an intermediate.
 fn plain(last: u8, values: &[u16]) -> Option<Sequence>
-    ensures { option_map sequence_word result ≡ name_with values.now (function_in plain_sequences last) }
+    ensures { option_map sequence_word result ≡ name_with last_row values.now (function_in plain_sequences last) }
 {
     match last {
         b'@' => Some(ICH),
@@ -87,7 +88,7 @@ fn plain(last: u8, values: &[u16]) -> Option<Sequence>
 
 /// Returns the sequence after `?`.
 fn private(last: u8, values: &[u16]) -> Option<Sequence>
-    ensures { option_map sequence_word result ≡ name_with values.now (function_in private_sequences last) }
+    ensures { option_map sequence_word result ≡ name_with last_row values.now (function_in private_sequences last) }
 {
     match last {
         b'J' => if_takes(first(values) <= 2, DECSED),
@@ -101,7 +102,7 @@ fn private(last: u8, values: &[u16]) -> Option<Sequence>
 
 /// Returns the sequence after `>`.
 fn greater(last: u8, values: &[u16]) -> Option<Sequence>
-    ensures { option_map sequence_word result ≡ name_with values.now (function_in greater_sequences last) }
+    ensures { option_map sequence_word result ≡ name_with last_row values.now (function_in greater_sequences last) }
 {
     match last {
         b'c' => if_takes(first(values) == 0, DA),
@@ -111,7 +112,7 @@ fn greater(last: u8, values: &[u16]) -> Option<Sequence>
 
 /// Returns the sequence after `"`.
 fn quote(last: u8, values: &[u16]) -> Option<Sequence>
-    ensures { option_map sequence_word result ≡ name_with values.now (function_in quote_sequences last) }
+    ensures { option_map sequence_word result ≡ name_with last_row values.now (function_in quote_sequences last) }
 {
     match last {
         b'p' => if_takes(is_level(values), DECSCL),
@@ -122,7 +123,7 @@ fn quote(last: u8, values: &[u16]) -> Option<Sequence>
 
 /// Returns the sequence after `!`.
 fn exclamation(last: u8) -> Option<Sequence>
-    ensures { (values : List ℕ) → option_map sequence_word result ≡ name_with values (function_in exclamation_sequences last) }
+    ensures { (values : List ℕ) → option_map sequence_word result ≡ name_with last_row values (function_in exclamation_sequences last) }
 {
     match last {
         b'p' => Some(DECSTR),
@@ -153,7 +154,7 @@ fn asks_for_private_status(p: u16) -> bool
 
 /// Returns whether the top margin is above the bottom one.
 fn are_margins(values: &[u16]) -> bool
-    ensures { result ≡ are_margins (first values.now) (second values.now) }
+    ensures { result ≡ are_margins last_row (first values.now) (second values.now) }
 {
     let top = first(values).max(1);
     let bottom = match second(values) {

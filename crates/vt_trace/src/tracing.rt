@@ -18,8 +18,8 @@ use crate::observer::trace_front;
 use crate::skipped::{First, SKIPPED_LIMIT, Step, push_open};
 use arrayvec::ArrayVec;
 use vt_syntax::{EventKind, Held};
-use vt_term::Terminal;
 use vt_term::laws::cuts as play_cuts;
+use vt_term::{SizedTerminal, Terminal};
 
 /// The position of a trace between two bytes.
 #[derive(Drop)]
@@ -237,7 +237,7 @@ fn has_glyph(b: u8) -> bool
 
 /// Appends what is to be written of an event in the present display.
 pub(crate) fn push_event(
-    terminal: &Terminal,
+    terminal: &SizedTerminal,
     in_text: bool,
     place: u64,
     kind: EventKind,
@@ -278,7 +278,7 @@ fn push_print(in_text: bool, place: u64, b: u8, out: &mut Vec<u8>)
 /// Appends the end of a text, the line of an event and that of its report in the present display.
 #[inline(always)]
 fn push_other(
-    terminal: &Terminal,
+    terminal: &SizedTerminal,
     in_text: bool,
     place: u64,
     kind: EventKind,
@@ -338,7 +338,13 @@ pub(crate) fn push_text_begin(in_text: bool, place: u64, out: &mut Vec<u8>)
 
 /// Appends the line of an event's report in the present display, if it has one.
 #[inline(always)]
-fn push_report(terminal: &Terminal, place: u64, kind: EventKind, values: &[u16], out: &mut Vec<u8>)
+fn push_report(
+    terminal: &SizedTerminal,
+    place: u64,
+    kind: EventKind,
+    values: &[u16],
+    out: &mut Vec<u8>,
+)
     requires room { vec_len out.old + 70 ≤ vec_capacity out.old }
     ensures items { out.new.items ≡ out.old.items
         ++ report_line place (report (event_of kind values.now) terminal.now.display) }

@@ -3,6 +3,8 @@ use Rattle.std.proofs.Common.{◌≡◌, ℕ, ◌+◌, List, [], ◌∷◌, ◌+
 use Rattle.std.proofs.Math.Seq.{take-add}
 use Rattle.vt_syntax.specs.Laws.{SplitLaw}
 use Rattle.vt_screen.specs.declared.cell.Cell.{Cell}
+use Rattle.vt_screen.specs.Sizes.{vt220_size}
+use Rattle.vt_term.proofs.SizeKept.{own-size}
 use Rattle.vt_term.specs.State.{State}
 use Rattle.vt_term.specs.Sound.{IsSound}
 use Rattle.vt_term.specs.Play.{play}
@@ -35,7 +37,7 @@ off-two split parts s t pending after a b sound is left =
 
 off-none : SplitLaw → (s : State) (pending : List ℕ) → IsSound s → utf8_off s pending [] ≡ []
 unfolding translated
-off-none split s pending sound = scrolled-nothing split s sound
+off-none split s pending sound = scrolled-nothing split s (own-size vt220_size s sound)
 
 module _ {O : Type 0} (Keeps : O → Rows → O → Type 0) (HasRoom IsFull : O → ℕ → Type 0) (kept : AreKept Keeps HasRoom IsFull) where
   pub keeps-nothing : (o : O) (rows : Rows) → rows ≡ [] → Keeps o rows o

@@ -116,6 +116,7 @@ pub fn feed_utf8_log_reserved(
     let end = lines.len().saturating_add(most);
     let mut log = Lines {
         lines,
+        limit: ROW_TEXT_LIMIT,
         end,
         beside: Nobody,
     };

@@ -8,8 +8,8 @@ ghost use Rattle.vt_utf8.specs.Translation.{translation};
 ghost use Rattle.vt_utf8.specs.Logs.{AreKept};
 
 use crate::feeding::{feed_beyond_ascii, feed_beyond_ascii_log};
-use vt_term::laws::happened;
-use vt_term::{Lines, Nobody, Observer, Terminal};
+use vt_term::laws::sized_happened;
+use vt_term::{Lines, Nobody, Observer, ROW_TEXT_LIMIT, Terminal};
 
 /// A place for the lines that scroll off.
 pub trait Log: Drop {
@@ -123,7 +123,8 @@ impl BytesLog for Lines<'_, Nobody> {
     #[inline(always)]
     fn feed(&mut self, terminal: &mut Terminal, piece: &[u8], out: &mut Vec<u8>) -> usize {
         let _ = terminal.width();
-        happened();
+        sized_happened();
+        self.limit = ROW_TEXT_LIMIT;
         terminal.feed_observed(piece, self, out)
     }
 }

@@ -8,3 +8,4 @@ pub mod Stays
 pub mod Screens
 mod Logged
 mod Unseen
+pub mod OfOneSize

@@ -13,6 +13,7 @@ use Rattle.vt_syntax.specs.Held.{IsHeldPart, events_from, held_from}
 use Rattle.vt_syntax.specs.Reading.{events_of}
 use Rattle.vt_syntax.specs.Spelling.{IsEvent, spell_event}
 use Rattle.vt_syntax.specs.Laws.{SplitLaw, SpellingLaw}
+use Rattle.vt_screen.specs.Sizes.{vt220_size, width_of}
 use Rattle.vt_term.specs.State.{Display}
 use Rattle.vt_term.specs.Pages.{page_of, with_page}
 use Rattle.vt_term.specs.Saving.{save_cursor, restore_cursor}
@@ -84,7 +85,8 @@ pub shown-width : (s : Screens) → s.pages.alternate ≡ false → IsSoundDispl
     → (show_and_save true s).display.grid.width ≡ s.display.grid.width
 shown-width s main display other =
     let shape = display.grid.shape.width in
-    rw main (fitted-sound s.display.grid.width shape.0 s.pages.other shape.1 other).1
+    rw main (fitted-sound vt220_size s.display.grid.width shape.0 s.pages.other
+    (shape.1 ∙ ap (λ z. width_of z shape.0) display.of_size) other).1
 
 pub on-effect : (s : Screens) → xterm_effect (alternate_page true) s ≡ show_and_save true s
 unfolding functions_of function_in with_page_mode

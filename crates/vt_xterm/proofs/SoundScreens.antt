@@ -1,6 +1,6 @@
 -- Every function keeps the display and the page that isn't shown sound.
 use Rattle.std.proofs.Common.{rules, arith, ◌≡◌, ℕ, ◌≤◌, Bool, true, false, zero, suc, List, [], ◌∷◌, Option, Some, None}
-use Rattle.std.proofs.Common.{refl, subst, sym}
+use Rattle.std.proofs.Common.{refl, subst, sym, ap, ◌∙◌}
 use Rattle.std.specs.Prelude.{◌++◌, length, ◌==◌, ◌-◌, ◌&&◌, nat_lt, min, if◌then◌else◌, codes}
 use Rattle.std.proofs.lemmas.Bool.Decides.{nat_tests}
 use Rattle.vt_syntax.specs.declared.event.Event.{Event}
@@ -9,26 +9,32 @@ use Rattle.vt_syntax.specs.Held.{events_from, spell}
 use Rattle.vt_syntax.specs.Laws.{SplitLaw}
 use Rattle.vt_glyph.specs.Tables.{IsGlyph, is_glyph}
 use Rattle.vt_glyph.specs.Laws.{GlyphLaws, SetsLaws}
-use Rattle.vt_screen.specs.Grid.{columns}
+use Rattle.vt_screen.specs.declared.size.Size.{Size}
+use Rattle.vt_screen.specs.Sizes.{vt220_size, width_of, IsSize}
 use Rattle.vt_screen.proofs.SoundGrids.{blank_grid-sound, scroll_up-sound, scroll_down-sound}
 use Rattle.vt_term.specs.State.{Display, State, last_column, has_stop_at}
-use Rattle.vt_term.specs.Sound.{IsPlace, IsSoundDisplay, IsSound}
-use Rattle.vt_term.specs.Pages.{PageState, IsSoundPage, page_of, with_page, blanked, resized, fitted}
+use Rattle.vt_term.specs.Sound.{IsPlace, IsSoundDisplayAt, IsSoundSizedDisplay, IsSound}
+use Rattle.vt_term.specs.Pages.{PageState, IsSoundPageAt, blank_page, page_of, with_page, blanked, resized, fitted}
 use Rattle.vt_term.specs.Modes.{private_modes, with_mode, column_mode, autowrap_mode}
 use Rattle.vt_term.specs.Functions.{byte, effect, sequence_in, sequences_of}
 use Rattle.vt_term.specs.Play.{play}
 use Rattle.vt_term.proofs.SoundEffects as terminals
 use Rattle.vt_term.proofs.SoundPlay.{effect-keeps}
+use Rattle.vt_term.proofs.PowerUp.{display_of-sound}
+use Rattle.vt_term.proofs.SizeKept.{KeepsSize, own-display, effect-size, write_glyph-size, erase_in_display_kept}
+use Rattle.vt_term.proofs.SizeKept.{set_conformance_level-size}
 use Rattle.vt_xterm.specs.Pages.{Screens, on_display, exchanged, show_page, with_blank, show_or_clear}
 use Rattle.vt_xterm.specs.Pages.{save_or_restore, show_and_save, allow_column_mode, allowed_column_mode, page_modes}
 use Rattle.vt_xterm.specs.Pages.{with_page_mode, change_page_modes, is_window_wide, bracket_pastes}
-use Rattle.vt_term.specs.Moving.{cursor_up, cursor_down}
+use Rattle.vt_term.specs.Moving.{cursor_up, cursor_down, cursor_forward}
 use Rattle.vt_term.specs.Tabs.{horizontal_tab}
 use Rattle.vt_term.specs.Writing.{write_glyph}
 use Rattle.vt_term.specs.Saving.{save_cursor, restore_cursor}
+use Rattle.vt_term.specs.Editing.{erase_in_display}
+use Rattle.vt_term.specs.Resets.{reset_to_initial_state as reset_display}
 use Rattle.vt_term.specs.Resets.{soft_reset, is_level, set_conformance_level}
 use Rattle.vt_term.specs.Parameters.{first, second, count}
-use Rattle.vt_term.specs.State.{display_at_power_up, power_up}
+use Rattle.vt_term.specs.State.{display_of, display_at_power_up, power_up}
 use Rattle.vt_term.specs.Scrolling.{scrolled_off}
 use Rattle.vt_screen.specs.Cells.{blank}
 use Rattle.vt_screen.specs.Laws.{RowLaws, TestLaws}
@@ -54,51 +60,79 @@ PlaySound = (s : State) (bytes : List ℕ) → IsSound s → IsSound (play s byt
 
 -- ---- pages
 
--- the display and the page that isn't shown are sound
-abbrev pub AreSound : Screens → Type 0
-AreSound s = IsSoundDisplay s.display × IsSoundPage s.pages.other
+-- the display and the page that isn't shown are sound, and of this size
+abbrev pub AreSound : Size → Screens → Type 0
+AreSound size s = IsSoundDisplayAt size s.display × IsSoundPageAt size s.pages.other
 
 abbrev pub Keeps : (Screens → Screens) → Type 0
-Keeps f = (s : Screens) → AreSound s → AreSound (f s)
+Keeps f = (size : Size) (s : Screens) → AreSound size s → AreSound size (f s)
 
-pub display-keeps : (f : Display → Display) → terminals.Keeps f → Keeps (on_display f)
-display-keeps f keeps s i = (keeps s.display i.0, i.1)
+-- the same of a function of the display
+abbrev pub KeepsDisplay : (Display → Display) → Type 0
+KeepsDisplay f = (size : Size) (s : Display) → IsSoundDisplayAt size s → IsSoundDisplayAt size (f s)
 
-columns-of : (width : ℕ) (wide : Bool) → width ≡ columns wide → columns (width == columns true) ≡ width
-columns-of width true is = rw is refl
-columns-of width false is = rw is refl
+-- a function that keeps a display of its own size sound, and keeps the size
+fixed : (f : Display → Display) → terminals.Keeps f → KeepsSize f → KeepsDisplay f
+fixed f keeps same size s i =
+    subst (λ z. IsSoundDisplayAt z (f s)) (same s ∙ i.of_size) (keeps s (own-display size s i))
 
-saved-inside : (width row col : ℕ) (wrap : Bool) (wide : Bool) → IsPlace width row col wrap
-    → IsPlace (columns wide) row (min col (columns wide)) false
-saved-inside width row col wrap true i = search rules
-saved-inside width row col wrap false i = search rules
+pub display-keeps : (f : Display → Display) → KeepsDisplay f → Keeps (on_display f)
+display-keeps f keeps size s i = (keeps size s.display i.0, i.1)
 
-resized-sound : (wide : Bool) (page : PageState) → IsSoundPage page → IsSoundPage (resized wide page)
-resized-sound wide page i = record {
-  grid = blank_grid-sound wide;
-  saved = saved-inside page.grid.width page.saved.row page.saved.col page.saved.wrap wide i.saved;
-  saved_sets = i.saved_sets;
-}
+columns-of : (size : Size) (width : ℕ) (wide : Bool) → width ≡ width_of size wide
+    → width_of size (width == size.wide) ≡ width
+columns-of size width wide is = go (width == size.wide) refl
+  where
+    narrow : (b : Bool) → width ≡ width_of size b → (width == size.wide) ≡ false → size.narrow ≡ width
+    narrow true e other = absurd (grind (arith, nat_tests))
+    narrow false e other = sym e
+
+    go : (b : Bool) → (width == size.wide) ≡ b → (if b then size.wide else size.narrow) ≡ width
+    go true e = sym (same-numbers width size.wide e)
+    go false e = narrow wide is e
+
+some-columns : (size : Size) (wide : Bool) → IsSize size → 1 ≤ width_of size wide
+some-columns size true sized = omega (arith, sized.narrow, sized.wide)
+some-columns size false sized = omega (arith, sized.narrow)
+
+saved-inside : (rows width next row col : ℕ) (wrap : Bool) → 1 ≤ next → IsPlace rows width row col wrap
+    → IsPlace rows next row (min col next) false
+saved-inside rows width next row col wrap some i = search rules
+
+resized-sound : (size : Size) (wide : Bool) (page : PageState) → IsSoundPageAt size page → IsSoundPageAt size (resized wide page)
+resized-sound size wide page i =
+    let some : 1 ≤ width_of page.grid.size wide = some-columns page.grid.size wide i.grid.shape.size in record {
+      of_size = i.of_size;
+      grid = blank_grid-sound page.grid.size wide i.grid.shape.size;
+      saved = saved-inside size.rows page.grid.width (width_of page.grid.size wide) page.saved.row page.saved.col
+          page.saved.wrap some i.saved;
+      saved_sets = i.saved_sets;
+    }
 
 -- a page for a screen is sound, and has the screen's width
-pub fitted-sound : (width : ℕ) (wide : Bool) (page : PageState) → width ≡ columns wide → IsSoundPage page
-    → IsSoundPage (fitted width page) × ((fitted width page).grid.width ≡ width)
-fitted-sound width wide page shape i = go (page.grid.width == width) refl
+pub fitted-sound : (size : Size) (width : ℕ) (wide : Bool) (page : PageState) → width ≡ width_of size wide
+    → IsSoundPageAt size page → IsSoundPageAt size (fitted width page) × ((fitted width page).grid.width ≡ width)
+fitted-sound size width wide page shape i = go (page.grid.width == width) refl
   where
+    here : width ≡ width_of page.grid.size wide
+    here = shape ∙ ap (λ z. width_of z wide) (sym i.of_size)
+
     go : (b : Bool) → (page.grid.width == width) ≡ b
-        → IsSoundPage (if b then page else resized (width == columns true) page)
-        × ((if b then page else resized (width == columns true) page).grid.width ≡ width)
+        → IsSoundPageAt size (if b then page else resized (width == page.grid.size.wide) page)
+        × ((if b then page else resized (width == page.grid.size.wide) page).grid.width ≡ width)
     go true is = (i, same-numbers page.grid.width width is)
-    go false is = (resized-sound (width == columns true) page i, columns-of width wide shape)
+    go false is =
+        (resized-sound size (width == page.grid.size.wide) page i, columns-of page.grid.size width wide here)
 
-page_of-sound : (s : Display) → IsSoundDisplay s → IsSoundPage (page_of s)
-page_of-sound s i = record { grid = i.grid; saved = i.saved; saved_sets = i.saved_sets }
+page_of-sound : (size : Size) (s : Display) → IsSoundDisplayAt size s → IsSoundPageAt size (page_of s)
+page_of-sound size s i = record { of_size = i.of_size; grid = i.grid; saved = i.saved; saved_sets = i.saved_sets }
 
-with_page-sound : (page : PageState) (s : Display) → page.grid.width ≡ s.grid.width → IsSoundPage page → IsSoundDisplay s
-    → IsSoundDisplay (with_page page s)
-with_page-sound page s width p i = record {
+with_page-sound : (size : Size) (page : PageState) (s : Display) → page.grid.width ≡ s.grid.width → IsSoundPageAt size page
+    → IsSoundDisplayAt size s → IsSoundDisplayAt size (with_page page s)
+with_page-sound size page s width p i = record {
+  of_size = p.of_size;
   grid = p.grid;
-  cursor = subst (λ (w : ℕ). IsPlace w s.cursor.row s.cursor.col s.cursor.wrap) (sym width) i.cursor;
+  cursor = subst (λ (w : ℕ). IsPlace size.rows w s.cursor.row s.cursor.col s.cursor.wrap) (sym width) i.cursor;
   wrap = i.wrap;
   origin = i.origin;
   sets = i.sets;
@@ -109,75 +143,84 @@ with_page-sound page s width p i = record {
 }
 
 exchanged-keeps : (alternate : Bool) → Keeps (exchanged alternate)
-exchanged-keeps alternate s i =
+exchanged-keeps alternate size s i =
     let shape = i.0.grid.shape.width in
-    let fit = fitted-sound s.display.grid.width shape.0 s.pages.other shape.1 i.1 in (
-      with_page-sound (fitted s.display.grid.width s.pages.other) s.display fit.1 fit.0 i.0,
-      page_of-sound s.display i.0,
+    let fit = fitted-sound size s.display.grid.width shape.0 s.pages.other
+    (shape.1 ∙ ap (λ z. width_of z shape.0) i.0.of_size) i.1 in (
+      with_page-sound size (fitted s.display.grid.width s.pages.other) s.display fit.1 fit.0 i.0,
+      page_of-sound size s.display i.0,
     )
 
-blanked-sound : (page : PageState) → IsSoundPage page → IsSoundPage (blanked page)
-blanked-sound page i =
+blanked-sound : (size : Size) (page : PageState) → IsSoundPageAt size page → IsSoundPageAt size (blanked page)
+blanked-sound size page i =
     let shape = i.grid.shape.width in record {
-      grid = blank_grid-sound (page.grid.width == columns true);
-      saved = subst (λ (w : ℕ). IsPlace w page.saved.row page.saved.col page.saved.wrap)
-          (sym (columns-of page.grid.width shape.0 shape.1)) i.saved;
+      of_size = i.of_size;
+      grid = blank_grid-sound page.grid.size (page.grid.width == page.grid.size.wide) i.grid.shape.size;
+      saved = subst (λ (w : ℕ). IsPlace size.rows w page.saved.row page.saved.col page.saved.wrap)
+          (sym (columns-of page.grid.size page.grid.width shape.0 shape.1)) i.saved;
       saved_sets = i.saved_sets;
     }
 
 -- ---- modes
 
 show_page-keeps : (alternate : Bool) → Keeps (show_page alternate)
-show_page-keeps alternate s i = go s.pages.alternate alternate
+show_page-keeps alternate size s i = go s.pages.alternate alternate
   where
-    go : (b on : Bool) → AreSound (if b then (if on then s else exchanged false s) else (if on then exchanged true s else s))
+    go : (b on : Bool) → AreSound size (if b then (if on then s else exchanged false s) else (if on then exchanged true s else s))
     go true true = i
-    go true false = exchanged-keeps false s i
-    go false true = exchanged-keeps true s i
+    go true false = exchanged-keeps false size s i
+    go false true = exchanged-keeps true size s i
     go false false = i
 
 with_blank-keeps : Keeps with_blank
-with_blank-keeps s i = (i.0, blanked-sound s.pages.other i.1)
+with_blank-keeps size s i = (i.0, blanked-sound size s.pages.other i.1)
 
 show_or_clear-keeps : (alternate : Bool) → Keeps (show_or_clear alternate)
-show_or_clear-keeps true s i = show_page-keeps true s i
-show_or_clear-keeps false s i = go s.pages.alternate
+show_or_clear-keeps true size s i = show_page-keeps true size s i
+show_or_clear-keeps false size s i = go s.pages.alternate
   where
-    go : (b : Bool) → AreSound (if b then with_blank (show_page false s) else s)
-    go true = with_blank-keeps (show_page false s) (show_page-keeps false s i)
+    go : (b : Bool) → AreSound size (if b then with_blank (show_page false s) else s)
+    go true = with_blank-keeps size (show_page false s) (show_page-keeps false size s i)
     go false = i
 
 save_or_restore-keeps : (save : Bool) → Keeps (save_or_restore save)
-save_or_restore-keeps true s i = (terminals.save_cursor-keeps s.display i.0, i.1)
-save_or_restore-keeps false s i = (terminals.restore_cursor-keeps s.display i.0, i.1)
+save_or_restore-keeps true = display-keeps save_cursor (fixed save_cursor terminals.save_cursor-keeps (λ s. refl))
+save_or_restore-keeps false = display-keeps restore_cursor (fixed restore_cursor terminals.restore_cursor-keeps (λ s. refl))
 
 show_and_save-keeps : (alternate : Bool) → Keeps (show_and_save alternate)
-show_and_save-keeps true s i =
-    let saved = save_or_restore-keeps true s i in
-    let shown = show_page-keeps true (save_or_restore true s) saved in
-    (terminals.erase_in_display-keeps false 2 (show_page true (save_or_restore true s)).display shown.0, shown.1)
-show_and_save-keeps false s i = save_or_restore-keeps false (show_page false s) (show_page-keeps false s i)
+show_and_save-keeps true size s i =
+    let saved = save_or_restore-keeps true size s i in
+    let shown = show_page-keeps true size (save_or_restore true s) saved in (
+      fixed (erase_in_display false 2) (terminals.erase_in_display-keeps false 2) (erase_in_display_kept false 2) size
+          (show_page true (save_or_restore true s)).display shown.0,
+      shown.1,
+    )
+show_and_save-keeps false size s i =
+    save_or_restore-keeps false size (show_page false s) (show_page-keeps false size s i)
 
 allow_column_mode-keeps : (on : Bool) → Keeps (allow_column_mode on)
-allow_column_mode-keeps on s i = i
+allow_column_mode-keeps on size s i = i
 
 bracket_pastes-keeps : (on : Bool) → Keeps (bracket_pastes on)
-bracket_pastes-keeps on s i = i
+bracket_pastes-keeps on size s i = i
 
 allowed_column_mode-keeps : (wide : Bool) → Keeps (allowed_column_mode wide)
-allowed_column_mode-keeps wide s i = go s.pages.resizes
+allowed_column_mode-keeps wide size s i = go s.pages.resizes
   where
-    go : (b : Bool) → AreSound (if b then on_display (column_mode wide) s else s)
-    go true = (terminals.column_mode-keeps wide s.display i.0, i.1)
+    go : (b : Bool) → AreSound size (if b then on_display (column_mode wide) s else s)
+    go true = display-keeps (column_mode wide) (fixed (column_mode wide) (terminals.column_mode-keeps wide) (λ s. refl)) size s i
     go false = i
 
+effect-fixed : GlyphLaws → SetsLaws → (event : Event) → KeepsDisplay (effect event)
+effect-fixed glyphs sets event = fixed (effect event) (effect-keeps glyphs sets event) (effect-size event)
+
 -- a VT220's mode, as SM or RM of this one alone
-private_mode-keeps : GlyphLaws → SetsLaws → (on : Bool) (p : ℕ) → terminals.Keeps (with_mode private_modes on p)
+private_mode-keeps : GlyphLaws → SetsLaws → (on : Bool) (p : ℕ) → KeepsDisplay (with_mode private_modes on p)
 unfolding sequence_in sequences_of
-private_mode-keeps glyphs sets true p s i =
-    effect-keeps glyphs sets (Sequence (Some 0x3F) (record { items = p ∷ [] }) None 0x68) s i
-private_mode-keeps glyphs sets false p s i =
-    effect-keeps glyphs sets (Sequence (Some 0x3F) (record { items = p ∷ [] }) None 0x6C) s i
+private_mode-keeps glyphs sets true p =
+    effect-fixed glyphs sets (Sequence (Some 0x3F) (record { items = p ∷ [] }) None 0x68)
+private_mode-keeps glyphs sets false p =
+    effect-fixed glyphs sets (Sequence (Some 0x3F) (record { items = p ∷ [] }) None 0x6C)
 
 page_modes-keep : AllRows (λ key f. (on : Bool) → Keeps (f on)) page_modes
 unfolding AllRows
@@ -199,34 +242,34 @@ module _ (glyphs : GlyphLaws) (sets : SetsLaws) where
       looked_up-holds (λ key f. (on : Bool) → Keeps (f on)) page_modes p (λ on. on_display (with_mode private_modes on p))
       (λ on. display-keeps (with_mode private_modes on p) (private_mode-keeps glyphs sets on p)) page_modes-keep on
 
-  change_page_modes-keeps : (on : Bool) (params : List ℕ) → Keeps (change_page_modes on params)
-  change_page_modes-keeps on [] s i = i
-  change_page_modes-keeps on (p ∷ params) s i =
-      change_page_modes-keeps on params (with_page_mode on p s) (page_mode-keeps on p s i)
+  pub change_page_modes-keeps : (on : Bool) (params : List ℕ) → Keeps (change_page_modes on params)
+  change_page_modes-keeps on [] size s i = i
+  change_page_modes-keeps on (p ∷ params) size s i =
+      change_page_modes-keeps on params size (with_page_mode on p s) (page_mode-keeps on p size s i)
 
 -- ---- functions of the display
 
-cursor_character_absolute-keeps : (n : ℕ) → 1 ≤ n → terminals.Keeps (cursor_character_absolute n)
-cursor_character_absolute-keeps n some s i = search rules
+cursor_character_absolute-own : (n : ℕ) → 1 ≤ n → terminals.Keeps (cursor_character_absolute n)
+cursor_character_absolute-own n some s i = search rules
 
-line_position_absolute-keeps : (n : ℕ) → 1 ≤ n → terminals.Keeps (line_position_absolute n)
-line_position_absolute-keeps n some s i = search rules
+line_position_absolute-own : (n : ℕ) → 1 ≤ n → terminals.Keeps (line_position_absolute n)
+line_position_absolute-own n some s i = search rules
 
-line_position_forward-keeps : (n : ℕ) → terminals.Keeps (line_position_forward n)
-line_position_forward-keeps n s i = search rules
+line_position_forward-own : (n : ℕ) → terminals.Keeps (line_position_forward n)
+line_position_forward-own n s i = search rules
 
-cursor_next_line-keeps : (n : ℕ) → terminals.Keeps (cursor_next_line n)
-cursor_next_line-keeps n s i =
+cursor_next_line-own : (n : ℕ) → terminals.Keeps (cursor_next_line n)
+cursor_next_line-own n s i =
     terminals.carriage_return-keeps (cursor_down n s) (terminals.cursor_down-keeps n s i)
 
-cursor_preceding_line-keeps : (n : ℕ) → terminals.Keeps (cursor_preceding_line n)
-cursor_preceding_line-keeps n s i = terminals.carriage_return-keeps (cursor_up n s) (terminals.cursor_up-keeps n s i)
+cursor_preceding_line-own : (n : ℕ) → terminals.Keeps (cursor_preceding_line n)
+cursor_preceding_line-own n s i = terminals.carriage_return-keeps (cursor_up n s) (terminals.cursor_up-keeps n s i)
 
-rows_up-keeps : (n : ℕ) → terminals.Keeps (rows_up n)
-rows_up-keeps n s i = search (rules, scroll_up-sound)
+rows_up-own : (n : ℕ) → terminals.Keeps (rows_up n)
+rows_up-own n s i = search (rules, scroll_up-sound)
 
-rows_down-keeps : (n : ℕ) → terminals.Keeps (rows_down n)
-rows_down-keeps n s i = search (rules, scroll_down-sound)
+rows_down-own : (n : ℕ) → terminals.Keeps (rows_down n)
+rows_down-own n s i = search (rules, scroll_down-sound)
 
 -- the display stays, or becomes a sound one
 one-of : (b : Bool) (f : Display → Display) → terminals.Keeps f → terminals.Keeps (λ s. if b then f s else s)
@@ -258,21 +301,21 @@ back_tab-keeps s i =
     i.cursor.col_last in
     search rules
 
-select_attributes-keeps : (params : List ℕ) → terminals.Keeps (select_attributes params)
-select_attributes-keeps params s i = terminals.select_graphic_rendition-keeps (without_colours 0 params) s i
+select_attributes-own : (params : List ℕ) → terminals.Keeps (select_attributes params)
+select_attributes-own params s i = terminals.select_graphic_rendition-keeps (without_colours 0 params) s i
 
-soft_reset_wrapping-keeps : terminals.Keeps soft_reset_wrapping
-soft_reset_wrapping-keeps s i = terminals.autowrap_mode-keeps true (soft_reset s) (terminals.soft_reset-keeps s i)
+soft_reset_wrapping-own : terminals.Keeps soft_reset_wrapping
+soft_reset_wrapping-own s i = terminals.autowrap_mode-keeps true (soft_reset s) (terminals.soft_reset-keeps s i)
 
-set_level_wrapping-keeps : (params : List ℕ) → terminals.Keeps (set_level_wrapping params)
-set_level_wrapping-keeps params s i =
+set_level_wrapping-own : (params : List ℕ) → terminals.Keeps (set_level_wrapping params)
+set_level_wrapping-own params s i =
     let p1 : ℕ = first params in
     let p2 : ℕ = second params in
     one-of (is_level p1 p2) (λ t. autowrap_mode true (set_conformance_level p1 p2 t))
     (λ t sound. terminals.autowrap_mode-keeps true (set_conformance_level p1 p2 t)
     (terminals.set_conformance_level-keeps p1 p2 t sound)) s i
 
-before-inside : (s : Display) → IsSoundDisplay s → (column_before s == 0) ≡ false
+before-inside : (s : Display) → IsSoundSizedDisplay s → (column_before s == 0) ≡ false
     → (1 ≤ column_before s) × (column_before s ≤ last_column s)
 before-inside s i some = (grind (arith, nat_tests), at-most s.cursor.wrap)
   where
@@ -282,7 +325,7 @@ before-inside s i some = (grind (arith, nat_tests), at-most s.cursor.wrap)
 
 -- the cell before the cursor shows a glyph
 module _ (rows : RowLaws) (tests : TestLaws) where
-  glyph_before-shown : (s : Display) → IsSoundDisplay s → (column_before s == 0) ≡ false → IsGlyph (glyph_before s)
+  glyph_before-shown : (s : Display) → IsSoundSizedDisplay s → (column_before s == 0) ≡ false → IsGlyph (glyph_before s)
   unfolding is_glyph
   glyph_before-shown s i some =
       let col = column_before s in
@@ -291,35 +334,110 @@ module _ (rows : RowLaws) (tests : TestLaws) where
       (sym (rows.cell s.grid s.cursor.row col blank place.0 place.1))
       (tests.at (λ cell. is_glyph cell.glyph) s.grid s.cursor.row col refl i.grid.glyphs)
 
-  repeat-keeps : (n : ℕ) → terminals.Keeps (repeat n)
-  repeat-keeps n s i = go (column_before s == 0) refl
+  repeat-own : (n : ℕ) → terminals.Keeps (repeat n)
+  repeat-own n s i = go (column_before s == 0) refl
     where
       go : (b : Bool) → (column_before s == 0) ≡ b
-          → IsSoundDisplay (if b then s else times (min n (room s)) (write_glyph (glyph_before s)) s)
+          → IsSoundSizedDisplay (if b then s else times (min n (room s)) (write_glyph (glyph_before s)) s)
       go true is = i
       go false is =
           times-keeps (min n (room s)) (write_glyph (glyph_before s))
           (terminals.write_glyph-keeps (glyph_before s) (glyph_before-shown s i is)) s i
 
-cursor_forward_tabulation-keeps : (n : ℕ) → terminals.Keeps (cursor_forward_tabulation n)
-cursor_forward_tabulation-keeps n s i =
+cursor_forward_tabulation-own : (n : ℕ) → terminals.Keeps (cursor_forward_tabulation n)
+cursor_forward_tabulation-own n s i =
     times-keeps (min n (last_column s)) horizontal_tab terminals.horizontal_tab-keeps s i
 
-cursor_backward_tabulation-keeps : (n : ℕ) → terminals.Keeps (cursor_backward_tabulation n)
-cursor_backward_tabulation-keeps n s i = times-keeps (min n (last_column s)) back_tab back_tab-keeps s i
+cursor_backward_tabulation-own : (n : ℕ) → terminals.Keeps (cursor_backward_tabulation n)
+cursor_backward_tabulation-own n s i = times-keeps (min n (last_column s)) back_tab back_tab-keeps s i
 
-rows_down_by-keeps : (params : List ℕ) → terminals.Keeps (rows_down_by params)
-rows_down_by-keeps params s i =
-    one-of (length params == 1) (rows_down (count params)) (rows_down-keeps (count params)) s i
+rows_down_by-own : (params : List ℕ) → terminals.Keeps (rows_down_by params)
+rows_down_by-own params s i =
+    one-of (length params == 1) (rows_down (count params)) (rows_down-own (count params)) s i
 
-save_if_bare-keeps : (params : List ℕ) → terminals.Keeps (save_if_bare params)
-save_if_bare-keeps params s i = one-of (is_bare params) save_cursor terminals.save_cursor-keeps s i
+save_if_bare-own : (params : List ℕ) → terminals.Keeps (save_if_bare params)
+save_if_bare-own params s i = one-of (is_bare params) save_cursor terminals.save_cursor-keeps s i
 
-restore_if_bare-keeps : (params : List ℕ) → terminals.Keeps (restore_if_bare params)
-restore_if_bare-keeps params s i = one-of (is_bare params) restore_cursor terminals.restore_cursor-keeps s i
+restore_if_bare-own : (params : List ℕ) → terminals.Keeps (restore_if_bare params)
+restore_if_bare-own params s i = one-of (is_bare params) restore_cursor terminals.restore_cursor-keeps s i
+
+-- ---- these keep the size, too
+
+times-size : (n : ℕ) (f : Display → Display) → KeepsSize f → KeepsSize (times n f)
+times-size zero f same s = refl
+times-size (suc n) f same s = same (times n f s) ∙ times-size n f same s
+
+one-of-size : (b : Bool) (f : Display → Display) → KeepsSize f → KeepsSize (λ s. if b then f s else s)
+one-of-size true f same s = same s
+one-of-size false f same s = refl
+
+repeat-size : (n : ℕ) → KeepsSize (repeat n)
+repeat-size n s = go (column_before s == 0)
+  where
+    go : (b : Bool) → (if b then s else times (min n (room s)) (write_glyph (glyph_before s)) s).grid.size ≡ s.grid.size
+    go true = refl
+    go false = times-size (min n (room s)) (write_glyph (glyph_before s)) (write_glyph-size (glyph_before s)) s
+
+cursor_next_line-keeps : (n : ℕ) → KeepsDisplay (cursor_next_line n)
+cursor_next_line-keeps n = fixed (cursor_next_line n) (cursor_next_line-own n) (λ s. refl)
+
+cursor_preceding_line-keeps : (n : ℕ) → KeepsDisplay (cursor_preceding_line n)
+cursor_preceding_line-keeps n = fixed (cursor_preceding_line n) (cursor_preceding_line-own n) (λ s. refl)
+
+cursor_character_absolute-keeps : (n : ℕ) → 1 ≤ n → KeepsDisplay (cursor_character_absolute n)
+cursor_character_absolute-keeps n some =
+    fixed (cursor_character_absolute n) (cursor_character_absolute-own n some) (λ s. refl)
+
+cursor_forward-keeps : (n : ℕ) → KeepsDisplay (cursor_forward n)
+cursor_forward-keeps n = fixed (cursor_forward n) (terminals.cursor_forward-keeps n) (λ s. refl)
+
+cursor_forward_tabulation-keeps : (n : ℕ) → KeepsDisplay (cursor_forward_tabulation n)
+cursor_forward_tabulation-keeps n = fixed (cursor_forward_tabulation n) (cursor_forward_tabulation-own n)
+    (λ s. times-size (min n (last_column s)) horizontal_tab (λ t. refl) s)
+
+cursor_backward_tabulation-keeps : (n : ℕ) → KeepsDisplay (cursor_backward_tabulation n)
+cursor_backward_tabulation-keeps n = fixed (cursor_backward_tabulation n) (cursor_backward_tabulation-own n)
+    (λ s. times-size (min n (last_column s)) back_tab (λ t. refl) s)
+
+rows_up-keeps : (n : ℕ) → KeepsDisplay (rows_up n)
+rows_up-keeps n = fixed (rows_up n) (rows_up-own n) (λ s. refl)
+
+rows_down-keeps : (n : ℕ) → KeepsDisplay (rows_down n)
+rows_down-keeps n = fixed (rows_down n) (rows_down-own n) (λ s. refl)
+
+rows_down_by-keeps : (params : List ℕ) → KeepsDisplay (rows_down_by params)
+rows_down_by-keeps params = fixed (rows_down_by params) (rows_down_by-own params)
+    (one-of-size (length params == 1) (rows_down (count params)) (λ s. refl))
+
+line_position_absolute-keeps : (n : ℕ) → 1 ≤ n → KeepsDisplay (line_position_absolute n)
+line_position_absolute-keeps n some = fixed (line_position_absolute n) (line_position_absolute-own n some) (λ s. refl)
+
+line_position_forward-keeps : (n : ℕ) → KeepsDisplay (line_position_forward n)
+line_position_forward-keeps n = fixed (line_position_forward n) (line_position_forward-own n) (λ s. refl)
+
+select_attributes-keeps : (params : List ℕ) → KeepsDisplay (select_attributes params)
+select_attributes-keeps params = fixed (select_attributes params) (select_attributes-own params) (λ s. refl)
+
+save_if_bare-keeps : (params : List ℕ) → KeepsDisplay (save_if_bare params)
+save_if_bare-keeps params = fixed (save_if_bare params) (save_if_bare-own params)
+    (one-of-size (is_bare params) save_cursor (λ s. refl))
+
+restore_if_bare-keeps : (params : List ℕ) → KeepsDisplay (restore_if_bare params)
+restore_if_bare-keeps params = fixed (restore_if_bare params) (restore_if_bare-own params)
+    (one-of-size (is_bare params) restore_cursor (λ s. refl))
+
+soft_reset_wrapping-keeps : KeepsDisplay soft_reset_wrapping
+soft_reset_wrapping-keeps = fixed soft_reset_wrapping soft_reset_wrapping-own (λ s. refl)
+
+set_level_wrapping-keeps : (params : List ℕ) → KeepsDisplay (set_level_wrapping params)
+set_level_wrapping-keeps params = fixed (set_level_wrapping params) (set_level_wrapping-own params)
+    (one-of-size (is_level (first params) (second params))
+    (λ t. autowrap_mode true (set_conformance_level (first params) (second params) t))
+    (λ t. set_conformance_level-size (first params) (second params) t))
 
 -- what each function by itself needs
 ruleset own-keeping = (
+  cursor_forward-keeps,
   cursor_next_line-keeps,
   cursor_preceding_line-keeps,
   cursor_character_absolute-keeps,
@@ -343,8 +461,8 @@ module _ (glyphs : GlyphLaws) (sets : SetsLaws) (rows : RowLaws) (tests : TestLa
   plain_functions-keep params =
       let n : ℕ = count params in
       let some : 1 ≤ n = omega arith in
-      let again : terminals.Keeps (repeat n) = repeat-keeps rows tests n in
-      search (display-keeps, own-keeping, terminals.cursor_forward-keeps, again, some)
+      let again : KeepsDisplay (repeat n) = fixed (repeat n) (repeat-own rows tests n) (repeat-size n) in
+      search (display-keeps, own-keeping, again, some)
 
   AllFunctionsKeep : List ℕ → FunctionTable → Type 0
   AllFunctionsKeep params = AllRows (λ key f. Keeps (f params))
@@ -367,38 +485,45 @@ module _ (glyphs : GlyphLaws) (sets : SetsLaws) (rows : RowLaws) (tests : TestLa
   unfolding function_in
   function_in-keeps table event last params all =
       looked_up-holds (λ key f. Keeps (f params)) table last (λ params. on_display (effect event))
-      (display-keeps (effect event) (effect-keeps glyphs sets event)) all
+      (display-keeps (effect event) (effect-fixed glyphs sets event)) all
 
   plain_escapes-keep : AllRows (λ key f. Keeps (f [])) plain_escapes
   unfolding AllRows
   plain_escapes-keep = (
-    λ s i.
-        let sound : IsSoundDisplay display_at_power_up = terminals.reset_to_initial_state-keeps s.display i.0 in
-        (terminals.column_mode-keeps (is_window_wide s) display_at_power_up sound, page_of-sound display_at_power_up sound),
+    λ size s i.
+        let sized : IsSize s.display.grid.size = i.0.grid.shape.size in
+        let sound = fixed reset_display terminals.reset_to_initial_state-keeps (λ t. refl) size s.display i.0 in
+        let wide : Bool = is_window_wide s in
+        let page : Size = s.display.grid.size in (
+          fixed (column_mode wide) (terminals.column_mode-keeps wide) (λ t. refl) size (display_of s.display.grid.size) sound,
+          subst (λ z. IsSoundPageAt z (blank_page page)) i.0.of_size
+              (page_of-sound page (display_of page) (display_of-sound page sized)),
+        ),
     tt,
   )
 
   pub event-keeps : (event : Event) → Keeps (xterm_effect event)
   unfolding AllFunctionsKeep
-  event-keeps (Print b) = display-keeps (effect (Print b)) (effect-keeps glyphs sets (Print b))
-  event-keeps (Control b) = display-keeps (effect (Control b)) (effect-keeps glyphs sets (Control b))
+  event-keeps (Print b) = display-keeps (effect (Print b)) (effect-fixed glyphs sets (Print b))
+  event-keeps (Control b) = display-keeps (effect (Control b)) (effect-fixed glyphs sets (Control b))
   event-keeps (Escape None last) = function_in-keeps plain_escapes (Escape None last) last [] plain_escapes-keep
   event-keeps (Escape (Some inter) last) =
-      display-keeps (effect (Escape (Some inter) last)) (effect-keeps glyphs sets (Escape (Some inter) last))
+      display-keeps (effect (Escape (Some inter) last)) (effect-fixed glyphs sets (Escape (Some inter) last))
   event-keeps (Sequence marker params inter last) =
       function_in-keeps (functions_of marker inter) (Sequence marker params inter last) last params.items
       (functions_of-keep params.items marker inter)
 
   after_events-keeps : (events : List Event) → Keeps (after_events events)
-  after_events-keeps [] s i = i
-  after_events-keeps (event ∷ events) s i = after_events-keeps events (xterm_effect event s) (event-keeps event s i)
+  after_events-keeps [] size s i = i
+  after_events-keeps (event ∷ events) size s i =
+      after_events-keeps events size (xterm_effect event s) (event-keeps event size s i)
 
   -- ---- bytes and characters
 
   bytes-sound : SplitLaw → (w : Whole) (bytes : List ℕ) → IsSoundWhole w → IsSoundWhole (play_bytes w bytes).whole
   unfolding play_bytes
   bytes-sound split w bytes i =
-      let after = after_events-keeps (events_from w.state.held bytes) (screens_of w) (i.state.display, i.other) in record {
+      let after = after_events-keeps (events_from w.state.held bytes) vt220_size (screens_of w) (i.state.display, i.other) in record {
         state = record { display = after.0; held = split.held_part (spell w.state.held ++ bytes) };
         other = after.1;
       }
@@ -427,4 +552,4 @@ module _ (glyphs : GlyphLaws) (sets : SetsLaws) (rows : RowLaws) (tests : TestLa
   xterm-sound split played w pending bytes i = characters-sound split played w (characters pending bytes) i
 
 pub power_up-sound : IsSound power_up → IsSoundWhole (behind power_up front_at_power_up)
-power_up-sound i = record { state = i; other = page_of-sound display_at_power_up i.display }
+power_up-sound i = record { state = i; other = page_of-sound vt220_size display_at_power_up i.display }

@@ -9,7 +9,7 @@ use Rattle.vt_glyph.specs.Designation.{set_of_final}
 use Rattle.vt_glyph.specs.declared.set.Set.{Set}
 use Rattle.vt_screen.specs.Grid.{Grid, scroll_up, scroll_down, put, put_inserting}
 use Rattle.vt_screen.specs.Cells.{cell_of}
-use Rattle.vt_term.specs.State.{Display, last_column}
+use Rattle.vt_term.specs.State.{Display, last_column, bottom_row}
 use Rattle.vt_term.specs.Parameters.{first, second, count}
 use Rattle.vt_term.specs.Moving.{carriage_return, index, reverse_index, next_line, line_feed, are_margins, set_margins}
 use Rattle.vt_term.specs.Tabs.{horizontal_tab, clear_tabs}
@@ -109,7 +109,7 @@ clear_tabs-fits p s = chosen-fits (p == 0) s _ _ refl (chosen-fits (p == 3) s _ 
 
 set_margins-fits : (p1 p2 : ℕ) → Fits (set_margins p1 p2)
 set_margins-fits p1 p2 s =
-    chosen-fits (are_margins p1 p2) s _ s refl refl
+    chosen-fits (are_margins (bottom_row s) p1 p2) s _ s refl refl
 
 set_conformance_level-fits : (p1 p2 : ℕ) → Fits (set_conformance_level p1 p2)
 set_conformance_level-fits p1 p2 s = go (asked_form p1 p2)

@@ -1,8 +1,7 @@
 -- Moving the cursor, by functions that a VT220 lacks. Each of these resets the wrap flag. (ECMA-48 8.3; DECOM and the margins as
 -- in xterm's control sequences)
 use Rattle.std.specs.Prelude.{ℕ, ◌+◌, min, if◌then◌else◌}
-use Rattle.vt_screen.specs.Grid.{last_row}
-use Rattle.vt_term.specs.State.{Display, last_column, at_place}
+use Rattle.vt_term.specs.State.{Display, bottom_row, last_column, at_place}
 use Rattle.vt_term.specs.Moving.{row_of_line, cursor_up, cursor_down, carriage_return}
 
 -- CHA and HPA: to column n, not past the last column
@@ -16,7 +15,7 @@ line_position_absolute n s = record s { cursor = at_place (row_of_line n s) s.cu
 -- VPR: down n, not past the last row, or under DECOM not past the bottom margin
 abbrev pub line_position_forward : ℕ → Display → Display
 line_position_forward n s = record s {
-  cursor = at_place (min (s.cursor.row + n) (if s.modes.decom then s.margins.bottom else last_row)) s.cursor.col;
+  cursor = at_place (min (s.cursor.row + n) (if s.modes.decom then s.margins.bottom else bottom_row s)) s.cursor.col;
 }
 
 -- CNL: CUD, and then CR

@@ -3,9 +3,10 @@
 use Rattle.std.specs.Prelude.{ℕ, List, [], ◌∷◌, Bool, true, false, not, ◌==◌, ◌&&◌, unwrap_or, fold, if◌then◌else◌}
 use Rattle.vt_syntax.specs.declared.held.Held.{Held}
 use Rattle.vt_glyph.specs.LookUp.{look_up}
-use Rattle.vt_screen.specs.Grid.{columns}
-use Rattle.vt_term.specs.State.{Display, State, display_at_power_up}
-use Rattle.vt_term.specs.Pages.{PageState, page_at_power_up, blanked, fitted, page_of, with_page}
+use Rattle.vt_screen.specs.declared.size.Size.{Size}
+use Rattle.vt_screen.specs.Sizes.{vt220_size}
+use Rattle.vt_term.specs.State.{Display, State, display_of}
+use Rattle.vt_term.specs.Pages.{PageState, blank_page, blanked, fitted, page_of, with_page}
 use Rattle.vt_term.specs.Editing.{erase_in_display}
 use Rattle.vt_term.specs.Saving.{save_cursor, restore_cursor}
 use Rattle.vt_term.specs.Modes.{private_modes, with_mode, column_mode}
@@ -18,8 +19,12 @@ pub record PagesState : Type 0 where
   pub resizes : Bool
   pub brackets : Bool
 
+abbrev pub pages_of : Size → PagesState
+pages_of size = record { other = blank_page size; alternate = false; resizes = false; brackets = false }
+
+-- those of a VT220's size
 abbrev pub pages_at_power_up : PagesState
-pages_at_power_up = record { other = page_at_power_up; alternate = false; resizes = false; brackets = false }
+pages_at_power_up = pages_of vt220_size
 
 -- the display, and the pages behind it: what events change
 pub record Screens : Type 0 where
@@ -93,15 +98,15 @@ with_page_mode on p = unwrap_or (look_up page_modes p) (λ on. on_display (with_
 abbrev pub change_page_modes : Bool → List ℕ → Screens → Screens
 change_page_modes on params s = fold (λ s p. with_page_mode on p s) s params
 
--- the screen has 132 columns, and DECCOLM has no effect
+-- the screen is wide, and DECCOLM has no effect
 abbrev pub is_window_wide : Screens → Bool
-is_window_wide s = not s.pages.resizes && s.display.grid.width == columns true
+is_window_wide s = not s.pages.resizes && s.display.grid.width == s.display.grid.size.wide
 
 -- RIS: as on a VT220, and both pages are blank. ?40 stays, and without it so does the width
 abbrev pub reset_to_initial_state : Screens → Screens
 reset_to_initial_state s = record {
-  display = column_mode (is_window_wide s) display_at_power_up;
-  pages = record pages_at_power_up { resizes = s.pages.resizes };
+  display = column_mode (is_window_wide s) (display_of s.display.grid.size);
+  pages = record (pages_of s.display.grid.size) { resizes = s.pages.resizes };
 }
 
 -- ---- a terminal's state and the pages, for contracts

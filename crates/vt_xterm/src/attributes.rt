@@ -3,7 +3,7 @@ ghost use Rattle.std.specs.Prelude.{◌≡◌, ◌≤◌, length};
 ghost use Rattle.std.specs.List.{list_any};
 ghost use Rattle.vt_xterm.specs.Attributes.{begins_colour, colour_length, select_attributes};
 
-use vt_term::Terminal;
+use vt_term::SizedTerminal;
 
 /// Returns whether a parameter begins a colour.
 fn begins_colour(p: u16) -> bool
@@ -37,7 +37,7 @@ fn colour_length(params: &[u16]) -> usize
 }
 
 /// Carries out SGR without its colours. Speed: most have none, and are carried out at once.
-pub(crate) fn select_attributes(terminal: &mut Terminal, params: &[u16])
+pub(crate) fn select_attributes(terminal: &mut SizedTerminal, params: &[u16])
     ensures { terminal.new ≡ record terminal.old { display = select_attributes params.now terminal.old.display } }
 {
     if !has_colour(params) {

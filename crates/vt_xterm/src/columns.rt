@@ -4,10 +4,10 @@ ghost use Rattle.vt_term.specs.Moving.{cursor_forward};
 ghost use Rattle.vt_xterm.specs.Columns.{cursor_character_absolute, line_position_absolute, line_position_forward};
 ghost use Rattle.vt_xterm.specs.Columns.{cursor_next_line, cursor_preceding_line};
 
-use vt_term::{ROWS, Terminal};
+use vt_term::SizedTerminal;
 
 /// Carries out CHA and HPA: moves the cursor to a column, not past the last one.
-pub(crate) fn cursor_character_absolute(terminal: &mut Terminal, n: u16)
+pub(crate) fn cursor_character_absolute(terminal: &mut SizedTerminal, n: u16)
     requires { 1 ≤ n }
     ensures { terminal.new ≡ record terminal.old { display = cursor_character_absolute n terminal.old.display } }
 {
@@ -16,7 +16,7 @@ pub(crate) fn cursor_character_absolute(terminal: &mut Terminal, n: u16)
 }
 
 /// Carries out HPR: moves the cursor right by `n`, not past the last column.
-pub(crate) fn character_position_forward(terminal: &mut Terminal, n: u16)
+pub(crate) fn character_position_forward(terminal: &mut SizedTerminal, n: u16)
     ensures { terminal.new ≡ record terminal.old { display = cursor_forward n terminal.old.display } }
 {
     let cursor = terminal.cursor();
@@ -25,7 +25,7 @@ pub(crate) fn character_position_forward(terminal: &mut Terminal, n: u16)
 }
 
 /// Carries out VPA: moves the cursor to a line. Under DECOM lines count from the top margin.
-pub(crate) fn line_position_absolute(terminal: &mut Terminal, n: u16)
+pub(crate) fn line_position_absolute(terminal: &mut SizedTerminal, n: u16)
     requires { 1 ≤ n }
     ensures { terminal.new ≡ record terminal.old { display = line_position_absolute n terminal.old.display } }
 {
@@ -34,36 +34,40 @@ pub(crate) fn line_position_absolute(terminal: &mut Terminal, n: u16)
     let row = if terminal.modes().decom {
         (margins.top + n as usize - 1).min(margins.bottom)
     } else {
-        (n as usize).min(ROWS)
+        (n as usize).min(terminal.size().rows)
     };
     terminal.move_to(row, col);
 }
 
 /// Carries out VPR: moves the cursor down by `n`, not past the last row, or under DECOM not past the bottom margin.
-pub(crate) fn line_position_forward(terminal: &mut Terminal, n: u16)
+pub(crate) fn line_position_forward(terminal: &mut SizedTerminal, n: u16)
     ensures { terminal.new ≡ record terminal.old { display = line_position_forward n terminal.old.display } }
 {
     let cursor = terminal.cursor();
     let last = if terminal.modes().decom {
         terminal.margins().bottom
     } else {
-        ROWS
+        terminal.size().rows
     };
     terminal.move_to((cursor.row + n as usize).min(last), cursor.col);
 }
 
 /// Carries out CNL: CUD, and then CR.
-pub(crate) fn cursor_next_line(terminal: &mut Terminal, n: u16)
+pub(crate) fn cursor_next_line(terminal: &mut SizedTerminal, n: u16)
     ensures { terminal.new ≡ record terminal.old { display = cursor_next_line n terminal.old.display } }
 {
     let row = terminal.cursor().row;
     let bottom = terminal.margins().bottom;
-    let limit = if row <= bottom { bottom } else { ROWS };
+    let limit = if row <= bottom {
+        bottom
+    } else {
+        terminal.size().rows
+    };
     terminal.move_to((row + n as usize).min(limit), 1);
 }
 
 /// Carries out CPL: CUU, and then CR.
-pub(crate) fn cursor_preceding_line(terminal: &mut Terminal, n: u16)
+pub(crate) fn cursor_preceding_line(terminal: &mut SizedTerminal, n: u16)
     ensures { terminal.new ≡ record terminal.old { display = cursor_preceding_line n terminal.old.display } }
 {
     let row = terminal.cursor().row;

@@ -12,13 +12,13 @@ ghost use Rattle.vt_xterm.specs.Private.Feeds.{whole_of, Leaves, FeedsBytes, Fee
 
 use crate::finder::Finder;
 use crate::front::{Front, Pages};
-use crate::functions::carry_out;
 use crate::laws::cuts;
 use crate::log::{LINES_LIMIT, LineLog, PageLog, feed_terminals};
+use crate::playing::carry_out_whole;
 use std::alloc::AllocError;
 use vt_syntax::laws::one_split;
 use vt_syntax::{EventKind, Taken, Values};
-use vt_term::{Lines, Nobody, REPORT_LIMIT, Terminal};
+use vt_term::{Lines, Nobody, REPORT_LIMIT, ROW_TEXT_LIMIT, Terminal};
 use vt_utf8::{ascii_run, feed_beyond_ascii, whole_character};
 
 /// Plays a chunk of a host's bytes, in UTF-8 and with the functions of xterm, and appends the reports to `out`. `front` keeps
@@ -112,6 +112,7 @@ pub fn feed_xterm_log_reserved(
     let end = lines.len().saturating_add(most);
     let mut log = Lines {
         lines,
+        limit: ROW_TEXT_LIMIT,
         end,
         beside: Finder,
     };
@@ -472,7 +473,7 @@ pub(crate) fn feed_event<L: LineLog>(
         return bytes;
     };
     log_event(terminal, pages, kind, values.as_slice(), log);
-    carry_out(terminal, pages, kind, values.as_slice(), out);
+    carry_out_whole(terminal, pages, kind, values.as_slice(), out);
     bytes
 }
 

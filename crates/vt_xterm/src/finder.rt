@@ -8,8 +8,8 @@ ghost use Rattle.vt_xterm.specs.Terminals.{IsTerminals};
 use crate::attributes::has_colour;
 use vt_syntax::EventKind;
 use vt_syntax::laws::spelled;
-use vt_term::laws::happened;
-use vt_term::{Observer, Terminal};
+use vt_term::laws::sized_happened;
+use vt_term::{Observer, SizedTerminal};
 
 /// Returns whether a control sequence without marker and intermediate isn't a VT220's.
 #[inline(always)]
@@ -101,28 +101,28 @@ impl Observer for Finder {
     }
 
     #[inline(always)]
-    fn lets(&self, terminal: &Terminal, kind: EventKind, values: &[u16]) -> bool {
+    fn lets(&self, terminal: &SizedTerminal, kind: EventKind, values: &[u16]) -> bool {
         !is_own(kind, values)
     }
 
     #[inline(always)]
-    fn event(&mut self, terminal: &Terminal, bytes: &[u8], kind: EventKind, values: &[u16]) {
-        happened();
+    fn event(&mut self, terminal: &SizedTerminal, bytes: &[u8], kind: EventKind, values: &[u16]) {
+        sized_happened();
     }
 
     #[inline(always)]
-    fn limit(&self, terminal: &Terminal) -> usize {
+    fn limit(&self, terminal: &SizedTerminal) -> usize {
         usize::MAX
     }
 
     #[inline(always)]
-    fn run(&mut self, terminal: &Terminal, bytes: &[u8]) {
-        happened();
+    fn run(&mut self, terminal: &SizedTerminal, bytes: &[u8]) {
+        sized_happened();
         spelled();
     }
 
     #[inline(always)]
     fn part(&mut self, bytes: &[u8]) {
-        happened();
+        sized_happened();
     }
 }

@@ -1,20 +1,20 @@
 //! Has the state that a front keeps.
 ghost use Rattle.std.specs.Prelude.{◌≡◌, ◌≤◌, IfOk, length};
 ghost use Rattle.vt_term.specs.State.{display_at_power_up, power_up};
-ghost use Rattle.vt_term.specs.Pages.{with_page};
-ghost use Rattle.vt_xterm.specs.Pages.{pages_at_power_up};
+ghost use Rattle.vt_term.specs.Pages.{IsSoundPage, IsSoundSizedPage, with_page};
+ghost use Rattle.vt_xterm.specs.Pages.{pages_of};
 ghost use Rattle.vt_xterm.specs.Play.{front_at_power_up};
 
 use std::alloc::{AllocError, Global};
 use std::marker::Model;
-use vt_term::{Page, Terminal};
+use vt_term::{Size, SizedPage, Terminal};
 use vt_utf8::Decoder;
 
-/// The page that isn't shown, and which page is.
+/// The page that isn't shown, of any size, and which page is.
 #[derive(Drop)]
-pub(crate) struct Pages {
+pub(crate) struct SizedPages {
     /// The page that isn't shown.
-    pub(crate) other: Page,
+    pub(crate) other: SizedPage,
     /// Whether the alternate page is shown.
     pub(crate) alternate: bool,
     /// Whether DECCOLM has an effect.
@@ -23,7 +23,7 @@ pub(crate) struct Pages {
     pub(crate) brackets: bool,
 }
 
-impl Model for Pages {
+impl Model for SizedPages {
     ghost use Rattle.vt_xterm.specs.Pages.{PagesState};
 
     ghost Value = { PagesState };
@@ -31,7 +31,15 @@ impl Model for Pages {
     ghost view = { λ p. record { other = p.other; alternate = p.alternate; resizes = p.resizes; brackets = p.brackets } };
 }
 
-impl Pages {
+impl SizedPages {
+    /// States that the page that isn't shown is sound, for proofs. It does nothing when it runs.
+    #[inline(always)]
+    pub(crate) fn soundness(&self)
+        ensures { IsSoundSizedPage self.now.other }
+    {
+        self.other.soundness();
+    }
+
     /// Returns whether the alternate page is shown.
     #[inline(always)]
     pub(crate) fn is_alternate(&self) -> bool
@@ -40,8 +48,9 @@ impl Pages {
         self.alternate
     }
 
-    /// Makes the pages equal to others.
-    fn copy_from(&mut self, other: &Pages)
+    /// Makes the pages equal to others of the same size.
+    fn copy_from(&mut self, other: &SizedPages)
+        requires { self.old.other.grid.size ≡ other.now.other.grid.size }
         ensures { self.new ≡ other.now }
     {
         self.other.copy_from(&other.other);
@@ -52,11 +61,55 @@ impl Pages {
 
     /// Makes the pages as at power-up: both blank, and the main one shown. Whether DECCOLM has an effect stays.
     pub(crate) fn reset(&mut self)
-        ensures { self.new ≡ record pages_at_power_up { resizes = self.old.resizes } }
+        ensures { self.new ≡ record (pages_of self.old.other.grid.size) { resizes = self.old.resizes } }
     {
         self.other.reset();
         self.alternate = false;
         self.brackets = false;
+    }
+}
+
+/// The pages of a VT220's size.
+#[derive(Drop)]
+pub(crate) struct Pages {
+    /// The pages, whose size is a VT220's.
+    pub(crate) sized: SizedPages,
+}
+
+impl Model for Pages {
+    ghost use Rattle.std.specs.Prelude.{◌≡◌};
+    ghost use Rattle.vt_screen.specs.Sizes.{vt220_size};
+    ghost use Rattle.vt_xterm.specs.Pages.{PagesState};
+
+    ghost Value = { PagesState };
+
+    ghost view = { λ p. p.sized };
+
+    ghost invariant = { λ p. p.sized.other.grid.size ≡ vt220_size };
+}
+
+impl Pages {
+    /// Returns whether the alternate page is shown.
+    #[inline(always)]
+    pub(crate) fn is_alternate(&self) -> bool
+        ensures { result ≡ self.now.alternate }
+    {
+        self.sized.is_alternate()
+    }
+
+    /// Makes the pages equal to others.
+    fn copy_from(&mut self, other: &Pages)
+        ensures { self.new ≡ other.now }
+    {
+        self.sized.copy_from(&other.sized);
+    }
+
+    /// States that the page that isn't shown is sound, for proofs. It does nothing when it runs.
+    #[inline(always)]
+    pub(crate) fn soundness(&self)
+        ensures { IsSoundPage self.now.other }
+    {
+        self.sized.soundness();
     }
 }
 
@@ -82,14 +135,16 @@ impl Front {
     pub fn new(alloc: Global) -> Result<Front, AllocError>
         ensures { IfOk result (λ front. front ≡ front_at_power_up) }
     {
-        let other = Page::new(alloc)?;
+        let other = SizedPage::new(alloc, Size::vt220())?;
         Ok(Front {
             decoder: Decoder::new(),
             pages: Pages {
-                other,
-                alternate: false,
-                resizes: false,
-                brackets: false,
+                sized: SizedPages {
+                    other,
+                    alternate: false,
+                    resizes: false,
+                    brackets: false,
+                },
             },
         })
     }
@@ -107,7 +162,7 @@ impl Front {
     pub fn show_other(&self, terminal: &mut Terminal)
         ensures { terminal.new ≡ record power_up { display = with_page self.now.pages.other display_at_power_up } }
     {
-        terminal.show_copy(&self.pages.other);
+        terminal.sized.show_copy(&self.pages.sized.other);
     }
 
     /// Returns the pending bytes of UTF-8: at most three.
@@ -122,20 +177,20 @@ impl Front {
     pub fn is_alternate(&self) -> bool
         ensures { result ≡ self.now.pages.alternate }
     {
-        self.pages.alternate
+        self.pages.is_alternate()
     }
 
     /// Returns whether pasted text is wanted in brackets, `CSI 200 ~` and `CSI 201 ~` (?2004).
     pub fn brackets(&self) -> bool
         ensures { result ≡ self.now.pages.brackets }
     {
-        self.pages.brackets
+        self.pages.sized.brackets
     }
 
     /// Returns whether DECCOLM has an effect.
     pub fn resizes(&self) -> bool
         ensures { result ≡ self.now.pages.resizes }
     {
-        self.pages.resizes
+        self.pages.sized.resizes
     }
 }

@@ -16,13 +16,12 @@ use crate::columns::{
     character_position_forward, cursor_character_absolute, cursor_next_line, cursor_preceding_line,
     line_position_absolute, line_position_forward,
 };
-use crate::front::Pages;
+use crate::front::SizedPages;
 use crate::modes::change_modes;
 use crate::repeating::repeat;
 use crate::tabs::{cursor_backward_tabulation, cursor_forward_tabulation};
-use vt_screen::COLUMNS;
 use vt_syntax::EventKind;
-use vt_term::{Terminal, count};
+use vt_term::{SizedTerminal, count};
 
 /// The number of DECCOLM.
 const DECCOLM: u16 = 3;
@@ -32,13 +31,14 @@ const DECAWM: u16 = 7;
 
 /// Carries out an event, and appends its report to `out`, which has capacity for ten more bytes.
 pub(crate) fn carry_out(
-    terminal: &mut Terminal,
-    pages: &mut Pages,
+    terminal: &mut SizedTerminal,
+    pages: &mut SizedPages,
     kind: EventKind,
     values: &[u16],
     out: &mut Vec<u8>,
 )
     requires event { IsEvent (event_of kind values.now) }
+    requires one_size { pages.old.other.grid.size ≡ terminal.old.display.grid.size }
     requires room { vec_len out.old + 10 ≤ vec_capacity out.old }
     ensures terminal { terminal.new
         ≡ shown_by (xterm_effect (event_of kind values.now) (screens terminal.old pages.old)) terminal.old.held }
@@ -60,10 +60,11 @@ pub(crate) fn carry_out(
     }
 }
 
-/// Carries out an escape sequence without an intermediate. RIS leaves a screen of 132 columns so if DECCOLM has no effect.
+/// Carries out an escape sequence without an intermediate. RIS leaves a wide screen so if DECCOLM has no effect.
 #[tactic(auto, unfolding(crate::specs::Front::function_in, vt_term::specs::Modes::with_mode, vt_term::specs::Functions::plain_escape))]
-fn plain_escape(terminal: &mut Terminal, pages: &mut Pages, last: u8, out: &mut Vec<u8>)
+fn plain_escape(terminal: &mut SizedTerminal, pages: &mut SizedPages, last: u8, out: &mut Vec<u8>)
     requires event { IsEvent (Escape None last) }
+    requires one_size { pages.old.other.grid.size ≡ terminal.old.display.grid.size }
     requires room { vec_len out.old + 10 ≤ vec_capacity out.old }
     ensures terminal { terminal.new
         ≡ shown_by (function_in plain_escapes (Escape None last) last [] (screens terminal.old pages.old)) terminal.old.held }
@@ -72,7 +73,7 @@ fn plain_escape(terminal: &mut Terminal, pages: &mut Pages, last: u8, out: &mut 
     ensures reports { out.new.items ≡ out.old.items }
     ensures capacity { vec_capacity out.old ≤ vec_capacity out.new }
 {
-    let is_wide = !pages.resizes && terminal.width() == COLUMNS;
+    let is_wide = !pages.resizes && terminal.width() == terminal.size().wide;
     terminal.carry_out(EventKind::Escape { inter: None, last }, &[], out);
     if last == b'c' {
         terminal.change_private_modes(&[DECCOLM], is_wide);
@@ -83,8 +84,8 @@ fn plain_escape(terminal: &mut Terminal, pages: &mut Pages, last: u8, out: &mut 
 /// Carries out a control sequence.
 #[tactic(auto, unfolding(crate::specs::Front::functions_of, crate::specs::Front::function_in))]
 fn sequence(
-    terminal: &mut Terminal,
-    pages: &mut Pages,
+    terminal: &mut SizedTerminal,
+    pages: &mut SizedPages,
     marker: Option<u8>,
     values: &[u16],
     inter: Option<u8>,
@@ -92,6 +93,7 @@ fn sequence(
     out: &mut Vec<u8>,
 )
     requires event { IsEvent (Sequence marker (record { items = values.now }) inter last) }
+    requires one_size { pages.old.other.grid.size ≡ terminal.old.display.grid.size }
     requires room { vec_len out.old + 10 ≤ vec_capacity out.old }
     ensures terminal { terminal.new ≡ shown_by (function_in (functions_of marker inter)
         (Sequence marker (record { items = values.now }) inter last) last values.now (screens terminal.old pages.old))
@@ -122,8 +124,8 @@ fn sequence(
 /// Carries out a control sequence without marker and intermediate.
 #[tactic(auto, unfolding(crate::specs::Front::function_in, vt_term::specs::Functions::sequences_of, vt_term::specs::Reports::sequence_report))]
 pub(crate) fn plain_sequence(
-    terminal: &mut Terminal,
-    pages: &mut Pages,
+    terminal: &mut SizedTerminal,
+    pages: &mut SizedPages,
     values: &[u16],
     last: u8,
     out: &mut Vec<u8>,
@@ -177,7 +179,7 @@ fn is_bare(values: &[u16]) -> bool
 }
 
 /// Carries out SCP without parameters: saves the cursor.
-fn save_if_bare(terminal: &mut Terminal, values: &[u16])
+fn save_if_bare(terminal: &mut SizedTerminal, values: &[u16])
     ensures { terminal.new ≡ record terminal.old { display = save_if_bare values.now terminal.old.display } }
 {
     if is_bare(values) {
@@ -186,7 +188,7 @@ fn save_if_bare(terminal: &mut Terminal, values: &[u16])
 }
 
 /// Carries out RCP without parameters: restores the cursor.
-fn restore_if_bare(terminal: &mut Terminal, values: &[u16])
+fn restore_if_bare(terminal: &mut SizedTerminal, values: &[u16])
     ensures { terminal.new ≡ record terminal.old { display = restore_if_bare values.now terminal.old.display } }
 {
     if is_bare(values) {
@@ -195,7 +197,7 @@ fn restore_if_bare(terminal: &mut Terminal, values: &[u16])
 }
 
 /// Carries out SD by `T`, with one parameter.
-fn scroll_down_by(terminal: &mut Terminal, values: &[u16])
+fn scroll_down_by(terminal: &mut SizedTerminal, values: &[u16])
     ensures { terminal.new ≡ record terminal.old { display = rows_down_by values.now terminal.old.display } }
 {
     if values.len() == 1 {
@@ -206,13 +208,14 @@ fn scroll_down_by(terminal: &mut Terminal, values: &[u16])
 /// Carries out a control sequence with the marker `?`.
 #[tactic(auto, unfolding(crate::specs::Front::function_in, vt_term::specs::Functions::sequences_of, vt_term::specs::Reports::sequence_report))]
 fn private_sequence(
-    terminal: &mut Terminal,
-    pages: &mut Pages,
+    terminal: &mut SizedTerminal,
+    pages: &mut SizedPages,
     values: &[u16],
     last: u8,
     out: &mut Vec<u8>,
 )
     requires event { IsEvent (Sequence (Some 0x3F) (record { items = values.now }) None last) }
+    requires one_size { pages.old.other.grid.size ≡ terminal.old.display.grid.size }
     requires room { vec_len out.old + 10 ≤ vec_capacity out.old }
     ensures terminal { terminal.new ≡ shown_by (function_in private_functions
         (Sequence (Some 0x3F) (record { items = values.now }) None last) last values.now (screens terminal.old pages.old))
@@ -242,8 +245,8 @@ fn private_sequence(
 /// Carries out a control sequence with the intermediate `!`: DECSTR, which leaves DECAWM set.
 #[tactic(auto, unfolding(crate::specs::Front::function_in, vt_term::specs::Modes::with_mode, vt_term::specs::Functions::sequences_of, vt_term::specs::Reports::sequence_report))]
 fn exclamation_sequence(
-    terminal: &mut Terminal,
-    pages: &mut Pages,
+    terminal: &mut SizedTerminal,
+    pages: &mut SizedPages,
     values: &[u16],
     last: u8,
     out: &mut Vec<u8>,
@@ -278,8 +281,8 @@ fn exclamation_sequence(
 /// Carries out a control sequence with the intermediate `"`: DECSCL, which leaves DECAWM set if there is such a level.
 #[tactic(auto, unfolding(crate::specs::Front::function_in, vt_term::specs::Modes::with_mode, vt_term::specs::Functions::sequence_in, vt_term::specs::Functions::sequences_of, vt_term::specs::Reports::sequence_report))]
 fn quote_sequence(
-    terminal: &mut Terminal,
-    pages: &mut Pages,
+    terminal: &mut SizedTerminal,
+    pages: &mut SizedPages,
     values: &[u16],
     last: u8,
     out: &mut Vec<u8>,

@@ -15,8 +15,8 @@ use crate::finder::Finder;
 use crate::front::Pages;
 use crate::playing::feed_pages;
 use vt_syntax::EventKind;
-use vt_term::laws::happened;
-use vt_term::{Lines, Nobody, TEXT_LIMIT, Terminal, count};
+use vt_term::laws::{happened, sized_happened};
+use vt_term::{Lines, Nobody, ROW_TEXT_LIMIT, TEXT_LIMIT, Terminal, count};
 use vt_utf8::{Log, UTF8_LINES_LIMIT};
 
 /// The capacity for lines without which a feed with a log stops: that of two screens.
@@ -154,7 +154,8 @@ impl LineLog for Lines<'_, Finder> {
     #[inline(always)]
     fn feed(&mut self, terminal: &mut Terminal, piece: &[u8], out: &mut Vec<u8>) -> usize {
         let _ = terminal.width();
-        happened();
+        sized_happened();
+        self.limit = ROW_TEXT_LIMIT;
         terminal.feed_observed(piece, self, out)
     }
 

@@ -1,13 +1,15 @@
 //! The pages, and the private modes that choose between them.
-ghost use Rattle.std.specs.Prelude.{◌≡◌};
+ghost use Rattle.std.specs.Prelude.{◌≡◌, ℕ, List};
 ghost use Rattle.vt_xterm.specs.Pages.{screens, shown_by, exchanged, show_page, show_or_clear, save_or_restore};
 ghost use Rattle.vt_xterm.specs.Pages.{show_and_save, allowed_column_mode, with_page_mode, change_page_modes};
 
-use crate::front::Pages;
-use vt_term::Terminal;
+use crate::front::SizedPages;
+use vt_glyph::laws::{glyphs, soundness as sets_soundness};
+use vt_term::SizedTerminal;
 
 /// Shows the other page.
-fn exchange(terminal: &mut Terminal, pages: &mut Pages, alternate: bool)
+fn exchange(terminal: &mut SizedTerminal, pages: &mut SizedPages, alternate: bool)
+    requires { pages.old.other.grid.size ≡ terminal.old.display.grid.size }
     ensures terminal { terminal.new
         ≡ shown_by (exchanged alternate (screens terminal.old pages.old)) terminal.old.held }
     ensures pages { pages.new ≡ (exchanged alternate (screens terminal.old pages.old)).pages }
@@ -17,7 +19,8 @@ fn exchange(terminal: &mut Terminal, pages: &mut Pages, alternate: bool)
 }
 
 /// Carries out ?47: shows the alternate page, or the main one.
-fn show_page(terminal: &mut Terminal, pages: &mut Pages, alternate: bool)
+fn show_page(terminal: &mut SizedTerminal, pages: &mut SizedPages, alternate: bool)
+    requires { pages.old.other.grid.size ≡ terminal.old.display.grid.size }
     ensures terminal { terminal.new
         ≡ shown_by (show_page alternate (screens terminal.old pages.old)) terminal.old.held }
     ensures pages { pages.new ≡ (show_page alternate (screens terminal.old pages.old)).pages }
@@ -32,7 +35,8 @@ fn show_page(terminal: &mut Terminal, pages: &mut Pages, alternate: bool)
 }
 
 /// Carries out ?1047: shows the alternate page, or leaves it blank and shows the main one.
-fn show_or_clear(terminal: &mut Terminal, pages: &mut Pages, alternate: bool)
+fn show_or_clear(terminal: &mut SizedTerminal, pages: &mut SizedPages, alternate: bool)
+    requires { pages.old.other.grid.size ≡ terminal.old.display.grid.size }
     ensures terminal { terminal.new
         ≡ shown_by (show_or_clear alternate (screens terminal.old pages.old)) terminal.old.held }
     ensures pages { pages.new ≡ (show_or_clear alternate (screens terminal.old pages.old)).pages }
@@ -46,7 +50,7 @@ fn show_or_clear(terminal: &mut Terminal, pages: &mut Pages, alternate: bool)
 }
 
 /// Carries out ?1048: saves the cursor, or restores it.
-fn save_or_restore(terminal: &mut Terminal, pages: &Pages, save: bool)
+fn save_or_restore(terminal: &mut SizedTerminal, pages: &SizedPages, save: bool)
     ensures { terminal.new
         ≡ shown_by (save_or_restore save (screens terminal.old pages.now)) terminal.old.held }
 {
@@ -59,7 +63,8 @@ fn save_or_restore(terminal: &mut Terminal, pages: &Pages, save: bool)
 }
 
 /// Carries out ?1049: saves the cursor and shows the alternate page blank, or shows the main one and restores the cursor.
-fn show_and_save(terminal: &mut Terminal, pages: &mut Pages, alternate: bool)
+fn show_and_save(terminal: &mut SizedTerminal, pages: &mut SizedPages, alternate: bool)
+    requires { pages.old.other.grid.size ≡ terminal.old.display.grid.size }
     ensures terminal { terminal.new
         ≡ shown_by (show_and_save alternate (screens terminal.old pages.old)) terminal.old.held }
     ensures pages { pages.new ≡ (show_and_save alternate (screens terminal.old pages.old)).pages }
@@ -76,7 +81,7 @@ fn show_and_save(terminal: &mut Terminal, pages: &mut Pages, alternate: bool)
 
 /// Carries out ?3: DECCOLM, if it has an effect.
 #[tactic(auto, unfolding(vt_term::specs::Modes::with_mode))]
-fn column_mode(terminal: &mut Terminal, pages: &Pages, wide: bool)
+fn column_mode(terminal: &mut SizedTerminal, pages: &SizedPages, wide: bool)
     ensures { terminal.new
         ≡ shown_by (allowed_column_mode wide (screens terminal.old pages.now)) terminal.old.held }
 {
@@ -87,7 +92,8 @@ fn column_mode(terminal: &mut Terminal, pages: &Pages, wide: bool)
 
 /// Sets or resets a private mode.
 #[tactic(auto, unfolding(crate::specs::Pages::with_page_mode))]
-fn change_mode(terminal: &mut Terminal, pages: &mut Pages, p: u16, on: bool)
+fn change_mode(terminal: &mut SizedTerminal, pages: &mut SizedPages, p: u16, on: bool)
+    requires { pages.old.other.grid.size ≡ terminal.old.display.grid.size }
     ensures terminal { terminal.new
         ≡ shown_by (with_page_mode on p (screens terminal.old pages.old)) terminal.old.held }
     ensures pages { pages.new ≡ (with_page_mode on p (screens terminal.old pages.old)).pages }
@@ -104,12 +110,33 @@ fn change_mode(terminal: &mut Terminal, pages: &mut Pages, p: u16, on: bool)
     }
 }
 
+/// States that SM and RM of private modes keep the pages of one size, for proofs. It does nothing when it runs.
+#[inline(always)]
+fn modes_keep_size(terminal: &SizedTerminal, pages: &SizedPages, on: bool)
+    requires { pages.now.other.grid.size ≡ terminal.now.display.grid.size }
+    ensures { (params : List ℕ) → (change_page_modes on params (screens terminal.now pages.now)).pages.other.grid.size
+        ≡ (change_page_modes on params (screens terminal.now pages.now)).display.grid.size }
+{
+    let _ = on;
+    let _ = terminal.width();
+    pages.soundness();
+    glyphs();
+    sets_soundness();
+}
+
 /// Carries out SM and RM of private modes: each parameter in order.
-pub(crate) fn change_modes(terminal: &mut Terminal, pages: &mut Pages, params: &[u16], on: bool)
+pub(crate) fn change_modes(
+    terminal: &mut SizedTerminal,
+    pages: &mut SizedPages,
+    params: &[u16],
+    on: bool,
+)
+    requires { pages.old.other.grid.size ≡ terminal.old.display.grid.size }
     ensures terminal { terminal.new
         ≡ shown_by (change_page_modes on params.now (screens terminal.old pages.old)) terminal.old.held }
     ensures pages { pages.new ≡ (change_page_modes on params.now (screens terminal.old pages.old)).pages }
 {
+    modes_keep_size(terminal, pages, on);
     for p in params {
         change_mode(terminal, pages, *p, on);
     }

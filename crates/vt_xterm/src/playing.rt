@@ -1,10 +1,17 @@
 //! Playing bytes with the functions of xterm, without a log.
-ghost use Rattle.std.specs.Prelude.{◌≡◌, ◌≤◌, ◌+◌, ◌*◌, length, take, vec_len, vec_capacity};
+ghost use Rattle.std.specs.Prelude.{◌≡◌, ◌≤◌, ◌+◌, ◌*◌, ◌++◌, length, take, vec_len, vec_capacity};
+ghost use Rattle.vt_syntax.specs.Event.{event_of};
+ghost use Rattle.vt_syntax.specs.Spelling.{IsEvent};
+ghost use Rattle.vt_term.specs.Reports.{report};
+ghost use Rattle.vt_xterm.specs.Front.{xterm_effect};
+ghost use Rattle.vt_xterm.specs.Pages.{screens, shown_by};
 ghost use Rattle.vt_xterm.specs.Private.Feeds.{whole_of, FeedsBytes};
 
 use crate::front::Pages;
+use crate::functions::carry_out;
+use vt_syntax::EventKind;
 use vt_syntax::laws::{one_split, spelled};
-use vt_term::{Nobody, Passed, Terminal};
+use vt_term::{Nobody, Passed, Profile, Terminal};
 
 /// The most bytes that are played before it is asked again whether nobody sees the next ones.
 const BLOCK: usize = 16384;
@@ -72,5 +79,34 @@ fn feed_written(
     ensures bounded { vec_len out.new ≤ vec_len out.old + 10 * result }
     ensures capacity { vec_capacity out.old ≤ vec_capacity out.new }
 {
-    terminal.feed_as(pages, piece, &mut Nobody, out)
+    let _ = terminal.width();
+    pages.soundness();
+    pages.sized.keeps_size();
+    terminal
+        .sized
+        .feed_as(&mut pages.sized, piece, &mut Nobody, out)
+}
+
+/// Carries out an event, and appends its report to `out`, which has capacity for ten more bytes.
+#[inline(always)]
+pub(crate) fn carry_out_whole(
+    terminal: &mut Terminal,
+    pages: &mut Pages,
+    kind: EventKind,
+    values: &[u16],
+    out: &mut Vec<u8>,
+)
+    requires event { IsEvent (event_of kind values.now) }
+    requires room { vec_len out.old + 10 ≤ vec_capacity out.old }
+    ensures terminal { terminal.new
+        ≡ shown_by (xterm_effect (event_of kind values.now) (screens terminal.old pages.old)) terminal.old.held }
+    ensures pages { pages.new ≡ (xterm_effect (event_of kind values.now) (screens terminal.old pages.old)).pages }
+    ensures reports { out.new.items ≡ out.old.items ++ report (event_of kind values.now) terminal.old.display }
+    ensures bounded { vec_len out.new ≤ vec_len out.old + 10 }
+    ensures capacity { vec_capacity out.old ≤ vec_capacity out.new }
+{
+    let _ = terminal.width();
+    pages.soundness();
+    pages.sized.keeps_size();
+    carry_out(&mut terminal.sized, &mut pages.sized, kind, values, out);
 }

@@ -2,16 +2,18 @@
 ghost use Rattle.std.specs.Prelude.{◌≡◌};
 
 use crate::finder::{is_own, is_own_plain};
-use crate::front::Pages;
+use crate::front::SizedPages;
 use crate::functions::{carry_out, plain_sequence};
+use vt_glyph::laws::{glyphs, soundness as sets_soundness};
+use vt_screen::laws::{rows, tests};
 use vt_syntax::{EventKind, FrontValues};
-use vt_term::{Profile, Terminal, Vt220};
+use vt_term::{Profile, SizedTerminal, Vt220};
 
 /// Speed: what a VT220 carries out in the same way goes the VT220's way, which is inline.
-impl Profile for Pages {
+impl Profile for SizedPages {
     ghost use Rattle.vt_xterm.specs.Pages.{Screens};
     ghost use Rattle.vt_xterm.specs.Play.{xterm};
-    ghost use Rattle.vt_xterm.specs.Private.Profiles.{screens_on, xterm_prints};
+    ghost use Rattle.vt_xterm.specs.Private.Profiles.{screens_on, xterm_prints, AreOfOneSize};
 
     ghost Screens = { Screens };
 
@@ -19,12 +21,22 @@ impl Profile for Pages {
 
     ghost machine = { xterm };
 
+    ghost OneSize = { AreOfOneSize };
+
+    #[inline(always)]
+    fn keeps_size(&self) {
+        glyphs();
+        sets_soundness();
+        rows();
+        tests();
+    }
+
     ghost prints = { xterm_prints };
 
     #[inline(always)]
     fn carry_out(
         &mut self,
-        terminal: &mut Terminal,
+        terminal: &mut SizedTerminal,
         kind: EventKind,
         values: &[u16],
         out: &mut Vec<u8>,
@@ -39,7 +51,7 @@ impl Profile for Pages {
     #[inline(always)]
     fn carry_out_values(
         &mut self,
-        terminal: &mut Terminal,
+        terminal: &mut SizedTerminal,
         front: &FrontValues,
         out: &mut Vec<u8>,
     ) {

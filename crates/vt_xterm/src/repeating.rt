@@ -3,10 +3,10 @@ ghost use Rattle.std.specs.Prelude.{◌≡◌, ◌≤◌, true, length};
 ghost use Rattle.vt_term.specs.Writing.{write_glyph};
 ghost use Rattle.vt_xterm.specs.Repeating.{times, column_before, glyph_before, room, repeat};
 
-use vt_term::{Glyph, Terminal};
+use vt_term::{Glyph, SizedTerminal};
 
 /// Returns the column before the cursor, or under it with the wrap flag: 0 in column 1 without it.
-fn column_before(terminal: &Terminal) -> usize
+fn column_before(terminal: &SizedTerminal) -> usize
     ensures value { result ≡ column_before terminal.now.display }
     ensures inside { result ≤ terminal.now.display.grid.width }
 {
@@ -19,7 +19,7 @@ fn column_before(terminal: &Terminal) -> usize
 }
 
 /// Returns the glyph in a column of the cursor's row.
-fn glyph_before(terminal: &Terminal, col: usize) -> Glyph
+fn glyph_before(terminal: &SizedTerminal, col: usize) -> Glyph
     requires some { 1 ≤ col }
     requires column { col ≡ column_before terminal.now.display }
     requires inside { col ≤ terminal.now.display.grid.width }
@@ -31,7 +31,7 @@ fn glyph_before(terminal: &Terminal, col: usize) -> Glyph
 }
 
 /// Returns the number of cells to the end of the row, or with the wrap flag those of a row.
-fn room(terminal: &Terminal) -> usize
+fn room(terminal: &SizedTerminal) -> usize
     ensures { result ≡ room terminal.now.display }
 {
     let cursor = terminal.cursor();
@@ -43,7 +43,7 @@ fn room(terminal: &Terminal) -> usize
 }
 
 /// Writes a glyph so many times.
-fn write_times(terminal: &mut Terminal, glyph: Glyph, n: usize)
+fn write_times(terminal: &mut SizedTerminal, glyph: Glyph, n: usize)
     ensures { terminal.new ≡ record terminal.old { display = times n (write_glyph glyph) terminal.old.display } }
 {
     for _ in 0..n {
@@ -52,7 +52,7 @@ fn write_times(terminal: &mut Terminal, glyph: Glyph, n: usize)
 }
 
 /// Carries out REP: writes the glyph before the cursor `n` times, and not past the end of the row.
-pub(crate) fn repeat(terminal: &mut Terminal, n: u16)
+pub(crate) fn repeat(terminal: &mut SizedTerminal, n: u16)
     ensures { terminal.new ≡ record terminal.old { display = repeat n terminal.old.display } }
 {
     let col = column_before(terminal);

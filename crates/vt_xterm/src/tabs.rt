@@ -1,17 +1,17 @@
 //! Tabs, by functions that a VT220 lacks.
-ghost use Rattle.std.specs.Prelude.{◌≡◌, ◌≤◌, ◌+◌, vec_len, vec_capacity};
+ghost use Rattle.std.specs.Prelude.{◌≡◌, ◌≤◌, ◌+◌, length, vec_len, vec_capacity};
 ghost use Rattle.vt_term.specs.Tabs.{horizontal_tab};
 ghost use Rattle.vt_xterm.specs.Tabs.{stop_before, back_tab, cursor_forward_tabulation, cursor_backward_tabulation};
 
 use vt_syntax::EventKind;
-use vt_term::{STOPS, Terminal};
+use vt_term::SizedTerminal;
 
 /// The control HT.
 const HT: u8 = 0x09;
 
 /// Returns the nearest stop left of a column, or else column 1.
-fn stop_before(stops: &[bool; STOPS], col: usize) -> usize
-    requires { (1 ≤ col) × (col ≤ STOPS) }
+fn stop_before(stops: &[bool], col: usize) -> usize
+    requires { (1 ≤ col) × (col ≤ length stops.now) }
     ensures value { result ≡ stop_before stops.now col }
     ensures some { 1 ≤ result }
     ensures within { result ≤ col }
@@ -27,7 +27,7 @@ fn stop_before(stops: &[bool; STOPS], col: usize) -> usize
 }
 
 /// Moves the cursor to the stop before it.
-fn back_tab(terminal: &mut Terminal)
+fn back_tab(terminal: &mut SizedTerminal)
     ensures { terminal.new ≡ record terminal.old { display = back_tab terminal.old.display } }
 {
     let cursor = terminal.cursor();
@@ -38,7 +38,7 @@ fn back_tab(terminal: &mut Terminal)
 
 /// Carries out HT, which causes no report.
 #[tactic(auto, unfolding(vt_term::specs::Functions::control, vt_term::specs::Reports::control_report))]
-fn forward_tab(terminal: &mut Terminal, out: &mut Vec<u8>)
+fn forward_tab(terminal: &mut SizedTerminal, out: &mut Vec<u8>)
     requires { vec_len out.old + 10 ≤ vec_capacity out.old }
     ensures terminal { terminal.new ≡ record terminal.old { display = horizontal_tab terminal.old.display } }
     ensures out { out.new.items ≡ out.old.items }
@@ -49,7 +49,7 @@ fn forward_tab(terminal: &mut Terminal, out: &mut Vec<u8>)
 }
 
 /// Carries out CHT: HT `n` times. `out` stays, and has capacity for ten more bytes.
-pub(crate) fn cursor_forward_tabulation(terminal: &mut Terminal, n: u16, out: &mut Vec<u8>)
+pub(crate) fn cursor_forward_tabulation(terminal: &mut SizedTerminal, n: u16, out: &mut Vec<u8>)
     requires { vec_len out.old + 10 ≤ vec_capacity out.old }
     ensures terminal { terminal.new
         ≡ record terminal.old { display = cursor_forward_tabulation n terminal.old.display } }
@@ -64,7 +64,7 @@ pub(crate) fn cursor_forward_tabulation(terminal: &mut Terminal, n: u16, out: &m
 }
 
 /// Carries out CBT: moves the cursor to the stop before it, `n` times.
-pub(crate) fn cursor_backward_tabulation(terminal: &mut Terminal, n: u16)
+pub(crate) fn cursor_backward_tabulation(terminal: &mut SizedTerminal, n: u16)
     ensures { terminal.new ≡ record terminal.old { display = cursor_backward_tabulation n terminal.old.display } }
 {
     let count = (n as usize).min(terminal.width());

@@ -13,6 +13,8 @@ use Rattle.vt_syntax.specs.Steps.{step_to}
 use Rattle.vt_syntax.proofs.Steps.{same_held, same_events}
 use Rattle.vt_syntax.proofs.Spelled.{ascii_bytes, events_steps}
 use Rattle.vt_syntax.proofs.Cutting.{read, escape}
+use Rattle.vt_screen.specs.declared.size.Size.{Size}
+use Rattle.vt_screen.specs.Sizes.{vt220_size, width_of}
 use Rattle.vt_screen.specs.Grid.{columns}
 use Rattle.vt_screen.proofs.Places.{width-bounds}
 use Rattle.vt_term.specs.State.{Display, State, display_at_power_up, power_up}
@@ -90,22 +92,36 @@ items-lead s other alternate i =
 
 -- ---- what is between the items
 
-start-leads : (alternate : Bool) (u : Screens)
-    → Leads (private_mode 40 true ∷ reset_to_initial_state ∷ private_mode 47 (not alternate) ∷ []) u
+-- screens whose display has a VT220's size
+abbrev of-vt220 : Screens → Screens
+of-vt220 u = record u { display = record u.display { grid = record u.display.grid { size = vt220_size } } }
+
+start-of : (alternate : Bool) (u : Screens)
+    → Leads (private_mode 40 true ∷ reset_to_initial_state ∷ private_mode 47 (not alternate) ∷ []) (of-vt220 u)
     (on_pages display_at_power_up page_at_power_up (not alternate))
 unfolding functions_of function_in with_page_mode sequences_of sequence_report
-start-leads true u = record { is = refl; silent = refl }
-start-leads false u = record { is = refl; silent = refl }
+start-of true u = record { is = refl; silent = refl }
+start-of false u = record { is = refl; silent = refl }
 
-exchange-leads : (alternate wide : Bool) (page : PageState) → page.grid.width ≡ columns wide
+start-leads : (alternate : Bool) (u : Screens) → u.display.grid.size ≡ vt220_size
+    → Leads (private_mode 40 true ∷ reset_to_initial_state ∷ private_mode 47 (not alternate) ∷ []) u
+    (on_pages display_at_power_up page_at_power_up (not alternate))
+start-leads alternate u size =
+    let same : of-vt220 u ≡ u =
+    ap (λ (z : Size). record u { display = record u.display { grid = record u.display.grid { size = z } } }) (sym size) in
+    subst (λ (x : Screens).
+    Leads (private_mode 40 true ∷ reset_to_initial_state ∷ private_mode 47 (not alternate) ∷ []) x
+    (on_pages display_at_power_up page_at_power_up (not alternate))) same (start-of alternate u)
+
+exchange-leads : (alternate wide : Bool) (page : PageState) → page.grid.width ≡ columns wide → page.grid.size ≡ vt220_size
     → Leads (private_mode 47 alternate ∷ private_mode 3 false ∷ [])
     (on_pages (with_page page display_at_power_up) page_at_power_up (not alternate))
     (on_pages display_at_power_up page alternate)
 unfolding functions_of function_in with_page_mode sequences_of sequence_report
-exchange-leads true true page is = record { is = rw is refl; silent = refl }
-exchange-leads true false page is = record { is = rw is refl; silent = refl }
-exchange-leads false true page is = record { is = rw is refl; silent = refl }
-exchange-leads false false page is = record { is = rw is refl; silent = refl }
+exchange-leads true true page is size = record { is = rw (is, size) refl; silent = refl }
+exchange-leads true false page is size = record { is = rw (is, size) refl; silent = refl }
+exchange-leads false true page is size = record { is = rw (is, size) refl; silent = refl }
+exchange-leads false false page is size = record { is = rw (is, size) refl; silent = refl }
 
 end-leads : (s : Display) (pages : PagesState)
     → Leads (private_mode 40 pages.resizes ∷ paste_item pages.brackets) (on_pages s pages.other pages.alternate)
@@ -124,12 +140,13 @@ end-leads s pages = by pages.resizes pages.brackets
 other-sound : (page : PageState) → IsSoundPage page → IsSoundDisplay display_at_power_up
     → IsSoundDisplay (with_page page display_at_power_up)
 other-sound page i start =
-    let bounds = width-bounds page.grid.width i.grid.shape.width in
+    let bounds = width-bounds page.grid.size page.grid.width i.grid.shape.size i.grid.shape.width in
     record {
+      of_size = i.of_size;
       grid = i.grid;
       cursor = record {
         row_1 = omega arith;
-        row_24 = omega arith;
+        row_last = omega arith;
         col_1 = omega arith;
         col_last = omega (arith, bounds.0);
         wrap_last = λ e. absurd (cc e);
@@ -146,22 +163,24 @@ other-sound page i start =
 -- ---- the whole
 
 all-leads : (w : Whole) (u : Screens) → IsSoundWhole w → IsSoundDisplay display_at_power_up
+    → u.display.grid.size ≡ vt220_size
     → Leads (xterm_repaint_events w) u (screens_of w)
 unfolding xterm_repaint_events
-all-leads w u i start =
+all-leads w u i start size =
     let alternate = w.pages.alternate in
     let other = w.pages.other in
     let hidden = with_page other display_at_power_up in
     let s = w.state.display in
     then-leads (private_mode 40 true ∷ reset_to_initial_state ∷ private_mode 47 (not alternate) ∷ []) _ u
     (on_pages display_at_power_up page_at_power_up (not alternate)) (screens_of w)
-    (start-leads alternate u)
+    (start-leads alternate u size)
     (then-leads (made_events hidden) _ (on_pages display_at_power_up page_at_power_up (not alternate))
     (on_pages hidden page_at_power_up (not alternate)) (screens_of w)
     (items-lead hidden page_at_power_up (not alternate) (other-sound other i.other start))
     (then-leads (private_mode 47 alternate ∷ private_mode 3 false ∷ []) _ (on_pages hidden page_at_power_up (not alternate))
     (on_pages display_at_power_up other alternate) (screens_of w)
-    (exchange-leads alternate i.other.grid.shape.width.0 other i.other.grid.shape.width.1)
+    (exchange-leads alternate i.other.grid.shape.width.0 other
+    (i.other.grid.shape.width.1 ∙ ap (λ z. width_of z i.other.grid.shape.width.0) i.other.of_size) i.other.of_size)
     (then-leads (made_events s) _ (on_pages display_at_power_up other alternate) (on_pages s other alternate) (screens_of w)
     (items-lead s other alternate i.state.display)
     (end-leads s w.pages))))
@@ -197,7 +216,7 @@ module _ (split : SplitLaw) (start : IsSound power_up)
     (silent : (s : State) (c : ℕ) → IsSound s → 0x80 ≤ c → (play s (translation s c)).reports ≡ []) where
   events-rebuild : (es : List Event) (more : List ℕ) (w u : Whole) (part : List ℕ) → All IsEvent es
       → spell_events es ≡ 0x1B ∷ more → All (λ b. b < 0x80) (spell_events es) → w.state.held ≡ Nothing
-      → ((s : Screens) → Leads es s (screens_of w)) → IsSound u.state → pending_of part ≡ part
+      → ((s : Screens) → s.display.grid.size ≡ vt220_size → Leads es s (screens_of w)) → IsSound u.state → pending_of part ≡ part
       → Rebuilds (spell_events es) w [] u part
   unfolding play_xterm
   events-rebuild es more w u part are begins ascii between leads sound is =
@@ -209,7 +228,7 @@ module _ (split : SplitLaw) (start : IsSound power_up)
       let chars : characters part bytes ≡ given_up part ++ bytes =
       ap (λ (t : List ℕ). characters part t) begins ∙ escape-characters part more is rest
       ∙ ap (λ (t : List ℕ). given_up part ++ t) (sym begins) in
-      let played = bytes-played es more w lost.whole are begins before.0.held between (leads (screens_of lost.whole)) in
+      let played = bytes-played es more w lost.whole are begins before.0.held between (leads (screens_of lost.whole) before.0.display.of_size) in
       let all : play_xterm u part bytes ≡ both lost (play_bytes lost.whole bytes) =
       ap (λ (cs : List ℕ). play_characters u cs) chars ∙ characters-two u (given_up part) bytes
       ∙ ap (λ (p : WholePlayed). both lost p) (characters-ascii split lost.whole bytes before.0.held ascii) in
@@ -225,7 +244,7 @@ module _ (split : SplitLaw) (start : IsSound power_up)
   rebuilds w i between u part sound is =
       let within = repaint-within w (other-sound w.pages.other i.other start.display) i.state.display in
       events-rebuild (xterm_repaint_events w) _ w u part within.events refl
-      (All-from_ascii (spell_events (xterm_repaint_events w)) within.ascii) between (λ s. all-leads w s i start.display) sound is
+      (All-from_ascii (spell_events (xterm_repaint_events w)) within.ascii) between (λ s size. all-leads w s i start.display size) sound is
 
   -- the session at power-up is sound, and what is played keeps it so
   pub reached : IsSoundWhole (behind power_up front_at_power_up)

@@ -10,7 +10,7 @@ nameless None h = refl
 nameless (Some name) h = absurd cc
 
 pub returns-clause-has_no_effect : goal.returns-clause-has_no_effect
-returns-clause-has_no_effect c = λ event h s sound. nameless_alone c.soundness.ensures.power_up.display event (nameless (name_of event) h) s
+returns-clause-has_no_effect c = λ event h s sound. nameless_alone c.soundness.ensures.power_up.display event (nameless (name_of event) h) s sound.of_size
 
 pub returns-clause-named : goal.returns-clause-named
 returns-clause-named c = λ event h. go event (name_of event) refl h

@@ -1,6 +1,8 @@
 use Rattle.std.proofs.Common.{rules, ◌≡◌, ◌++◌, ◌∙◌, List, ap, take, arith, length-take}
 use Rattle.std.specs.Prelude.{flat_map}
 use Rattle.vt_screen.specs.declared.cell.Cell.{Cell}
+use Rattle.vt_screen.specs.Sizes.{vt220_size}
+use Rattle.vt_term.proofs.SizeHappened.{happenings-short}
 use Rattle.vt_term.specs.Scrolling.{scrolled_off, log}
 use Rattle.vt_term.specs.Text.{line_text}
 use Rattle.vt220_c.specs.Bells.{bells}
@@ -15,8 +17,9 @@ returns-clause-lines c =
     let saw = c.feed_observed-taken.ensures.saw.0 in
     let lines : c.feed_observed-taken.new.observer.lines.now.items
     ≡ c.args.lines.now.items ++ flat_map line_text (scrolled_off s bytes) =
-    saw.2.lines ∙ ap (λ (rows : List (List Cell)). c.args.lines.now.items ++ flat_map line_text rows)
-    (c.happened.ensures.lines s bytes c.width.ensures.sound) in
+    saw.3.lines (happenings-short 397 vt220_size _ (c.sized_happened.ensures.size vt220_size s bytes c.width.ensures.sound)
+    (omega arith)) ∙ ap (λ (rows : List (List Cell)). c.args.lines.now.items ++ flat_map line_text rows)
+    (c.sized_happened.ensures.lines vt220_size s bytes c.width.ensures.sound) in
     search (rules, lines, saw.0)
 
 pub returns-clause-bells : goal.returns-clause-bells
@@ -24,7 +27,7 @@ returns-clause-bells c =
     let s = c.args.terminal.now in
     let bytes = take c.feed_observed-taken.result c.args.piece.now in
     all-rang s bytes c.feed_observed-taken.new.observer.beside.count
-    (c.happened.ensures.events s bytes c.width.ensures.sound) c.feed_observed-taken.ensures.saw.1
+    (c.sized_happened.ensures.events vt220_size s bytes c.width.ensures.sound) c.feed_observed-taken.ensures.saw.1
 
 pub returns-clause-few_bells : goal.returns-clause-few_bells
 returns-clause-few_bells c =
@@ -32,7 +35,7 @@ returns-clause-few_bells c =
     omega (
       arith,
       c.feed_observed-taken.ensures.saw.1.few,
-      c.happened.ensures.count c.args.terminal.now bytes,
+      c.sized_happened.ensures.count c.args.terminal.now bytes,
       length-take c.feed_observed-taken.result c.args.piece.now,
       c.feed_observed-taken.ensures.within,
     )

@@ -1,5 +1,4 @@
 use Rattle.std.proofs.Common.{◌≡◌, ◌⊎◌, ℕ, ◌≤◌, ◌<◌}
-use Rattle.vt_screen.specs.Grid.{last_row}
 use Rattle.vt_screen.specs.Order.{stored}
 use Rattle.vt_screen.proofs.screen.fill_rows.Given as goal
 
@@ -7,6 +6,6 @@ use Rattle.vt_screen.proofs.screen.fill_rows.Given as goal
 abbrev pub invariant-loop-row : goal.invariant-loop-row
 invariant-loop-row l = record {
   written : (r c : ℕ) → l.first ≤ r → r < l.row → 1 ≤ c → c ≤ l.width → stored l.order l.cells r c ≡ l.cell;
-  left : (r c : ℕ) → 1 ≤ r → r ≤ last_row → (r < l.first) ⊎ (l.row ≤ r) → 1 ≤ c → c ≤ l.width
+  left : (r c : ℕ) → 1 ≤ r → r ≤ l.order.size.rows → (r < l.first) ⊎ (l.row ≤ r) → 1 ≤ c → c ≤ l.width
       → stored l.order l.cells r c ≡ stored l.order l.initial.cells r c;
 }

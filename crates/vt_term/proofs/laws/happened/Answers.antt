@@ -1,11 +1,10 @@
-use Rattle.vt_term.proofs.Happened.{length-happenings, happenings-append, events-happened, lines-happened}
+use Rattle.vt_screen.specs.Sizes.{vt220_size}
 use Rattle.vt_term.proofs.laws.happened.Goals as goal
 
 pub returns : goal.returns
-returns c =
-    let split = c.one_split.ensures in record {
-      events = λ s bytes sound. events-happened split s bytes sound.held;
-      lines = λ s bytes sound. lines-happened split s bytes sound.held;
-      count = length-happenings;
-      two = happenings-append split;
-    }
+returns c = let sized = c.sized_happened.ensures in record {
+  events = sized.events vt220_size;
+  lines = sized.lines vt220_size;
+  count = sized.count;
+  two = sized.two vt220_size;
+}

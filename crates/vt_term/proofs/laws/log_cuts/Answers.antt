@@ -1,5 +1,5 @@
-use Rattle.vt_term.proofs.Scrolled.{log-append, log-nothing}
+use Rattle.vt_screen.specs.Sizes.{vt220_size}
 use Rattle.vt_term.proofs.laws.log_cuts.Goals as goal
 
 pub returns : goal.returns
-returns c = record { none = log-nothing c.one_split.ensures; two = log-append c.one_split.ensures }
+returns c = record { none = c.sized_log_cuts.ensures.none vt220_size; two = c.sized_log_cuts.ensures.two }

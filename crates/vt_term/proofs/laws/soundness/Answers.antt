@@ -1,10 +1,9 @@
-use Rattle.vt_term.proofs.Bytes.{nothing-held}
-use Rattle.vt_term.proofs.PowerUp.{display_at_power_up-sound}
-use Rattle.vt_term.proofs.SoundPlay.{play-sound}
+use Rattle.vt_screen.specs.Sizes.{vt220_size}
+use Rattle.vt_term.proofs.PowerUp.{vt220-is}
 use Rattle.vt_term.proofs.laws.soundness.Goals as goal
 
-pub returns-clause-power_up : goal.returns-clause-power_up
-returns-clause-power_up c = record { display = display_at_power_up-sound; held = nothing-held }
-
-pub returns-clause-play : goal.returns-clause-play
-returns-clause-play c = play-sound c.glyphs.ensures c.soundness.ensures c.one_split.ensures.held_part
+pub returns : goal.returns
+returns c = record {
+  power_up = c.sized_soundness.ensures.power_up vt220_size vt220-is;
+  play = c.sized_soundness.ensures.play vt220_size;
+}

@@ -14,7 +14,7 @@ pub returns-then-plain_run-end-clause-items : goal.returns-then-plain_run-end-cl
 returns-then-plain_run-end-clause-items c =
     let codes : List ℕ = c.put_codes.new.codes in
     let end : ℕ = c.end_of_text-end.result in
-    let long : length codes ≡ 133 = c.put_codes.array_long in
+    let long : length codes ≡ 256 = c.put_codes.array_long in
     let within = c.end_of_text-end.ensures.within in
     let short : length (take (length c.args.cells.now) codes) ≡ length c.args.cells.now =
     length-take-le (length c.args.cells.now) codes (omega (arith, long, c.requires.few)) in

@@ -20,10 +20,10 @@ returns-in_default-clause-keeps g c =
 pub returns-clause-fed : goal.returns-clause-fed
 returns-clause-fed g c =
     let next = c.next_event-bytes in
-    feeds-event c.args.terminal.now next.new.self c.carry_out.new.terminal c.args.pages.now c.carry_out.new.pages
+    feeds-event c.args.terminal.now next.new.self c.carry_out_whole.new.terminal c.args.pages.now c.carry_out_whole.new.pages
     (take next.result.bytes c.args.piece.now) (event_of c.in-Some.kind c.as_slice-2.result.now) c.args.out.now.items
-    c.carry_out.new.out.items (rw c.as_slice-2.ensures.value (sym (rw c.in-Some.is at next.ensures.event)))
-    next.ensures.state c.carry_out.ensures.terminal c.carry_out.ensures.pages c.carry_out.ensures.reports
+    c.carry_out_whole.new.out.items (rw c.as_slice-2.ensures.value (sym (rw c.in-Some.is at next.ensures.event)))
+    next.ensures.state c.carry_out_whole.ensures.terminal c.carry_out_whole.ensures.pages c.carry_out_whole.ensures.reports
 
 pub returns-clause-keeps : goal.returns-clause-keeps
 returns-clause-keeps g c =

@@ -8,5 +8,5 @@ returns c =
     let other = subst (λ (s : Display). IsSoundDisplay s) c.requires c.width-2.ensures.sound.display in
     record {
       state = c.width.ensures.sound;
-      other = record { grid = other.grid; saved = other.saved; saved_sets = other.saved_sets };
+      other = record { of_size = other.of_size; grid = other.grid; saved = other.saved; saved_sets = other.saved_sets };
     }

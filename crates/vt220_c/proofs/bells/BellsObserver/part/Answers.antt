@@ -4,4 +4,4 @@ use Rattle.vt220_c.proofs.bells.BellsObserver.part.Goals as goal
 pub returns : goal.returns
 returns c = λ s sound none.
     let bytes = c.args.bytes.now in
-    none-rang s bytes c.args.self.now.count (c.happened.ensures.events s bytes sound) (c.happened.ensures.count s bytes) none
+    none-rang s bytes c.args.self.now.count (c.sized_happened.ensures.events s.display.grid.size s bytes sound) (c.sized_happened.ensures.count s bytes) none

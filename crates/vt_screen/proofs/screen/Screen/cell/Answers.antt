@@ -8,15 +8,17 @@ use Rattle.vt_screen.proofs.screen.Screen.cell.Goals as goal
 
 pub returns : goal.returns
 returns c =
+    let rows : c.self.inside.order.size.rows ≡ c.args.self.now.size.rows = ap (λ (g : Grid). g.size.rows) c.self.view_is in
     let width : c.self.inside.width ≡ c.args.self.now.width = ap (λ (g : Grid). g.width) c.self.view_is in
-    let narrow = width-bounds c.self.inside.width c.self.invariant.1.shape.width in
+    let narrow = width-bounds c.self.inside.order.size c.self.inside.width c.self.invariant.1.shape.size
+    c.self.invariant.1.shape.width in
     let bound = c.start.ensures.bound in
     let place : c.start.result + c.args.column - 1 ≡ start_of c.self.inside.order c.args.row + (c.args.column - 1) =
     omega (arith, c.start.ensures.place) in
     let read = get_or_read c.self.inside.cells.items _ _ (omega (arith, c.self.invariant.0)) c.index.ensures blank in
     rw (
       ← c.self.view_is,
-      cell_at-grid_of c.self.inside.width (stored c.self.inside.order c.self.inside.cells.items)
+      cell_at-grid_of c.self.inside.order.size c.self.inside.width (stored c.self.inside.order c.self.inside.cells.items)
           c.args.row c.args.column (omega arith) (omega arith) (omega arith) (omega arith),
     )
     (read ∙ ap (λ x. get_or c.self.inside.cells.items x blank) place)

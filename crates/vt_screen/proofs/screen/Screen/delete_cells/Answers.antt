@@ -1,5 +1,5 @@
 use Rattle.std.proofs.Common.{arith, ◌≡◌, ◌+◌, ◌-◌, length, min, ap, ◌∙◌, sym, subst}
-use Rattle.vt_screen.specs.Order.{room}
+use Rattle.vt_screen.specs.Sizes.{room}
 use Rattle.vt_screen.specs.Grid.{Grid, delete_cells, IsSoundGrid}
 use Rattle.vt_screen.proofs.Places.{width-bounds}
 use Rattle.vt_screen.proofs.Maps.{edited, delete_cells-row}
@@ -8,11 +8,13 @@ use Rattle.vt_screen.proofs.screen.Screen.delete_cells.Goals as goal
 
 pub returns-clause-grid : goal.returns-clause-grid
 returns-clause-grid c =
+    let rows : c.self.inside.order.size.rows ≡ c.args.self.now.size.rows = ap (λ (g : Grid). g.size.rows) c.self.view_is in
     let width : c.self.inside.width ≡ c.args.self.now.width = ap (λ (g : Grid). g.width) c.self.view_is in
-    let narrow = width-bounds c.self.inside.width c.self.invariant.1.shape.width in
+    let narrow = width-bounds c.self.inside.order.size c.self.inside.width c.self.invariant.1.shape.size
+    c.self.invariant.1.shape.width in
     let bound = c.start-start.ensures.bound in
     let same = c.deref_mut.ensures.value in
-    let long : length c.deref_mut.result.now ≡ room = ap length same ∙ c.self.invariant.0 in
+    let long : length c.deref_mut.result.now ≡ room c.self.inside.order.size = ap length same ∙ c.self.invariant.0 in
     let at = c.start-start.result in
     let k = c.start-start.result + c.self.inside.width - c.start-start.result in
     let count : c.min-count.result ≡ min c.args.n (c.self.inside.width + 1 - c.args.column) =
@@ -31,4 +33,4 @@ returns-clause-sound c = subst IsSoundGrid (sym (returns-clause-grid c))
 
 pub invariant_of-self : goal.invariant_of-self
 invariant_of-self c =
-    (as_many c.self.inside.cells _ c.self.inside.cells.ok.0 c.self.invariant.0, returns-clause-sound c)
+    (as_many _ c.self.inside.cells _ c.self.inside.cells.ok.0 c.self.invariant.0, returns-clause-sound c)

@@ -7,8 +7,10 @@ use Rattle.vt_screen.proofs.screen.Screen.put.Goals as goal
 
 pub returns-clause-grid : goal.returns-clause-grid
 returns-clause-grid c =
+    let rows : c.self.inside.order.size.rows ≡ c.args.self.now.size.rows = ap (λ (g : Grid). g.size.rows) c.self.view_is in
     let width : c.self.inside.width ≡ c.args.self.now.width = ap (λ (g : Grid). g.width) c.self.view_is in
-    let narrow = width-bounds c.self.inside.width c.self.invariant.1.shape.width in
+    let narrow = width-bounds c.self.inside.order.size c.self.inside.width c.self.invariant.1.shape.size
+    c.self.invariant.1.shape.width in
     rw (← c.self.view_is) (put-row c.self.inside.order c.self.inside.cells.items c.self.inside.width c.args.row
     c.args.column _ c.args.cell
     c.start-start.ensures.order c.self.invariant.0 (omega arith) (omega arith) (omega arith) (omega arith)

@@ -1,10 +1,10 @@
 use Rattle.std.proofs.lemmas.List.Elements.{All-map}
 use Rattle.vt_glyph.specs.Tables.{IsGlyph}
-use Rattle.std.proofs.Common.{arith, ◌≡◌, ◌+◌, ◌-◌, ℕ, List, map, length, ap, sym, ◌∙◌, subst}
+use Rattle.std.proofs.Common.{◌≡◌, arith, ◌≡◌, ◌+◌, ◌-◌, ℕ, List, map, length, ap, sym, ◌∙◌, subst}
 use Rattle.std.proofs.lemmas.List.{length-map, get_or-map}
 use Rattle.vt_glyph.specs.Invocation.{glyph_in_use}
 use Rattle.vt_screen.specs.Cells.{cell_like}
-use Rattle.vt_screen.specs.Order.{room}
+use Rattle.vt_screen.specs.Sizes.{room}
 use Rattle.vt_screen.specs.Grid.{Grid, put_run, IsSoundGrid}
 use Rattle.vt_screen.proofs.Places.{width-bounds}
 use Rattle.vt_screen.proofs.Maps.{edited, put_run-row}
@@ -13,11 +13,13 @@ use Rattle.vt_screen.proofs.screen.Screen.put_graphics.Goals as goal
 
 pub returns-clause-grid : goal.returns-clause-grid
 returns-clause-grid c =
+    let rows : c.self.inside.order.size.rows ≡ c.args.self.now.size.rows = ap (λ (g : Grid). g.size.rows) c.self.view_is in
     let width : c.self.inside.width ≡ c.args.self.now.width = ap (λ (g : Grid). g.width) c.self.view_is in
-    let narrow = width-bounds c.self.inside.width c.self.invariant.1.shape.width in
+    let narrow = width-bounds c.self.inside.order.size c.self.inside.width c.self.invariant.1.shape.size
+    c.self.invariant.1.shape.width in
     let bound = c.start.ensures.bound in
     let same = c.deref_mut.ensures.value in
-    let long : length c.deref_mut.result.now ≡ room = ap length same ∙ c.self.invariant.0 in
+    let long : length c.deref_mut.result.now ≡ room c.self.inside.order.size = ap length same ∙ c.self.invariant.0 in
     let at = c.start.result + c.args.column - 1 in
     let k = c.start.result + c.args.column - 1 + length c.args.bytes.now - (c.start.result + c.args.column - 1) in
     let glyphs : List ℕ = map (glyph_in_use c.args.table.now) c.args.bytes.now in
@@ -42,4 +44,4 @@ returns-clause-sound c = subst IsSoundGrid (sym (returns-clause-grid c))
 
 pub invariant_of-self : goal.invariant_of-self
 invariant_of-self c =
-    (as_many c.self.inside.cells _ c.self.inside.cells.ok.0 c.self.invariant.0, returns-clause-sound c)
+    (as_many _ c.self.inside.cells _ c.self.inside.cells.ok.0 c.self.invariant.0, returns-clause-sound c)

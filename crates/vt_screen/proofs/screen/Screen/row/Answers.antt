@@ -1,9 +1,10 @@
 use Rattle.std.proofs.Common.{arith, ◌≡◌, ◌+◌, ◌-◌, length, get_or, ap, subst, ◌∙◌}
 use Rattle.vt_screen.specs.Cells.{blank}
-use Rattle.vt_screen.specs.Order.{start_of, stored, room}
+use Rattle.vt_screen.specs.Order.{start_of, stored}
+use Rattle.vt_screen.specs.Sizes.{room}
 use Rattle.vt_screen.proofs.Lists.{get_or-mid_of, length-mid_of}
 use Rattle.vt_screen.proofs.Places.{row_of-same, width-bounds}
-use Rattle.vt_screen.specs.Grid.{IsSoundGrid}
+use Rattle.vt_screen.specs.Grid.{Grid, IsSoundGrid}
 use Rattle.vt_screen.proofs.screen.Screen.row.Goals as goal
 
 pub returns-clause-sound : goal.returns-clause-sound
@@ -14,14 +15,16 @@ returns-clause-grid c = (returns-clause-sound c).shape
 
 pub returns-clause-cells : goal.returns-clause-cells
 returns-clause-cells c =
-    let narrow = width-bounds c.self.inside.width c.self.invariant.1.shape.width in
+    let rows : c.self.inside.order.size.rows ≡ c.args.self.now.size.rows = ap (λ (g : Grid). g.size.rows) c.self.view_is in
+    let narrow = width-bounds c.self.inside.order.size c.self.inside.width c.self.invariant.1.shape.size
+    c.self.invariant.1.shape.width in
     let bound = c.start-start.ensures.bound in
     let same = c.deref.ensures.value in
-    let long : length c.deref.result.now ≡ room = ap length same ∙ c.self.invariant.0 in
+    let long : length c.deref.result.now ≡ room c.self.inside.order.size = ap length same ∙ c.self.invariant.0 in
     let k : c.start-start.result + c.self.inside.width - c.start-start.result ≡ c.self.inside.width = omega arith in
     let len = length-mid_of c.start-start.result (c.start-start.result + c.self.inside.width - c.start-start.result)
     c.deref.result.now (omega arith) in
-    rw (← c.self.view_is) (row_of-same c.self.inside.width (stored c.self.inside.order c.self.inside.cells.items)
+    rw (← c.self.view_is) (row_of-same c.self.inside.order.size c.self.inside.width (stored c.self.inside.order c.self.inside.cells.items)
     c.args.row _ (omega arith) (omega arith) (len ∙ k)
     (λ col col1 colw.
     let place : c.start-start.result + (col - 1) ≡ start_of c.self.inside.order c.args.row + (col - 1) =

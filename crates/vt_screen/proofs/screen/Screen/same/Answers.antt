@@ -1,6 +1,6 @@
-use Rattle.std.proofs.Common.{arith, sym, subst, ◌∙◌, inl, inr, refl}
+use Rattle.std.proofs.Common.{arith, ◌≡◌, ap, sym, subst, ◌∙◌, inl, inr, refl}
 use Rattle.std.proofs.lemmas.Bool.Decides.{eqb_tells}
-use Rattle.vt_screen.specs.Grid.{IsGrid, IsSoundGrid}
+use Rattle.vt_screen.specs.Grid.{Grid, IsGrid, IsSoundGrid}
 use Rattle.vt_screen.proofs.Places.{rows-same}
 use Rattle.vt_screen.proofs.screen.Screen.same.Goals as goal
 
@@ -14,7 +14,12 @@ loop-row-preserved c = λ r r1 low. elim (eqb_tells r c.loop-row.row) [
 pub returns : goal.returns
 returns c =
     let here : IsGrid c.args.self.now = (subst IsSoundGrid c.self.view_is c.self.invariant.1).shape in
-    let there : IsGrid c.args.other.now = (subst IsSoundGrid c.other.view_is c.other.invariant.1).shape in (
-      λ _. rows-same c.args.self.now c.args.other.now here there (λ r r1 low. c.loop-row.invariant r r1 (omega arith)),
+    let there : IsGrid c.args.other.now = (subst IsSoundGrid c.other.view_is c.other.invariant.1).shape in
+    let mine : c.self.inside.order.size ≡ c.args.self.now.size = ap (λ (g : Grid). g.size) c.self.view_is in
+    let its : c.other.inside.order.size ≡ c.args.other.now.size = ap (λ (g : Grid). g.size) c.other.view_is in
+    let size : c.args.self.now.size ≡ c.args.other.now.size =
+    sym (c.size-size.ensures.size ∙ mine) ∙ c.same.ensures.0 c.if-not-same.false ∙ c.size.ensures.size ∙ its in
+    let high : c.size-size.result.rows ≡ c.args.self.now.size.rows = ap (λ s. s.rows) (c.size-size.ensures.size ∙ mine) in (
+      λ _. rows-same c.args.self.now c.args.other.now here there size (λ r r1 low. c.loop-row.invariant r r1 (omega (arith, high, low, c.loop-row-test.false))),
       λ _. refl,
     )

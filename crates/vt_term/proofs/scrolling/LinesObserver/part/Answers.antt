@@ -7,7 +7,8 @@ returns g c = λ s sound none. (
   (
     refl,
     refl,
-    logs-none c.one_split.ensures s c.args.bytes.now c.args.self.now.lines.now.items sound none,
+    refl,
+    logs-none c.one_split.ensures c.args.self.now.limit s c.args.bytes.now c.args.self.now.lines.now.items sound none,
     omega arith,
     λ fits. fits,
   ),

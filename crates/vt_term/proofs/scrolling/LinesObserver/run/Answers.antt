@@ -7,20 +7,21 @@ use Rattle.vt_term.proofs.scrolling.LinesObserver.run.Goals as goal
 
 pub returns : goal.returns
 returns g c = λ s sound same between.
-    let few = c.line_off_reserved.ensures.bounded in
+    let few = c.push_line_off.ensures.bounded in
     let bytes = c.args.bytes.now in (
       (
         refl,
         refl,
-        logs-one c.one_split.ensures s bytes c.args.self.now.lines.now.items c.line_off_reserved.new.lines.items
+        refl,
+        logs-one c.one_split.ensures c.args.self.now.limit s bytes c.args.self.now.lines.now.items c.push_line_off.new.lines.items
             (line_off (Print (slice_index bytes 0)) s.display) sound c.requires.some
             (run-line c.spelled.ensures s bytes between c.requires.graphic c.requires.some (rw same c.requires.fits.0.0))
-            (rw same (c.line_off_reserved.ensures.lines [])) (omega (arith, few)),
-        c.line_off_reserved.ensures.capacity,
-        λ fits. line-fits (scrolls_off (Print (slice_index bytes 0)) c.args.terminal.now.display) _ _ _ fits
-            c.line_off_reserved.ensures.bounded
+            (rw same (c.push_line_off.ensures.lines [])) (omega (arith, few)),
+        c.push_line_off.ensures.capacity,
+        λ fits. line-fits c.args.self.now.limit (scrolls_off (Print (slice_index bytes 0)) c.args.terminal.now.display) _ _ _ fits
+            c.push_line_off.ensures.bounded
             (λ off. (c.requires.fits.0.1 c.requires.some (print-off (slice_index bytes 0) c.args.terminal.now.display off)).1)
-            (c.line_off_reserved.ensures.none []),
+            (c.push_line_off.ensures.none []),
       ),
       c.run.ensures s sound same between,
     )

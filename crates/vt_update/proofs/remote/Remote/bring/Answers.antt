@@ -3,7 +3,7 @@ use Rattle.vt_update.proofs.remote.Remote.bring.Goals as goal
 
 pub set_saved-requires-clause-row : goal.set_saved-requires-clause-row
 set_saved-requires-clause-row c = let place = c.cursor-cursor.ensures.sound.display.saved in
-    rw c.saved.ensures (place.row_1, place.row_24)
+    rw c.saved.ensures (place.row_1, place.row_last)
 
 pub set_saved-requires-clause-left : goal.set_saved-requires-clause-left
 set_saved-requires-clause-left c = rw c.saved.ensures c.cursor-cursor.ensures.sound.display.saved_sets.left

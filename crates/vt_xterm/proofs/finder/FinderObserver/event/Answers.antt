@@ -7,4 +7,4 @@ use Rattle.vt_xterm.proofs.finder.FinderObserver.event.Goals as goal
 pub returns : goal.returns
 returns c = λ s sound same is last.
     terminals-one (events_in (happenings s c.args.bytes.now)) (event_of c.args.kind c.args.values.now)
-    (c.happened.ensures.events s c.args.bytes.now sound ∙ is) c.requires.lets
+    (c.sized_happened.ensures.events s.display.grid.size s c.args.bytes.now sound ∙ is) c.requires.lets

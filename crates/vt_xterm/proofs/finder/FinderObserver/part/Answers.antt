@@ -5,4 +5,4 @@ use Rattle.vt_xterm.proofs.finder.FinderObserver.part.Goals as goal
 
 pub returns : goal.returns
 returns c = λ s sound none.
-    terminals-none (events_in (happenings s c.args.bytes.now)) (c.happened.ensures.events s c.args.bytes.now sound ∙ none)
+    terminals-none (events_in (happenings s c.args.bytes.now)) (c.sized_happened.ensures.events s.display.grid.size s c.args.bytes.now sound ∙ none)

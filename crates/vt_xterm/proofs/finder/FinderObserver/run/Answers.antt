@@ -5,5 +5,5 @@ use Rattle.vt_xterm.proofs.finder.FinderObserver.run.Goals as goal
 
 pub returns : goal.returns
 returns c = λ s sound same between.
-    subst AreTerminals (sym (c.happened.ensures.events s c.args.bytes.now sound))
+    subst AreTerminals (sym (c.sized_happened.ensures.events s.display.grid.size s c.args.bytes.now sound))
     (terminals-run c.spelled.ensures s c.args.bytes.now between c.requires.graphic)

@@ -1,0 +1,9 @@
+use Rattle.std.proofs.Common.{◌∙◌, [], sym, arith}
+use Rattle.vt_term.proofs.scrolling.push_line_off.Goals as goal
+
+pub row_text_reserved-requires-clause-room : goal.row_text_reserved-requires-clause-room
+row_text_reserved-requires-clause-room c =
+    omega (arith, c.requires [] (sym (c.scrolls_off.ensures []) ∙ c.if-scrolls_off.true))
+
+pub row_text_reserved-requires-clause-row : goal.row_text_reserved-requires-clause-row
+row_text_reserved-requires-clause-row c = (omega arith, omega (arith, c.size.ensures.sound.rows))

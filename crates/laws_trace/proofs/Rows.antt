@@ -15,7 +15,7 @@ use Rattle.vt_glyph.specs.Invocation.{designated, has_no_glyph, glyph_read, afte
 use Rattle.vt_screen.specs.declared.cell.Rendition.{Rendition}
 use Rattle.vt_screen.specs.Same.{same_bool}
 use Rattle.vt_term.specs.declared.state.Modes.{Modes}
-use Rattle.vt_screen.specs.Sizes.{vt220_size}
+use Rattle.vt_screen.specs.Sizes.{vt220_size, width_of}
 use Rattle.vt_term.specs.State.{Display, display_at_power_up, has_stop_at}
 use Rattle.vt_term.specs.Sound.{IsSoundDisplay}
 use Rattle.vt_term.specs.Parameters.{first, second}
@@ -174,37 +174,40 @@ escapes-fit base inter last =
 
 -- ---- control sequences
 
--- the values of the modes of a table, read from a display
-abbrev flags_in : List (ℕ × (Modes → Bool)) → List (ℕ × (Display → Bool))
-flags_in table = map (λ row. (row.0, λ s. row.1 s.modes)) table
+-- whether a display gives the modes of a table a value
+abbrev flags_in : List (ℕ × (Modes → Bool)) → List (ℕ × (Bool → Display → Bool))
+flags_in table = map (λ row. (row.0, λ on s. same_bool on (row.1 s.modes))) table
 
--- that of DECCOLM is the width
-abbrev private_flags : List (ℕ × (Display → Bool))
-private_flags = (3, λ s. eqb s.grid.width 132) ∷ flags_in private_values
+-- DECCOLM has a value if the width is that of the value
+abbrev private_flags : List (ℕ × (Bool → Display → Bool))
+private_flags = (3, λ on s. eqb s.grid.width (width_of s.grid.size on)) ∷ flags_in private_values
 
--- a flag has this value
-abbrev has_value : Bool → Display → (Display → Bool) → Bool
-has_value on s flag = same_bool on (flag s)
+-- one of the modes of the first display has this value
+abbrev one_has : List (ℕ × (Bool → Display → Bool)) → Bool → Display → Display → Bool
+one_has flags on a b = list_any (λ row. row.1 on a) flags
 
--- one of the flags of the first display has it
-abbrev one_has : List (ℕ × (Display → Bool)) → Bool → Display → Display → Bool
-one_has flags on a b = list_any (λ row. has_value on a row.1) flags
-
--- the mode of a number gives this value to the flag of the number
-abbrev Gives : Bool → List (ℕ × (Display → Bool)) → ℕ → (Bool → Display → Display) → Type 0
+-- the mode of a number gets this value
+abbrev Gives : Bool → List (ℕ × (Bool → Display → Bool)) → ℕ → (Bool → Display → Display) → Type 0
 Gives on flags p mode =
-    (s : Display) → unwrap_or (option_map (has_value on (mode on s)) (look_up flags p)) false ≡ true
+    (s : Display) → unwrap_or (option_map (λ (flag : Bool → Display → Bool). flag on (mode on s)) (look_up flags p)) false ≡ true
 
-GivesBoth : List (ℕ × (Display → Bool)) → ℕ → (Bool → Display → Display) → Type 0
+GivesBoth : List (ℕ × (Bool → Display → Bool)) → ℕ → (Bool → Display → Display) → Type 0
 GivesBoth flags p mode = Gives true flags p mode × Gives false flags p mode
 
 ansi_mode_rows : AllRows (GivesBoth (flags_in ansi_values)) ansi_modes
 unfolding AllRows GivesBoth
 ansi_mode_rows = search rules
 
+equal-itself : (n : ℕ) → eqb n n ≡ true
+equal-itself n = go (eqb_tells n n)
+  where
+    go : ((eqb n n ≡ true) × (n ≡ n)) ⊎ ((eqb n n ≡ false) × (n ≢ n)) → eqb n n ≡ true
+    go (inl t) = t.0
+    go (inr f) = absurd (f.1 refl)
+
 private_mode_rows : AllRows (GivesBoth private_flags) private_modes
 unfolding AllRows GivesBoth
-private_mode_rows = search rules
+private_mode_rows = search (rules, equal-itself)
 
 -- the attributes of two renditions, each the same or not
 same_flags : Rendition → Rendition → List Bool
@@ -291,13 +294,13 @@ module _ (base : IsSoundDisplay display_at_power_up) (values : List ℕ) where
   line_area : (key : ℕ) (name : List ℕ) (selective : Bool) → Fit key (erasing name (erase_in_line selective))
   line_area key name selective = area key name (erase_in_line selective) (λ p s h. rw h refl) (λ p h. rw h refl)
 
-  module _ (flags : List (ℕ × (Display → Bool))) (modes : List (ℕ × (Bool → Display → Display)))
+  module _ (flags : List (ℕ × (Bool → Display → Bool))) (modes : List (ℕ × (Bool → Display → Display)))
       (rows : AllRows (GivesBoth flags) modes) where
     given : (on : Bool) (p : ℕ) (mode : Bool → Display → Display) → GivesBoth flags p mode → (s : Display)
-        → list_any (λ row. has_value on (mode on s) row.1) flags ≡ true
+        → list_any (λ row. row.1 on (mode on s)) flags ≡ true
     unfolding GivesBoth
-    given true p mode both s = looked_true (has_value true (mode true s)) flags p (both.0 s)
-    given false p mode both s = looked_true (has_value false (mode false s)) flags p (both.1 s)
+    given true p mode both s = looked_true (λ flag. flag true (mode true s)) flags p (both.0 s)
+    given false p mode both s = looked_true (λ flag. flag false (mode false s)) flags p (both.1 s)
 
     changed : (on : Bool) → list_any (contains (numbers_of modes)) values ≡ true → (s : Display)
         → one_has flags on (change_modes modes on values s) (change_modes modes on values s) ≡ true

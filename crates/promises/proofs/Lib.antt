@@ -1,1 +1,1 @@
-pub mod v0_3
+pub mod v0_4

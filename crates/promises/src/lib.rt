@@ -1,4 +1,4 @@
-//! The promises of version 0.3: each public call with its contract, over copies of the definitions that it reaches.
+//! The promises of version 0.4: each public call with its contract, over copies of the definitions that it reaches.
 //!
 //! `tools/freeze` wrote this crate, and no other crate needs it. If it isn't proved, a promise is broken.
 #![tactic(auto)]

@@ -1,4 +1,6 @@
 //! The calls of vt_picture.
+pub mod animation;
 pub mod bytes;
 pub mod document;
+pub mod laws;
 pub mod showing;

@@ -1,7 +1,7 @@
 //! The calls of vt_term.
 pub mod copying;
-pub mod display;
 pub mod feeding;
+pub mod feeds;
 pub mod fronts;
 pub mod functions;
 pub mod laws;
@@ -9,7 +9,9 @@ pub mod page;
 pub mod readers;
 pub mod reports;
 pub mod scrolling;
+pub mod sized;
 pub mod state;
+pub mod tabs;
 pub mod terminal;
 pub mod text;
 pub mod unseen;

@@ -1,5 +1,5 @@
 //! The calls of vt_cli/src/command_line.
-ghost use Rattle.promises.specs.v0_3.cli.CommandLine.{faults_in, found_in, IsRefusal};
+ghost use Rattle.promises.specs.v0_4.cli.CommandLine.{faults_in, found_in, IsRefusal};
 ghost use Rattle.std.specs.Prelude.{[], IfErr, IfOk, ◌≡◌};
 ghost use Rattle.vt_cli.specs.CommandLine.{AreSettings};
 

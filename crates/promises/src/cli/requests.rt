@@ -1,5 +1,5 @@
 //! The calls of vt_cli/src/requests.
-ghost use Rattle.promises.specs.v0_3.cli.Request.{IsNoRequest};
+ghost use Rattle.promises.specs.v0_4.cli.Request.{IsNoRequest};
 ghost use Rattle.std.specs.Prelude.{IfErr, IfOk};
 ghost use Rattle.vt_cli.specs.Request.{IsRequest};
 

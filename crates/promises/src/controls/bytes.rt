@@ -1,5 +1,5 @@
 //! The calls of vt_controls/src/bytes.
-ghost use Rattle.promises.specs.v0_3.screen.Same.{when};
+ghost use Rattle.promises.specs.v0_4.screen.Same.{when};
 ghost use Rattle.std.specs.Prelude.{length, take, vec_capacity, vec_len, ℕ, ◌++◌, ◌+◌, ◌≡◌, ◌≤◌};
 
 use itoa::Integer;

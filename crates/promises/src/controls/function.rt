@@ -1,12 +1,12 @@
 //! The calls of vt_controls/src/function.
-ghost use Rattle.promises.specs.v0_3.controls.Controls.{all_attributes, clear_all_tabs, cursor_position};
-ghost use Rattle.promises.specs.v0_3.controls.Controls.{designation_of, left_event, margins_to, mode_event};
-ghost use Rattle.promises.specs.v0_3.controls.Controls.{protection_to, reset_to_initial_state, right_event};
-ghost use Rattle.promises.specs.v0_3.controls.Controls.{save_cursor, set_tab, shift_to, soft_reset};
-ghost use Rattle.promises.specs.v0_3.controls.Named.{control_named, no_protection, rendition_change, sequence_named};
-ghost use Rattle.promises.specs.v0_3.controls.Named.{unless_one};
-ghost use Rattle.promises.specs.v0_3.controls.Spoken.{Speaks};
-ghost use Rattle.promises.specs.v0_3.syntax.Spelling.{spell_event};
+ghost use Rattle.promises.specs.v0_4.controls.Controls.{all_attributes, clear_all_tabs, cursor_position};
+ghost use Rattle.promises.specs.v0_4.controls.Controls.{designation_of, left_event, margins_to, mode_event};
+ghost use Rattle.promises.specs.v0_4.controls.Controls.{protection_to, reset_to_initial_state, right_event};
+ghost use Rattle.promises.specs.v0_4.controls.Controls.{save_cursor, set_tab, shift_to, soft_reset};
+ghost use Rattle.promises.specs.v0_4.controls.Named.{control_named, no_protection, rendition_change, sequence_named};
+ghost use Rattle.promises.specs.v0_4.controls.Named.{unless_one};
+ghost use Rattle.promises.specs.v0_4.controls.Spoken.{Speaks};
+ghost use Rattle.promises.specs.v0_4.syntax.Spelling.{spell_event};
 ghost use Rattle.std.specs.Prelude.{[], codes, length, take, vec_capacity, vec_len, ◌++◌, ◌+◌, ◌<◌, ◌≡◌, ◌≤◌};
 
 use vt_controls::{ALL_MODES, FUNCTION_LIMIT, Function};

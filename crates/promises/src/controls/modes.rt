@@ -1,5 +1,5 @@
 //! The calls of vt_controls/src/modes.
-ghost use Rattle.promises.specs.v0_3.controls.Controls.{mode_rows};
+ghost use Rattle.promises.specs.v0_4.controls.Controls.{mode_rows};
 ghost use Rattle.std.specs.Prelude.{map, ◌≡◌};
 
 use vt_controls::MODES;

@@ -1,5 +1,5 @@
 //! The calls of vt_device/src/watched.
-ghost use Rattle.promises.specs.v0_3.device.Watched.{error_after, read_ended, read_failed, write_failed};
+ghost use Rattle.promises.specs.v0_4.device.Watched.{error_after, read_ended, read_failed, write_failed};
 ghost use Rattle.std.specs.Io.KnownBytes.{ReadConsumes, WriteAppends};
 ghost use Rattle.std.specs.Io.{ReadsAtMost, WritesAtMost};
 ghost use Rattle.std.specs.Prelude.{false, None, ◌||◌, ◌≡◌};

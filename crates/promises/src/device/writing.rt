@@ -1,5 +1,5 @@
 //! The calls of vt_device/src/writing.
-ghost use Rattle.promises.specs.v0_3.device.Writing.{WriteTable};
+ghost use Rattle.promises.specs.v0_4.device.Writing.{WriteTable};
 ghost use Rattle.std.specs.Prelude.{false, ◌≡◌};
 ghost use Rattle.vt_device.specs.Writing.{Gives};
 

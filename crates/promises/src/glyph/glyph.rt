@@ -1,7 +1,7 @@
 //! The calls of vt_glyph/src/glyph.
-ghost use Rattle.promises.specs.v0_3.glyph.Encoding.{encoded_glyph, encoded_spelling, encoding_of};
-ghost use Rattle.promises.specs.v0_3.glyph.Spell.{spelling_of};
-ghost use Rattle.promises.specs.v0_3.glyph.Tables.{IsGlyph, space, substitute_glyph};
+ghost use Rattle.promises.specs.v0_4.glyph.Encoding.{encoded_glyph, encoded_spelling, encoding_of};
+ghost use Rattle.promises.specs.v0_4.glyph.Spell.{spelling_of};
+ghost use Rattle.promises.specs.v0_4.glyph.Tables.{IsGlyph, space, substitute_glyph};
 ghost use Rattle.std.specs.Prelude.{◌<◌, ◌≡◌, ◌≤◌};
 
 use vt_glyph::{Glyph, Spelling};

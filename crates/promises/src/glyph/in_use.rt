@@ -1,6 +1,6 @@
 //! The calls of vt_glyph/src/in_use.
-ghost use Rattle.promises.specs.v0_3.glyph.Invocation.{glyph_in_use, HasGlyph};
-ghost use Rattle.promises.specs.v0_3.glyph.Tables.{IsGlyph};
+ghost use Rattle.promises.specs.v0_4.glyph.Invocation.{glyph_in_use, HasGlyph};
+ghost use Rattle.promises.specs.v0_4.glyph.Tables.{IsGlyph};
 ghost use Rattle.std.specs.Prelude.{◌≡◌};
 
 use vt_glyph::{Glyph, InUse};

@@ -1,5 +1,5 @@
 //! The calls of vt_glyph/src/laws.
-ghost use Rattle.promises.specs.v0_3.glyph.Designation.{final_of, set_of_final};
+ghost use Rattle.promises.specs.v0_4.glyph.Designation.{final_of, set_of_final};
 ghost use Rattle.std.specs.Prelude.{Some, ◌≡◌};
 ghost use Rattle.vt_glyph.specs.Laws.{GlyphLaws, InUseLaws, SetsLaws, SpellingLaws};
 ghost use Rattle.vt_glyph.specs.declared.set.Set.{Set};

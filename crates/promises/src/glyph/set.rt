@@ -1,6 +1,6 @@
 //! The calls of vt_glyph/src/set.
-ghost use Rattle.promises.specs.v0_3.glyph.Designation.{final_of, set_of_final};
-ghost use Rattle.promises.specs.v0_3.glyph.Tables.{glyph_of, IsGlyph};
+ghost use Rattle.promises.specs.v0_4.glyph.Designation.{final_of, set_of_final};
+ghost use Rattle.promises.specs.v0_4.glyph.Tables.{glyph_of, IsGlyph};
 ghost use Rattle.std.specs.Prelude.{◌≡◌, ◌≤◌};
 
 use vt_glyph::{Glyph, Set};

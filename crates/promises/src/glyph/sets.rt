@@ -1,8 +1,8 @@
 //! The calls of vt_glyph/src/sets.
-ghost use Rattle.promises.specs.v0_3.glyph.Invocation.{after_read, designated, glyph_read, in_use, locked_left};
-ghost use Rattle.promises.specs.v0_3.glyph.Invocation.{locked_right, restored, set_at, sets_at_power_up};
-ghost use Rattle.promises.specs.v0_3.glyph.Invocation.{shifted_once};
-ghost use Rattle.promises.specs.v0_3.glyph.Tables.{IsGlyph};
+ghost use Rattle.promises.specs.v0_4.glyph.Invocation.{after_read, designated, glyph_read, in_use, locked_left};
+ghost use Rattle.promises.specs.v0_4.glyph.Invocation.{locked_right, restored, set_at, sets_at_power_up};
+ghost use Rattle.promises.specs.v0_4.glyph.Invocation.{shifted_once};
+ghost use Rattle.promises.specs.v0_4.glyph.Tables.{IsGlyph};
 ghost use Rattle.std.specs.Prelude.{IfSome, IsTrue, ℕ, ◌<◌, ◌↔◌, ◌≡◌, ◌≤◌, ◌⊎◌};
 ghost use Rattle.vt_glyph.specs.GraphicSets.{AreSoundSets};
 ghost use Rattle.vt_glyph.specs.declared.set.Set.TheVariants.{Ascii};

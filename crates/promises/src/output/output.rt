@@ -1,5 +1,5 @@
 //! The calls of vt_output/src/output.
-ghost use Rattle.promises.specs.v0_3.output.Output.{OutputTable, TranslatedTable};
+ghost use Rattle.promises.specs.v0_4.output.Output.{OutputTable, TranslatedTable};
 ghost use Rattle.std.specs.Io.KnownBytes.{IsAtEnd};
 ghost use Rattle.std.specs.Prelude.{[], false, true, ◌≡◌, ◌≤◌};
 ghost use Rattle.vt_device.specs.Runs.{Moves};

@@ -1,10 +1,10 @@
 //! The calls of vt_paint/src/changes.
-ghost use Rattle.promises.specs.v0_3.controls.Spoken.{Speaks};
-ghost use Rattle.promises.specs.v0_3.paint.Changes.{differing};
+ghost use Rattle.promises.specs.v0_4.controls.Spoken.{Speaks};
+ghost use Rattle.promises.specs.v0_4.paint.Changes.{differing};
+ghost use Rattle.promises.specs.v0_4.term.Sound.{IsSound};
 ghost use Rattle.std.specs.Prelude.{drop, vec_capacity, vec_len, ◌*◌, ◌+◌, ◌≡◌, ◌≤◌};
 ghost use Rattle.vt_paint.specs.Changes.{AreChanges, Changes};
 ghost use Rattle.vt_syntax.specs.declared.held.Held.TheVariants.{Nothing};
-ghost use Rattle.vt_term.specs.Sound.{IsSound};
 ghost use Rattle.vt_term.specs.State.{State};
 
 use vt_paint::PAINT_LIMIT;

@@ -1,5 +1,5 @@
 //! The calls of vt_paint/src/compare.
-ghost use Rattle.promises.specs.v0_3.paint.Changes.{AreCounted, AreMarked, differing};
+ghost use Rattle.promises.specs.v0_4.paint.Changes.{AreCounted, AreMarked, differing};
 ghost use Rattle.std.specs.Prelude.{◌*◌, ◌≡◌, ◌≤◌};
 
 use vt_screen::COLUMNS;

@@ -1,11 +1,11 @@
 //! The calls of vt_paint/src/laws.
-ghost use Rattle.promises.specs.v0_3.controls.Spoken.{Speaks};
-ghost use Rattle.promises.specs.v0_3.paint.Repaint.{IsReached, IsRebuilt, paint};
-ghost use Rattle.promises.specs.v0_3.term.Play.{play};
+ghost use Rattle.promises.specs.v0_4.controls.Spoken.{Speaks};
+ghost use Rattle.promises.specs.v0_4.paint.Repaint.{IsReached, IsRebuilt, paint};
+ghost use Rattle.promises.specs.v0_4.term.Play.{play};
+ghost use Rattle.promises.specs.v0_4.term.Sound.{IsSound};
 ghost use Rattle.std.specs.Prelude.{[], length, List, ℕ, ◌↔◌, ◌≡◌, ◌≤◌};
 ghost use Rattle.std.specs.Str.{IsAscii};
 ghost use Rattle.vt_syntax.specs.declared.held.Held.TheVariants.{Nothing};
-ghost use Rattle.vt_term.specs.Sound.{IsSound};
 ghost use Rattle.vt_term.specs.State.{State};
 
 use vt_paint::PAINT_LIMIT;

@@ -1,6 +1,6 @@
 //! The calls of vt_paint/src/paint.
-ghost use Rattle.promises.specs.v0_3.paint.Repaint.{IsRebuilt, made_events, paint};
-ghost use Rattle.promises.specs.v0_3.syntax.Spelling.{spell_events};
+ghost use Rattle.promises.specs.v0_4.paint.Repaint.{IsRebuilt, made_events, paint};
+ghost use Rattle.promises.specs.v0_4.syntax.Spelling.{spell_events};
 ghost use Rattle.std.specs.Prelude.{IsErrOf, OnErr, OnOk, vec_capacity, vec_len, ◌++◌, ◌+◌, ◌-◌, ◌<◌, ◌↔◌, ◌≡◌, ◌≢◌};
 ghost use Rattle.std.specs.Prelude.{◌≤◌};
 ghost use Rattle.vt_syntax.specs.declared.held.Held.TheVariants.{Nothing};

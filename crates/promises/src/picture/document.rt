@@ -1,5 +1,5 @@
 //! The calls of vt_picture/src/document.
-ghost use Rattle.promises.specs.v0_3.picture.Picture.{picture};
+ghost use Rattle.promises.specs.v0_4.picture.Picture.{picture};
 ghost use Rattle.std.specs.Prelude.{IsOk, OnErr, OnOk, vec_capacity, vec_len, ◌++◌, ◌+◌, ◌≡◌, ◌≤◌};
 
 use std::alloc::AllocError;

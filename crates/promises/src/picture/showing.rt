@@ -1,5 +1,5 @@
 //! The calls of vt_picture/src/showing.
-ghost use Rattle.promises.specs.v0_3.picture.Show.{change, rendition_sequence, show};
+ghost use Rattle.promises.specs.v0_4.picture.Show.{change, rendition_sequence, show};
 ghost use Rattle.std.specs.Prelude.{IsOk, OnErr, OnOk, vec_capacity, vec_len, ◌++◌, ◌+◌, ◌≡◌, ◌≤◌};
 
 use std::alloc::AllocError;

@@ -1,5 +1,5 @@
 //! The calls of vt_recording/src/asciicast.
-ghost use Rattle.promises.specs.v0_3.recording.Asciicast.{json_text};
+ghost use Rattle.promises.specs.v0_4.recording.Asciicast.{json_text};
 ghost use Rattle.std.specs.Prelude.{length, ◌≡◌, ◌≤◌};
 
 /// Promises what `vt_recording::json_text` promises.

@@ -1,5 +1,5 @@
 //! The calls of vt_recording/src/detection.
-ghost use Rattle.promises.specs.v0_3.recording.Detection.{detected};
+ghost use Rattle.promises.specs.v0_4.recording.Detection.{detected};
 ghost use Rattle.std.specs.Prelude.{◌≡◌};
 
 use vt_recording::Detected;

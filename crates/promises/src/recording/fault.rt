@@ -1,5 +1,5 @@
 //! The calls of vt_recording/src/fault.
-ghost use Rattle.promises.specs.v0_3.recording.Fault.{line_of, status_of, status_with};
+ghost use Rattle.promises.specs.v0_4.recording.Fault.{line_of, status_of, status_with};
 ghost use Rattle.std.specs.Prelude.{◌≡◌};
 
 use vt_recording::Fault;

@@ -1,5 +1,5 @@
 //! The calls of vt_recording/src/heading.
-ghost use Rattle.promises.specs.v0_3.recording.Heading.{heading_of};
+ghost use Rattle.promises.specs.v0_4.recording.Heading.{heading_of};
 ghost use Rattle.std.specs.Prelude.{IfOk, ◌≡◌};
 
 use std::alloc::{AllocError, Global};

@@ -1,6 +1,6 @@
 //! The calls of vt_recording/src/laws.
-ghost use Rattle.promises.specs.v0_3.recording.Taken.{IsTaken};
-ghost use Rattle.promises.specs.v0_3.recording.Timeline.{IsContentOf, IsTimelineOf};
+ghost use Rattle.promises.specs.v0_4.recording.Taken.{IsTaken};
+ghost use Rattle.promises.specs.v0_4.recording.Timeline.{IsContentOf, IsTimelineOf};
 ghost use Rattle.std.specs.Prelude.{List, Option, ℕ};
 ghost use Rattle.vt_recording.specs.Timeline.{Timeline};
 ghost use Rattle.vt_recording.specs.declared.format.Encoding.{Encoding};

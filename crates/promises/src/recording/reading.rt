@@ -1,5 +1,5 @@
 //! The calls of vt_recording/src/reading.
-ghost use Rattle.promises.specs.v0_3.recording.Reading.{ReadTable};
+ghost use Rattle.promises.specs.v0_4.recording.Reading.{ReadTable};
 ghost use Rattle.std.specs.Io.KnownBytes.{IsAtEnd};
 ghost use Rattle.std.specs.Prelude.{false, true, ◌≡◌, ◌≤◌};
 ghost use Rattle.vt_device.specs.Runs.{Takes};

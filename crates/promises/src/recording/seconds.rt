@@ -1,5 +1,5 @@
 //! The calls of vt_recording/src/seconds.
-ghost use Rattle.promises.specs.v0_3.recording.Seconds.{number, scale};
+ghost use Rattle.promises.specs.v0_4.recording.Seconds.{number, scale};
 ghost use Rattle.std.specs.Prelude.{IfSome, ◌<◌, ◌^◌, ◌≡◌, ◌≤◌};
 
 /// Promises what `vt_recording::number` promises.

@@ -1,7 +1,7 @@
 //! The calls of vt_recording/src/taking.
-ghost use Rattle.promises.specs.v0_3.recording.Gathered.{timeline_view};
-ghost use Rattle.promises.specs.v0_3.recording.Taken.{IsTaken};
-ghost use Rattle.promises.specs.v0_3.recording.Timeline.{IsTimelineOf};
+ghost use Rattle.promises.specs.v0_4.recording.Gathered.{timeline_view};
+ghost use Rattle.promises.specs.v0_4.recording.Taken.{IsTaken};
+ghost use Rattle.promises.specs.v0_4.recording.Timeline.{IsTimelineOf};
 ghost use Rattle.std.specs.Prelude.{IfOk, option_map};
 
 use std::alloc::{AllocError, Global};

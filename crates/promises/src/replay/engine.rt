@@ -1,8 +1,8 @@
 //! The calls of vt_replay/src/engine.
-ghost use Rattle.promises.specs.v0_3.replay.Due.{PlayedTable};
-ghost use Rattle.promises.specs.v0_3.replay.Playing.{ReplayTable};
-ghost use Rattle.promises.specs.v0_3.term.Play.{play};
-ghost use Rattle.promises.specs.v0_3.term.State.{power_up};
+ghost use Rattle.promises.specs.v0_4.replay.Due.{PlayedTable};
+ghost use Rattle.promises.specs.v0_4.replay.Playing.{ReplayTable};
+ghost use Rattle.promises.specs.v0_4.term.Play.{play};
+ghost use Rattle.promises.specs.v0_4.term.State.{power_up};
 ghost use Rattle.std.specs.Io.KnownBytes.{IsAtEnd};
 ghost use Rattle.std.specs.Prelude.{false, true, ◌≡◌, ◌≤◌};
 ghost use Rattle.vt_device.specs.Runs.{Moves};

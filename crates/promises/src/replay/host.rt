@@ -1,5 +1,5 @@
 //! The calls of vt_replay/src/host.
-ghost use Rattle.promises.specs.v0_3.replay.Host.{host_for};
+ghost use Rattle.promises.specs.v0_4.replay.Host.{host_for};
 ghost use Rattle.std.specs.Prelude.{◌≡◌};
 
 use vt_cli::{Format, Request};

@@ -1,5 +1,5 @@
 //! The calls of vt_replay/src/language.
-ghost use Rattle.promises.specs.v0_3.replay.Playing.{language_of};
+ghost use Rattle.promises.specs.v0_4.replay.Playing.{language_of};
 ghost use Rattle.std.specs.Prelude.{◌≡◌};
 
 use vt_cli::{Encoding, TerminalType};

@@ -1,15 +1,15 @@
 //! The calls of vt_replay/src/laws.
-ghost use Rattle.promises.specs.v0_3.replay.Encoding.{decoded};
-ghost use Rattle.promises.specs.v0_3.replay.Pages.{blanks_screen, IsBlank, pages};
-ghost use Rattle.promises.specs.v0_3.replay.Playing.{language_of, played_as};
-ghost use Rattle.promises.specs.v0_3.term.Functions.{effect};
-ghost use Rattle.promises.specs.v0_3.term.Play.{play};
-ghost use Rattle.promises.specs.v0_3.term.State.{power_up};
+ghost use Rattle.promises.specs.v0_4.replay.Encoding.{decoded};
+ghost use Rattle.promises.specs.v0_4.replay.Pages.{blanks_screen, IsBlank, pages};
+ghost use Rattle.promises.specs.v0_4.replay.Playing.{language_of, played_as};
+ghost use Rattle.promises.specs.v0_4.term.Functions.{effect};
+ghost use Rattle.promises.specs.v0_4.term.Play.{play};
+ghost use Rattle.promises.specs.v0_4.term.Sound.{IsSound};
+ghost use Rattle.promises.specs.v0_4.term.State.{power_up};
 ghost use Rattle.std.specs.Prelude.{[], List, true, ℕ, ◌++◌, ◌≡◌};
 ghost use Rattle.vt_recording.specs.declared.format.Encoding.{Encoding};
 ghost use Rattle.vt_recording.specs.declared.format.TerminalType.TheVariants.{Vt220};
 ghost use Rattle.vt_syntax.specs.declared.event.Event.{Event};
-ghost use Rattle.vt_term.specs.Sound.{IsSound};
 ghost use Rattle.vt_term.specs.State.{Display, State};
 
 /// Promises what `vt_replay::laws::as_decoded` promises.

@@ -1,6 +1,6 @@
 //! The calls of vt_replay/src/logging.
-ghost use Rattle.promises.specs.v0_3.output.Output.{always, OutputTable};
-ghost use Rattle.promises.specs.v0_3.replay.Log.{lines, lines_in, screen, screen_in};
+ghost use Rattle.promises.specs.v0_4.output.Output.{always, OutputTable};
+ghost use Rattle.promises.specs.v0_4.replay.Log.{lines, lines_in, screen, screen_in};
 ghost use Rattle.std.specs.Io.KnownBytes.{IsAtEnd};
 ghost use Rattle.std.specs.Prelude.{false, true, ◌≡◌, ◌≤◌};
 ghost use Rattle.vt_device.specs.Runs.{Moves};

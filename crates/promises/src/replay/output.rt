@@ -1,5 +1,5 @@
 //! The calls of vt_replay/src/output.
-ghost use Rattle.promises.specs.v0_3.replay.Encoding.{EncodedTable};
+ghost use Rattle.promises.specs.v0_4.replay.Encoding.{EncodedTable};
 ghost use Rattle.std.specs.Io.KnownBytes.{IsAtEnd};
 ghost use Rattle.std.specs.Prelude.{[], false, length, true, vec_capacity, ◌*◌, ◌≡◌, ◌≤◌};
 ghost use Rattle.vt_device.specs.Runs.{Moves};

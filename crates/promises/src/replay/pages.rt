@@ -1,6 +1,6 @@
 //! The calls of vt_replay/src/pages.
-ghost use Rattle.promises.specs.v0_3.replay.Pages.{pages};
-ghost use Rattle.promises.specs.v0_3.term.Play.{play};
+ghost use Rattle.promises.specs.v0_4.replay.Pages.{pages};
+ghost use Rattle.promises.specs.v0_4.term.Play.{play};
 ghost use Rattle.std.specs.Prelude.{IsOk, length, OnErr, OnOk, take, vec_capacity, vec_len, ◌*◌, ◌++◌, ◌+◌, ◌<◌, ◌≡◌};
 ghost use Rattle.std.specs.Prelude.{◌≤◌};
 

@@ -1,5 +1,5 @@
 //! The calls of vt_replay/src/requests.
-ghost use Rattle.promises.specs.v0_3.replay.Request.{format_of, lacks_times, OutcomeTable};
+ghost use Rattle.promises.specs.v0_4.replay.Request.{format_of, lacks_times, OutcomeTable};
 ghost use Rattle.std.specs.Io.KnownBytes.{IsAtEnd};
 ghost use Rattle.std.specs.Prelude.{false, option_map, true, ◌≡◌};
 ghost use Rattle.vt_device.specs.Runs.{Moves};

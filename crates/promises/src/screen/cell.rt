@@ -1,7 +1,7 @@
 //! The calls of vt_screen/src/cell.
-ghost use Rattle.promises.specs.v0_3.glyph.Encoding.{encoded_glyph, encoding_of};
-ghost use Rattle.promises.specs.v0_3.screen.Cells.{blank, brush_of, cell_of, plain, plain_brush};
-ghost use Rattle.promises.specs.v0_3.screen.Words.{brush_number, cell_word};
+ghost use Rattle.promises.specs.v0_4.glyph.Encoding.{encoded_glyph, encoding_of};
+ghost use Rattle.promises.specs.v0_4.screen.Cells.{blank, brush_of, cell_of, plain, plain_brush};
+ghost use Rattle.promises.specs.v0_4.screen.Words.{brush_number, cell_word};
 ghost use Rattle.std.specs.Prelude.{◌<◌, ◌≡◌};
 
 use vt_glyph::Glyph;

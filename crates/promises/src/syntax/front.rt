@@ -1,7 +1,7 @@
 //! The calls of vt_syntax/src/front.
-ghost use Rattle.promises.specs.v0_3.syntax.Event.{event_of};
-ghost use Rattle.promises.specs.v0_3.syntax.Front.{AreFirst, Begins, BeginsWithEscape, BeginsWithShortEscape};
-ghost use Rattle.promises.specs.v0_3.syntax.Front.{front_list, IsFinal};
+ghost use Rattle.promises.specs.v0_4.syntax.Event.{event_of};
+ghost use Rattle.promises.specs.v0_4.syntax.Front.{AreFirst, Begins, BeginsWithEscape, BeginsWithShortEscape};
+ghost use Rattle.promises.specs.v0_4.syntax.Front.{front_list, IsFinal};
 ghost use Rattle.std.specs.Prelude.{IfSome, IsSome, IsTrue, length, List, None, Some, ℕ, ◌↔◌, ◌≤◌};
 ghost use Rattle.vt_syntax.specs.Front.{IsFront};
 ghost use Rattle.vt_syntax.specs.declared.event.Event.TheVariants as event;

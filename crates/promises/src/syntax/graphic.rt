@@ -1,5 +1,5 @@
 //! The calls of vt_syntax/src/graphic.
-ghost use Rattle.promises.specs.v0_3.syntax.Class.{IsInAreas};
+ghost use Rattle.promises.specs.v0_4.syntax.Class.{IsInAreas};
 ghost use Rattle.std.specs.Prelude.{All, length, slice_index, take, ◌<◌, ◌≤◌};
 
 /// Promises what `vt_syntax::graphic_run` promises.

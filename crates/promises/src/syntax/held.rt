@@ -1,5 +1,5 @@
 //! The calls of vt_syntax/src/held.
-ghost use Rattle.promises.specs.v0_3.syntax.Held.{phase_inter};
+ghost use Rattle.promises.specs.v0_4.syntax.Held.{phase_inter};
 ghost use Rattle.std.specs.Prelude.{◌≡◌};
 
 use vt_syntax::Phase;

@@ -1,5 +1,5 @@
 //! The calls of vt_syntax/src/lines.
-ghost use Rattle.promises.specs.v0_3.syntax.Class.{IsOfLines};
+ghost use Rattle.promises.specs.v0_4.syntax.Class.{IsOfLines};
 ghost use Rattle.std.specs.Prelude.{All, length, slice_index, take, ◌<◌, ◌≤◌};
 
 /// Promises what `vt_syntax::lines_run` promises.

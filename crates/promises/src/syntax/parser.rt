@@ -1,7 +1,7 @@
 //! The calls of vt_syntax/src/parser.
-ghost use Rattle.promises.specs.v0_3.syntax.Event.{event_in, event_of};
-ghost use Rattle.promises.specs.v0_3.syntax.Held.{events_from, held_from};
-ghost use Rattle.promises.specs.v0_3.syntax.Spelling.{IsEvent};
+ghost use Rattle.promises.specs.v0_4.syntax.Event.{event_in, event_of};
+ghost use Rattle.promises.specs.v0_4.syntax.Held.{events_from, held_from};
+ghost use Rattle.promises.specs.v0_4.syntax.Spelling.{IsEvent};
 ghost use Rattle.std.specs.Option.{option_to_list};
 ghost use Rattle.std.specs.Prelude.{[], IfNone, IfSome, IsTrue, length, take, ◌-◌, ◌↔◌, ◌∷◌, ◌≡◌, ◌≤◌};
 ghost use Rattle.vt_syntax.specs.Held.{IsHeldPart};

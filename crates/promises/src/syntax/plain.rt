@@ -1,5 +1,5 @@
 //! The calls of vt_syntax/src/plain.
-ghost use Rattle.promises.specs.v0_3.syntax.Class.{IsPlain};
+ghost use Rattle.promises.specs.v0_4.syntax.Class.{IsPlain};
 ghost use Rattle.std.specs.Prelude.{All, length, slice_index, take, ◌<◌, ◌≤◌};
 
 /// Promises what `vt_syntax::plain_run` promises.

@@ -1,11 +1,12 @@
 //! The calls of vt_term/src/copying.
 ghost use Rattle.std.specs.Prelude.{◌≡◌};
 
-use vt_term::Terminal;
+use vt_term::SizedTerminal;
 
-/// Promises what `terminal.copy_from` promises.
-pub fn terminal_copy_from(terminal: &mut Terminal, other: &Terminal)
-    ensures { terminal.new ≡ other.now }
+/// Promises what `sized_terminal.copy_from` promises.
+pub fn sized_terminal_copy_from(sized_terminal: &mut SizedTerminal, other: &SizedTerminal)
+    requires { sized_terminal.old.display.grid.size ≡ other.now.display.grid.size }
+    ensures { sized_terminal.new ≡ other.now }
 {
-    terminal.copy_from(other)
+    sized_terminal.copy_from(other)
 }

@@ -1,5 +1,5 @@
 //! The calls of vt_term/src/functions.
-ghost use Rattle.promises.specs.v0_3.term.Parameters.{count};
+ghost use Rattle.promises.specs.v0_4.term.Parameters.{count};
 ghost use Rattle.std.specs.Prelude.{◌≡◌};
 
 /// Promises what `vt_term::count` promises.

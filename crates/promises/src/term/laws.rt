@@ -1,18 +1,29 @@
 //! The calls of vt_term/src/laws.
-ghost use Rattle.promises.specs.v0_3.glyph.Invocation.{after_read, glyph_read};
-ghost use Rattle.promises.specs.v0_3.glyph.Tables.{substitute_glyph};
-ghost use Rattle.promises.specs.v0_3.screen.Grid.{scroll_up};
-ghost use Rattle.promises.specs.v0_3.syntax.Held.{events_from};
-ghost use Rattle.promises.specs.v0_3.term.Functions.{effect};
-ghost use Rattle.promises.specs.v0_3.term.Happenings.{events_in, happenings, lines_in};
-ghost use Rattle.promises.specs.v0_3.term.Play.{both, joined, play, play_all};
-ghost use Rattle.promises.specs.v0_3.term.Scrolling.{is_at_end, is_line_feed, log, scrolled_off, scrolls_off};
-ghost use Rattle.promises.specs.v0_3.term.State.{at_place, power_up};
-ghost use Rattle.promises.specs.v0_3.term.Writing.{put_glyph, write_if_read};
-ghost use Rattle.std.specs.Prelude.{[], false, length, List, true, ℕ, ◌++◌, ◌==◌, ◌≡◌};
+ghost use Rattle.promises.specs.v0_4.glyph.Invocation.{after_read, glyph_read};
+ghost use Rattle.promises.specs.v0_4.glyph.Tables.{substitute_glyph};
+ghost use Rattle.promises.specs.v0_4.screen.Grid.{scroll_up};
+ghost use Rattle.promises.specs.v0_4.syntax.Held.{events_from};
+ghost use Rattle.promises.specs.v0_4.term.Functions.{effect};
+ghost use Rattle.promises.specs.v0_4.term.Happenings.{events_in, happenings, lines_in};
+ghost use Rattle.promises.specs.v0_4.term.Play.{both, joined, play, play_all};
+ghost use Rattle.promises.specs.v0_4.term.Scrolling.{is_at_end, is_line_feed, log, scrolled_off, scrolls_off};
+ghost use Rattle.promises.specs.v0_4.term.Sound.{IsSound};
+ghost use Rattle.promises.specs.v0_4.term.State.{at_place, power_up, state_of};
+ghost use Rattle.promises.specs.v0_4.term.Writing.{put_glyph, write_if_read};
+ghost use Rattle.std.specs.Prelude.{[], All, false, length, List, true, ℕ, ◌++◌, ◌==◌, ◌≡◌};
+ghost use Rattle.vt_screen.specs.Sizes.{IsSize};
+ghost use Rattle.vt_screen.specs.declared.size.Size.{Size};
 ghost use Rattle.vt_syntax.specs.declared.event.Event.TheVariants.{Control, Print};
-ghost use Rattle.vt_term.specs.Sound.{IsSound};
+ghost use Rattle.vt_term.specs.Sound.{IsSoundAt};
 ghost use Rattle.vt_term.specs.State.{Display, State};
+
+/// Promises what `vt_term::laws::sized_soundness` promises.
+pub fn sized_soundness()
+    ensures power_up { (size : Size) → IsSize size → IsSoundAt size (state_of size) }
+    ensures play { (size : Size) (s : State) (bytes : List ℕ) → IsSoundAt size s → IsSoundAt size (play s bytes).state }
+{
+    vt_term::laws::sized_soundness()
+}
 
 /// Promises what `vt_term::laws::soundness` promises.
 pub fn soundness()
@@ -20,6 +31,19 @@ pub fn soundness()
     ensures play { (s : State) (bytes : List ℕ) → IsSound s → IsSound (play s bytes).state }
 {
     vt_term::laws::soundness()
+}
+
+/// Promises what `vt_term::laws::sized_cuts` promises.
+pub fn sized_cuts()
+    ensures none { (size : Size) (s : State) → IsSoundAt size s → play s [] ≡ record { state = s; reports = [] } }
+    ensures two { (s : State) (a b : List ℕ) → play s (a ++ b) ≡ both (play s a) (play (play s a).state b) }
+    ensures scrolled_none { (size : Size) (s : State) → IsSoundAt size s → scrolled_off s [] ≡ [] }
+    ensures scrolled_two { (s : State) (a b : List ℕ)
+        → scrolled_off s (a ++ b) ≡ scrolled_off s a ++ scrolled_off (play s a).state b }
+    ensures all { (size : Size) (s : State) (pieces : List (List ℕ)) → IsSoundAt size s
+        → play_all s pieces ≡ play s (joined pieces) }
+{
+    vt_term::laws::sized_cuts()
 }
 
 /// Promises what `vt_term::laws::cuts` promises.
@@ -34,6 +58,21 @@ pub fn cuts()
     vt_term::laws::cuts()
 }
 
+/// Promises what `vt_term::laws::sized_happened` promises.
+pub fn sized_happened()
+    ensures events { (size : Size) (s : State) (bytes : List ℕ) → IsSoundAt size s
+        → events_in (happenings s bytes) ≡ events_from s.held bytes }
+    ensures lines { (size : Size) (s : State) (bytes : List ℕ) → IsSoundAt size s
+        → lines_in (happenings s bytes) ≡ scrolled_off s bytes }
+    ensures count { (s : State) (bytes : List ℕ) → length (happenings s bytes) ≡ length bytes }
+    ensures two { (size : Size) (s : State) (a b : List ℕ) → IsSoundAt size s
+        → happenings s (a ++ b) ≡ happenings s a ++ happenings (play s a).state b }
+    ensures size { (size : Size) (s : State) (bytes : List ℕ) → IsSoundAt size s
+        → All (λ h. h.before.grid.size ≡ size) (happenings s bytes) }
+{
+    vt_term::laws::sized_happened()
+}
+
 /// Promises what `vt_term::laws::happened` promises.
 pub fn happened()
     ensures events { (s : State) (bytes : List ℕ) → IsSound s → events_in (happenings s bytes) ≡ events_from s.held bytes }
@@ -43,6 +82,14 @@ pub fn happened()
         → happenings s (a ++ b) ≡ happenings s a ++ happenings (play s a).state b }
 {
     vt_term::laws::happened()
+}
+
+/// Promises what `vt_term::laws::sized_log_cuts` promises.
+pub fn sized_log_cuts()
+    ensures none { (size : Size) (s : State) → IsSoundAt size s → log s [] ≡ [] }
+    ensures two { (s : State) (a b : List ℕ) → log s (a ++ b) ≡ log s a ++ log (play s a).state b }
+{
+    vt_term::laws::sized_log_cuts()
 }
 
 /// Promises what `vt_term::laws::log_cuts` promises.

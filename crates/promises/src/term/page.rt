@@ -1,10 +1,50 @@
 //! The calls of vt_term/src/page.
-ghost use Rattle.promises.specs.v0_3.term.Pages.{blanked, fitted, page_at_power_up, page_of, with_page};
-ghost use Rattle.promises.specs.v0_3.term.State.{display_at_power_up, power_up};
+ghost use Rattle.promises.specs.v0_4.term.Pages.{blank_page, blanked, fitted, IsSoundSizedPage, page_at_power_up};
+ghost use Rattle.promises.specs.v0_4.term.Pages.{page_of, with_page};
+ghost use Rattle.promises.specs.v0_4.term.State.{display_of, state_of};
 ghost use Rattle.std.specs.Prelude.{IfOk, ◌≡◌};
+ghost use Rattle.vt_screen.specs.Sizes.{IsSize};
 
 use std::alloc::{AllocError, Global};
-use vt_term::{Page, Terminal};
+use vt_screen::Size;
+use vt_term::{Page, SizedPage, SizedTerminal};
+
+/// Promises what `SizedPage::new` promises.
+pub fn sized_page_new(alloc: Global, size: Size) -> Result<SizedPage, AllocError>
+    requires { IsSize size }
+    ensures { IfOk result (λ page. page ≡ blank_page size) }
+{
+    SizedPage::new(alloc, size)
+}
+
+/// Promises what `sized_page.reset` promises.
+pub fn sized_page_reset(sized_page: &mut SizedPage)
+    ensures { sized_page.new ≡ blank_page sized_page.old.grid.size }
+{
+    sized_page.reset()
+}
+
+/// Promises what `sized_page.blank` promises.
+pub fn sized_page_blank(sized_page: &mut SizedPage)
+    ensures { sized_page.new ≡ blanked sized_page.old }
+{
+    sized_page.blank()
+}
+
+/// Promises what `sized_page.copy_from` promises.
+pub fn sized_page_copy_from(sized_page: &mut SizedPage, other: &SizedPage)
+    requires { sized_page.old.grid.size ≡ other.now.grid.size }
+    ensures { sized_page.new ≡ other.now }
+{
+    sized_page.copy_from(other)
+}
+
+/// Promises what `sized_page.soundness` promises.
+pub fn sized_page_soundness(sized_page: &SizedPage)
+    ensures { IsSoundSizedPage sized_page.now }
+{
+    sized_page.soundness()
+}
 
 /// Promises what `Page::new` promises.
 pub fn page_new(alloc: Global) -> Result<Page, AllocError>
@@ -34,19 +74,23 @@ pub fn page_copy_from(page: &mut Page, other: &Page)
     page.copy_from(other)
 }
 
-/// Promises what `terminal.exchange_page` promises.
-pub fn terminal_exchange_page(terminal: &mut Terminal, page: &mut Page)
-    ensures shown { terminal.new ≡ record terminal.old {
-      display = with_page (fitted terminal.old.display.grid.width page.old) terminal.old.display;
+/// Promises what `sized_terminal.exchange_page` promises.
+pub fn sized_terminal_exchange_page(sized_terminal: &mut SizedTerminal, page: &mut SizedPage)
+    requires { sized_terminal.old.display.grid.size ≡ page.old.grid.size }
+    ensures shown { sized_terminal.new ≡ record sized_terminal.old {
+      display = with_page (fitted sized_terminal.old.display.grid.width page.old) sized_terminal.old.display;
     } }
-    ensures page { page.new ≡ page_of terminal.old.display }
+    ensures page { page.new ≡ page_of sized_terminal.old.display }
 {
-    terminal.exchange_page(page)
+    sized_terminal.exchange_page(page)
 }
 
-/// Promises what `terminal.show_copy` promises.
-pub fn terminal_show_copy(terminal: &mut Terminal, page: &Page)
-    ensures { terminal.new ≡ record power_up { display = with_page page.now display_at_power_up } }
+/// Promises what `sized_terminal.show_copy` promises.
+pub fn sized_terminal_show_copy(sized_terminal: &mut SizedTerminal, page: &SizedPage)
+    requires { sized_terminal.old.display.grid.size ≡ page.now.grid.size }
+    ensures { sized_terminal.new ≡ record (state_of sized_terminal.old.display.grid.size) {
+      display = with_page page.now (display_of sized_terminal.old.display.grid.size);
+    } }
 {
-    terminal.show_copy(page)
+    sized_terminal.show_copy(page)
 }

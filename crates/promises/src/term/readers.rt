@@ -1,108 +1,108 @@
 //! The calls of vt_term/src/readers.
-ghost use Rattle.promises.specs.v0_3.screen.Grid.{columns, last_row, row_of};
-ghost use Rattle.std.specs.Prelude.{false, IsTrue, length, true, ◌↔◌, ◌≡◌, ◌≤◌, ◌⊎◌};
+ghost use Rattle.promises.specs.v0_4.screen.Grid.{row_of};
+ghost use Rattle.promises.specs.v0_4.term.Sound.{IsSoundSized};
+ghost use Rattle.std.specs.Prelude.{IsTrue, length, ◌↔◌, ◌≡◌, ◌≤◌, ◌⊎◌};
 ghost use Rattle.vt_syntax.specs.Held.{IsHeldPart};
 ghost use Rattle.vt_syntax.specs.declared.held.Held.TheVariants.{Nothing};
-ghost use Rattle.vt_term.specs.Sound.{IsSound};
 
 use vt_glyph::Sets;
 use vt_screen::{Brush, Cell};
 use vt_syntax::{Held, Parser};
-use vt_term::{Cursor, Margins, Modes, STOPS, Saved, Terminal};
+use vt_term::{Cursor, Margins, Modes, Saved, SizedTerminal};
 
-/// Promises what `terminal.row` promises.
-pub fn terminal_row(terminal: &Terminal, row: usize) -> &[Cell]
-    requires { (1 ≤ row) × (row ≤ last_row) }
-    ensures cells { result.now ≡ row_of terminal.now.display.grid row }
-    ensures len { length result.now ≡ terminal.now.display.grid.width }
-    ensures width { (length result.now ≡ columns false) ⊎ (length result.now ≡ columns true) }
+/// Promises what `sized_terminal.row` promises.
+pub fn sized_terminal_row(sized_terminal: &SizedTerminal, row: usize) -> &[Cell]
+    requires { (1 ≤ row) × (row ≤ sized_terminal.now.display.grid.size.rows) }
+    ensures cells { result.now ≡ row_of sized_terminal.now.display.grid row }
+    ensures len { length result.now ≡ sized_terminal.now.display.grid.width }
+    ensures width { (length result.now ≡ sized_terminal.now.display.grid.size.narrow) ⊎ (length result.now ≡ sized_terminal.now.display.grid.size.wide) }
 {
-    terminal.row(row)
+    sized_terminal.row(row)
 }
 
-/// Promises what `terminal.width` promises.
-pub fn terminal_width(terminal: &Terminal) -> usize
-    ensures width { result ≡ terminal.now.display.grid.width }
-    ensures sound { IsSound terminal.now }
+/// Promises what `sized_terminal.width` promises.
+pub fn sized_terminal_width(sized_terminal: &SizedTerminal) -> usize
+    ensures width { result ≡ sized_terminal.now.display.grid.width }
+    ensures sound { IsSoundSized sized_terminal.now }
 {
-    terminal.width()
+    sized_terminal.width()
 }
 
-/// Promises what `terminal.cursor` promises.
-pub fn terminal_cursor(terminal: &Terminal) -> Cursor
-    ensures cursor { result ≡ terminal.now.display.cursor }
-    ensures sound { IsSound terminal.now }
+/// Promises what `sized_terminal.cursor` promises.
+pub fn sized_terminal_cursor(sized_terminal: &SizedTerminal) -> Cursor
+    ensures cursor { result ≡ sized_terminal.now.display.cursor }
+    ensures sound { IsSoundSized sized_terminal.now }
 {
-    terminal.cursor()
+    sized_terminal.cursor()
 }
 
-/// Promises what `terminal.brush` promises.
-pub fn terminal_brush(terminal: &Terminal) -> Brush
-    ensures { result ≡ terminal.now.display.brush }
+/// Promises what `sized_terminal.brush` promises.
+pub fn sized_terminal_brush(sized_terminal: &SizedTerminal) -> Brush
+    ensures { result ≡ sized_terminal.now.display.brush }
 {
-    terminal.brush()
+    sized_terminal.brush()
 }
 
-/// Promises what `terminal.sets` promises.
-pub fn terminal_sets(terminal: &Terminal) -> &Sets
-    ensures sets { result.now ≡ terminal.now.display.sets }
+/// Promises what `sized_terminal.sets` promises.
+pub fn sized_terminal_sets(sized_terminal: &SizedTerminal) -> &Sets
+    ensures sets { result.now ≡ sized_terminal.now.display.sets }
 {
-    terminal.sets()
+    sized_terminal.sets()
 }
 
-/// Promises what `terminal.margins` promises.
-pub fn terminal_margins(terminal: &Terminal) -> Margins
-    ensures { result ≡ terminal.now.display.margins }
+/// Promises what `sized_terminal.margins` promises.
+pub fn sized_terminal_margins(sized_terminal: &SizedTerminal) -> Margins
+    ensures { result ≡ sized_terminal.now.display.margins }
 {
-    terminal.margins()
+    sized_terminal.margins()
 }
 
-/// Promises what `terminal.stops` promises.
-pub fn terminal_stops(terminal: &Terminal) -> &[bool; STOPS]
-    ensures { result.now ≡ terminal.now.display.stops }
+/// Promises what `sized_terminal.stops` promises.
+pub fn sized_terminal_stops(sized_terminal: &SizedTerminal) -> &[bool]
+    ensures { result.now ≡ sized_terminal.now.display.stops }
 {
-    terminal.stops()
+    sized_terminal.stops()
 }
 
-/// Promises what `terminal.modes` promises.
-pub fn terminal_modes(terminal: &Terminal) -> Modes
-    ensures { result ≡ terminal.now.display.modes }
+/// Promises what `sized_terminal.modes` promises.
+pub fn sized_terminal_modes(sized_terminal: &SizedTerminal) -> Modes
+    ensures { result ≡ sized_terminal.now.display.modes }
 {
-    terminal.modes()
+    sized_terminal.modes()
 }
 
-/// Promises what `terminal.saved` promises.
-pub fn terminal_saved(terminal: &Terminal) -> Saved
-    ensures { result ≡ terminal.now.display.saved }
+/// Promises what `sized_terminal.saved` promises.
+pub fn sized_terminal_saved(sized_terminal: &SizedTerminal) -> Saved
+    ensures { result ≡ sized_terminal.now.display.saved }
 {
-    terminal.saved()
+    sized_terminal.saved()
 }
 
-/// Promises what `terminal.held` promises.
-pub fn terminal_held(terminal: &Terminal) -> &Held
-    ensures held { result.now ≡ terminal.now.held }
-    ensures held_part { IsHeldPart terminal.now.held }
+/// Promises what `sized_terminal.held` promises.
+pub fn sized_terminal_held(sized_terminal: &SizedTerminal) -> &Held
+    ensures held { result.now ≡ sized_terminal.now.held }
+    ensures held_part { IsHeldPart sized_terminal.now.held }
 {
-    terminal.held()
+    sized_terminal.held()
 }
 
-/// Promises what `terminal.parser` promises.
-pub fn terminal_parser(terminal: &Terminal) -> Parser
-    ensures { result ≡ terminal.now.held }
+/// Promises what `sized_terminal.parser` promises.
+pub fn sized_terminal_parser(sized_terminal: &SizedTerminal) -> Parser
+    ensures { result ≡ sized_terminal.now.held }
 {
-    terminal.parser()
+    sized_terminal.parser()
 }
 
-/// Promises what `terminal.is_between` promises.
-pub fn terminal_is_between(terminal: &Terminal) -> bool
-    ensures { IsTrue result ↔ (terminal.now.held ≡ Nothing) }
+/// Promises what `sized_terminal.is_between` promises.
+pub fn sized_terminal_is_between(sized_terminal: &SizedTerminal) -> bool
+    ensures { IsTrue result ↔ (sized_terminal.now.held ≡ Nothing) }
 {
-    terminal.is_between()
+    sized_terminal.is_between()
 }
 
-/// Promises what `terminal.same_state` promises.
-pub fn terminal_same_state(terminal: &Terminal, other: &Terminal) -> bool
-    ensures { IsTrue result ↔ (terminal.now ≡ other.now) }
+/// Promises what `sized_terminal.same_state` promises.
+pub fn sized_terminal_same_state(sized_terminal: &SizedTerminal, other: &SizedTerminal) -> bool
+    ensures { IsTrue result ↔ (sized_terminal.now ≡ other.now) }
 {
-    terminal.same_state(other)
+    sized_terminal.same_state(other)
 }

@@ -1,5 +1,5 @@
 //! The calls of vt_term/src/state.
-ghost use Rattle.promises.specs.v0_3.term.State.{saved_at_power_up};
+ghost use Rattle.promises.specs.v0_4.term.State.{saved_at_power_up};
 ghost use Rattle.std.specs.Prelude.{◌≡◌};
 
 use vt_term::Saved;

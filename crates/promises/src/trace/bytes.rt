@@ -1,5 +1,5 @@
 //! The calls of vt_trace/src/bytes.
-ghost use Rattle.promises.specs.v0_3.trace.Lines.{shown_byte};
+ghost use Rattle.promises.specs.v0_4.trace.Lines.{shown_byte};
 ghost use Rattle.std.specs.Prelude.{vec_capacity, vec_len, ◌++◌, ◌+◌, ◌≡◌, ◌≤◌};
 
 /// Promises what `vt_trace::push_shown` promises.

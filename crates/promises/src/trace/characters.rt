@@ -1,6 +1,6 @@
 //! The calls of vt_trace/src/characters.
-ghost use Rattle.promises.specs.v0_3.trace.Utf8.{counted_bytes};
-ghost use Rattle.promises.specs.v0_3.utf8.Decoding.{pending_after};
+ghost use Rattle.promises.specs.v0_4.trace.Utf8.{counted_bytes};
+ghost use Rattle.promises.specs.v0_4.utf8.Decoding.{pending_after};
 ghost use Rattle.std.specs.Prelude.{List, ℕ, ◌++◌, ◌≡◌};
 ghost use Rattle.vt_trace.specs.Counted.{HasCounted};
 

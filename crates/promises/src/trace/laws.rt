@@ -1,11 +1,11 @@
 //! The calls of vt_trace/src/laws.
-ghost use Rattle.promises.specs.v0_3.term.Play.{play};
-ghost use Rattle.promises.specs.v0_3.trace.Trace.{trace, tracer_all};
-ghost use Rattle.promises.specs.v0_3.trace.Utf8.{trace_utf8, tracer_utf8};
-ghost use Rattle.promises.specs.v0_3.utf8.Decoding.{pending_after};
-ghost use Rattle.promises.specs.v0_3.utf8.Play.{play_utf8};
+ghost use Rattle.promises.specs.v0_4.term.Play.{play};
+ghost use Rattle.promises.specs.v0_4.term.Sound.{IsSound};
+ghost use Rattle.promises.specs.v0_4.trace.Trace.{trace, tracer_all};
+ghost use Rattle.promises.specs.v0_4.trace.Utf8.{trace_utf8, tracer_utf8};
+ghost use Rattle.promises.specs.v0_4.utf8.Decoding.{pending_after};
+ghost use Rattle.promises.specs.v0_4.utf8.Play.{play_utf8};
 ghost use Rattle.std.specs.Prelude.{List, ℕ, ◌++◌, ◌≡◌};
-ghost use Rattle.vt_term.specs.Sound.{IsSound};
 ghost use Rattle.vt_term.specs.State.{State};
 ghost use Rattle.vt_trace.specs.declared.tracing.Tracer.{Tracer};
 

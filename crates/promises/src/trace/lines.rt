@@ -1,6 +1,6 @@
 //! The calls of vt_trace/src/lines.
-ghost use Rattle.promises.specs.v0_3.syntax.Event.{event_of};
-ghost use Rattle.promises.specs.v0_3.trace.Lines.{event_line};
+ghost use Rattle.promises.specs.v0_4.syntax.Event.{event_of};
+ghost use Rattle.promises.specs.v0_4.trace.Lines.{event_line};
 ghost use Rattle.std.specs.Prelude.{length, vec_capacity, vec_len, ◌++◌, ◌+◌, ◌≡◌, ◌≤◌};
 
 use vt_syntax::EventKind;

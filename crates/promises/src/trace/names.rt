@@ -1,7 +1,7 @@
 //! The calls of vt_trace/src/names.
-ghost use Rattle.promises.specs.v0_3.syntax.Event.{event_of};
-ghost use Rattle.promises.specs.v0_3.term.Names.{name_of};
-ghost use Rattle.promises.specs.v0_3.trace.Ignored.{is_ignored};
+ghost use Rattle.promises.specs.v0_4.syntax.Event.{event_of};
+ghost use Rattle.promises.specs.v0_4.term.Names.{name_of};
+ghost use Rattle.promises.specs.v0_4.trace.Ignored.{is_ignored};
 ghost use Rattle.std.specs.Prelude.{IfSome, length, option_copied, ◌≡◌, ◌≤◌};
 
 use vt_syntax::EventKind;

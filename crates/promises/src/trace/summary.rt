@@ -1,5 +1,5 @@
 //! The calls of vt_trace/src/summary.
-ghost use Rattle.promises.specs.v0_3.trace.Summary.{summary};
+ghost use Rattle.promises.specs.v0_4.trace.Summary.{summary};
 ghost use Rattle.std.specs.Prelude.{[], IfOk, List, vec_capacity, vec_len, ℕ, ◌++◌, ◌+◌, ◌≡◌, ◌≤◌};
 ghost use Rattle.vt_trace.specs.Counted.{HasCounted};
 

@@ -1,6 +1,6 @@
 //! The calls of vt_trace/src/tracing.
-ghost use Rattle.promises.specs.v0_3.term.Play.{play};
-ghost use Rattle.promises.specs.v0_3.trace.Trace.{end_lines, trace, tracer_all, tracer_at_start};
+ghost use Rattle.promises.specs.v0_4.term.Play.{play};
+ghost use Rattle.promises.specs.v0_4.trace.Trace.{end_lines, trace, tracer_all, tracer_at_start};
 ghost use Rattle.std.specs.Prelude.{length, take, vec_capacity, vec_len, ◌*◌, ◌++◌, ◌+◌, ◌<◌, ◌^◌, ◌≡◌, ◌≤◌};
 
 use vt_term::Terminal;

@@ -1,7 +1,7 @@
 //! The calls of vt_trace/src/utf8.
-ghost use Rattle.promises.specs.v0_3.trace.Utf8.{trace_utf8, tracer_utf8};
-ghost use Rattle.promises.specs.v0_3.utf8.Decoding.{pending_after};
-ghost use Rattle.promises.specs.v0_3.utf8.Play.{play_utf8};
+ghost use Rattle.promises.specs.v0_4.trace.Utf8.{trace_utf8, tracer_utf8};
+ghost use Rattle.promises.specs.v0_4.utf8.Decoding.{pending_after};
+ghost use Rattle.promises.specs.v0_4.utf8.Play.{play_utf8};
 ghost use Rattle.std.specs.Prelude.{length, take, vec_capacity, vec_len, ◌*◌, ◌++◌, ◌+◌, ◌<◌, ◌^◌, ◌≡◌, ◌≤◌};
 
 use vt_term::Terminal;

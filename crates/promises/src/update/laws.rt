@@ -1,10 +1,10 @@
 //! The calls of vt_update/src/laws.
-ghost use Rattle.promises.specs.v0_3.paint.Repaint.{paint};
-ghost use Rattle.promises.specs.v0_3.term.Play.{joined, play};
-ghost use Rattle.promises.specs.v0_3.update.Leads.{last_state, LeadsAlong, silently};
+ghost use Rattle.promises.specs.v0_4.paint.Repaint.{paint};
+ghost use Rattle.promises.specs.v0_4.term.Play.{joined, play};
+ghost use Rattle.promises.specs.v0_4.term.Sound.{IsSound};
+ghost use Rattle.promises.specs.v0_4.update.Leads.{last_state, LeadsAlong, silently};
 ghost use Rattle.std.specs.Prelude.{[], List, ℕ, ◌++◌, ◌↔◌, ◌≡◌};
 ghost use Rattle.vt_syntax.specs.declared.held.Held.TheVariants.{Nothing};
-ghost use Rattle.vt_term.specs.Sound.{IsSound};
 ghost use Rattle.vt_term.specs.State.{State};
 ghost use Rattle.vt_update.specs.Leads.{Leads};
 

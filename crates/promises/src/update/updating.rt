@@ -1,8 +1,8 @@
 //! The calls of vt_update/src/updating.
-ghost use Rattle.promises.specs.v0_3.controls.Spoken.{Speaks};
-ghost use Rattle.promises.specs.v0_3.paint.Changes.{differing};
-ghost use Rattle.promises.specs.v0_3.paint.Repaint.{paint};
-ghost use Rattle.promises.specs.v0_3.update.Leads.{HasOtherColumns};
+ghost use Rattle.promises.specs.v0_4.controls.Spoken.{Speaks};
+ghost use Rattle.promises.specs.v0_4.paint.Changes.{differing};
+ghost use Rattle.promises.specs.v0_4.paint.Repaint.{paint};
+ghost use Rattle.promises.specs.v0_4.update.Leads.{HasOtherColumns};
 ghost use Rattle.std.specs.Prelude.{drop, IsErrOf, OnErr, OnOk, vec_capacity, vec_len, ◌*◌, ◌++◌, ◌+◌, ◌<◌, ◌↔◌, ◌≡◌};
 ghost use Rattle.std.specs.Prelude.{◌≢◌, ◌≤◌, ◌⊎◌};
 ghost use Rattle.std.specs.Str.{IsAscii};

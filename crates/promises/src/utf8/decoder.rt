@@ -1,6 +1,6 @@
 //! The calls of vt_utf8/src/decoder.
 ghost use Rattle.bstr.specs.Utf8.{replacement};
-ghost use Rattle.promises.specs.v0_3.utf8.Decoding.{pending_of, read};
+ghost use Rattle.promises.specs.v0_4.utf8.Decoding.{pending_of, read};
 ghost use Rattle.std.specs.Option.{option_to_list};
 ghost use Rattle.std.specs.Prelude.{[], IfSome, length, ◌++◌, ◌==◌, ◌≡◌, ◌≤◌};
 ghost use Rattle.vt_utf8.specs.Decoding.{IsWhole};

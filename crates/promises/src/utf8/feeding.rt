@@ -1,9 +1,9 @@
 //! The calls of vt_utf8/src/feeding.
-ghost use Rattle.promises.specs.v0_3.term.Play.{play};
-ghost use Rattle.promises.specs.v0_3.term.Scrolling.{log};
-ghost use Rattle.promises.specs.v0_3.utf8.Decoding.{pending_after};
-ghost use Rattle.promises.specs.v0_3.utf8.Play.{play_utf8, translated};
-ghost use Rattle.promises.specs.v0_3.utf8.Translation.{translation};
+ghost use Rattle.promises.specs.v0_4.term.Play.{play};
+ghost use Rattle.promises.specs.v0_4.term.Scrolling.{log};
+ghost use Rattle.promises.specs.v0_4.utf8.Decoding.{pending_after};
+ghost use Rattle.promises.specs.v0_4.utf8.Play.{play_utf8, translated};
+ghost use Rattle.promises.specs.v0_4.utf8.Translation.{translation};
 ghost use Rattle.std.specs.Prelude.{[], IsOk, length, OnErr, OnOk, take, vec_capacity, vec_len, ◌*◌, ◌++◌, ◌+◌, ◌<◌};
 ghost use Rattle.std.specs.Prelude.{◌≡◌, ◌≤◌, ◌⊎◌};
 

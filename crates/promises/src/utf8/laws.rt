@@ -1,17 +1,17 @@
 //! The calls of vt_utf8/src/laws.
-ghost use Rattle.promises.specs.v0_3.glyph.Tables.{IsGlyph};
-ghost use Rattle.promises.specs.v0_3.term.Play.{both, joined, play};
-ghost use Rattle.promises.specs.v0_3.term.Scrolling.{scrolled_off};
-ghost use Rattle.promises.specs.v0_3.term.Writing.{write_glyph};
-ghost use Rattle.promises.specs.v0_3.utf8.Cells.{cells};
-ghost use Rattle.promises.specs.v0_3.utf8.Decoding.{pending_after, read};
-ghost use Rattle.promises.specs.v0_3.utf8.Play.{play_utf8, play_utf8_all, translated, translated_all};
-ghost use Rattle.promises.specs.v0_3.utf8.Similar.{shown};
-ghost use Rattle.promises.specs.v0_3.utf8.Translation.{glyph_off, IsPlain, translation, unshifted, write_wide};
-ghost use Rattle.promises.specs.v0_3.utf8.Translation.{written};
-ghost use Rattle.std.specs.Prelude.{[], All, List, None, ℕ, ◌++◌, ◌<◌, ◌∷◌, ◌≡◌, ◌≤◌};
+ghost use Rattle.promises.specs.v0_4.glyph.Tables.{IsGlyph};
+ghost use Rattle.promises.specs.v0_4.term.Play.{both, joined, play};
+ghost use Rattle.promises.specs.v0_4.term.Scrolling.{scrolled_off};
+ghost use Rattle.promises.specs.v0_4.term.Sound.{IsSound};
+ghost use Rattle.promises.specs.v0_4.term.Writing.{write_glyph};
+ghost use Rattle.promises.specs.v0_4.utf8.Cells.{cells};
+ghost use Rattle.promises.specs.v0_4.utf8.Decoding.{pending_after, read};
+ghost use Rattle.promises.specs.v0_4.utf8.Play.{play_utf8, play_utf8_all, translated, translated_all};
+ghost use Rattle.promises.specs.v0_4.utf8.Similar.{shown};
+ghost use Rattle.promises.specs.v0_4.utf8.Translation.{glyph_off, is_at_end, IsPlain, translation, unshifted};
+ghost use Rattle.promises.specs.v0_4.utf8.Translation.{write_wide, written};
+ghost use Rattle.std.specs.Prelude.{[], All, false, List, None, ℕ, ◌++◌, ◌<◌, ◌∷◌, ◌≡◌, ◌≤◌};
 ghost use Rattle.vt_syntax.specs.declared.held.Held.TheVariants.{Nothing};
-ghost use Rattle.vt_term.specs.Sound.{IsSound};
 ghost use Rattle.vt_term.specs.State.{State};
 
 /// Promises what `vt_utf8::laws::soundness` promises.
@@ -86,6 +86,8 @@ pub fn writes()
     ensures two { (s : State) (c : ℕ) → IsSound s → s.held ≡ Nothing → s.display.sets.pending ≡ None → 0x80 ≤ c → cells c ≡ 2
         → play s (translation s c)
         ≡ record { state = record s { display = write_wide (shown c) s.display }; reports = [] } }
+    ensures two_off { (s : State) (c : ℕ) → IsSound s → s.held ≡ Nothing → s.display.sets.pending ≡ None → 0x80 ≤ c
+        → cells c ≡ 2 → is_at_end s.display ≡ false → scrolled_off s (translation s c) ≡ glyph_off s.display }
     ensures none { (s : State) (c : ℕ) → s.held ≡ Nothing → 0x80 ≤ c → cells c ≡ 0 → translation s c ≡ [] }
 {
     vt_utf8::laws::writes()

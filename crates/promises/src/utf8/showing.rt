@@ -1,5 +1,5 @@
 //! The calls of vt_utf8/src/showing.
-ghost use Rattle.promises.specs.v0_3.utf8.Showing.{shown_as};
+ghost use Rattle.promises.specs.v0_4.utf8.Showing.{shown_as};
 ghost use Rattle.std.specs.Prelude.{◌≡◌};
 
 use vt_glyph::Glyph;

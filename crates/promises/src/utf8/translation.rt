@@ -1,6 +1,6 @@
 //! The calls of vt_utf8/src/translation.
-ghost use Rattle.promises.specs.v0_3.utf8.Cells.{cells};
-ghost use Rattle.promises.specs.v0_3.utf8.Play.{translated_all};
+ghost use Rattle.promises.specs.v0_4.utf8.Cells.{cells};
+ghost use Rattle.promises.specs.v0_4.utf8.Play.{translated_all};
 ghost use Rattle.std.specs.Option.{option_to_list};
 ghost use Rattle.std.specs.Prelude.{◌≡◌, ◌≤◌};
 

@@ -1,22 +1,22 @@
 //! The calls of laws_utf8/src/lib.
-ghost use Rattle.promises.specs.v0_3.glyph.Tables.{IsGlyph};
-ghost use Rattle.promises.specs.v0_3.utf8_laws.Wide.{left_wide};
-ghost use Rattle.promises.specs.v0_3.screen.Grid.{AllCells};
-ghost use Rattle.promises.specs.v0_3.term.Play.{play};
-ghost use Rattle.promises.specs.v0_3.term.State.{at_place, last_column, power_up};
-ghost use Rattle.promises.specs.v0_3.term.Text.{text};
-ghost use Rattle.promises.specs.v0_3.term.Writing.{write_glyph};
-ghost use Rattle.promises.specs.v0_3.utf8.Cells.{cells};
-ghost use Rattle.promises.specs.v0_3.utf8.Decoding.{characters, pending_after};
-ghost use Rattle.promises.specs.v0_3.utf8.Placing.{placed_text, shows_space};
-ghost use Rattle.promises.specs.v0_3.utf8.Play.{play_utf8};
-ghost use Rattle.promises.specs.v0_3.utf8.Similar.{shown};
-ghost use Rattle.promises.specs.v0_3.utf8.Translation.{is_at_end, translation};
+ghost use Rattle.promises.specs.v0_4.glyph.Tables.{IsGlyph};
+ghost use Rattle.promises.specs.v0_4.screen.Grid.{AllCells};
+ghost use Rattle.promises.specs.v0_4.term.Play.{play};
+ghost use Rattle.promises.specs.v0_4.term.Sound.{IsSound};
+ghost use Rattle.promises.specs.v0_4.term.State.{at_place, last_column, power_up};
+ghost use Rattle.promises.specs.v0_4.term.Text.{text};
+ghost use Rattle.promises.specs.v0_4.term.Writing.{write_glyph};
+ghost use Rattle.promises.specs.v0_4.utf8.Cells.{cells};
+ghost use Rattle.promises.specs.v0_4.utf8.Decoding.{characters, pending_after};
+ghost use Rattle.promises.specs.v0_4.utf8.Placing.{placed_text, shows_space};
+ghost use Rattle.promises.specs.v0_4.utf8.Play.{play_utf8};
+ghost use Rattle.promises.specs.v0_4.utf8.Similar.{shown};
+ghost use Rattle.promises.specs.v0_4.utf8.Translation.{is_at_end, translation};
+ghost use Rattle.promises.specs.v0_4.utf8_laws.Wide.{left_wide};
 ghost use Rattle.std.specs.Char.{InScalarRange};
 ghost use Rattle.std.specs.Prelude.{[], All, encode_utf8, encode_utf8_all, false, List, None, replicate, ℕ, ◌+◌, ◌≡◌};
 ghost use Rattle.std.specs.Prelude.{◌≤◌};
 ghost use Rattle.vt_syntax.specs.declared.held.Held.TheVariants.{Nothing};
-ghost use Rattle.vt_term.specs.Sound.{IsSound};
 ghost use Rattle.vt_term.specs.State.{State};
 ghost use Rattle.vt_utf8.specs.Placing.{TakesText};
 

@@ -1,6 +1,6 @@
 //! The calls of vt_vectors/src/comparison.
-ghost use Rattle.promises.specs.v0_3.vectors.Comparison.{Compares, expected_of};
-ghost use Rattle.promises.specs.v0_3.vectors.Outcome.{outcome_of};
+ghost use Rattle.promises.specs.v0_4.vectors.Comparison.{Compares, expected_of};
+ghost use Rattle.promises.specs.v0_4.vectors.Outcome.{outcome_of};
 
 use std::alloc::Global;
 use vt_vectors::{Mismatch, Vector};

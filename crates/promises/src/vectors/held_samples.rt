@@ -1,5 +1,5 @@
 //! The calls of vt_vectors/src/held_samples.
-ghost use Rattle.promises.specs.v0_3.vectors.HeldSamples.{held_samples};
+ghost use Rattle.promises.specs.v0_4.vectors.HeldSamples.{held_samples};
 ghost use Rattle.std.specs.Prelude.{length, slice_get, Some, ◌<◌, ◌≡◌};
 
 /// Promises what `vt_vectors::held_sample_count` promises.

@@ -1,6 +1,6 @@
 //! The calls of vt_xterm/src/feeding.
-ghost use Rattle.promises.specs.v0_3.utf8.Decoding.{pending_after};
-ghost use Rattle.promises.specs.v0_3.xterm.Play.{behind, play_xterm, xterm_log};
+ghost use Rattle.promises.specs.v0_4.utf8.Decoding.{pending_after};
+ghost use Rattle.promises.specs.v0_4.xterm.Play.{behind, play_xterm, xterm_log};
 ghost use Rattle.std.specs.Prelude.{IsOk, length, OnErr, OnOk, take, vec_capacity, vec_len, ◌*◌, ◌++◌, ◌+◌, ◌<◌, ◌≡◌};
 ghost use Rattle.std.specs.Prelude.{◌≤◌, ◌⊎◌};
 

@@ -1,7 +1,7 @@
 //! The calls of vt_xterm/src/front.
-ghost use Rattle.promises.specs.v0_3.term.Pages.{with_page};
-ghost use Rattle.promises.specs.v0_3.term.State.{display_at_power_up, power_up};
-ghost use Rattle.promises.specs.v0_3.xterm.Play.{front_at_power_up};
+ghost use Rattle.promises.specs.v0_4.term.Pages.{with_page};
+ghost use Rattle.promises.specs.v0_4.term.State.{display_at_power_up, power_up};
+ghost use Rattle.promises.specs.v0_4.xterm.Play.{front_at_power_up};
 ghost use Rattle.std.specs.Prelude.{IfOk, length, ◌≡◌, ◌≤◌};
 
 use std::alloc::{AllocError, Global};

@@ -1,10 +1,10 @@
 //! The calls of vt_xterm_paint/src/laws.
-ghost use Rattle.promises.specs.v0_3.paint.Repaint.{IsReached};
-ghost use Rattle.promises.specs.v0_3.xterm_paint.Repaint.{IsPart, IsReachedWhole, IsRebuilt, xterm_repaint};
+ghost use Rattle.promises.specs.v0_4.paint.Repaint.{IsReached};
+ghost use Rattle.promises.specs.v0_4.term.Sound.{IsSound};
+ghost use Rattle.promises.specs.v0_4.xterm_paint.Repaint.{IsPart, IsReachedWhole, IsRebuilt, xterm_repaint};
 ghost use Rattle.std.specs.Prelude.{[], length, List, ℕ, ◌++◌, ◌↔◌, ◌≡◌, ◌≤◌};
 ghost use Rattle.std.specs.Str.{IsAscii};
 ghost use Rattle.vt_syntax.specs.declared.held.Held.TheVariants.{Nothing};
-ghost use Rattle.vt_term.specs.Sound.{IsSound};
 ghost use Rattle.vt_xterm.specs.Play.{IsSoundWhole, Whole};
 ghost use Rattle.vt_xterm_paint.specs.Repaint.{Rebuilds};
 

@@ -1,6 +1,6 @@
 //! The calls of vt_xterm_paint/src/paint.
-ghost use Rattle.promises.specs.v0_3.xterm.Play.{behind};
-ghost use Rattle.promises.specs.v0_3.xterm_paint.Repaint.{IsRebuilt, showing_other, xterm_repaint};
+ghost use Rattle.promises.specs.v0_4.xterm.Play.{behind};
+ghost use Rattle.promises.specs.v0_4.xterm_paint.Repaint.{IsRebuilt, showing_other, xterm_repaint};
 ghost use Rattle.std.specs.Prelude.{[], IsErrOf, OnErr, OnOk, vec_capacity, vec_len, ◌++◌, ◌+◌, ◌<◌, ◌↔◌, ◌≡◌, ◌≢◌};
 ghost use Rattle.std.specs.Prelude.{◌≤◌, ◌⊎◌};
 ghost use Rattle.vt_syntax.specs.declared.held.Held.TheVariants.{Nothing};

@@ -1,5 +1,5 @@
 use Rattle.promises.proofs.glyph.glyph.glyph_spelling.Goals as goal
-use Rattle.promises.proofs.v0_3.glyph.Spell.{spelling_of-same}
+use Rattle.promises.proofs.v0_4.glyph.Spell.{spelling_of-same}
 use Rattle.std.specs.Prelude.{◌≡◌}
 
 pub returns : goal.returns

@@ -1,5 +1,5 @@
 use Rattle.promises.proofs.glyph.set.set_of_final.Goals as goal
-use Rattle.promises.proofs.v0_3.glyph.Designation.{set_of_final-same}
+use Rattle.promises.proofs.v0_4.glyph.Designation.{set_of_final-same}
 use Rattle.std.specs.Prelude.{◌≡◌}
 
 pub returns : goal.returns

@@ -1,5 +1,5 @@
 use Rattle.promises.proofs.paint.laws.bounded.Goals as goal
-use Rattle.promises.proofs.v0_3.paint.Repaint.{paint-same}
+use Rattle.promises.proofs.v0_4.paint.Repaint.{paint-same}
 use Rattle.std.specs.Prelude.{length, ◌≤◌}
 use Rattle.std.specs.Str.{IsAscii}
 use Rattle.vt_paint.specs.declared.paint.TheConstants.{PAINT_LIMIT}

@@ -1,6 +1,6 @@
 use Rattle.promises.proofs.paint.laws.canonical.Goals as goal
-use Rattle.promises.proofs.v0_3.paint.Repaint.{IsReached-same, paint-same}
-use Rattle.promises.proofs.v0_3.term.Play.{play-same}
+use Rattle.promises.proofs.v0_4.paint.Repaint.{IsReached-same, paint-same}
+use Rattle.promises.proofs.v0_4.term.Play.{play-same}
 use Rattle.std.specs.Prelude.{◌↔◌, ◌≡◌}
 use Rattle.vt_syntax.specs.declared.held.Held.TheVariants.{Nothing}
 use Rattle.vt_term.specs.Sound.{IsSound}

@@ -1,5 +1,5 @@
 use Rattle.promises.proofs.paint.laws.reached.Goals as goal
-use Rattle.promises.proofs.v0_3.paint.Repaint.{IsReached-same}
+use Rattle.promises.proofs.v0_4.paint.Repaint.{IsReached-same}
 use Rattle.std.specs.Prelude.{◌↔◌}
 use Rattle.vt_term.specs.Sound.{IsSound}
 use Rattle.vt_term.specs.State.{State}

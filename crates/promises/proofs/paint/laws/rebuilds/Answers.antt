@@ -1,5 +1,5 @@
 use Rattle.promises.proofs.paint.laws.rebuilds.Goals as goal
-use Rattle.promises.proofs.v0_3.paint.Repaint.{IsRebuilt-same}
+use Rattle.promises.proofs.v0_4.paint.Repaint.{IsRebuilt-same}
 use Rattle.std.specs.Prelude.{◌≡◌}
 use Rattle.vt_syntax.specs.declared.held.Held.TheVariants.{Nothing}
 use Rattle.vt_term.specs.Sound.{IsSound}

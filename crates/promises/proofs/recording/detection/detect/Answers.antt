@@ -1,5 +1,5 @@
 use Rattle.promises.proofs.recording.detection.detect.Goals as goal
-use Rattle.promises.proofs.v0_3.recording.Detection.{detected-same}
+use Rattle.promises.proofs.v0_4.recording.Detection.{detected-same}
 use Rattle.std.specs.Prelude.{◌≡◌}
 
 pub returns : goal.returns

@@ -1,5 +1,5 @@
 use Rattle.promises.proofs.recording.heading.heading_of.Goals as goal
-use Rattle.promises.proofs.v0_3.recording.Heading.{heading_of-same}
+use Rattle.promises.proofs.v0_4.recording.Heading.{heading_of-same}
 use Rattle.std.specs.Prelude.{IfOk, ◌≡◌}
 
 pub returns : goal.returns

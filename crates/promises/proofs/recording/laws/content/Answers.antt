@@ -1,6 +1,6 @@
 use Rattle.promises.proofs.recording.laws.content.Goals as goal
-use Rattle.promises.proofs.v0_3.recording.Taken.{IsTaken-same}
-use Rattle.promises.proofs.v0_3.recording.Timeline.{IsTimelineOf-same}
+use Rattle.promises.proofs.v0_4.recording.Taken.{IsTaken-same}
+use Rattle.promises.proofs.v0_4.recording.Timeline.{IsTimelineOf-same}
 use Rattle.std.specs.Prelude.{List, Option, ℕ}
 use Rattle.vt_recording.specs.Timeline.{IsContentOf, Timeline}
 use Rattle.vt_recording.specs.declared.format.Encoding.{Encoding}

@@ -1,6 +1,6 @@
 use Rattle.promises.proofs.recording.reached.passed_before.Goals as goal
-use Rattle.promises.proofs.v0_3.recording.Gathered.{events_of-same}
-use Rattle.promises.proofs.v0_3.recording.Reached.{passed-same}
+use Rattle.promises.proofs.v0_4.recording.Gathered.{events_of-same}
+use Rattle.promises.proofs.v0_4.recording.Reached.{passed-same}
 use Rattle.std.specs.Prelude.{◌≡◌}
 use Rattle.vt_recording.specs.Reached.{has_characters, nothing_passed}
 

@@ -1,5 +1,5 @@
 use Rattle.promises.proofs.recording.reached.steps_of.Goals as goal
-use Rattle.promises.proofs.v0_3.recording.Gathered.{events_of-same}
+use Rattle.promises.proofs.v0_4.recording.Gathered.{events_of-same}
 use Rattle.std.specs.Prelude.{IfOk, ◌≡◌}
 use Rattle.vt_recording.specs.Moment.{micros_of}
 use Rattle.vt_recording.specs.Reached.{has_characters, steps_in}

@@ -1,5 +1,5 @@
 use Rattle.promises.proofs.recording.taking.take_apart.Goals as goal
-use Rattle.promises.proofs.v0_3.recording.Taken.{IsTaken-same}
+use Rattle.promises.proofs.v0_4.recording.Taken.{IsTaken-same}
 use Rattle.std.specs.Prelude.{IfOk, option_map}
 
 pub returns : goal.returns

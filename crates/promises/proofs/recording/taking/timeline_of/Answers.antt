@@ -1,6 +1,6 @@
 use Rattle.promises.proofs.recording.taking.timeline_of.Goals as goal
-use Rattle.promises.proofs.v0_3.recording.Gathered.{timeline_view-same}
-use Rattle.promises.proofs.v0_3.recording.Timeline.{IsTimelineOf-same}
+use Rattle.promises.proofs.v0_4.recording.Gathered.{timeline_view-same}
+use Rattle.promises.proofs.v0_4.recording.Timeline.{IsTimelineOf-same}
 use Rattle.std.specs.Prelude.{IfOk, option_map}
 
 pub returns : goal.returns

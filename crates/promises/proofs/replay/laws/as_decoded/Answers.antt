@@ -1,8 +1,8 @@
 use Rattle.promises.proofs.replay.laws.as_decoded.Goals as goal
-use Rattle.promises.proofs.v0_3.replay.Encoding.{decoded-same}
-use Rattle.promises.proofs.v0_3.replay.Playing.{played_as-same}
-use Rattle.promises.proofs.v0_3.term.Play.{play-same}
-use Rattle.promises.proofs.v0_3.term.State.{power_up-same}
+use Rattle.promises.proofs.v0_4.replay.Encoding.{decoded-same}
+use Rattle.promises.proofs.v0_4.replay.Playing.{played_as-same}
+use Rattle.promises.proofs.v0_4.term.Play.{play-same}
+use Rattle.promises.proofs.v0_4.term.State.{power_up-same}
 use Rattle.std.specs.Prelude.{List, ℕ, ◌≡◌}
 use Rattle.vt_recording.specs.declared.format.Encoding.{Encoding}
 use Rattle.vt_recording.specs.declared.format.TerminalType.TheVariants.{Vt220}

@@ -1,6 +1,6 @@
 use Rattle.promises.proofs.replay.laws.blanked.Goals as goal
-use Rattle.promises.proofs.v0_3.replay.Pages.{IsBlank-same}
-use Rattle.promises.proofs.v0_3.term.Functions.{effect-same}
+use Rattle.promises.proofs.v0_4.replay.Pages.{IsBlank-same}
+use Rattle.promises.proofs.v0_4.term.Functions.{effect-same}
 use Rattle.std.specs.Prelude.{true, ◌≡◌}
 use Rattle.vt_replay.specs.Pages.{blanks_screen}
 use Rattle.vt_syntax.specs.declared.event.Event.{Event}

@@ -1,5 +1,5 @@
 use Rattle.promises.proofs.replay.requests.format_of.Goals as goal
-use Rattle.promises.proofs.v0_3.replay.Request.{format_of-same}
+use Rattle.promises.proofs.v0_4.replay.Request.{format_of-same}
 use Rattle.std.specs.Prelude.{◌≡◌}
 
 pub returns : goal.returns

@@ -1,6 +1,6 @@
 use Rattle.promises.proofs.screen.cell.cell_word.Goals as goal
-use Rattle.promises.proofs.v0_3.glyph.Encoding.{encoded_glyph-same, encoding_of-same}
-use Rattle.promises.proofs.v0_3.screen.Words.{cell_word-same}
+use Rattle.promises.proofs.v0_4.glyph.Encoding.{encoded_glyph-same, encoding_of-same}
+use Rattle.promises.proofs.v0_4.screen.Words.{cell_word-same}
 use Rattle.std.specs.Prelude.{◌<◌, ◌≡◌}
 
 pub returns-clause-word : goal.returns-clause-word

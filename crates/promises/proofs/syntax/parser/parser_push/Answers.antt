@@ -1,6 +1,6 @@
 use Rattle.promises.proofs.syntax.parser.parser_push.Goals as goal
-use Rattle.promises.proofs.v0_3.syntax.Held.{events_from-same, held_from-same}
-use Rattle.promises.proofs.v0_3.syntax.Spelling.{IsEvent-same}
+use Rattle.promises.proofs.v0_4.syntax.Held.{events_from-same, held_from-same}
+use Rattle.promises.proofs.v0_4.syntax.Spelling.{IsEvent-same}
 use Rattle.std.specs.Option.{option_to_list}
 use Rattle.std.specs.Prelude.{[], IfSome, ◌∷◌, ◌≡◌}
 

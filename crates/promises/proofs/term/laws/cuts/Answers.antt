@@ -1,6 +1,6 @@
 use Rattle.promises.proofs.term.laws.cuts.Goals as goal
-use Rattle.promises.proofs.v0_3.term.Play.{joined-same, play-same, play_all-same}
-use Rattle.promises.proofs.v0_3.term.Scrolling.{scrolled_off-same}
+use Rattle.promises.proofs.v0_4.term.Play.{joined-same, play-same, play_all-same}
+use Rattle.promises.proofs.v0_4.term.Scrolling.{scrolled_off-same}
 use Rattle.std.specs.Prelude.{[], List, ℕ, ◌++◌, ◌≡◌}
 use Rattle.vt_term.specs.Play.{both}
 use Rattle.vt_term.specs.Sound.{IsSound}

@@ -1,8 +1,8 @@
 use Rattle.promises.proofs.term.laws.happened.Goals as goal
-use Rattle.promises.proofs.v0_3.syntax.Held.{events_from-same}
-use Rattle.promises.proofs.v0_3.term.Happenings.{happenings-same}
-use Rattle.promises.proofs.v0_3.term.Play.{play-same}
-use Rattle.promises.proofs.v0_3.term.Scrolling.{scrolled_off-same}
+use Rattle.promises.proofs.v0_4.syntax.Held.{events_from-same}
+use Rattle.promises.proofs.v0_4.term.Happenings.{happenings-same}
+use Rattle.promises.proofs.v0_4.term.Play.{play-same}
+use Rattle.promises.proofs.v0_4.term.Scrolling.{scrolled_off-same}
 use Rattle.std.specs.Prelude.{length, List, ℕ, ◌++◌, ◌≡◌}
 use Rattle.vt_term.specs.Happenings.{events_in, lines_in}
 use Rattle.vt_term.specs.Sound.{IsSound}

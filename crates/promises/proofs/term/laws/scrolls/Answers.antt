@@ -1,8 +1,8 @@
 use Rattle.promises.proofs.term.laws.scrolls.Goals as goal
-use Rattle.promises.proofs.v0_3.glyph.Invocation.{after_read-same, glyph_read-same}
-use Rattle.promises.proofs.v0_3.screen.Grid.{scroll_up-same}
-use Rattle.promises.proofs.v0_3.term.Functions.{effect-same}
-use Rattle.promises.proofs.v0_3.term.Writing.{put_glyph-same, write_if_read-same}
+use Rattle.promises.proofs.v0_4.glyph.Invocation.{after_read-same, glyph_read-same}
+use Rattle.promises.proofs.v0_4.screen.Grid.{scroll_up-same}
+use Rattle.promises.proofs.v0_4.term.Functions.{effect-same}
+use Rattle.promises.proofs.v0_4.term.Writing.{put_glyph-same, write_if_read-same}
 use Rattle.std.specs.Prelude.{false, true, ℕ, ◌==◌, ◌≡◌}
 use Rattle.vt_glyph.specs.Tables.{substitute_glyph}
 use Rattle.vt_syntax.specs.declared.event.Event.TheVariants.{Control, Print}

@@ -1,5 +1,5 @@
 use Rattle.promises.proofs.term.page.page_reset.Goals as goal
-use Rattle.promises.proofs.v0_3.term.Pages.{page_at_power_up-same}
+use Rattle.promises.proofs.v0_4.term.Pages.{page_at_power_up-same}
 use Rattle.std.specs.Prelude.{◌≡◌}
 
 pub returns : goal.returns

@@ -1,5 +1,5 @@
 use Rattle.promises.proofs.term.terminal.terminal_new.Goals as goal
-use Rattle.promises.proofs.v0_3.term.State.{power_up-same}
+use Rattle.promises.proofs.v0_4.term.State.{power_up-same}
 use Rattle.std.specs.Prelude.{IfOk, ◌≡◌}
 
 pub returns : goal.returns

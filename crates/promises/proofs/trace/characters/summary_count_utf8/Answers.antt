@@ -1,6 +1,6 @@
 use Rattle.promises.proofs.trace.characters.summary_count_utf8.Goals as goal
-use Rattle.promises.proofs.v0_3.trace.Utf8.{counted_bytes-same}
-use Rattle.promises.proofs.v0_3.utf8.Decoding.{pending_after-same}
+use Rattle.promises.proofs.v0_4.trace.Utf8.{counted_bytes-same}
+use Rattle.promises.proofs.v0_4.utf8.Decoding.{pending_after-same}
 use Rattle.std.specs.Prelude.{List, ℕ, ◌++◌, ◌≡◌}
 use Rattle.vt_trace.specs.Counted.{HasCounted}
 

@@ -1,6 +1,6 @@
 use Rattle.promises.proofs.trace.laws.cuts.Goals as goal
-use Rattle.promises.proofs.v0_3.term.Play.{play-same}
-use Rattle.promises.proofs.v0_3.trace.Trace.{trace-same, tracer_all-same}
+use Rattle.promises.proofs.v0_4.term.Play.{play-same}
+use Rattle.promises.proofs.v0_4.trace.Trace.{trace-same, tracer_all-same}
 use Rattle.std.specs.Prelude.{List, ℕ, ◌++◌, ◌≡◌}
 use Rattle.vt_term.specs.Sound.{IsSound}
 use Rattle.vt_term.specs.State.{State}

@@ -1,7 +1,7 @@
 use Rattle.promises.proofs.trace.laws.utf8_cuts.Goals as goal
-use Rattle.promises.proofs.v0_3.trace.Utf8.{trace_utf8-same, tracer_utf8-same}
-use Rattle.promises.proofs.v0_3.utf8.Decoding.{pending_after-same}
-use Rattle.promises.proofs.v0_3.utf8.Play.{play_utf8-same}
+use Rattle.promises.proofs.v0_4.trace.Utf8.{trace_utf8-same, tracer_utf8-same}
+use Rattle.promises.proofs.v0_4.utf8.Decoding.{pending_after-same}
+use Rattle.promises.proofs.v0_4.utf8.Play.{play_utf8-same}
 use Rattle.std.specs.Prelude.{List, ℕ, ◌++◌, ◌≡◌}
 use Rattle.vt_term.specs.Sound.{IsSound}
 use Rattle.vt_term.specs.State.{State}

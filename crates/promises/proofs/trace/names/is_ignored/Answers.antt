@@ -1,5 +1,5 @@
 use Rattle.promises.proofs.trace.names.is_ignored.Goals as goal
-use Rattle.promises.proofs.v0_3.trace.Ignored.{is_ignored-same}
+use Rattle.promises.proofs.v0_4.trace.Ignored.{is_ignored-same}
 use Rattle.std.specs.Prelude.{◌≡◌}
 use Rattle.vt_syntax.specs.Event.{event_of}
 

@@ -1,5 +1,5 @@
 use Rattle.promises.proofs.trace_laws.lib.ignored.Goals as goal
-use Rattle.promises.proofs.v0_3.trace.Ignored.{is_ignored-same}
+use Rattle.promises.proofs.v0_4.trace.Ignored.{is_ignored-same}
 use Rattle.std.specs.Prelude.{false, true, ◌≡◌}
 use Rattle.vt_syntax.specs.declared.event.Event.{Event}
 use Rattle.vt_trace.specs.Ignored.{DoesSomething, HasNoEffect}

@@ -1,7 +1,7 @@
 use Rattle.promises.proofs.trace_laws.lib.kinds.Goals as goal
-use Rattle.promises.proofs.v0_3.syntax.Spelling.{IsEvent-same}
-use Rattle.promises.proofs.v0_3.trace.Skipped.{kinds_of-same}
-use Rattle.promises.proofs.v0_3.trace.Summary.{ignored_lines-same, kind_line-same, single_line-same}
+use Rattle.promises.proofs.v0_4.syntax.Spelling.{IsEvent-same}
+use Rattle.promises.proofs.v0_4.trace.Skipped.{kinds_of-same}
+use Rattle.promises.proofs.v0_4.trace.Summary.{ignored_lines-same, kind_line-same, single_line-same}
 use Rattle.std.specs.List.{list_all}
 use Rattle.std.specs.Prelude.{false, List, true, ℕ, ◌≡◌}
 use Rattle.vt_glyph.specs.LookUp.{contains}

@@ -1,5 +1,5 @@
 use Rattle.promises.proofs.trace_laws.lib.places.Goals as goal
-use Rattle.promises.proofs.v0_3.trace.Trace.{tracer_all-same}
+use Rattle.promises.proofs.v0_4.trace.Trace.{tracer_all-same}
 use Rattle.std.specs.Prelude.{List, ℕ, ◌≡◌}
 use Rattle.vt_syntax.specs.declared.held.Held.TheVariants.{Nothing}
 use Rattle.vt_term.specs.State.{State}

@@ -1,11 +1,11 @@
 use Rattle.laws_trace.specs.Parts.{part_kind}
 use Rattle.promises.proofs.trace_laws.lib.skipped.Goals as goal
-use Rattle.promises.proofs.v0_3.trace_laws.Parts.{part_bytes-same, parts-same}
-use Rattle.promises.proofs.v0_3.term.State.{power_up-same}
-use Rattle.promises.proofs.v0_3.trace.Skipped.{kinds_of-same}
-use Rattle.promises.proofs.v0_3.trace.Trace.{end_lines-same, trace-same, tracer_all-same}
+use Rattle.promises.proofs.v0_4.term.State.{power_up-same}
+use Rattle.promises.proofs.v0_4.trace.Skipped.{kinds_of-same}
+use Rattle.promises.proofs.v0_4.trace.Trace.{end_lines-same, trace-same, tracer_all-same}
+use Rattle.promises.proofs.v0_4.trace_laws.Parts.{part_bytes-same, parts-same}
 use Rattle.std.specs.List.{flat_map}
-use Rattle.std.specs.Prelude.{List, ℕ, ◌++◌, ◌≡◌}
+use Rattle.std.specs.Prelude.{List, ℕ, ◌++◌, ◌+◌, ◌≡◌}
 use Rattle.vt_term.specs.State.{State}
 use Rattle.vt_trace.specs.Trace.{tracer_at_start}
 use Rattle.vt_trace.specs.declared.tracing.Tracer.{Tracer}

@@ -1,8 +1,8 @@
 use Rattle.promises.proofs.trace_laws.lib.sums.Goals as goal
-use Rattle.promises.proofs.v0_3.syntax.Reading.{events_of-same}
-use Rattle.promises.proofs.v0_3.trace.Names.{names-same, numbered-same}
-use Rattle.promises.proofs.v0_3.trace.Skipped.{kinds_of-same}
-use Rattle.promises.proofs.v0_3.trace.Summary.{times_ignored-same, times_named-same, times_skipped-same}
+use Rattle.promises.proofs.v0_4.syntax.Reading.{events_of-same}
+use Rattle.promises.proofs.v0_4.trace.Names.{names-same, numbered-same}
+use Rattle.promises.proofs.v0_4.trace.Skipped.{kinds_of-same}
+use Rattle.promises.proofs.v0_4.trace.Summary.{times_ignored-same, times_named-same, times_skipped-same}
 use Rattle.std.specs.List.{range_with_len, sum_by}
 use Rattle.std.specs.Prelude.{All, length, List, ℕ, ◌+◌, ◌≡◌, ◌≤◌}
 use Rattle.vt_trace.specs.Summary.{IsByteAtMost}

@@ -1,7 +1,7 @@
 use Rattle.promises.proofs.trace_laws.lib.utf8_ascii.Goals as goal
-use Rattle.promises.proofs.v0_3.trace.Summary.{summary-same}
-use Rattle.promises.proofs.v0_3.trace.Trace.{trace-same, tracer_all-same}
-use Rattle.promises.proofs.v0_3.trace.Utf8.{summary_utf8-same, trace_utf8-same, tracer_utf8-same}
+use Rattle.promises.proofs.v0_4.trace.Summary.{summary-same}
+use Rattle.promises.proofs.v0_4.trace.Trace.{trace-same, tracer_all-same}
+use Rattle.promises.proofs.v0_4.trace.Utf8.{summary_utf8-same, trace_utf8-same, tracer_utf8-same}
 use Rattle.std.specs.Prelude.{[], All, List, ℕ, ◌<◌, ◌≡◌}
 use Rattle.vt_term.specs.State.{State}
 use Rattle.vt_trace.specs.declared.tracing.Tracer.{Tracer}

@@ -1,5 +1,5 @@
 use Rattle.promises.proofs.trace_laws.lib.utf8_places.Goals as goal
-use Rattle.promises.proofs.v0_3.trace.Utf8.{tracer_utf8-same}
+use Rattle.promises.proofs.v0_4.trace.Utf8.{tracer_utf8-same}
 use Rattle.std.specs.Prelude.{length, List, ℕ, ◌+◌, ◌≡◌}
 use Rattle.vt_term.specs.State.{State}
 use Rattle.vt_trace.specs.declared.tracing.Tracer.{Tracer}

@@ -1,5 +1,5 @@
 use Rattle.promises.proofs.utf8.decoder.decoder_of.Goals as goal
-use Rattle.promises.proofs.v0_3.utf8.Decoding.{pending_of-same}
+use Rattle.promises.proofs.v0_4.utf8.Decoding.{pending_of-same}
 use Rattle.std.specs.Prelude.{◌≡◌}
 
 pub returns : goal.returns

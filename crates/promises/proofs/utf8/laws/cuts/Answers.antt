@@ -1,7 +1,7 @@
 use Rattle.promises.proofs.utf8.laws.cuts.Goals as goal
-use Rattle.promises.proofs.v0_3.term.Play.{joined-same}
-use Rattle.promises.proofs.v0_3.utf8.Decoding.{pending_after-same}
-use Rattle.promises.proofs.v0_3.utf8.Play.{play_utf8-same, play_utf8_all-same, translated-same}
+use Rattle.promises.proofs.v0_4.term.Play.{joined-same}
+use Rattle.promises.proofs.v0_4.utf8.Decoding.{pending_after-same}
+use Rattle.promises.proofs.v0_4.utf8.Play.{play_utf8-same, play_utf8_all-same, translated-same}
 use Rattle.std.specs.Prelude.{[], List, ℕ, ◌++◌, ◌≡◌}
 use Rattle.vt_term.specs.Play.{both}
 use Rattle.vt_term.specs.Sound.{IsSound}

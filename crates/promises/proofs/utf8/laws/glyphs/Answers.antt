@@ -1,6 +1,6 @@
 use Rattle.promises.proofs.utf8.laws.glyphs.Goals as goal
-use Rattle.promises.proofs.v0_3.glyph.Tables.{IsGlyph-same}
-use Rattle.promises.proofs.v0_3.utf8.Similar.{shown-same}
+use Rattle.promises.proofs.v0_4.glyph.Tables.{IsGlyph-same}
+use Rattle.promises.proofs.v0_4.utf8.Similar.{shown-same}
 use Rattle.std.specs.Prelude.{ℕ, ◌≡◌, ◌≤◌}
 
 pub returns-clause-shown : goal.returns-clause-shown

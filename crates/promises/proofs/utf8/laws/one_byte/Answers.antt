@@ -1,7 +1,7 @@
 use Rattle.promises.proofs.utf8.laws.one_byte.Goals as goal
-use Rattle.promises.proofs.v0_3.term.Play.{play-same}
-use Rattle.promises.proofs.v0_3.utf8.Decoding.{read-same}
-use Rattle.promises.proofs.v0_3.utf8.Play.{translated-same, translated_all-same}
+use Rattle.promises.proofs.v0_4.term.Play.{play-same}
+use Rattle.promises.proofs.v0_4.utf8.Decoding.{read-same}
+use Rattle.promises.proofs.v0_4.utf8.Play.{translated-same, translated_all-same}
 use Rattle.std.specs.Prelude.{[], List, ℕ, ◌++◌, ◌∷◌, ◌≡◌}
 use Rattle.vt_term.specs.Sound.{IsSound}
 use Rattle.vt_term.specs.State.{State}

@@ -1,6 +1,6 @@
 use Rattle.promises.proofs.utf8.laws.silence.Goals as goal
-use Rattle.promises.proofs.v0_3.term.Play.{play-same}
-use Rattle.promises.proofs.v0_3.utf8.Translation.{translation-same}
+use Rattle.promises.proofs.v0_4.term.Play.{play-same}
+use Rattle.promises.proofs.v0_4.utf8.Translation.{translation-same}
 use Rattle.std.specs.Prelude.{[], All, ℕ, ◌≡◌, ◌≤◌}
 use Rattle.vt_term.specs.Sound.{IsSound}
 use Rattle.vt_term.specs.State.{State}

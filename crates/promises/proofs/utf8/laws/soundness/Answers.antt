@@ -1,5 +1,5 @@
 use Rattle.promises.proofs.utf8.laws.soundness.Goals as goal
-use Rattle.promises.proofs.v0_3.utf8.Play.{play_utf8-same}
+use Rattle.promises.proofs.v0_4.utf8.Play.{play_utf8-same}
 use Rattle.std.specs.Prelude.{List, ℕ}
 use Rattle.vt_term.specs.Sound.{IsSound}
 use Rattle.vt_term.specs.State.{State}

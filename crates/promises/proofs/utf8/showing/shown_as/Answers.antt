@@ -1,5 +1,5 @@
 use Rattle.promises.proofs.utf8.showing.shown_as.Goals as goal
-use Rattle.promises.proofs.v0_3.utf8.Showing.{shown_as-same}
+use Rattle.promises.proofs.v0_4.utf8.Showing.{shown_as-same}
 use Rattle.std.specs.Prelude.{◌≡◌}
 
 pub returns : goal.returns

@@ -1,5 +1,5 @@
 use Rattle.promises.proofs.utf8.translation.translated.Goals as goal
-use Rattle.promises.proofs.v0_3.utf8.Play.{translated_all-same}
+use Rattle.promises.proofs.v0_4.utf8.Play.{translated_all-same}
 use Rattle.std.specs.Option.{option_to_list}
 use Rattle.std.specs.Prelude.{◌≡◌}
 

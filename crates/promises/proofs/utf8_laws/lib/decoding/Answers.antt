@@ -1,5 +1,5 @@
 use Rattle.promises.proofs.utf8_laws.lib.decoding.Goals as goal
-use Rattle.promises.proofs.v0_3.utf8.Decoding.{characters-same, pending_after-same}
+use Rattle.promises.proofs.v0_4.utf8.Decoding.{characters-same, pending_after-same}
 use Rattle.std.specs.Char.{InScalarRange}
 use Rattle.std.specs.Prelude.{[], All, encode_utf8_all, List, ℕ, ◌≡◌}
 

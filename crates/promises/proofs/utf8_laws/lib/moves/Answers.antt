@@ -1,7 +1,7 @@
 use Rattle.promises.proofs.utf8_laws.lib.moves.Goals as goal
-use Rattle.promises.proofs.v0_3.term.Play.{play-same}
-use Rattle.promises.proofs.v0_3.utf8.Cells.{cells-same}
-use Rattle.promises.proofs.v0_3.utf8.Translation.{translation-same}
+use Rattle.promises.proofs.v0_4.term.Play.{play-same}
+use Rattle.promises.proofs.v0_4.utf8.Cells.{cells-same}
+use Rattle.promises.proofs.v0_4.utf8.Translation.{translation-same}
 use Rattle.std.specs.Prelude.{false, None, replicate, ℕ, ◌+◌, ◌≡◌, ◌≤◌}
 use Rattle.vt_syntax.specs.declared.held.Held.TheVariants.{Nothing}
 use Rattle.vt_term.specs.Sound.{IsSound}

@@ -1,10 +1,10 @@
 use Rattle.promises.proofs.utf8_laws.lib.round_trip.Goals as goal
-use Rattle.promises.proofs.v0_3.glyph.Tables.{IsGlyph-same}
-use Rattle.promises.proofs.v0_3.term.State.{power_up-same}
-use Rattle.promises.proofs.v0_3.term.Text.{text-same}
-use Rattle.promises.proofs.v0_3.term.Writing.{write_glyph-same}
-use Rattle.promises.proofs.v0_3.utf8.Placing.{placed_text-same}
-use Rattle.promises.proofs.v0_3.utf8.Play.{play_utf8-same}
+use Rattle.promises.proofs.v0_4.glyph.Tables.{IsGlyph-same}
+use Rattle.promises.proofs.v0_4.term.State.{power_up-same}
+use Rattle.promises.proofs.v0_4.term.Text.{text-same}
+use Rattle.promises.proofs.v0_4.term.Writing.{write_glyph-same}
+use Rattle.promises.proofs.v0_4.utf8.Placing.{placed_text-same}
+use Rattle.promises.proofs.v0_4.utf8.Play.{play_utf8-same}
 use Rattle.std.specs.Prelude.{[], encode_utf8, ℕ, ◌≡◌}
 use Rattle.vt_screen.specs.Grid.{AllCells}
 use Rattle.vt_term.specs.Sound.{IsSound}

@@ -1,9 +1,9 @@
 use Rattle.promises.proofs.utf8_laws.lib.wide.Goals as goal
-use Rattle.promises.proofs.v0_3.utf8_laws.Wide.{left_wide-same}
-use Rattle.promises.proofs.v0_3.term.Play.{play-same}
-use Rattle.promises.proofs.v0_3.utf8.Cells.{cells-same}
-use Rattle.promises.proofs.v0_3.utf8.Similar.{shown-same}
-use Rattle.promises.proofs.v0_3.utf8.Translation.{translation-same}
+use Rattle.promises.proofs.v0_4.term.Play.{play-same}
+use Rattle.promises.proofs.v0_4.utf8.Cells.{cells-same}
+use Rattle.promises.proofs.v0_4.utf8.Similar.{shown-same}
+use Rattle.promises.proofs.v0_4.utf8.Translation.{translation-same}
+use Rattle.promises.proofs.v0_4.utf8_laws.Wide.{left_wide-same}
 use Rattle.std.specs.Prelude.{[], ℕ, ◌≡◌, ◌≤◌}
 use Rattle.vt_syntax.specs.declared.held.Held.TheVariants.{Nothing}
 use Rattle.vt_term.specs.Sound.{IsSound}

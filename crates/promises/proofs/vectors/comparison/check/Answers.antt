@@ -1,4 +1,4 @@
-use Rattle.promises.proofs.v0_3.vectors.Outcome.{outcome_of-same}
+use Rattle.promises.proofs.v0_4.vectors.Outcome.{outcome_of-same}
 use Rattle.promises.proofs.vectors.comparison.check.Goals as goal
 use Rattle.vt_vectors.specs.Comparison.{Compares, expected_of}
 

@@ -1,4 +1,4 @@
-use Rattle.promises.proofs.v0_3.xterm.Play.{front_at_power_up-same}
+use Rattle.promises.proofs.v0_4.xterm.Play.{front_at_power_up-same}
 use Rattle.promises.proofs.xterm.front.front_new.Goals as goal
 use Rattle.std.specs.Prelude.{IfOk, ◌≡◌}
 

@@ -1,4 +1,4 @@
-use Rattle.promises.proofs.v0_3.term.State.{display_at_power_up-same, power_up-same}
+use Rattle.promises.proofs.v0_4.term.State.{display_at_power_up-same, power_up-same}
 use Rattle.promises.proofs.xterm.front.front_show_other.Goals as goal
 use Rattle.std.specs.Prelude.{◌≡◌}
 use Rattle.vt_term.specs.Pages.{with_page}

@@ -1,4 +1,4 @@
-use Rattle.promises.proofs.v0_3.xterm.Pages.{show_and_save-same}
+use Rattle.promises.proofs.v0_4.xterm.Pages.{show_and_save-same}
 use Rattle.promises.proofs.xterm.laws.alternate.Goals as goal
 use Rattle.std.specs.Prelude.{false, true, ◌≡◌}
 use Rattle.vt_term.specs.Pages.{page_of, with_page}

@@ -1,5 +1,5 @@
-use Rattle.promises.proofs.v0_3.syntax.Reading.{events_of-same}
-use Rattle.promises.proofs.v0_3.xterm.Play.{play_bytes-same}
+use Rattle.promises.proofs.v0_4.syntax.Reading.{events_of-same}
+use Rattle.promises.proofs.v0_4.xterm.Play.{play_bytes-same}
 use Rattle.promises.proofs.xterm.laws.comes_back.Goals as goal
 use Rattle.std.specs.List.{list_any}
 use Rattle.std.specs.Prelude.{false, List, ℕ, ◌≡◌}

@@ -1,6 +1,6 @@
-use Rattle.promises.proofs.v0_3.term.Play.{joined-same}
-use Rattle.promises.proofs.v0_3.utf8.Decoding.{pending_after-same}
-use Rattle.promises.proofs.v0_3.xterm.Play.{play_xterm-same, play_xterm_all-same}
+use Rattle.promises.proofs.v0_4.term.Play.{joined-same}
+use Rattle.promises.proofs.v0_4.utf8.Decoding.{pending_after-same}
+use Rattle.promises.proofs.v0_4.xterm.Play.{play_xterm-same, play_xterm_all-same}
 use Rattle.promises.proofs.xterm.laws.cuts.Goals as goal
 use Rattle.std.specs.Prelude.{[], List, ℕ, ◌++◌, ◌≡◌}
 use Rattle.vt_xterm.specs.Play.{both, nothing_played, Whole}

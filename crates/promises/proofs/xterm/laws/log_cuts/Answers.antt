@@ -1,5 +1,5 @@
-use Rattle.promises.proofs.v0_3.utf8.Decoding.{pending_after-same}
-use Rattle.promises.proofs.v0_3.xterm.Play.{play_xterm-same, xterm_log-same}
+use Rattle.promises.proofs.v0_4.utf8.Decoding.{pending_after-same}
+use Rattle.promises.proofs.v0_4.xterm.Play.{play_xterm-same, xterm_log-same}
 use Rattle.promises.proofs.xterm.laws.log_cuts.Goals as goal
 use Rattle.std.specs.Prelude.{[], List, ℕ, ◌++◌, ◌≡◌}
 use Rattle.vt_xterm.specs.Play.{Whole}

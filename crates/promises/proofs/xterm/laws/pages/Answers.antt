@@ -1,4 +1,4 @@
-use Rattle.promises.proofs.v0_3.xterm.Front.{xterm_effect-same}
+use Rattle.promises.proofs.v0_4.xterm.Front.{xterm_effect-same}
 use Rattle.promises.proofs.xterm.laws.pages.Goals as goal
 use Rattle.std.specs.Prelude.{false, ◌≡◌}
 use Rattle.vt_syntax.specs.declared.event.Event.{Event}

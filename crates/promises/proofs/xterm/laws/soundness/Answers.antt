@@ -1,6 +1,6 @@
-use Rattle.promises.proofs.v0_3.term.State.{power_up-same}
-use Rattle.promises.proofs.v0_3.xterm.Front.{xterm_effect-same}
-use Rattle.promises.proofs.v0_3.xterm.Play.{front_at_power_up-same, play_xterm-same}
+use Rattle.promises.proofs.v0_4.term.State.{power_up-same}
+use Rattle.promises.proofs.v0_4.xterm.Front.{xterm_effect-same}
+use Rattle.promises.proofs.v0_4.xterm.Play.{front_at_power_up-same, play_xterm-same}
 use Rattle.promises.proofs.xterm.laws.soundness.Goals as goal
 use Rattle.std.specs.Prelude.{List, ℕ}
 use Rattle.vt_syntax.specs.declared.event.Event.{Event}

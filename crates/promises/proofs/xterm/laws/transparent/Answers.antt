@@ -1,7 +1,7 @@
-use Rattle.promises.proofs.v0_3.term.Play.{play-same}
-use Rattle.promises.proofs.v0_3.term.Scrolling.{scrolled_off-same}
-use Rattle.promises.proofs.v0_3.xterm.Play.{play_bytes-same, play_xterm-same}
-use Rattle.promises.proofs.v0_3.xterm.Terminals.{PlaysTerminals-same}
+use Rattle.promises.proofs.v0_4.term.Play.{play-same}
+use Rattle.promises.proofs.v0_4.term.Scrolling.{scrolled_off-same}
+use Rattle.promises.proofs.v0_4.xterm.Play.{play_bytes-same, play_xterm-same}
+use Rattle.promises.proofs.v0_4.xterm.Terminals.{PlaysTerminals-same}
 use Rattle.promises.proofs.xterm.laws.transparent.Goals as goal
 use Rattle.std.specs.Prelude.{[], All, if◌then◌else◌, List, ℕ, ◌<◌, ◌≡◌}
 use Rattle.vt_term.specs.Sound.{IsSound}

@@ -1,7 +1,7 @@
+use Rattle.promises.proofs.v0_4.utf8.Decoding.{characters-same, pending_after-same}
+use Rattle.promises.proofs.v0_4.xterm.Play.{play_xterm-same}
+use Rattle.promises.proofs.v0_4.xterm_laws.Characters.{events_of_characters-same}
 use Rattle.promises.proofs.xterm_laws.lib.comes_back.Goals as goal
-use Rattle.promises.proofs.v0_3.xterm_laws.Characters.{events_of_characters-same}
-use Rattle.promises.proofs.v0_3.utf8.Decoding.{characters-same, pending_after-same}
-use Rattle.promises.proofs.v0_3.xterm.Play.{play_xterm-same}
 use Rattle.std.specs.List.{list_any}
 use Rattle.std.specs.Prelude.{[], false, List, ℕ, ◌≡◌}
 use Rattle.vt_syntax.specs.declared.held.Held.TheVariants.{Nothing}

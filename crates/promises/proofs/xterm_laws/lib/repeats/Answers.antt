@@ -1,6 +1,6 @@
+use Rattle.promises.proofs.v0_4.term.Writing.{write_glyph-same}
+use Rattle.promises.proofs.v0_4.xterm.Repeating.{repeat-same, times-same}
 use Rattle.promises.proofs.xterm_laws.lib.repeats.Goals as goal
-use Rattle.promises.proofs.v0_3.term.Writing.{write_glyph-same}
-use Rattle.promises.proofs.v0_3.xterm.Repeating.{repeat-same, times-same}
 use Rattle.std.specs.Prelude.{min, true, ℕ, ◌+◌, ◌≡◌}
 use Rattle.vt_term.specs.Sound.{IsSoundDisplay}
 use Rattle.vt_term.specs.State.{Display}

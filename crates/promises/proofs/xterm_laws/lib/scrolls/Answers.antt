@@ -1,12 +1,12 @@
 use Rattle.arrayvec.specs.ArrayVec.{ArrayVec}
 use Rattle.laws_xterm.specs.Scrolls.{is_scrolling, repeat_event, scroll_up_event}
+use Rattle.promises.proofs.v0_4.screen.Grid.{row_of-same, scroll_up-same}
+use Rattle.promises.proofs.v0_4.term.Scrolling.{line_off-same}
+use Rattle.promises.proofs.v0_4.term.Writing.{after_wrap-same, put_glyph-same, write_glyph-same}
+use Rattle.promises.proofs.v0_4.xterm.Front.{xterm_effect-same}
+use Rattle.promises.proofs.v0_4.xterm.Log.{first_rows-same, page_line_off-same, xterm_line_off-same}
+use Rattle.promises.proofs.v0_4.xterm_laws.Scrolls.{repeat_off-same}
 use Rattle.promises.proofs.xterm_laws.lib.scrolls.Goals as goal
-use Rattle.promises.proofs.v0_3.xterm_laws.Scrolls.{repeat_off-same}
-use Rattle.promises.proofs.v0_3.screen.Grid.{row_of-same, scroll_up-same}
-use Rattle.promises.proofs.v0_3.term.Scrolling.{line_off-same}
-use Rattle.promises.proofs.v0_3.term.Writing.{after_wrap-same, put_glyph-same, write_glyph-same}
-use Rattle.promises.proofs.v0_3.xterm.Front.{xterm_effect-same}
-use Rattle.promises.proofs.v0_3.xterm.Log.{first_rows-same, page_line_off-same, xterm_line_off-same}
 use Rattle.std.specs.Prelude.{[], false, min, true, ℕ, ◌&&◌, ◌==◌, ◌≡◌}
 use Rattle.vt_syntax.specs.declared.event.Event.{Event}
 use Rattle.vt_term.specs.Parameters.{count}

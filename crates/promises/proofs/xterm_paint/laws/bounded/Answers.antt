@@ -1,4 +1,4 @@
-use Rattle.promises.proofs.v0_3.xterm_paint.Repaint.{xterm_repaint-same}
+use Rattle.promises.proofs.v0_4.xterm_paint.Repaint.{xterm_repaint-same}
 use Rattle.promises.proofs.xterm_paint.laws.bounded.Goals as goal
 use Rattle.std.specs.Prelude.{length, ◌≤◌}
 use Rattle.std.specs.Str.{IsAscii}

@@ -1,5 +1,5 @@
-use Rattle.promises.proofs.v0_3.paint.Repaint.{IsReached-same}
-use Rattle.promises.proofs.v0_3.xterm_paint.Repaint.{IsPart-same, IsReachedWhole-same, xterm_repaint-same}
+use Rattle.promises.proofs.v0_4.paint.Repaint.{IsReached-same}
+use Rattle.promises.proofs.v0_4.xterm_paint.Repaint.{IsPart-same, IsReachedWhole-same, xterm_repaint-same}
 use Rattle.promises.proofs.xterm_paint.laws.from_power_up.Goals as goal
 use Rattle.std.specs.Prelude.{[], List, ℕ, ◌↔◌, ◌≡◌}
 use Rattle.vt_syntax.specs.declared.held.Held.TheVariants.{Nothing}

@@ -1,4 +1,4 @@
-use Rattle.promises.proofs.v0_3.xterm_paint.Repaint.{IsRebuilt-same}
+use Rattle.promises.proofs.v0_4.xterm_paint.Repaint.{IsRebuilt-same}
 use Rattle.promises.proofs.xterm_paint.laws.rebuilds.Goals as goal
 use Rattle.std.specs.Prelude.{◌≡◌}
 use Rattle.vt_syntax.specs.declared.held.Held.TheVariants.{Nothing}

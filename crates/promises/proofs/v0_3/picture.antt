@@ -1,3 +1,0 @@
-pub mod Picture
-pub mod Looks
-pub mod Show

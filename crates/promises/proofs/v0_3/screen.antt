@@ -1,5 +1,0 @@
-pub mod Cells
-pub mod Words
-pub mod Grid
-pub mod Laws
-pub mod Same

@@ -1,0 +1,42 @@
+-- 0.4: vt_replay/specs/Host is today's.
+use Rattle.promises.proofs.v0_4.recording.Heading.{heading_of-same}
+use Rattle.promises.specs.v0_4.replay.Host as frozen
+use Rattle.std.proofs.Common.{refl, ◌≡◌}
+use Rattle.vt_replay.specs.Host as today
+use Rattle.vt_replay.specs.Host.{host_for}
+
+pub terminal_for-same : frozen.terminal_for ≡ today.terminal_for
+terminal_for-same = refl
+
+pub encoding_of-same : frozen.encoding_of ≡ today.encoding_of
+encoding_of-same = refl
+
+pub encoding_for-same : frozen.encoding_for ≡ today.encoding_for
+encoding_for-same = refl
+
+pub wide_for-same : frozen.wide_for ≡ today.wide_for
+wide_for-same = refl
+
+pub named_for-same : frozen.named_for ≡ today.named_for
+named_for-same = refl
+
+pub host_by-same : frozen.host_by ≡ today.host_by
+host_by-same = refl
+
+pub host_for-same : frozen.host_for ≡ today.host_for
+host_for-same = refl
+
+pub host_of-same : frozen.host_of ≡ today.host_of
+host_of-same = λ ι r format bytes. host_for r format ((heading_of-same ι) format bytes)
+
+pub plain_host-same : frozen.plain_host ≡ today.plain_host
+plain_host-same = refl
+
+pub widening-same : frozen.widening ≡ today.widening
+widening-same = refl
+
+pub widening_shown-same : frozen.widening_shown ≡ today.widening_shown
+widening_shown-same = refl
+
+pub opening-same : frozen.opening ≡ today.opening
+opening-same = refl

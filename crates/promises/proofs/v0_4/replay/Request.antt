@@ -1,0 +1,156 @@
+-- 0.4: vt_replay/specs/Request is today's.
+use Rattle.promises.proofs.v0_4.recording.Detection.{detected-same}
+use Rattle.promises.proofs.v0_4.replay.Host.{host_of-same}
+use Rattle.promises.proofs.v0_4.replay.Words.{WordTable-same}
+use Rattle.promises.specs.v0_4.replay.Request as frozen
+use Rattle.std.proofs.Common.{refl, ◌≡◌}
+use Rattle.std.specs.Prelude.{[], Bool, Err, false, length, List, None, Option, Result, Some, true, ℕ, ◌++◌, ◌≡◌, ◌≤◌}
+use Rattle.vt_cli.specs.declared.asked.Request.{Request}
+use Rattle.vt_device.specs.Runs.{Flags}
+use Rattle.vt_recording.specs.Reading.{ReadTable}
+use Rattle.vt_recording.specs.declared.fault.Fault.{Fault}
+use Rattle.vt_recording.specs.declared.format.Break.{Break}
+use Rattle.vt_recording.specs.declared.format.Format.TheVariants as format
+use Rattle.vt_recording.specs.declared.format.Format.{Format}
+use Rattle.vt_replay.specs.Host.{opening, plain_host}
+use Rattle.vt_replay.specs.Request as today
+use Rattle.vt_replay.specs.Request.{ended_of, IsPlayed, IsPrepared, IsTakenBy, shown_format}
+use Rattle.vt_replay.specs.declared.host.Host.{Host}
+use Rattle.vt_replay.specs.declared.requests.Outcome.{Outcome}
+
+pub asks_wide-same : frozen.asks_wide ≡ today.asks_wide
+asks_wide-same = refl
+
+pub is_streamed-same : frozen.is_streamed ≡ today.is_streamed
+is_streamed-same = refl
+
+pub takes_whole-same : frozen.takes_whole ≡ today.takes_whole
+takes_whole-same = refl
+
+pub needs_whole-same : frozen.needs_whole ≡ today.needs_whole
+needs_whole-same = refl
+
+pub ended_of-same : frozen.ended_of ≡ today.ended_of
+ended_of-same = refl
+
+pub IsStreamed-made : (o : Outcome) (r : Request) (b w : List ℕ) (f : Flags) → frozen.IsStreamed' o r b w f → today.IsStreamed o r b w f
+IsStreamed-made o r b w f ρ = record {
+  table = coe 0 1 (ι. (WordTable-same ι) o.ended r.word (plain_host r).terminal (plain_host r).encoding r.piece b w f r.limit) ρ.table;
+  none_replaced = ρ.none_replaced;
+}
+
+pub IsStreamed-read : (o : Outcome) (r : Request) (b w : List ℕ) (f : Flags) → today.IsStreamed o r b w f → frozen.IsStreamed' o r b w f
+IsStreamed-read o r b w f ρ = record {
+  table = coe 1 0 (ι. (WordTable-same ι) o.ended r.word (plain_host r).terminal (plain_host r).encoding r.piece b w f r.limit) ρ.table;
+  none_replaced = ρ.none_replaced;
+}
+
+pub IsPlayed-made : (o : Outcome) (r : Request) (host : Host) (content : List ℕ) (broken : Option Break) (replaced : ℕ) (w : List ℕ) (writer_failed : Bool) → frozen.IsPlayed' o r host content broken replaced w writer_failed → today.IsPlayed o r host content broken replaced w writer_failed
+IsPlayed-made o r host content broken replaced w writer_failed ρ = record {
+  c = ρ.c;
+  rest = ρ.rest;
+  joined = ρ.joined;
+  at_end = ρ.at_end;
+  none_left = ρ.none_left;
+  played = ρ.played;
+  table = coe 0 1 (ι. (WordTable-same ι) ρ.played r.word host.terminal host.encoding r.piece ρ.c w (record { reader_failed = false; reader_ended = ρ.at_end; writer_failed = writer_failed }) r.limit) ρ.table;
+  ended = ρ.ended;
+  replaces = ρ.replaces;
+}
+
+pub IsPlayed-read : (o : Outcome) (r : Request) (host : Host) (content : List ℕ) (broken : Option Break) (replaced : ℕ) (w : List ℕ) (writer_failed : Bool) → today.IsPlayed o r host content broken replaced w writer_failed → frozen.IsPlayed' o r host content broken replaced w writer_failed
+IsPlayed-read o r host content broken replaced w writer_failed ρ = record {
+  c = ρ.c;
+  rest = ρ.rest;
+  joined = ρ.joined;
+  at_end = ρ.at_end;
+  none_left = ρ.none_left;
+  played = ρ.played;
+  table = coe 1 0 (ι. (WordTable-same ι) ρ.played r.word host.terminal host.encoding r.piece ρ.c w (record { reader_failed = false; reader_ended = ρ.at_end; writer_failed = writer_failed }) r.limit) ρ.table;
+  ended = ρ.ended;
+  replaces = ρ.replaces;
+}
+
+pub IsTakenBy-same : frozen.IsTakenBy ≡ today.IsTakenBy
+IsTakenBy-same = refl
+
+pub IsPrepared-made : (r : Request) (format : Format) (timing : Option (List ℕ)) (b : List ℕ) (host : Host) (bytes : List ℕ) (broken : Option Break) (replaced : ℕ) → frozen.IsPrepared' r format timing b host bytes broken replaced → today.IsPrepared r format timing b host bytes broken replaced
+IsPrepared-made r format timing b host bytes broken replaced ρ = record {
+  host_is = coe 0 1 (ι. host ≡ (host_of-same ι) r format b) ρ.host_is;
+  content = ρ.content;
+  taken = ρ.taken;
+  joined = ρ.joined;
+}
+
+pub IsPrepared-read : (r : Request) (format : Format) (timing : Option (List ℕ)) (b : List ℕ) (host : Host) (bytes : List ℕ) (broken : Option Break) (replaced : ℕ) → today.IsPrepared r format timing b host bytes broken replaced → frozen.IsPrepared' r format timing b host bytes broken replaced
+IsPrepared-read r format timing b host bytes broken replaced ρ = record {
+  host_is = coe 1 0 (ι. host ≡ (host_of-same ι) r format b) ρ.host_is;
+  content = ρ.content;
+  taken = ρ.taken;
+  joined = ρ.joined;
+}
+
+pub IsTakenApart-made : (o : Outcome) (r : Request) (format : Format) (timing : Option (List ℕ)) (b w : List ℕ) (f : Flags) → frozen.IsTakenApart' o r format timing b w f → today.IsTakenApart o r format timing b w f
+IsTakenApart-made o r format timing b w f ρ = record {
+  reader_failed = ρ.reader_failed;
+  reader_ended = ρ.reader_ended;
+  within = ρ.within;
+  host = ρ.host;
+  bytes = ρ.bytes;
+  broken = ρ.broken;
+  replaced = ρ.replaced;
+  prepared = ρ.prepared;
+  played = ρ.played;
+}
+
+pub IsTakenApart-read : (o : Outcome) (r : Request) (format : Format) (timing : Option (List ℕ)) (b w : List ℕ) (f : Flags) → today.IsTakenApart o r format timing b w f → frozen.IsTakenApart' o r format timing b w f
+IsTakenApart-read o r format timing b w f ρ = record {
+  reader_failed = ρ.reader_failed;
+  reader_ended = ρ.reader_ended;
+  within = ρ.within;
+  host = ρ.host;
+  bytes = ρ.bytes;
+  broken = ρ.broken;
+  replaced = ρ.replaced;
+  prepared = ρ.prepared;
+  played = ρ.played;
+}
+
+pub IsUnread-made : (o : Outcome) (r : Request) (b w : List ℕ) (f : Flags) → frozen.IsUnread' o r b w f → today.IsUnread o r b w f
+IsUnread-made o r b w f ρ = record {
+  fault = ρ.fault;
+  why = ρ.why;
+  ended = ρ.ended;
+  none_replaced = ρ.none_replaced;
+  nothing = ρ.nothing;
+  writer_works = ρ.writer_works;
+}
+
+pub IsUnread-read : (o : Outcome) (r : Request) (b w : List ℕ) (f : Flags) → today.IsUnread o r b w f → frozen.IsUnread' o r b w f
+IsUnread-read o r b w f ρ = record {
+  fault = ρ.fault;
+  why = ρ.why;
+  ended = ρ.ended;
+  none_replaced = ρ.none_replaced;
+  nothing = ρ.nothing;
+  writer_works = ρ.writer_works;
+}
+
+pub OutcomeBy-same : frozen.OutcomeBy ≡ today.OutcomeBy
+OutcomeBy-same = refl
+
+pub OutcomeTable-same : frozen.OutcomeTable ≡ today.OutcomeTable
+OutcomeTable-same = refl
+
+pub shown_format-same : frozen.shown_format ≡ today.shown_format
+shown_format-same = refl
+
+pub format_of-at : (x0 : Option Format) (beginning : List ℕ) → frozen.format_of x0 beginning ≡ today.format_of x0 beginning
+format_of-at (Some format) beginning = λ ι. format
+format_of-at None beginning = λ ι. shown_format ((detected-same ι) beginning)
+
+pub format_of-same : frozen.format_of ≡ today.format_of
+format_of-same = λ ι x0 beginning. format_of-at x0 beginning ι
+
+pub lacks_times-same : frozen.lacks_times ≡ today.lacks_times
+lacks_times-same = refl

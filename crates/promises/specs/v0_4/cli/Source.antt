@@ -1,0 +1,49 @@
+-- 0.4: vt_cli/specs/Source.
+use Rattle.clap.specs.Words.{Text}
+use Rattle.std.specs.Prelude.{Bool, bytes_eq, codes, false, is_some, None, not, Option, Some, true, ◌&&◌, ◌||◌}
+use Rattle.vt_cli.specs.declared.what.Looks.{Looks}
+use Rattle.vt_recording.specs.declared.format.Format.TheVariants.{Asciicast, Raw, Script, Ttyrec}
+use Rattle.vt_recording.specs.declared.format.Format.{Format}
+use Rattle.vt_recording.specs.declared.format.Moment.TheVariants.{Bytes, Event, Marker, Micros}
+use Rattle.vt_recording.specs.declared.format.Moment.{Moment}
+
+-- a timing file goes with a recording of script(1) alone
+abbrev pub takes_timing : Option Format → Bool
+takes_timing (Some Raw) = false
+takes_timing (Some Script) = true
+takes_timing (Some Ttyrec) = false
+takes_timing (Some Asciicast) = false
+takes_timing None = false
+
+-- the recording has times: that of script(1) in its timing file. Where its beginning decides, it may have some
+abbrev pub has_times : Option Format → (timed : Bool) → Bool
+has_times (Some Raw) timed = false
+has_times (Some Script) timed = timed
+has_times (Some Ttyrec) timed = true
+has_times (Some Asciicast) timed = true
+has_times None timed = true
+
+-- the recording has the moment
+abbrev pub has_moment : Option Format → (timed : Bool) → Moment → Bool
+has_moment format timed (Micros n) = has_times format timed
+has_moment format timed (Bytes n) = true
+has_moment format timed (Event n) = true
+has_moment format timed (Marker n) = true
+
+-- the command of this name takes a part of a recording that begins in the middle. For a screen all that comes before counts
+abbrev pub takes_start : Text → Bool
+takes_start command = bytes_eq command (codes "events") || bytes_eq command (codes "content")
+
+-- the command of this name plays xterm
+abbrev pub plays_xterm : Text → Bool
+plays_xterm command =
+    not (bytes_eq command (codes "pages"))
+    && (not (bytes_eq command (codes "trace")) && not (bytes_eq command (codes "summary")))
+
+-- the command of this name writes a picture that may move
+abbrev pub may_move : Text → Bool
+may_move command = bytes_eq command (codes "picture")
+
+-- a picture that moves has a step for each time
+abbrev pub lacks_steps : Option Format → (timed : Bool) → Option Looks → Bool
+lacks_steps format timed looks = is_some looks && not (has_times format timed)

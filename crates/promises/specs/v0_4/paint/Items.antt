@@ -1,0 +1,109 @@
+-- 0.4: vt_paint/specs/Items.
+use Rattle.promises.specs.v0_4.controls.Controls.{brush_events, clear_all_tabs, cursor_position, margins_to}
+use Rattle.promises.specs.v0_4.controls.Controls.{mode_rows, ModeRow, private_mode, save_cursor, set_tab, sets_events}
+use Rattle.promises.specs.v0_4.controls.Controls.{shift_to, spelling_sets_events}
+use Rattle.promises.specs.v0_4.glyph.Tables.{space}
+use Rattle.promises.specs.v0_4.paint.Pieces.{glyph_events, is_blank_grid, pieces}
+use Rattle.promises.specs.v0_4.paint.Same.{same_saved}
+use Rattle.promises.specs.v0_4.screen.Cells.{brush_of}
+use Rattle.promises.specs.v0_4.screen.Grid.{cell_at, columns, last_row}
+use Rattle.promises.specs.v0_4.screen.Same.{same_bool, when}
+use Rattle.promises.specs.v0_4.term.Answers.{line_of_cursor}
+use Rattle.promises.specs.v0_4.term.State.{has_stop_at, modes_at_power_up, saved_at_power_up, saved_sets}
+use Rattle.promises.specs.v0_4.term.State.{stops_at_power_up}
+use Rattle.std.specs.Cmp.Lexicographic.{pointwise}
+use Rattle.std.specs.List.{flat_map, range_with_len}
+use Rattle.std.specs.Prelude.{[], Bool, false, if◌then◌else◌, List, None, not, Option, Some, true, ℕ, ◌&&◌, ◌++◌}
+use Rattle.std.specs.Prelude.{◌==◌, ◌∷◌}
+use Rattle.vt_screen.specs.Grid.{Grid}
+use Rattle.vt_syntax.specs.declared.event.Event.TheVariants.{Print}
+use Rattle.vt_syntax.specs.declared.event.Event.{Event}
+use Rattle.vt_term.specs.State.{Display}
+use Rattle.vt_term.specs.declared.state.Cursor.{Cursor}
+use Rattle.vt_term.specs.declared.state.Margins.{Margins}
+use Rattle.vt_term.specs.declared.state.Modes.{Modes}
+use Rattle.vt_term.specs.declared.state.Saved.{Saved}
+
+-- 2. If the stops differ from power-up, they are made on a wide screen, which has all their columns. The width of the
+-- state follows. If the stops don't differ, a wide screen is selected if the state has one.
+unfoldable pub stop_events : List Bool → ℕ → List Event
+stop_events stops c = when (has_stop_at stops c) (cursor_position 1 c ∷ set_tab ∷ [])
+
+abbrev pub is_wide : ℕ → Bool
+is_wide width = width == columns true
+
+unfoldable pub made_stops : Bool → List Bool → List Event
+made_stops wide stops =
+    private_mode 3 true
+    ∷ clear_all_tabs
+    ∷ (flat_map (λ c. stop_events stops c) (range_with_len 1 (columns true))
+    ++ when (not wide) (private_mode 3 false ∷ []))
+
+unfoldable pub stops_item : ℕ → List Bool → List Event
+stops_item width stops =
+    if pointwise same_bool stops stops_at_power_up then when (is_wide width) (private_mode 3 true ∷ [])
+    else made_stops (is_wide width) stops
+
+-- 3. If the saved record differs from power-up, the cursor is moved to its position. A space in the last column sets
+-- the wrap flag, and DECSC saves, under DECOM if that was saved.
+unfoldable pub saved_events : Saved → List Event
+saved_events saved =
+    when saved.origin (private_mode 6 true ∷ [])
+    ++ (cursor_position saved.row saved.col
+    ∷ (when saved.wrap (Print space ∷ [])
+    ++ (brush_events saved.brush
+    ++ (sets_events (saved_sets saved)
+    ++ (save_cursor
+    ∷ when saved.origin (private_mode 6 false ∷ []))))))
+
+unfoldable pub saved_item : Saved → List Event
+saved_item saved = when (not (same_saved saved saved_at_power_up)) (saved_events saved)
+
+-- 4. If some cell isn't blank or the wrap flag is set: the sets of the spellings, and the pieces of all cells.
+unfoldable pub cells_item : Grid → Bool → List Event
+cells_item g wrap = if is_blank_grid g && not wrap then [] else spelling_sets_events ++ pieces g
+
+-- 5. Margins that aren't the full ones.
+unfoldable pub margins_item : Margins → List Event
+margins_item m = if m.top == 1 && m.bottom == last_row then [] else margins_to m.top m.bottom ∷ []
+
+-- A mode is set or reset, unless it is known to be as at power-up, as after RIS, and is to stay so.
+abbrev pub mode_item : Bool → Bool → (Bool → Event) → Bool → List Event
+mode_item known at_power_up event on = if known && same_bool at_power_up on then [] else event on ∷ []
+
+-- 6. DECOM.
+unfoldable pub origin_item : Bool → Bool → List Event
+origin_item known on = mode_item known false (private_mode 6) on
+
+-- 7. The cursor. The wrap flag is set by writing the cell under it once more.
+abbrev pub position_item : Display → List Event
+position_item s = cursor_position (line_of_cursor s) s.cursor.col ∷ []
+
+unfoldable pub wrap_item : Grid → Cursor → List Event
+wrap_item g cursor =
+    when cursor.wrap (brush_events (brush_of (cell_at g cursor.row cursor.col))
+    ++ glyph_events (cell_at g cursor.row cursor.col))
+
+-- 10. The modes, in the order of their table, with the keypad and the form of reports.
+abbrev pub row_item : Bool → Modes → ModeRow → List Event
+row_item known m row = mode_item known (row.1 modes_at_power_up) row.0 (row.1 m)
+
+unfoldable pub modes_item : Bool → Modes → List Event
+modes_item known m = flat_map (row_item known m) mode_rows
+
+-- 11. A pending single shift.
+unfoldable pub shift_item : Option ℕ → List Event
+shift_item None = []
+shift_item (Some slot) = shift_to slot ∷ []
+
+-- 5 to 11, when the width, the stops, the saved record and the cells are made
+unfoldable pub last_items : Bool → Display → List Event
+last_items known s =
+    margins_item s.margins
+    ++ (origin_item known s.modes.decom
+    ++ (position_item s
+    ++ (wrap_item s.grid s.cursor
+    ++ (brush_events s.brush
+    ++ (sets_events s.sets
+    ++ (modes_item known s.modes
+    ++ shift_item s.sets.pending))))))

@@ -1,0 +1,30 @@
+-- 0.4: vt_paint/specs/Repaint.
+use Rattle.promises.specs.v0_4.controls.Controls.{reset_to_initial_state}
+use Rattle.promises.specs.v0_4.paint.Items.{cells_item, last_items, saved_item, stops_item}
+use Rattle.promises.specs.v0_4.syntax.Spelling.{spell_events}
+use Rattle.promises.specs.v0_4.term.Play.{play}
+use Rattle.promises.specs.v0_4.term.Sound.{IsSound}
+use Rattle.promises.specs.v0_4.term.State.{last_column, power_up}
+use Rattle.std.specs.Prelude.{[], All, List, true, ℕ, ◌++◌, ◌∷◌, ◌≡◌, ◌≤◌}
+use Rattle.vt_syntax.specs.declared.event.Event.{Event}
+use Rattle.vt_term.specs.State.{Display, State}
+
+-- the items in order: from power-up they lead to a display
+unfoldable pub made_events : Display → List Event
+made_events s =
+    stops_item (last_column s) s.stops
+    ++ (saved_item s.saved
+    ++ (cells_item s.grid s.cursor.wrap
+    ++ last_items true s))
+
+-- a repaint: RIS, and the items, in 7-bit form
+unfoldable pub paint : State → List ℕ
+paint s = spell_events (reset_to_initial_state ∷ made_events s.display)
+
+-- some bytes lead to the state from power-up
+abbrev pub IsReached : State → Type 0
+IsReached s = (bytes : List ℕ) × All (λ b. b ≤ 0xFF) bytes × ((play power_up bytes).state ≡ s)
+
+-- played on any terminal, whatever it shows and holds, the repaint leaves this state, and asks for no report
+abbrev pub IsRebuilt : State → Type 0
+IsRebuilt s = (t : State) → IsSound t → play t (paint s) ≡ record { state = s; reports = [] }

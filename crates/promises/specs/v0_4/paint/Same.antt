@@ -1,0 +1,21 @@
+-- 0.4: vt_paint/specs/Same.
+use Rattle.promises.specs.v0_4.glyph.Designation.{final_of}
+use Rattle.promises.specs.v0_4.screen.Cells.{blank, brush_of}
+use Rattle.promises.specs.v0_4.screen.Same.{same_bool, same_brush}
+use Rattle.std.specs.Cmp.Lexicographic.{pointwise}
+use Rattle.std.specs.Prelude.{Bool, ◌&&◌, ◌==◌}
+use Rattle.vt_glyph.specs.declared.set.Set.{Set}
+use Rattle.vt_screen.specs.declared.cell.Cell.{Cell}
+use Rattle.vt_term.specs.declared.state.Saved.{Saved}
+
+abbrev pub is_blank : Cell → Bool
+is_blank cell = cell.glyph == blank.glyph && same_brush (brush_of cell) (brush_of blank)
+
+-- a set is told by its final byte
+abbrev pub same_set : Set → Set → Bool
+same_set a b = final_of a == final_of b
+
+abbrev pub same_saved : Saved → Saved → Bool
+same_saved a b =
+    a.row == b.row && (a.col == b.col && (same_bool a.wrap b.wrap && (same_brush a.brush b.brush
+    && (pointwise same_set a.g b.g && (a.gl == b.gl && (a.gr == b.gr && same_bool a.origin b.origin))))))

@@ -1,0 +1,4 @@
+pub mod Picture
+pub mod Animation
+pub mod Looks
+pub mod Show

@@ -1,0 +1,150 @@
+-- 0.4: vt_recording/specs/Asciicast.
+use Rattle.json.specs.Find.{as_number, get}
+use Rattle.json.specs.Json.{document, Json}
+use Rattle.json.specs.Lex.{tokens}
+use Rattle.json.specs.Token as token
+use Rattle.json.specs.Token.{Token}
+use Rattle.promises.specs.v0_4.recording.Lines.{lines_of}
+use Rattle.promises.specs.v0_4.recording.Script.{begins_with}
+use Rattle.promises.specs.v0_4.recording.Seconds.{micros_of_number}
+use Rattle.std.specs.Char.{is_ascii_whitespace}
+use Rattle.std.specs.List.{prefix_len, starts_with}
+use Rattle.std.specs.Prelude.{None, Option, option_and_then, option_map, Some, true, ℕ, ◌&&◌, ◌++◌, ◌+◌, ◌-◌, ◌^◌}
+use Rattle.std.specs.Prelude.{[], Bool, bytes_eq, chars, codes, cond, drop, false, length, List, min, nat_eq, nat_le}
+use Rattle.std.specs.Prelude.{◌||◌, ◌∷◌}
+use Rattle.std.specs.Str.Lossy.{utf8_valid_len}
+use Rattle.vt_recording.specs.Asciicast.{Cast}
+
+abbrev pub trimmed : List ℕ → List ℕ
+trimmed text = drop (prefix_len is_ascii_whitespace text) text
+
+abbrev pub without_mark : List ℕ → List ℕ
+without_mark bytes = cond (begins_with (0xEF ∷ 0xBB ∷ 0xBF ∷ []) bytes) (drop 3 bytes) bytes
+
+-- what follows a byte order mark of UTF-8 and white space, if there are any
+abbrev pub json_text : List ℕ → List ℕ
+json_text bytes = trimmed (without_mark bytes)
+
+-- how many bytes come before it
+abbrev pub start_of : List ℕ → ℕ
+start_of bytes = length bytes - length (json_text bytes)
+
+-- the version that an object names, if it is 2 or 3
+abbrev pub version_of : Json → Option ℕ
+version_of header =
+    option_and_then
+    (λ text. cond (bytes_eq text (codes "2")) (Some 2) (cond (bytes_eq text (codes "3")) (Some 3) None))
+    (option_and_then as_number (get (codes "version") header))
+
+-- the line is UTF-8
+abbrev pub is_text : List ℕ → Bool
+is_text line = nat_eq (utf8_valid_len line) (length line)
+
+-- the JSON text that a line is
+abbrev pub document_in : List ℕ → Option Json
+document_in line = cond (is_text line) (document line) None
+
+abbrev pub version_in : List ℕ → Option ℕ
+version_in line = option_and_then version_of (document_in line)
+
+-- a time in microseconds, its code, and its text
+abbrev pub Event : Type 0
+Event = ℕ × List ℕ × List ℕ
+
+abbrev pub begins_array : Token → Bool
+begins_array token.begin_array = true
+begins_array _ = false
+
+abbrev pub ends_array : Token → Bool
+ends_array token.end_array = true
+ends_array _ = false
+
+abbrev pub number_in : Token → Option (List ℕ)
+number_in (token.number s) = Some s
+number_in _ = None
+
+abbrev pub string_in : Token → Option (List ℕ)
+string_in (token.string s) = Some s
+string_in _ = None
+
+-- the event of a time, a code and a text
+abbrev pub event_from : (time code text : Option (List ℕ)) → Option Event
+event_from time code text =
+    option_and_then
+    (λ micros. option_and_then (λ c. option_map (λ t. (micros, c, t)) text) code)
+    (option_and_then micros_of_number time)
+
+-- an array of a number and two strings
+abbrev pub event_of : List Token → Option Event
+event_of (a ∷ time ∷ code ∷ text ∷ e ∷ []) =
+    cond (begins_array a && ends_array e) (event_from (number_in time) (string_in code) (string_in text)) None
+event_of _ = None
+
+abbrev pub event_in : List ℕ → Option Event
+event_in line = cond (is_text line) (event_of (tokens line)) None
+
+-- a line without an event: an empty one, and in version 3 a comment
+abbrev pub is_silent : (version : ℕ) → List ℕ → Bool
+is_silent version line = nat_eq (length line) 0 || (nat_eq version 3 && starts_with nat_eq line (0x23 ∷ []))
+
+-- the time of an event: in version 3 its number counts from the event before. It stops at 2^64 - 1
+abbrev pub clock_after : (version clock micros : ℕ) → ℕ
+clock_after version clock micros = cond (nat_eq version 3) (min (clock + micros) (2 ^ 64 - 1)) micros
+
+abbrev pub in_time : (until : Option ℕ) → (time : ℕ) → Bool
+in_time None time = true
+in_time (Some until) time = nat_le time until
+
+-- the code of output
+abbrev pub is_output : (code : List ℕ) → Bool
+is_output code = bytes_eq code (codes "o")
+
+-- the characters of an event that are wanted
+abbrev pub heard : (until : Option ℕ) → (time : ℕ) → (output : Bool) → (text : List ℕ) → List ℕ
+heard until time output text = cond (output && in_time until time) (chars text) []
+
+-- the characters that the host sent, and the byte at which the format is broken
+pub record Cast' : Type 0 where
+  pub characters : List ℕ
+  pub broken : Option ℕ
+
+abbrev pub after : List ℕ → Cast → Cast
+after characters cast = record { characters = characters ++ cast.characters; broken = cast.broken }
+
+-- the time after a line, if that doesn't break the format
+abbrev pub time_behind : (silent : Bool) → Option Event → (version clock : ℕ) → Option ℕ
+time_behind true event version clock = Some clock
+time_behind false None version clock = None
+time_behind false (Some e) version clock = Some (clock_after version clock e.0)
+
+-- the characters of a line
+abbrev pub heard_in : (silent : Bool) → Option Event → (version : ℕ) → (until : Option ℕ) → (clock : ℕ) → List ℕ
+heard_in true event version until clock = []
+heard_in false None version until clock = []
+heard_in false (Some e) version until clock = heard until (clock_after version clock e.0) (is_output e.1) e.2
+
+-- characters and then the other lines, as a function of the time, unless the format is broken at this byte
+abbrev pub and_then : (time : Option ℕ) → List ℕ → (at : ℕ) → (ℕ → Cast) → Cast
+and_then None characters at rest = record { characters = []; broken = Some at }
+and_then (Some now) characters at rest = after characters (rest now)
+
+unfoldable pub cast_of : (version : ℕ) (until : Option ℕ) (clock at : ℕ) → List (List ℕ) → Cast
+cast_of version until clock at [] = record { characters = []; broken = None }
+cast_of version until clock at (line ∷ lines) =
+    and_then (time_behind (is_silent version line) (event_in line) version clock)
+    (heard_in (is_silent version line) (event_in line) version until clock) at
+    (λ now. cast_of version until now (at + (length line + 1)) lines)
+
+-- the lines after the first one, by its version
+abbrev pub cast_by : (version : Option ℕ) → (until : Option ℕ) → (at : ℕ) → List (List ℕ) → Cast
+cast_by None until at lines = record { characters = []; broken = Some 0 }
+cast_by (Some version) until at lines = cast_of version until 0 at lines
+
+-- the lines starting at a byte
+abbrev pub cast_from : (until : Option ℕ) → (start : ℕ) → List (List ℕ) → Cast
+cast_from until start [] = record { characters = []; broken = Some 0 }
+cast_from until start (header ∷ lines) = cast_by (version_in header) until (start + (length header + 1)) lines
+
+-- a recording
+abbrev pub asciicast : (until : Option ℕ) → (bytes : List ℕ) → Cast
+asciicast until bytes = cast_from until (start_of bytes) (lines_of (json_text bytes))

@@ -1,0 +1,59 @@
+-- 0.4: vt_recording/specs/Detection.
+use Rattle.promises.specs.v0_4.recording.Asciicast.{json_text, trimmed}
+use Rattle.promises.specs.v0_4.recording.Lines.{front_line}
+use Rattle.promises.specs.v0_4.recording.Script.{begins_with, first_words}
+use Rattle.promises.specs.v0_4.recording.Ttyrec.{number_at, size_of, time_of}
+use Rattle.std.specs.Prelude.{[], Bool, codes, cond, drop, false, length, List, nat_le, nat_lt, None, Option}
+use Rattle.std.specs.Prelude.{option_and_then, Some, ℕ, ◌&&◌, ◌+◌, ◌||◌, ◌∷◌}
+use Rattle.vt_recording.specs.declared.detection.Compression.TheVariants.{Bzip2, Gzip, Xz, Zstd}
+use Rattle.vt_recording.specs.declared.detection.Detected.TheVariants.{Compressed, Recording}
+use Rattle.vt_recording.specs.declared.detection.Detected.{Detected}
+use Rattle.vt_recording.specs.declared.format.Format.TheVariants.{Asciicast, Raw, Script, Ttyrec}
+
+-- what follows a token and white space
+abbrev pub after : (token text : List ℕ) → Option (List ℕ)
+after token text = cond (begins_with token text) (Some (trimmed (drop (length token) text))) None
+
+abbrev pub is_version : Option (List ℕ) → Bool
+is_version (Some (digit ∷ text)) = nat_le 0x31 digit && nat_le digit 0x33
+is_version _ = false
+
+abbrev pub begins_version : List ℕ → Bool
+begins_version text = is_version (option_and_then (after (codes ":")) (after (codes "\"version\"") text))
+
+-- anywhere in the text
+unfoldable pub has_version : List ℕ → Bool
+has_version [] = false
+has_version (byte ∷ text) = begins_version (byte ∷ text) || has_version text
+
+-- on the line of the first member
+abbrev pub is_object : Option (List ℕ) → Bool
+is_object (Some members) = has_version (front_line members)
+is_object None = false
+
+abbrev pub is_asciicast : List ℕ → Bool
+is_asciicast bytes = is_object (after (codes "{") (json_text bytes))
+
+-- a frame is what one read of the terminal gave
+abbrev pub is_header : List ℕ → Bool
+is_header bytes = nat_le 12 (length bytes) && (nat_lt (number_at 4 bytes) 1000000 && nat_le (size_of bytes) 0x10000)
+
+abbrev pub goes_on : (bytes rest : List ℕ) → Bool
+goes_on bytes rest = nat_lt (length rest) 12 || (is_header rest && nat_le (time_of bytes) (time_of rest))
+
+abbrev pub is_ttyrec : List ℕ → Bool
+is_ttyrec bytes =
+    is_header bytes && (nat_le 1 (size_of bytes) && goes_on bytes (drop (12 + size_of bytes) bytes))
+
+abbrev pub is_bzip2 : List ℕ → Bool
+is_bzip2 bytes = begins_with (codes "BZh") bytes && begins_with (codes "1AY&SY") (drop 4 bytes)
+
+-- the first of these that fits. Whatever fits none is raw
+abbrev pub detected : List ℕ → Detected
+detected bytes =
+    cond (begins_with first_words bytes) (Recording Script)
+    (cond (is_asciicast bytes) (Recording Asciicast)
+    (cond (begins_with (0x1F ∷ 0x8B ∷ []) bytes) (Compressed Gzip)
+    (cond (begins_with (0x28 ∷ 0xB5 ∷ 0x2F ∷ 0xFD ∷ []) bytes) (Compressed Zstd)
+    (cond (begins_with (0xFD ∷ 0x37 ∷ 0x7A ∷ 0x58 ∷ 0x5A ∷ 0x00 ∷ []) bytes) (Compressed Xz)
+    (cond (is_bzip2 bytes) (Compressed Bzip2) (cond (is_ttyrec bytes) (Recording Ttyrec) (Recording Raw)))))))

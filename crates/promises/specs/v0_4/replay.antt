@@ -1,0 +1,13 @@
+pub mod Due
+pub mod Status
+pub mod Playing
+pub mod Session
+pub mod Host
+pub mod Encoding
+pub mod Pages
+pub mod Log
+pub mod Request
+pub mod Showing
+pub mod Words
+pub mod EventTable
+pub mod Animated

@@ -1,0 +1,153 @@
+-- 0.4: vt_replay/specs/Request.
+use Rattle.promises.specs.v0_4.recording.Detection.{detected}
+use Rattle.promises.specs.v0_4.recording.Reading.{ReadTable}
+use Rattle.promises.specs.v0_4.replay.Animated.{title_of}
+use Rattle.promises.specs.v0_4.replay.EventTable.{IsTableTaken}
+use Rattle.promises.specs.v0_4.replay.Host.{host_of, opening, plain_host}
+use Rattle.promises.specs.v0_4.replay.Playing.{language_of}
+use Rattle.promises.specs.v0_4.replay.Words.{WordTable}
+use Rattle.std.specs.Prelude.{[], Bool, Err, false, is_some, length, List, None, not, Ok, Option, Result, Some, true}
+use Rattle.std.specs.Prelude.{ℕ, ◌&&◌, ◌++◌, ◌||◌, ◌≡◌, ◌≤◌, ◌⊎◌}
+use Rattle.vt_cli.specs.declared.asked.Request.{Request}
+use Rattle.vt_cli.specs.declared.what.What.TheVariants.{Picture}
+use Rattle.vt_cli.specs.declared.what.Word.TheVariants.{Animation, Content, Events, Log, Pages, Replay, Summary}
+use Rattle.vt_cli.specs.declared.what.Word.TheVariants.{Trace}
+use Rattle.vt_cli.specs.declared.what.Word.{Word}
+use Rattle.vt_device.specs.Runs.{Flags}
+use Rattle.vt_recording.specs.Reached.{IsTakenBetween}
+use Rattle.vt_recording.specs.declared.detection.Detected.TheVariants.{Compressed, Recording}
+use Rattle.vt_recording.specs.declared.detection.Detected.{Detected}
+use Rattle.vt_recording.specs.declared.fault.Fault.TheVariants as fault
+use Rattle.vt_recording.specs.declared.fault.Fault.{Fault}
+use Rattle.vt_recording.specs.declared.format.Break.{Break}
+use Rattle.vt_recording.specs.declared.format.Format.TheVariants as format
+use Rattle.vt_recording.specs.declared.format.Format.{Format}
+use Rattle.vt_recording.specs.declared.format.Moment.TheVariants.{Bytes, Event, Marker, Micros}
+use Rattle.vt_recording.specs.declared.format.Moment.{Moment}
+use Rattle.vt_replay.specs.Animated.{IsAnimation}
+use Rattle.vt_replay.specs.Request.{IsPlayed, IsPrepared, IsStreamed, IsTakenApart, IsUnread}
+use Rattle.vt_replay.specs.declared.host.Host.{Host}
+use Rattle.vt_replay.specs.declared.requests.Outcome.{Outcome}
+
+-- 132 columns were asked for
+abbrev pub asks_wide : Option Bool → Bool
+asks_wide (Some wide) = wide
+asks_wide None = false
+
+-- the input is played as it comes: it is the host's bytes, all of them are wanted, no others come first, and nothing else
+-- needs the whole of them
+abbrev pub is_streamed : Format → Option Moment → (wide : Option Bool) → (whole : Bool) → Bool
+is_streamed format.Raw None wide whole = not (asks_wide wide) && not whole
+is_streamed format.Raw (Some m) wide whole = false
+is_streamed format.Script until wide whole = false
+is_streamed format.Ttyrec until wide whole = false
+is_streamed format.Asciicast until wide whole = false
+
+-- the word writes what is made of a whole recording: the table of its events, or a picture that moves
+abbrev pub takes_whole : Word → Bool
+takes_whole (Replay what) = false
+takes_whole (Animation looks) = true
+takes_whole Log = false
+takes_whole Pages = false
+takes_whole Trace = false
+takes_whole Summary = false
+takes_whole Events = true
+takes_whole Content = false
+
+-- the word needs the whole input: it writes what is made of it, or begins in the middle
+abbrev pub needs_whole : Request → Bool
+needs_whole r = takes_whole r.word || is_some r.from
+
+-- how a request ends: a fault of the word comes first, then that the recording is broken
+abbrev pub ended_of : (broken : Option Break) → Result (Unit {0}) Fault → Result (Unit {0}) Fault
+ended_of None (Ok u) = Ok u
+ended_of (Some place) (Ok u) = Err (fault.Broken place)
+ended_of broken (Err fault) = Err fault
+
+-- the word was carried out on the input as it came
+pub record IsStreamed' (o : Outcome) (r : Request) (b w : List ℕ) (f : Flags) : Type 0 where
+  pub table : WordTable o.ended r.word (plain_host r).terminal (plain_host r).encoding r.piece b w f r.limit
+  pub none_replaced : o.replaced ≡ 0
+
+-- the word was carried out on the content of a recording, of which c was played, from memory: no read fails. At the end
+-- nothing is left
+pub record IsPlayed' (o : Outcome) (r : Request) (host : Host) (content : List ℕ) (broken : Option Break) (replaced : ℕ) (w : List ℕ)
+    (writer_failed : Bool) : Type 0 where
+  pub c : List ℕ
+  pub rest : List ℕ
+  pub joined : content ≡ c ++ rest
+  pub at_end : Bool
+  pub none_left : at_end ≡ true → rest ≡ []
+  pub played : Result (Unit {0}) Fault
+  pub table : WordTable played r.word host.terminal host.encoding r.piece c w (record { reader_failed = false; reader_ended = at_end; writer_failed = writer_failed }) r.limit
+  pub ended : o.ended ≡ ended_of broken played
+  pub replaces : o.replaced ≡ replaced
+
+-- what is taken out of a recording for a word: the table of its events, a picture that moves, or its content
+abbrev pub IsTakenBy : Word → Request → Format → Host → (timing : Option (List ℕ)) → (bytes content : List ℕ)
+    → (broken : Option Break) → (replaced : ℕ) → Type 0
+IsTakenBy Events r format host timing bytes content broken replaced =
+    IsTableTaken format r.full r.from r.until timing bytes content broken replaced
+IsTakenBy (Animation looks) r format host timing bytes content broken replaced =
+    IsAnimation looks (title_of r.title) (opening (Replay Picture) host) (language_of host.terminal host.encoding) format host.encoding r.until
+    timing bytes content broken replaced
+IsTakenBy word r format host timing bytes content broken replaced =
+    IsTakenBetween format host.encoding r.from r.until timing bytes content broken replaced
+
+-- what is played of a recording: the opening and the content
+pub record IsPrepared' (r : Request) (format : Format) (timing : Option (List ℕ)) (b : List ℕ) (host : Host) (bytes : List ℕ)
+    (broken : Option Break) (replaced : ℕ) : Type 0 where
+  pub host_is : host ≡ host_of r format b
+  pub content : List ℕ
+  pub taken : IsTakenBy r.word r format host timing b content broken replaced
+  pub joined : bytes ≡ opening r.word host ++ content
+
+-- the input was read whole and taken apart, and the word was carried out on what is played of it
+pub record IsTakenApart' (o : Outcome) (r : Request) (format : Format) (timing : Option (List ℕ)) (b w : List ℕ) (f : Flags) : Type 0 where
+  pub reader_failed : f.reader_failed ≡ false
+  pub reader_ended : f.reader_ended ≡ true
+  pub within : length b ≤ r.limit
+  pub host : Host
+  pub bytes : List ℕ
+  pub broken : Option Break
+  pub replaced : ℕ
+  pub prepared : IsPrepared r format timing b host bytes broken replaced
+  pub played : IsPlayed o r host bytes broken replaced w f.writer_failed
+
+-- the input wasn't read whole or taken apart, and nothing was written
+pub record IsUnread' (o : Outcome) (r : Request) (b w : List ℕ) (f : Flags) : Type 0 where
+  pub fault : Fault
+  pub why : ReadTable (Err fault) b f.reader_failed f.reader_ended r.limit
+  pub ended : o.ended ≡ Err fault
+  pub none_replaced : o.replaced ≡ 0
+  pub nothing : w ≡ []
+  pub writer_works : f.writer_failed ≡ false
+
+abbrev pub OutcomeBy : (streamed : Bool) → Outcome → Request → Format → (timing : Option (List ℕ)) → (b w : List ℕ) → Flags → Type 0
+OutcomeBy true o r format timing b w f = IsStreamed o r b w f
+OutcomeBy false o r format timing b w f = IsTakenApart o r format timing b w f ⊎ IsUnread o r b w f
+
+-- what an outcome says of an input in a format, b being the bytes read and w the bytes written
+abbrev pub OutcomeTable : Outcome → Request → Format → (timing : Option (List ℕ)) → (b w : List ℕ) → Flags → Type 0
+OutcomeTable o r format timing b w f = OutcomeBy (is_streamed format r.until r.wide (needs_whole r)) o r format timing b w f
+
+-- the format that the beginning shows: a compressed file is played as it is
+abbrev pub shown_format : Detected → Format
+shown_format (Recording format) = format
+shown_format (Compressed compression) = format.Raw
+
+-- by the format that was asked for, or else by the beginning
+abbrev pub format_of : Option Format → (beginning : List ℕ) → Format
+format_of (Some format) beginning = format
+format_of None beginning = shown_format (detected beginning)
+
+-- the moment is a time, and the recording has no times
+abbrev pub lacks_times : Format → (timed : Bool) → Option Moment → Bool
+lacks_times format.Raw timed (Some (Micros n)) = true
+lacks_times format.Script timed (Some (Micros n)) = not timed
+lacks_times format.Ttyrec timed (Some (Micros n)) = false
+lacks_times format.Asciicast timed (Some (Micros n)) = false
+lacks_times format timed (Some (Bytes n)) = false
+lacks_times format timed (Some (Event n)) = false
+lacks_times format timed (Some (Marker n)) = false
+lacks_times format timed None = false

@@ -1,0 +1,73 @@
+-- 0.4: vt_replay/specs/Words.
+use Rattle.promises.specs.v0_4.output.Output.{all, always, nothing, OutputTable}
+use Rattle.promises.specs.v0_4.replay.Encoding.{decoded}
+use Rattle.promises.specs.v0_4.replay.Log.{lines_in, screen, screen_in}
+use Rattle.promises.specs.v0_4.replay.Pages.{pages}
+use Rattle.promises.specs.v0_4.replay.Playing.{language_of, replayed}
+use Rattle.promises.specs.v0_4.replay.Showing.{ShownTable}
+use Rattle.promises.specs.v0_4.term.State.{power_up}
+use Rattle.promises.specs.v0_4.trace.Summary.{summary}
+use Rattle.promises.specs.v0_4.trace.Trace.{end_lines, trace, tracer_all, tracer_at_start}
+use Rattle.promises.specs.v0_4.trace.Utf8.{summary_utf8, trace_utf8, tracer_utf8}
+use Rattle.std.specs.Prelude.{[], List, Result, ℕ}
+use Rattle.vt_cli.specs.declared.what.Word.TheVariants.{Animation, Content, Events, Log, Pages, Replay, Summary}
+use Rattle.vt_cli.specs.declared.what.Word.TheVariants.{Trace}
+use Rattle.vt_cli.specs.declared.what.Word.{Word}
+use Rattle.vt_device.specs.Runs.{Flags}
+use Rattle.vt_recording.specs.declared.fault.Fault.{Fault}
+use Rattle.vt_recording.specs.declared.format.Encoding.TheVariants.{Dec, Utf8}
+use Rattle.vt_recording.specs.declared.format.Encoding.{Encoding}
+use Rattle.vt_recording.specs.declared.format.TerminalType.TheVariants.{Xterm}
+use Rattle.vt_recording.specs.declared.format.TerminalType.{TerminalType}
+use Rattle.vt_replay.specs.Playing.{Due}
+
+abbrev pub pages_written : List ℕ → List ℕ
+pages_written bytes = pages power_up bytes
+
+abbrev pub trace_written : List ℕ → List ℕ
+trace_written bytes = trace power_up tracer_at_start bytes
+
+-- the end of a text, if the last line is one, and the line of a sequence or string that is still open
+abbrev pub trace_ending : List ℕ → List ℕ
+trace_ending bytes = end_lines (tracer_all power_up tracer_at_start bytes)
+
+-- of the host's bytes in each encoding: the events have the host's own characters and places
+abbrev pub trace_in : Encoding → List ℕ → List ℕ
+trace_in Dec bytes = trace_written bytes
+trace_in Utf8 bytes = trace_utf8 power_up tracer_at_start [] bytes
+
+abbrev pub trace_end_in : Encoding → List ℕ → List ℕ
+trace_end_in Dec bytes = trace_ending bytes
+trace_end_in Utf8 bytes = end_lines (tracer_utf8 power_up tracer_at_start [] bytes)
+
+abbrev pub summary_in : Encoding → List ℕ → List ℕ
+summary_in Dec bytes = summary bytes
+summary_in Utf8 bytes = summary_utf8 bytes
+
+-- of the terminal's bytes for the host's
+abbrev pub of_decoded : Encoding → (written ending : List ℕ → List ℕ) → Due
+of_decoded encoding written ending = record {
+  written = λ bytes. written (decoded encoding bytes);
+  ending = λ bytes. ending (decoded encoding bytes);
+  there = always;
+}
+
+-- a row a word, for a terminal and in an encoding. A picture that moves and the table of events are ready before they are written. A replay and a log play xterm; what content writes then is below
+abbrev pub due_of : Word → TerminalType → Encoding → Due
+due_of (Replay what) terminal encoding = replayed (language_of terminal encoding) what
+due_of (Animation looks) terminal encoding = of_decoded Dec all nothing
+due_of Log terminal encoding =
+    let language = language_of terminal encoding in
+    record { written = lines_in language; ending = screen_in language; there = always }
+due_of Pages terminal encoding = of_decoded encoding pages_written screen
+due_of Trace terminal encoding = record { written = trace_in encoding; ending = trace_end_in encoding; there = always }
+due_of Summary terminal encoding = record { written = nothing; ending = summary_in encoding; there = always }
+due_of Events terminal encoding = of_decoded Dec all nothing
+due_of Content terminal encoding = of_decoded encoding all nothing
+
+-- what each answer says, by the word. Under TERM=xterm content is what a VT220 is sent, so that it shows the same
+abbrev pub WordTable : Result (Unit {0}) Fault → Word → TerminalType → Encoding → (piece : ℕ) → (b w : List ℕ) → Flags → (limit : ℕ) → Type 0
+WordTable result Content Xterm encoding piece b w f limit = ShownTable result piece b w f limit
+WordTable result word terminal encoding piece b w f limit =
+    let due = due_of word terminal encoding in
+    OutputTable due.written due.ending due.there result piece b w f limit

@@ -1,0 +1,61 @@
+-- 0.4: vt_screen/specs/Laws.
+use Rattle.promises.specs.v0_4.screen.Cells.{blank, cell_like}
+use Rattle.promises.specs.v0_4.screen.Grid.{AllCells, blank_grid, cell_at, erase_area, fill, grid_of, put, put_run}
+use Rattle.promises.specs.v0_4.screen.Grid.{row_of}
+use Rattle.std.specs.Prelude.{[], Bool, false, IsTrue, length, List, slice_index_or, true, ℕ, ◌*◌, ◌++◌, ◌+◌, ◌-◌}
+use Rattle.std.specs.Prelude.{◌||◌, ◌∷◌, ◌≡◌, ◌≤◌}
+use Rattle.vt_screen.specs.Grid.{Grid, IsGrid}
+use Rattle.vt_screen.specs.Sizes.{IsSize}
+use Rattle.vt_screen.specs.declared.cell.Cell.{Cell}
+use Rattle.vt_screen.specs.declared.size.Size.{Size}
+
+-- what a formula's grid has at a place, and when two grids are equal
+pub record PlaceLaws' : Type 0 where
+  -- the cell at a place is what the formula gives there
+  pub at_place : (s : Size) (w : ℕ) (f : ℕ → ℕ → Cell) (r c : ℕ) → 1 ≤ r → r ≤ s.rows → 1 ≤ c → c ≤ w
+      → cell_at (grid_of s w f) r c ≡ f r c
+  -- formulas that agree at every place make one grid
+  pub same_formulas : (s : Size) (w : ℕ) (f g : ℕ → ℕ → Cell)
+      → ((r c : ℕ) → 1 ≤ r → r ≤ s.rows → 1 ≤ c → c ≤ w → f r c ≡ g r c) → grid_of s w f ≡ grid_of s w g
+  -- a grid is the one that its own cells make
+  pub own_cells : (g : Grid) → IsGrid g → grid_of g.size g.width (cell_at g) ≡ g
+  -- grids of one width with the same cell at every place are equal
+  pub same_grids : (g h : Grid) → IsGrid g → IsGrid h → g.size ≡ h.size → g.width ≡ h.width
+      → ((r c : ℕ) → 1 ≤ r → r ≤ g.size.rows → 1 ≤ c → c ≤ g.width → cell_at g r c ≡ cell_at h r c) → g ≡ h
+  -- a formula's grid has a cell for each place, and a map of a grid is a grid
+  pub len : (s : Size) (w : ℕ) (f : ℕ → ℕ → Cell) → length (grid_of s w f).cells ≡ s.rows * w
+  pub blank : (s : Size) (wide : Bool) → IsSize s → IsGrid (blank_grid s wide)
+  pub map : (g : Grid) (f : ℕ → ℕ → Cell) → IsGrid g → IsGrid (grid_of g.size g.width f)
+
+-- a row has the cells of its columns, in order
+pub record RowLaws' : Type 0 where
+  pub len : (g : Grid) (r : ℕ) → length (row_of g r) ≡ g.width
+  pub cell : (g : Grid) (r c : ℕ) (d : Cell) → 1 ≤ c → c ≤ g.width → slice_index_or (row_of g r) (c - 1) d
+      ≡ cell_at g r c
+
+-- a run of glyphs is written as its glyphs are, one after another
+pub record RunLaws' : Type 0 where
+  pub none : (g : Grid) (row col : ℕ) (like : Cell) → IsGrid g → put_run g row col [] like ≡ g
+  pub one : (g : Grid) (row col glyph : ℕ) (like : Cell)
+      → put_run g row col (glyph ∷ []) like ≡ put g row col (cell_like like glyph)
+  pub append : (g : Grid) (row col : ℕ) (a b : List ℕ) (like : Cell)
+      → put_run g row col (a ++ b) like ≡ put_run (put_run g row col a like) row (col + length a) b like
+
+-- areas that are erased in turn are erased at once
+pub record AreaLaws' : Type 0 where
+  pub none : (g : Grid) (selective : Bool) → IsGrid g → erase_area g (λ r c. false) selective ≡ g
+  pub all : (g : Grid) → erase_area g (λ r c. true) false ≡ fill g blank
+  pub both : (g : Grid) (a b : ℕ → ℕ → Bool) (selective : Bool)
+      → erase_area (erase_area g a selective) b selective ≡ erase_area g (λ r c. a r c || b r c) selective
+  -- areas of the same places are one area
+  pub same : (g : Grid) (a b : ℕ → ℕ → Bool) (selective : Bool)
+      → ((r c : ℕ) → 1 ≤ r → r ≤ g.size.rows → 1 ≤ c → c ≤ g.width → a r c ≡ b r c)
+      → erase_area g a selective ≡ erase_area g b selective
+
+-- a test that a blank cell and each cell of a grid pass is passed at every place; a formula's grid passes a test that
+-- the formula passes at every place
+pub record TestLaws' : Type 0 where
+  pub at : (test : Cell → Bool) (g : Grid) (r c : ℕ) → IsTrue (test blank) → AllCells test g
+      → IsTrue (test (cell_at g r c))
+  pub formula : (test : Cell → Bool) (s : Size) (w : ℕ) (f : ℕ → ℕ → Cell)
+      → ((r c : ℕ) → 1 ≤ r → r ≤ s.rows → 1 ≤ c → c ≤ w → IsTrue (test (f r c))) → AllCells test (grid_of s w f)

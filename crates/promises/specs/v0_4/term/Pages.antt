@@ -1,0 +1,62 @@
+-- 0.4: vt_term/specs/Pages.
+use Rattle.promises.specs.v0_4.screen.Grid.{blank_grid}
+use Rattle.promises.specs.v0_4.screen.Sizes.{vt220_size, width_of}
+use Rattle.promises.specs.v0_4.term.State.{saved_at_power_up, saved_sets}
+use Rattle.std.specs.Prelude.{Bool, false, if◌then◌else◌, min, ℕ, ◌==◌, ◌≡◌}
+use Rattle.vt_glyph.specs.GraphicSets.{AreSoundSets}
+use Rattle.vt_screen.specs.Grid.{Grid, IsSoundGrid}
+use Rattle.vt_screen.specs.declared.size.Size.{Size}
+use Rattle.vt_term.specs.Pages.{IsSoundPageAt, PageState}
+use Rattle.vt_term.specs.Sound.{IsPlace}
+use Rattle.vt_term.specs.State.{Display}
+use Rattle.vt_term.specs.declared.state.Saved.{Saved}
+
+pub record PageState' : Type 0 where
+  pub grid : Grid
+  pub saved : Saved
+
+-- a page of this size is sound
+pub record IsSoundPageAt' (size : Size) (page : PageState) : Type 0 where
+  pub of_size : page.grid.size ≡ size
+  pub grid : IsSoundGrid page.grid
+  pub saved : IsPlace size.rows page.grid.width page.saved.row page.saved.col page.saved.wrap
+  pub saved_sets : AreSoundSets (saved_sets page.saved)
+
+-- of any size
+abbrev pub IsSoundSizedPage : PageState → Type 0
+IsSoundSizedPage page = IsSoundPageAt page.grid.size page
+
+-- a VT220's
+abbrev pub IsSoundPage : PageState → Type 0
+IsSoundPage page = IsSoundPageAt vt220_size page
+
+-- narrow and blank, with what is saved at power-up
+abbrev pub blank_page : Size → PageState
+blank_page size = record { grid = blank_grid size false; saved = saved_at_power_up }
+
+-- that of the VT220
+abbrev pub page_at_power_up : PageState
+page_at_power_up = blank_page vt220_size
+
+-- blank cells; what was saved stays
+abbrev pub blanked : PageState → PageState
+blanked page = record page { grid = blank_grid page.grid.size (page.grid.width == page.grid.size.wide) }
+
+-- what DECCOLM makes of a page: blank cells, the saved column inside the width, and no saved wrap flag
+abbrev pub resized : Bool → PageState → PageState
+resized wide page = record {
+  grid = blank_grid page.grid.size wide;
+  saved = record page.saved { col = min page.saved.col (width_of page.grid.size wide); wrap = false };
+}
+
+-- the page for a screen of this width: another width is changed as by DECCOLM
+abbrev pub fitted : ℕ → PageState → PageState
+fitted width page = if page.grid.width == width then page else resized (width == page.grid.size.wide) page
+
+-- the page that a display shows
+abbrev pub page_of : Display → PageState
+page_of s = record { grid = s.grid; saved = s.saved }
+
+-- another page is shown, and everything else stays
+abbrev pub with_page : PageState → Display → Display
+with_page page s = record s { grid = page.grid; saved = page.saved }

@@ -1,0 +1,127 @@
+-- 0.4: vt_term/specs/State.
+use Rattle.promises.specs.v0_4.glyph.Invocation.{sets_at_power_up}
+use Rattle.promises.specs.v0_4.screen.Cells.{plain_brush}
+use Rattle.promises.specs.v0_4.screen.Grid.{blank_grid}
+use Rattle.promises.specs.v0_4.screen.Sizes.{vt220_size}
+use Rattle.std.specs.List.{range_with_len}
+use Rattle.std.specs.Prelude.{Bool, false, List, map, nat_lt, None, slice_index_or, true, ℕ, ◌%◌, ◌&&◌, ◌-◌, ◌==◌}
+use Rattle.vt_glyph.specs.GraphicSets.{GraphicSets}
+use Rattle.vt_screen.specs.Grid.{Grid}
+use Rattle.vt_screen.specs.declared.cell.Brush.{Brush}
+use Rattle.vt_screen.specs.declared.size.Size.{Size}
+use Rattle.vt_syntax.specs.declared.held.Held.TheVariants.{Nothing}
+use Rattle.vt_syntax.specs.declared.held.Held.{Held}
+use Rattle.vt_term.specs.State.{Display, State}
+use Rattle.vt_term.specs.declared.state.Cursor.{Cursor}
+use Rattle.vt_term.specs.declared.state.Margins.{Margins}
+use Rattle.vt_term.specs.declared.state.Modes.{Modes}
+use Rattle.vt_term.specs.declared.state.Saved.{Saved}
+
+-- all but the held part: what events change
+pub record Display' : Type 0 where
+  pub grid : Grid
+  pub cursor : Cursor
+  pub brush : Brush
+  pub sets : GraphicSets
+  pub margins : Margins
+  pub stops : List Bool
+  pub modes : Modes
+  pub saved : Saved
+
+-- the whole state: the display, and what of an unfinished sequence is held
+pub record State' : Type 0 where
+  pub display : Display
+  pub held : Held
+
+-- the number of rows of the screen
+abbrev pub bottom_row : Display → ℕ
+bottom_row s = s.grid.size.rows
+
+-- the width of the screen, that of a narrow or of a wide one
+abbrev pub last_column : Display → ℕ
+last_column s = s.grid.width
+
+-- the cursor at a place, the wrap flag reset
+abbrev pub at_place : ℕ → ℕ → Cursor
+at_place row col = record { row = row; col = col; wrap = false }
+
+-- all rows
+abbrev pub margins_of : Size → Margins
+margins_of size = record { top = 1; bottom = size.rows }
+
+-- one truth value for each of these columns, as many as the wide screen has, whatever the width
+abbrev pub stops_where : ℕ → (ℕ → Bool) → List Bool
+stops_where columns has_stop = map has_stop (range_with_len 1 columns)
+
+-- columns 9, 17, 25 ..
+abbrev pub is_stop_at_power_up : ℕ → Bool
+is_stop_at_power_up c = nat_lt 1 c && c % 8 == 1
+
+unfoldable pub stops_of : ℕ → List Bool
+stops_of columns = stops_where columns is_stop_at_power_up
+
+abbrev pub has_stop_at : List Bool → ℕ → Bool
+has_stop_at stops c = slice_index_or stops (c - 1) false
+
+-- SRM, DECAWM, DECARM and DECTCEM are set
+abbrev pub modes_at_power_up : Modes
+modes_at_power_up = record {
+  kam = false;
+  irm = false;
+  srm = true;
+  lnm = false;
+  decckm = false;
+  decsclm = false;
+  decscnm = false;
+  decom = false;
+  decawm = true;
+  decarm = true;
+  dectcem = true;
+  keypad_application = false;
+  reports_8bit = false;
+}
+
+-- what DECSC saves
+abbrev pub saved_of : Cursor → Brush → GraphicSets → Bool → Saved
+saved_of cursor brush sets origin = record {
+  row = cursor.row;
+  col = cursor.col;
+  wrap = cursor.wrap;
+  brush = brush;
+  g = sets.g;
+  gl = sets.left;
+  gr = sets.right;
+  origin = origin;
+}
+
+abbrev pub saved_at_power_up : Saved
+saved_at_power_up = saved_of (at_place 1 1) plain_brush sets_at_power_up false
+
+-- the saved sets; a single shift isn't saved
+abbrev pub saved_sets : Saved → GraphicSets
+saved_sets saved = record { g = saved.g; left = saved.gl; right = saved.gr; pending = None }
+
+abbrev pub display_of : Size → Display
+display_of size = record {
+  grid = blank_grid size false;
+  cursor = at_place 1 1;
+  brush = plain_brush;
+  sets = sets_at_power_up;
+  margins = margins_of size;
+  stops = stops_of size.wide;
+  modes = modes_at_power_up;
+  saved = saved_at_power_up;
+}
+
+abbrev pub state_of : Size → State
+state_of size = record { display = display_of size; held = Nothing }
+
+-- columns 9, 17, .. 129
+abbrev pub stops_at_power_up : List Bool
+stops_at_power_up = stops_of vt220_size.wide
+
+abbrev pub display_at_power_up : Display
+display_at_power_up = display_of vt220_size
+
+abbrev pub power_up : State
+power_up = state_of vt220_size

@@ -1,0 +1,28 @@
+-- 0.4: vt_trace/specs/Ignored.
+use Rattle.promises.specs.v0_4.term.Functions.{effect}
+use Rattle.promises.specs.v0_4.term.Names.{name_of}
+use Rattle.promises.specs.v0_4.term.Reports.{report}
+use Rattle.promises.specs.v0_4.term.Sound.{IsSoundDisplay}
+use Rattle.std.specs.Prelude.{[], Bool, false, None, Some, true, ◌≡◌, ◌≢◌, ◌⊎◌}
+use Rattle.vt_syntax.specs.declared.event.Event.{Event}
+use Rattle.vt_term.specs.State.{Display}
+use Rattle.vt_trace.specs.Ignored.{LeavesAlone}
+
+-- an event without a name
+abbrev pub is_ignored : Event → Bool
+is_ignored event = elim (name_of event) [ None ↦ true | Some name ↦ false ]
+
+-- the event leaves the display as it is, and reports nothing
+pub record LeavesAlone' (event : Event) (s : Display) : Type 0 where
+  pub same : effect event s ≡ s
+  pub silent : report event s ≡ []
+
+-- so it is on every sound display
+abbrev pub HasNoEffect : Event → Type 0
+HasNoEffect event = (s : Display) → IsSoundDisplay s → LeavesAlone event s
+
+-- a sound display that the event changes, or on which it reports something
+pub record DoesSomething' (event : Event) : Type 0 where
+  pub display : Display
+  pub sound : IsSoundDisplay display
+  pub acts : (effect event display ≢ display) ⊎ (report event display ≢ [])

@@ -1,0 +1,91 @@
+-- 0.4: vt_trace/specs/Skipped.
+use Rattle.promises.specs.v0_4.glyph.LookUp.{look_up}
+use Rattle.promises.specs.v0_4.syntax.Class.{is_cancel}
+use Rattle.promises.specs.v0_4.syntax.Reading.{function, single_function}
+use Rattle.promises.specs.v0_4.syntax.Split.{split_of}
+use Rattle.promises.specs.v0_4.trace.Lines.{line, shown}
+use Rattle.std.specs.List.{flat_map}
+use Rattle.std.specs.Prelude.{[], Bool, codes, false, if◌then◌else◌, length, List, map, nat_lt, None, Option, Some}
+use Rattle.std.specs.Prelude.{take, true, ℕ, ◌++◌, ◌∷◌}
+use Rattle.vt_syntax.specs.Items.{Beginning, Cut, Ended, Item, OfControl, OfEscape, OfString, Single}
+use Rattle.vt_syntax.specs.declared.event.Event.{Event}
+
+-- a kind has the number of a byte that is no event: of CAN and DEL themselves, of ESC for a sequence that is cut off, of
+-- CSI for one with its final byte, and of a string the C1 control that opens it
+abbrev pub cut_sequence : ℕ
+cut_sequence = 0x1B
+
+abbrev pub spoilt_sequence : ℕ
+spoilt_sequence = 0x9B
+
+abbrev pub kind_names : List (ℕ × List ℕ)
+kind_names =
+    (cut_sequence, codes "cut sequence")
+    ∷ (spoilt_sequence, codes "spoilt sequence")
+    ∷ (0x90, codes "DCS string")
+    ∷ (0x98, codes "SOS string")
+    ∷ (0x9D, codes "OSC string")
+    ∷ (0x9E, codes "PM string")
+    ∷ (0x9F, codes "APC string")
+    ∷ []
+
+-- the numbers of all kinds
+abbrev pub all_kinds : List ℕ
+all_kinds = 0x18 ∷ 0x7F ∷ map (λ row. row.0) kind_names
+
+-- the name of a kind; CAN and DEL have none
+unfoldable pub kind_name : ℕ → Option (List ℕ)
+kind_name kind = look_up kind_names kind
+
+abbrev pub is_empty : List Event → Bool
+is_empty [] = true
+is_empty (event ∷ events) = false
+
+-- of what has begun, when it is cut off
+abbrev pub cut_kind : Beginning → ℕ
+cut_kind (OfEscape inside) = cut_sequence
+cut_kind (OfControl opening inside) = cut_sequence
+cut_kind (OfString opening code content) = code
+
+-- of a sequence with its last byte: CAN and SUB cut it off, and any other sequence without a function is spoilt
+abbrev pub sequence_kind : List Event → ℕ → List ℕ
+sequence_kind events last =
+    if is_cancel last then cut_sequence ∷ [] else (if is_empty events then spoilt_sequence ∷ [] else [])
+
+-- of an item, unless it has a function; SUB is one by itself, whatever it ends
+abbrev pub item_kind : Item → List ℕ
+item_kind (Single b) = if is_empty (single_function b) then b ∷ [] else []
+item_kind (Ended (OfString opening code content) last) = code ∷ []
+item_kind (Ended (OfEscape inside) last) = sequence_kind (function (OfEscape inside) last) last
+item_kind (Ended (OfControl opening inside) last) = sequence_kind (function (OfControl opening inside) last) last
+item_kind (Cut beginning) = cut_kind beginning ∷ []
+
+-- of what is left at the end
+abbrev pub rest_kind : Option Beginning → List ℕ
+rest_kind None = []
+rest_kind (Some beginning) = cut_kind beginning ∷ []
+
+-- of the items of bytes
+abbrev pub item_kinds : List ℕ → List ℕ
+item_kinds bytes = flat_map item_kind (split_of bytes).items
+
+-- of bytes: those of their items, and of what is left
+abbrev pub kinds_of : List ℕ → List ℕ
+kinds_of bytes = item_kinds bytes ++ rest_kind (split_of bytes).rest
+
+-- the C1 control that opens the string which is left, and 0 if none is
+abbrev pub code_of : Option Beginning → ℕ
+code_of (Some (OfString opening code content)) = code
+code_of _ = 0
+
+-- `ignored`, and the kind if it has a name
+abbrev pub kind_column : ℕ → List ℕ
+kind_column kind = codes "ignored" ++ elim (kind_name kind) [ None ↦ [] | Some name ↦ 0x20 ∷ name ]
+
+-- the first 32 bytes as text, with `..` after them if there are more
+abbrev pub first_column : List ℕ → List ℕ
+first_column bytes = shown (take 32 bytes) ++ (if nat_lt 32 (length bytes) then codes ".." else [])
+
+-- of what began at a place
+abbrev pub skipped_line : ℕ → ℕ → List ℕ → List ℕ
+skipped_line place kind bytes = line place (kind_column kind) (first_column bytes)

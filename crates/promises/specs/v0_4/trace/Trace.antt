@@ -1,0 +1,173 @@
+-- 0.4: vt_trace/specs/Trace.
+use Rattle.promises.specs.v0_4.glyph.Invocation.{has_no_glyph}
+use Rattle.promises.specs.v0_4.syntax.Held.{events_from, held_after, held_from}
+use Rattle.promises.specs.v0_4.syntax.Items.{item_bytes, rest_bytes}
+use Rattle.promises.specs.v0_4.syntax.Split.{split_of}
+use Rattle.promises.specs.v0_4.term.Functions.{effect}
+use Rattle.promises.specs.v0_4.term.Play.{play}
+use Rattle.promises.specs.v0_4.term.Reports.{report}
+use Rattle.promises.specs.v0_4.trace.Lines.{event_line, line, shown, shown_byte}
+use Rattle.promises.specs.v0_4.trace.Skipped.{code_of, cut_sequence, is_empty, skipped_line, spoilt_sequence}
+use Rattle.std.specs.List.{flat_map}
+use Rattle.std.specs.Prelude.{[], Bool, codes, decimal, false, if◌then◌else◌, length, List, nat_le, nat_lt, not, take}
+use Rattle.std.specs.Prelude.{true, ℕ, ◌&&◌, ◌++◌, ◌+◌, ◌==◌, ◌||◌, ◌∷◌, ◌≡◌}
+use Rattle.vt_syntax.specs.declared.event.Event.TheVariants.{Control, Escape, Print, Sequence}
+use Rattle.vt_syntax.specs.declared.event.Event.{Event}
+use Rattle.vt_syntax.specs.declared.held.Held.TheVariants as held
+use Rattle.vt_syntax.specs.declared.held.Held.{Held}
+use Rattle.vt_term.specs.State.{Display, State}
+use Rattle.vt_trace.specs.declared.tracing.Tracer.{Tracer}
+
+-- before the first byte, and between items
+abbrev pub between : (place begin : ℕ) → Bool → Tracer
+between n m v = record { place = n; begin = m; in_text = v; code = 0; first = record { items = [] } }
+
+abbrev pub tracer_at_start : Tracer
+tracer_at_start = between 0 0 false
+
+-- the byte is the first of an item: nothing is held, or it cuts off what is held (ESC, and outside strings 80 to FF)
+abbrev pub begins : Held → ℕ → Bool
+begins held.Nothing b = true
+begins (held.Text osc) b = b == 0x1B
+begins _ b = b == 0x1B || nat_le 0x80 b
+
+-- where the item of a byte began
+abbrev pub item_place : Tracer → Held → ℕ → ℕ
+item_place t held b = if begins held b then t.place else t.begin
+
+-- a character or control that this byte is by itself is at the byte, and any other event where its item began
+abbrev pub place_of : ℕ → ℕ → ℕ → Event → ℕ
+place_of place begin b (Print c) = place
+place_of place begin b (Control c) = if c == b then place else begin
+place_of place begin b (Escape inter last) = begin
+place_of place begin b (Sequence marker params inter last) = begin
+
+-- a character: a graphic byte that has a glyph
+abbrev pub is_text : Event → Bool
+is_text (Print b) = not (has_no_glyph b)
+is_text (Control b) = false
+is_text (Escape inter last) = false
+is_text (Sequence marker params inter last) = false
+
+-- the last line, if it is a text that goes on, ends
+abbrev pub text_end : Bool → List ℕ
+text_end in_text = if in_text then 0x0A ∷ [] else []
+
+-- the line of a text begins, unless the text goes on
+abbrev pub text_begin : Bool → ℕ → List ℕ
+text_begin in_text place = if in_text then [] else decimal place ++ (0x09 ∷ (codes "text" ++ 0x09 ∷ []))
+
+-- a character goes on the text before it, or begins one
+abbrev pub text_of : Bool → ℕ → ℕ → List ℕ
+text_of in_text place b = text_begin in_text place ++ shown_byte b
+
+-- a report is a separate line, after that of its request
+abbrev pub report_line : ℕ → List ℕ → List ℕ
+report_line place [] = []
+report_line place (b ∷ bytes) = line place (codes "report") (shown (b ∷ bytes))
+
+-- what is written of an event with its report
+abbrev pub written : Bool → ℕ → Event → List ℕ → List ℕ
+written in_text place (Print b) reports =
+    if has_no_glyph b then text_end in_text ++ event_line place (Print b) else text_of in_text place b
+written in_text place event reports = text_end in_text ++ (event_line place event ++ report_line place reports)
+
+abbrev pub is_nothing : Held → Bool
+is_nothing held.Nothing = true
+is_nothing _ = false
+
+abbrev pub is_string : Held → Bool
+is_string (held.Text osc) = true
+is_string _ = false
+
+-- the byte cuts off what is held, or is the SUB that ends it, which is an event by itself
+abbrev pub cuts_off : Held → ℕ → Bool
+cuts_off held b = not (is_nothing held) && (begins held b || b == 0x1A)
+
+-- the byte ends an item, and has no event
+abbrev pub ends_silent : Held → ℕ → Bool
+ends_silent held b = is_empty (events_from held (b ∷ [])) && is_nothing (held_from held (b ∷ []))
+
+-- the bytes of an item up to this one: as many as tell its first 32, and whether there are more
+abbrev pub item_first : Tracer → Held → ℕ → List ℕ
+item_first t held b = take 33 ((if begins held b then [] else t.first.items) ++ b ∷ [])
+
+-- the C1 control that opens the string which is held after a byte, and 0 if none is
+abbrev pub code_after : ℕ → Bool → Held → ℕ → ℕ
+code_after code in_string held b =
+    if is_string held then (if in_string then code else (if nat_lt b 0x80 then b + 0x40 else b)) else 0
+
+-- the kind of what is held, with the C1 control of a string or 0
+abbrev pub open_kind : ℕ → ℕ
+open_kind code = if code == 0 then cut_sequence else code
+
+-- the kind of an item without a function that ends with a byte, which isn't SUB
+abbrev pub ended_kind : ℕ → Held → ℕ → ℕ
+ended_kind code held b =
+    if is_nothing held then b else (if code == 0 && not (b == 0x18) then spoilt_sequence else open_kind code)
+
+-- what is written of what is held, when it is cut off
+abbrev pub open_lines : Tracer → List ℕ
+open_lines t = text_end t.in_text ++ skipped_line t.begin (open_kind t.code) t.first.items
+
+-- what is written of an item without a function: one that is cut off, or one that has ended
+abbrev pub skipped_lines : Tracer → (cut ended : Bool) → (place kind : ℕ) → List ℕ → List ℕ
+skipped_lines t cut ended place kind first =
+    if cut then open_lines t else (if ended then text_end t.in_text ++ skipped_line place kind first else [])
+
+-- what is written of the item that a byte cuts off or ends, if it has no function
+unfoldable pub skipped : Tracer → Held → ℕ → List ℕ
+skipped t held b =
+    skipped_lines t (cuts_off held b) (ends_silent held b) (item_place t held b) (ended_kind t.code held b) (item_first t held b)
+
+-- whether a text may go on after it
+unfoldable pub goes_on : Tracer → Held → ℕ → Bool
+goes_on t held b = t.in_text && not (cuts_off held b || ends_silent held b)
+
+-- what is written at the end of bytes: the end of a text, and the line of what is held
+unfoldable pub end_lines : Tracer → List ℕ
+end_lines t = if length t.first.items == 0 then text_end t.in_text else open_lines t
+
+-- what is written of the events of a byte, each in the state before it
+abbrev pub written_all : Bool → (Event → ℕ) → List Event → Display → List ℕ
+written_all in_text place_at [] s = []
+written_all in_text place_at (event ∷ events) s =
+    written in_text (place_at event) event (report event s) ++ written_all (is_text event) place_at events (effect event s)
+
+abbrev pub text_after : Bool → List Event → Bool
+text_after in_text [] = in_text
+text_after in_text (event ∷ events) = text_after (is_text event) events
+
+-- what is written of a byte
+unfoldable pub traced : State → Tracer → ℕ → List ℕ
+traced s t b =
+    skipped t s.held b
+    ++ written_all (goes_on t s.held b) (place_of t.place (item_place t s.held b) b) (events_from s.held (b ∷ [])) s.display
+
+-- the tracer after a byte: between items it keeps nothing of one
+unfoldable pub tracer_after : State → Tracer → ℕ → Tracer
+tracer_after s t b = record {
+  place = t.place + 1;
+  begin = item_place t s.held b;
+  in_text = text_after (goes_on t s.held b) (events_from s.held (b ∷ []));
+  code = code_after t.code (is_string s.held) (held_from s.held (b ∷ [])) b;
+  first = record { items = if is_nothing (held_from s.held (b ∷ [])) then [] else item_first t s.held b };
+}
+
+-- what is written of bytes
+unfoldable pub trace : State → Tracer → List ℕ → List ℕ
+trace s t [] = []
+trace s t (b ∷ bytes) = traced s t b ++ trace (play s (b ∷ [])).state (tracer_after s t b) bytes
+
+-- the tracer after bytes
+unfoldable pub tracer_all : State → Tracer → List ℕ → Tracer
+tracer_all s t [] = t
+tracer_all s t (b ∷ bytes) = tracer_all (play s (b ∷ [])).state (tracer_after s t b) bytes
+
+-- what a tracer keeps of bytes, by their split: of what is left it has the place, which is the length of the items before
+-- it, the first bytes, and the C1 control of a string
+pub record IsAfter' (bytes : List ℕ) (t : Tracer) : Type 0 where
+  pub place : t.place ≡ length bytes
+  pub begin : is_nothing (held_after bytes) ≡ false → t.begin ≡ length (flat_map item_bytes (split_of bytes).items)
+  pub first : t.first.items ≡ take 33 (rest_bytes (split_of bytes).rest)
+  pub code : t.code ≡ code_of (split_of bytes).rest

@@ -1,0 +1,25 @@
+-- 0.4: vt_xterm/specs/Attributes.
+use Rattle.promises.specs.v0_4.term.Rendition.{select_graphic_rendition}
+use Rattle.std.proofs.Common.{suc, zero}
+use Rattle.std.specs.Prelude.{[], Bool, if◌then◌else◌, List, ℕ, ◌==◌, ◌||◌, ◌∷◌}
+use Rattle.vt_term.specs.State.{Display}
+
+-- 38, 48 and 58 begin a colour, by the parameters after them
+abbrev pub begins_colour : ℕ → Bool
+begins_colour p = p == 38 || (p == 48 || p == 58)
+
+-- how many parameters follow: 5 and an index; 2, red, green and blue; else one
+abbrev pub colour_length : List ℕ → ℕ
+colour_length [] = 0
+colour_length (kind ∷ params) = if kind == 5 then 2 else (if kind == 2 then 4 else 1)
+
+-- the parameters without colours, after so many that belong to one
+abbrev pub without_colours : ℕ → List ℕ → List ℕ
+without_colours n [] = []
+without_colours zero (p ∷ params) =
+    if begins_colour p then without_colours (colour_length params) params else p ∷ without_colours 0 params
+without_colours (suc n) (p ∷ params) = without_colours n params
+
+-- SGR: the attributes of a VT220
+abbrev pub select_attributes : List ℕ → Display → Display
+select_attributes params s = select_graphic_rendition (without_colours 0 params) s

@@ -1,0 +1,161 @@
+-- 0.4: vt_xterm/specs/Front.
+use Rattle.promises.specs.v0_4.glyph.LookUp.{look_up}
+use Rattle.promises.specs.v0_4.syntax.Spelling.{spell_event}
+use Rattle.promises.specs.v0_4.term.Functions.{byte, effect}
+use Rattle.promises.specs.v0_4.term.Modes.{autowrap_mode}
+use Rattle.promises.specs.v0_4.term.Moving.{cursor_forward}
+use Rattle.promises.specs.v0_4.term.Parameters.{count, first, second}
+use Rattle.promises.specs.v0_4.term.Resets.{is_level, set_conformance_level, soft_reset}
+use Rattle.promises.specs.v0_4.term.Saving.{restore_cursor, save_cursor}
+use Rattle.promises.specs.v0_4.xterm.Attributes.{select_attributes}
+use Rattle.promises.specs.v0_4.xterm.Columns.{cursor_character_absolute, cursor_next_line, cursor_preceding_line}
+use Rattle.promises.specs.v0_4.xterm.Columns.{line_position_absolute, line_position_forward}
+use Rattle.promises.specs.v0_4.xterm.Pages.{change_page_modes, on_display, reset_to_initial_state}
+use Rattle.promises.specs.v0_4.xterm.Repeating.{repeat}
+use Rattle.promises.specs.v0_4.xterm.Scroll.{rows_down, rows_down_by, rows_up}
+use Rattle.promises.specs.v0_4.xterm.Tabs.{cursor_backward_tabulation, cursor_forward_tabulation}
+use Rattle.std.specs.List.{list_any}
+use Rattle.std.specs.Prelude.{[], Bool, codes, false, if◌then◌else◌, length, List, None, Option, Some, true}
+use Rattle.std.specs.Prelude.{unwrap_or, ℕ, ◌&&◌, ◌++◌, ◌==◌, ◌||◌, ◌∷◌}
+use Rattle.vt_syntax.specs.declared.event.Event.TheVariants.{Control, Escape, Print, Sequence}
+use Rattle.vt_syntax.specs.declared.event.Event.{Event}
+use Rattle.vt_term.specs.State.{Display}
+use Rattle.vt_xterm.specs.Pages.{Screens}
+
+-- the functions of control sequences, by their final bytes
+abbrev pub FunctionTable : Type 0
+FunctionTable = List (ℕ × (List ℕ → Screens → Screens))
+
+-- the only parameter is empty, or 0
+abbrev pub is_bare : List ℕ → Bool
+is_bare params = length params == 1 && first params == 0
+
+-- SCP and RCP: DECSC and DECRC; with parameters they are other functions
+abbrev pub save_if_bare : List ℕ → Display → Display
+save_if_bare params s = if is_bare params then save_cursor s else s
+
+abbrev pub restore_if_bare : List ℕ → Display → Display
+restore_if_bare params s = if is_bare params then restore_cursor s else s
+
+-- CNL, CPL, CHA, CHT, SU, SD, CBT, SD, HPA, HPR, REP, VPA, VPR, SGR, SCP and RCP
+abbrev pub plain_functions : FunctionTable
+plain_functions =
+    (byte (codes "E"), λ params. on_display (cursor_next_line (count params)))
+    ∷ (byte (codes "F"), λ params. on_display (cursor_preceding_line (count params)))
+    ∷ (byte (codes "G"), λ params. on_display (cursor_character_absolute (count params)))
+    ∷ (byte (codes "I"), λ params. on_display (cursor_forward_tabulation (count params)))
+    ∷ (byte (codes "S"), λ params. on_display (rows_up (count params)))
+    ∷ (byte (codes "T"), λ params. on_display (rows_down_by params))
+    ∷ (byte (codes "Z"), λ params. on_display (cursor_backward_tabulation (count params)))
+    ∷ (byte (codes "^"), λ params. on_display (rows_down (count params)))
+    ∷ (byte (codes "`"), λ params. on_display (cursor_character_absolute (count params)))
+    ∷ (byte (codes "a"), λ params. on_display (cursor_forward (count params)))
+    ∷ (byte (codes "b"), λ params. on_display (repeat (count params)))
+    ∷ (byte (codes "d"), λ params. on_display (line_position_absolute (count params)))
+    ∷ (byte (codes "e"), λ params. on_display (line_position_forward (count params)))
+    ∷ (byte (codes "m"), λ params. on_display (select_attributes params))
+    ∷ (byte (codes "s"), λ params. on_display (save_if_bare params))
+    ∷ (byte (codes "u"), λ params. on_display (restore_if_bare params))
+    ∷ []
+
+-- after `?`: SM and RM of private modes
+abbrev pub private_functions : FunctionTable
+private_functions = (byte (codes "h"), change_page_modes true) ∷ (byte (codes "l"), change_page_modes false) ∷ []
+
+-- DECSTR: a soft reset that leaves DECAWM set
+abbrev pub soft_reset_wrapping : Display → Display
+soft_reset_wrapping s = autowrap_mode true (soft_reset s)
+
+-- after `!`
+abbrev pub exclamation_functions : FunctionTable
+exclamation_functions = (byte (codes "p"), λ params. on_display soft_reset_wrapping) ∷ []
+
+-- DECSCL: its soft reset leaves DECAWM set, too
+abbrev pub set_level_wrapping : List ℕ → Display → Display
+set_level_wrapping params s =
+    if is_level (first params) (second params)
+    then autowrap_mode true (set_conformance_level (first params) (second params) s) else s
+
+-- after `"`
+abbrev pub quote_functions : FunctionTable
+quote_functions = (byte (codes "p"), λ params. on_display (set_level_wrapping params)) ∷ []
+
+-- by the intermediate
+abbrev pub intermediate_functions : List (ℕ × FunctionTable)
+intermediate_functions = (0x22, quote_functions) ∷ (byte (codes "!"), exclamation_functions) ∷ []
+
+abbrev pub table_after : List (ℕ × FunctionTable) → ℕ → FunctionTable
+table_after tables b = unwrap_or (look_up tables b) []
+
+-- by the marker and the intermediate
+unfoldable pub functions_of : Option ℕ → Option ℕ → FunctionTable
+functions_of None None = plain_functions
+functions_of (Some marker) None = table_after ((byte (codes "?"), private_functions) ∷ []) marker
+functions_of None (Some inter) = table_after intermediate_functions inter
+functions_of (Some marker) (Some inter) = []
+
+-- what the table has for the final byte, or else the event's effect on a VT220
+unfoldable pub function_in : FunctionTable → Event → ℕ → List ℕ → Screens → Screens
+function_in table event last params = unwrap_or (look_up table last) (λ params. on_display (effect event)) params
+
+-- of an escape sequence without intermediate: RIS, which also resets the pages
+abbrev pub plain_escapes : FunctionTable
+plain_escapes = (byte (codes "c"), λ params. reset_to_initial_state) ∷ []
+
+-- the effect of an event
+abbrev pub xterm_effect : Event → Screens → Screens
+xterm_effect (Print b) = on_display (effect (Print b))
+xterm_effect (Control b) = on_display (effect (Control b))
+xterm_effect (Escape None last) = function_in plain_escapes (Escape None last) last []
+xterm_effect (Escape (Some inter) last) = on_display (effect (Escape (Some inter) last))
+xterm_effect (Sequence marker params inter last) =
+    function_in (functions_of marker inter) (Sequence marker params inter last) last params.items
+
+-- ?3, ?40, ?47, ?1047 and ?1049
+abbrev pub is_page_mode : ℕ → Bool
+is_page_mode p = p == 3 || (p == 40 || (p == 47 || (p == 1047 || p == 1049)))
+
+-- ?2004
+abbrev pub is_paste_mode : ℕ → Bool
+is_paste_mode p = p == 2004
+
+-- a control sequence that is SM or RM of one of these modes
+abbrev pub sets_mode : (ℕ → Bool) → ℕ → ℕ → List ℕ → Bool
+sets_mode is_mode marker last params =
+    marker == byte (codes "?") && ((last == byte (codes "h") || last == byte (codes "l")) && list_any is_mode params)
+
+abbrev pub sets_page_mode : ℕ → ℕ → List ℕ → Bool
+sets_page_mode = sets_mode is_page_mode
+
+-- RIS, and SM and RM of these modes
+abbrev pub is_page_function : Event → Bool
+is_page_function (Print b) = false
+is_page_function (Control b) = false
+is_page_function (Escape None last) = last == byte (codes "c")
+is_page_function (Escape (Some inter) last) = false
+is_page_function (Sequence None params inter last) = false
+is_page_function (Sequence (Some marker) params None last) = sets_page_mode marker last params.items
+is_page_function (Sequence (Some marker) params (Some inter) last) = false
+
+-- RIS, and SM and RM of ?2004
+abbrev pub is_paste_function : Event → Bool
+is_paste_function (Print b) = false
+is_paste_function (Control b) = false
+is_paste_function (Escape None last) = last == byte (codes "c")
+is_paste_function (Escape (Some inter) last) = false
+is_paste_function (Sequence None params inter last) = false
+is_paste_function (Sequence (Some marker) params None last) = sets_mode is_paste_mode marker last params.items
+is_paste_function (Sequence (Some marker) params (Some inter) last) = false
+
+-- CSI ? 1049 h, and CSI ? 1049 l
+abbrev pub alternate_page : Bool → Event
+alternate_page shown =
+    Sequence (Some (byte (codes "?"))) (record { items = 1049 ∷ [] }) None (byte (codes (if shown then "h" else "l")))
+
+-- ?1049h and then the bytes
+abbrev pub into_alternate : List ℕ → List ℕ
+into_alternate bytes = spell_event (alternate_page true) ++ bytes
+
+-- and then ?1049l
+abbrev pub through_alternate : List ℕ → List ℕ
+through_alternate bytes = spell_event (alternate_page true) ++ (bytes ++ spell_event (alternate_page false))

@@ -1,0 +1,116 @@
+-- 0.4: vt_xterm/specs/Play.
+use Rattle.promises.specs.v0_4.syntax.Held.{events_from, held_from}
+use Rattle.promises.specs.v0_4.term.Machines.{reports_after, screens_after}
+use Rattle.promises.specs.v0_4.term.Pages.{IsSoundPage}
+use Rattle.promises.specs.v0_4.term.Play.{play}
+use Rattle.promises.specs.v0_4.term.Reports.{report}
+use Rattle.promises.specs.v0_4.term.Scrolling.{scrolled_off}
+use Rattle.promises.specs.v0_4.term.Sound.{IsSound}
+use Rattle.promises.specs.v0_4.term.Text.{line_text}
+use Rattle.promises.specs.v0_4.utf8.Decoding.{characters, pending_after}
+use Rattle.promises.specs.v0_4.utf8.Translation.{translation}
+use Rattle.promises.specs.v0_4.xterm.Front.{xterm_effect}
+use Rattle.promises.specs.v0_4.xterm.Log.{xterm_lines_off}
+use Rattle.promises.specs.v0_4.xterm.Pages.{pages_at_power_up, screens, shown_by}
+use Rattle.std.specs.Prelude.{[], flat_map, if◌then◌else◌, List, nat_lt, ℕ, ◌++◌, ◌∷◌}
+use Rattle.vt_screen.specs.declared.cell.Cell.{Cell}
+use Rattle.vt_syntax.specs.declared.event.Event.{Event}
+use Rattle.vt_term.specs.Machines.{Machine}
+use Rattle.vt_term.specs.State.{State}
+use Rattle.vt_xterm.specs.Pages.{PagesState, Screens}
+use Rattle.vt_xterm.specs.Play.{FrontState, Whole, WholePlayed}
+
+-- the state of a terminal, and the pages behind it
+pub record Whole' : Type 0 where
+  pub state : State
+  pub pages : PagesState
+
+-- what holds of all that bytes leave. (this profile)
+pub record IsSoundWhole' (w : Whole) : Type 0 where
+  pub state : IsSound w.state
+  pub other : IsSoundPage w.pages.other
+
+-- what is left, the report bytes, and the lines that scroll off
+pub record WholePlayed' : Type 0 where
+  pub whole : Whole
+  pub reports : List ℕ
+  pub lines : List (List Cell)
+
+abbrev pub screens_of : Whole → Screens
+screens_of w = screens w.state w.pages
+
+-- what a front keeps: what is pending of UTF-8, and the pages
+pub record FrontState' : Type 0 where
+  pub pending : List ℕ
+  pub pages : PagesState
+
+abbrev pub front_at_power_up : FrontState
+front_at_power_up = record { pending = []; pages = pages_at_power_up }
+
+-- a terminal and a front
+abbrev pub behind : State → FrontState → Whole
+behind s front = record { state = s; pages = front.pages }
+
+-- an xterm; its reports are those of a VT220
+abbrev pub xterm : Machine Screens
+xterm = record { display = λ s. s.display; effect = xterm_effect; report = λ event s. report event s.display }
+
+-- the screens after events
+abbrev pub after_events : List Event → Screens → Screens
+after_events events s = screens_after xterm events s
+
+-- their reports, each in the state before its event
+abbrev pub reports_of : List Event → Screens → List ℕ
+reports_of events s = reports_after xterm events s
+
+-- bytes after what is held: the events of their one split are carried out, and what their rest leaves is held
+unfoldable pub play_bytes : Whole → List ℕ → WholePlayed
+play_bytes w bytes = record {
+  whole = record {
+    state = shown_by (after_events (events_from w.state.held bytes) (screens_of w)) (held_from w.state.held bytes);
+    pages = (after_events (events_from w.state.held bytes) (screens_of w)).pages;
+  };
+  reports = reports_of (events_from w.state.held bytes) (screens_of w);
+  lines = xterm_lines_off (events_from w.state.held bytes) (screens_of w);
+}
+
+-- a byte is played as it is, and a character beyond ASCII by its bytes on a VT220, which no function here changes
+unfoldable pub play_character : Whole → ℕ → WholePlayed
+play_character w c =
+    if nat_lt c 0x80 then play_bytes w (c ∷ []) else record {
+      whole = record w { state = (play w.state (translation w.state c)).state };
+      reports = (play w.state (translation w.state c)).reports;
+      lines = if w.pages.alternate then [] else scrolled_off w.state (translation w.state c);
+    }
+
+-- two plays, one after the other
+abbrev pub both : WholePlayed → WholePlayed → WholePlayed
+both before after = record {
+  whole = after.whole;
+  reports = before.reports ++ after.reports;
+  lines = before.lines ++ after.lines;
+}
+
+-- nothing is played
+abbrev pub nothing_played : Whole → WholePlayed
+nothing_played w = record { whole = w; reports = []; lines = [] }
+
+-- characters in turn
+abbrev pub play_characters : Whole → List ℕ → WholePlayed
+play_characters w [] = nothing_played w
+play_characters w (c ∷ cs) = both (play_character w c) (play_characters (play_character w c).whole cs)
+
+-- bytes after a pending part, as UTF-8; the pending part that they leave is `pending_after`
+unfoldable pub play_xterm : Whole → List ℕ → List ℕ → WholePlayed
+play_xterm w pending bytes = play_characters w (characters pending bytes)
+
+-- chunks in turn, each after the pending part that those before it leave
+abbrev pub play_xterm_all : Whole → List ℕ → List (List ℕ) → WholePlayed
+play_xterm_all w pending [] = nothing_played w
+play_xterm_all w pending (piece ∷ pieces) =
+    both (play_xterm w pending piece)
+    (play_xterm_all (play_xterm w pending piece).whole (pending_after pending piece) pieces)
+
+-- the log of bytes: the texts of the lines that they scroll off. (this profile)
+abbrev pub xterm_log : Whole → List ℕ → List ℕ → List ℕ
+xterm_log w pending bytes = flat_map line_text (play_xterm w pending bytes).lines

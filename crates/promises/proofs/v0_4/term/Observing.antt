@@ -9,15 +9,15 @@ use Rattle.vt_term.specs.Machines.{Machine, screens_after}
 use Rattle.vt_term.specs.Observing as today
 use Rattle.vt_term.specs.State.{Display, State}
 
-pub Feeds-made : {S K : Type 0} (m : Machine S) (screens : Display → K → S) (s : State) (k : K) (bytes : List ℕ) (t : State) (l : K) (before after : List ℕ) → frozen.Feeds' S K m screens s k bytes t l before after → today.Feeds S K m screens s k bytes t l before after
-Feeds-made S K m screens s k bytes t l before after ρ = record {
+pub Feeds-made : {S K : Type 0} (m : Machine S) (screens : Display → K → S) (s : State) (k : K) (bytes : List ℕ) (t : State) (l : K) (before after : List ℕ) → frozen.Feeds' m screens s k bytes t l before after → today.Feeds m screens s k bytes t l before after
+Feeds-made m screens s k bytes t l before after ρ = record {
   screens_are = coe 0 1 (ι. screens t.display l ≡ screens_after m ((events_from-same ι) s.held bytes) (screens s.display k)) ρ.screens_are;
   held = coe 0 1 (ι. t.held ≡ (held_from-same ι) s.held bytes) ρ.held;
   reports = coe 0 1 (ι. after ≡ before ++ (reports_after-same ι) m ((events_from-same ι) s.held bytes) (screens s.display k)) ρ.reports;
 }
 
-pub Feeds-read : {S K : Type 0} (m : Machine S) (screens : Display → K → S) (s : State) (k : K) (bytes : List ℕ) (t : State) (l : K) (before after : List ℕ) → today.Feeds S K m screens s k bytes t l before after → frozen.Feeds' S K m screens s k bytes t l before after
-Feeds-read S K m screens s k bytes t l before after ρ = record {
+pub Feeds-read : {S K : Type 0} (m : Machine S) (screens : Display → K → S) (s : State) (k : K) (bytes : List ℕ) (t : State) (l : K) (before after : List ℕ) → today.Feeds m screens s k bytes t l before after → frozen.Feeds' m screens s k bytes t l before after
+Feeds-read m screens s k bytes t l before after ρ = record {
   screens_are = coe 1 0 (ι. screens t.display l ≡ screens_after m ((events_from-same ι) s.held bytes) (screens s.display k)) ρ.screens_are;
   held = coe 1 0 (ι. t.held ≡ (held_from-same ι) s.held bytes) ρ.held;
   reports = coe 1 0 (ι. after ≡ before ++ (reports_after-same ι) m ((events_from-same ι) s.held bytes) (screens s.display k)) ρ.reports;

@@ -182,14 +182,18 @@ flags_in table = map (λ row. (row.0, λ on s. same_bool on (row.1 s.modes))) ta
 abbrev private_flags : List (ℕ × (Bool → Display → Bool))
 private_flags = (3, λ on s. eqb s.grid.width (width_of s.grid.size on)) ∷ flags_in private_values
 
--- one of the modes of the first display has this value
+-- a display gives a mode this value
+abbrev has_value : Bool → Display → (Bool → Display → Bool) → Bool
+has_value on s flag = flag on s
+
+-- the first display gives it to one of the modes
 abbrev one_has : List (ℕ × (Bool → Display → Bool)) → Bool → Display → Display → Bool
-one_has flags on a b = list_any (λ row. row.1 on a) flags
+one_has flags on a b = list_any (λ row. has_value on a row.1) flags
 
 -- the mode of a number gets this value
 abbrev Gives : Bool → List (ℕ × (Bool → Display → Bool)) → ℕ → (Bool → Display → Display) → Type 0
 Gives on flags p mode =
-    (s : Display) → unwrap_or (option_map (λ (flag : Bool → Display → Bool). flag on (mode on s)) (look_up flags p)) false ≡ true
+    (s : Display) → unwrap_or (option_map (has_value on (mode on s)) (look_up flags p)) false ≡ true
 
 GivesBoth : List (ℕ × (Bool → Display → Bool)) → ℕ → (Bool → Display → Display) → Type 0
 GivesBoth flags p mode = Gives true flags p mode × Gives false flags p mode
@@ -297,10 +301,10 @@ module _ (base : IsSoundDisplay display_at_power_up) (values : List ℕ) where
   module _ (flags : List (ℕ × (Bool → Display → Bool))) (modes : List (ℕ × (Bool → Display → Display)))
       (rows : AllRows (GivesBoth flags) modes) where
     given : (on : Bool) (p : ℕ) (mode : Bool → Display → Display) → GivesBoth flags p mode → (s : Display)
-        → list_any (λ row. row.1 on (mode on s)) flags ≡ true
+        → list_any (λ row. has_value on (mode on s) row.1) flags ≡ true
     unfolding GivesBoth
-    given true p mode both s = looked_true (λ flag. flag true (mode true s)) flags p (both.0 s)
-    given false p mode both s = looked_true (λ flag. flag false (mode false s)) flags p (both.1 s)
+    given true p mode both s = looked_true (has_value true (mode true s)) flags p (both.0 s)
+    given false p mode both s = looked_true (has_value false (mode false s)) flags p (both.1 s)
 
     changed : (on : Bool) → list_any (contains (numbers_of modes)) values ≡ true → (s : Display)
         → one_has flags on (change_modes modes on values s) (change_modes modes on values s) ≡ true

@@ -1,4 +1,4 @@
-//! Tests what no clause says: the vectors, whole and in pieces; long inputs; readers; the words of the command
+//! Tests what no clause says: the vectors, whole and in pieces; long inputs; other sizes; readers; the words of the command
 //! line; and each growth refused in turn.
 mod beginnings;
 mod command_line;
@@ -11,6 +11,7 @@ mod pairs;
 mod readers;
 mod repaint;
 mod runs;
+mod sizes;
 mod status;
 mod vectors;
 mod views;

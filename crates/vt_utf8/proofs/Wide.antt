@@ -15,7 +15,9 @@ use Rattle.vt_glyph.specs.Tables.{IsGlyph, space}
 use Rattle.vt_glyph.specs.Laws.{GlyphLaws, SpellingLaws}
 use Rattle.vt_term.specs.State.{Display, State, last_column}
 use Rattle.vt_screen.specs.declared.cell.Cell.{Cell}
-use Rattle.vt_screen.specs.Grid.{scroll_up, columns}
+use Rattle.vt_screen.specs.declared.size.Size.{Size}
+use Rattle.vt_screen.specs.Grid.{scroll_up}
+use Rattle.vt_screen.specs.Sizes.{width_of, IsSize}
 use Rattle.vt_syntax.specs.Laws.{SplitLaw}
 use Rattle.vt_term.specs.Observers.{scrolled-append}
 use Rattle.vt_term.specs.Scrolling.{scrolled_off}
@@ -53,9 +55,9 @@ next_line-width d = go (d.cursor.row == d.margins.bottom)
     go true = refl
     go false = refl
 
-wide-columns : (w : ℕ) → (wide : Bool) × (w ≡ columns wide) → 1 < w
-wide-columns w (true, is) = omega (arith, is)
-wide-columns w (false, is) = omega (arith, is)
+wide-columns : (w : ℕ) (size : Size) → IsSize size → (wide : Bool) × (w ≡ width_of size wide) → 1 < w
+wide-columns w size of (true, is) = omega (arith, of.narrow, of.wide, is)
+wide-columns w size of (false, is) = omega (arith, of.narrow, is)
 
 has-cell : (d : Display) → IsSoundDisplay d → is_at_end d ≡ false
     → nat_lt (after_wrap d).cursor.col (last_column (after_wrap d)) ≡ true
@@ -63,7 +65,7 @@ has-cell d sound inside = go d.cursor.wrap refl
   where
     go : (b : Bool) → d.cursor.wrap ≡ b → nat_lt (after_wrap d).cursor.col (last_column (after_wrap d)) ≡ true
     go true wrap =
-        let first : 1 < last_column d = wide-columns (last_column d) sound.grid.shape.width in
+        let first : 1 < last_column d = wide-columns (last_column d) d.grid.size sound.grid.shape.size sound.grid.shape.width in
         rw (wrap, next_line-width d) (grind (arith, nat_tests, first))
     go false wrap =
         let other : (d.cursor.col == last_column d) ≡ false = rw (← wrap) (search rules) in

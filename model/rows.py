@@ -1,5 +1,4 @@
-"""The rows by hand: the vectors of a VT220, and the lists of tests-c/. A row is bytes that are played on a new terminal, and what is wanted then."""
-import csv
+"""The rows by hand: the lists of tests-c/. A row is bytes that are played on a new terminal, and what is wanted then."""
 import dataclasses
 import pathlib
 import sys
@@ -25,19 +24,11 @@ class Row:
 
 
 def all_rows():
-    return [*vectors_of_a_vt220(), *rows_of_fields(), *vectors_of_today(), *repaints_of_sessions()]
-
-
-def vectors_of_a_vt220():
-    with open(TOP / "crates/vectors/stdout", newline="") as file:
-        for line in csv.DictReader(file, delimiter="\t", quoting=csv.QUOTE_NONE):
-            wanted = {of: None if line[of] == "-" else bytes.fromhex(line[of]) for of in ("text", "reports", "repaint")}
-            wanted["text"] = wanted["text"].decode().rstrip("\n")
-            yield Row(line["name"], VT220, bytes.fromhex(line["input"]), wanted)
+    return [*rows_of_fields(), *rows_of_vectors(), *repaints_of_sessions()]
 
 
 def rows_of_fields():
-    """Returns the rows of tests-c/fields.txt. Such a row has what isn't as at power-up, which the first row has. The model counts no bells."""
+    """Returns the rows of tests-c/fields.txt. Such a row has what isn't as at power-up, which the first row has."""
     at_power_up = {f"stop.{column}": 0 for column in range(1, 133)}
     for line in (TOP / "tests-c/fields.txt").read_text().splitlines():
         if not line.startswith("#"):
@@ -48,13 +39,14 @@ def rows_of_fields():
             yield Row(title, VT220, bytes.fromhex(data), wanted)
 
 
-def vectors_of_today():
-    """Returns the vectors of UTF-8 and of TERM=xterm, without those that have a character whose width the model can't know."""
+def rows_of_vectors():
+    """Returns the vectors, without those that have a character whose width the model can't know. The model counts no bells."""
     for vector in vectors():
-        characters = vector.input.decode(errors="replace").replace("\N{REPLACEMENT CHARACTER}", "")
+        kind = vector.encoding, vector.terminal
+        characters = "" if kind == VT220 else vector.input.decode(errors="replace").replace("\N{REPLACEMENT CHARACTER}", "")
         if all(character.isascii() or has_known_width(character) for character in characters):
             wanted = {of: value for of, value in vector.wanted.items() if of != "bells"}
-            yield Row(vector.name, (vector.encoding, vector.terminal), vector.input, wanted)
+            yield Row(vector.name, kind, vector.input, wanted | ({"repaint": vector.repaint} if kind == VT220 else {}))
 
 
 def repaints_of_sessions():
@@ -65,7 +57,7 @@ def shown(wanted, model, reports, repaint):
     """Returns what a model shows of the fields that a row wants. The repaints are those of a module."""
     found = {"reports": reports}
     if "repaint" in wanted:
-        found |= {"text": model.text().rstrip("\n"), "repaint": None if model.sequence else repaint.repaint(model)}
+        found["repaint"] = None if model.sequence else repaint.repaint(model)
     if "session" in wanted:
         found["session"] = repaint.session_repaint(model)
     if "pending" in wanted:
@@ -80,11 +72,11 @@ def attributes(brush):
 
 
 def screen(model):
-    """Returns what a vector of UTF-8 or of TERM=xterm wants, by the names of tests/vectors.py."""
+    """Returns what a vector wants, by the names of tests/vectors.py."""
     flags = {"wrap": model.wrap, "alternate": getattr(model, "is_alternate", False), "paste": getattr(model, "paste", False)}
     return {of: str(int(flag)) for of, flag in flags.items()} | {
         "text": "\n".join(map(with_attributes, model.cells)).rstrip("\n"), "cursor": f"{model.row};{model.column}",
-        "brush": " ".join(attributes(model.brush)), "pending": model.pending, "lines": "".join(model.scrolled_off)}
+        "brush": " ".join(attributes(model.brush)), "pending": getattr(model, "pending", b""), "lines": "".join(model.scrolled_off)}
 
 
 def with_attributes(cells):

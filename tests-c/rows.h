@@ -7,10 +7,23 @@
 /* A vector. What its line doesn't name is as at power-up. */
 typedef struct row {
     const char *name, *encoding, *terminal;
-    bytes input, text, reports, pending, lines;
+    bytes input, text, reports, pending, lines, repaint;
     char brush[64];
     unsigned long cursor_row, cursor_col, wrap, alternate, paste, bells;
 } row;
+
+/* Returns what a letter after a backslash spells. */
+static inline const char *escaped(char letter) {
+    switch (letter) {
+    case 'e': return "\033";
+    case 'n': return "\n";
+    case 'r': return "\r";
+    case 'H': return "\033(B\033*<\033+0\017";
+    case 'P': return "\033[0m\033[0\"q";
+    case 'S': return "\033(B\033)B\033*<\033+<\017\033}";
+    default: return "\\";
+    }
+}
 
 /* Appends the bytes that a field spells. */
 static inline void append_spelled(bytes *to, const char *field) {
@@ -19,12 +32,19 @@ static inline void append_spelled(bytes *to, const char *field) {
         if (at[0] == '\\' && at[1] == 'x') {
             const char digits[3] = {at[2], at[3], 0};
             one = (uint8_t)strtoul(digits, NULL, 16);
+            append(to, &one, 1);
             at += 3;
+        } else if (at[0] == '\\' && at[1] == '{') {
+            if (to->len == 0) abort();
+            one = to->at[to->len - 1];
+            for (unsigned long left = strtoul(at + 2, NULL, 10); left > 1; left--) append(to, &one, 1);
+            at = strchr(at, '}');
         } else if (at[0] == '\\') {
-            at++;
-            one = (uint8_t)(*at == 'e' ? '\033' : *at == 'n' ? '\n' : *at == 'r' ? '\r' : *at);
+            const char *bytes_of = escaped(*++at);
+            append(to, (const uint8_t *)bytes_of, strlen(bytes_of));
+        } else {
+            append(to, &one, 1);
         }
-        append(to, &one, 1);
     }
 }
 
@@ -33,7 +53,7 @@ static inline void set_field(row *r, const char *field, char *value) {
         const char *name;
         bytes *bytes;
         unsigned long *number;
-    } places[] = {{"text", &r->text, NULL},        {"reports", &r->reports, NULL},        {"pending", &r->pending, NULL}, {"lines", &r->lines, NULL},
+    } places[] = {{"text", &r->text, NULL},        {"reports", &r->reports, NULL},        {"pending", &r->pending, NULL}, {"lines", &r->lines, NULL}, {"repaint", &r->repaint, NULL},
                   {"wrap", NULL, &r->wrap},        {"alternate", NULL, &r->alternate},    {"paste", NULL, &r->paste},     {"bells", NULL, &r->bells}};
     for (size_t i = 0; i < sizeof places / sizeof places[0]; i++) {
         if (strcmp(field, places[i].name) != 0) continue;
@@ -68,7 +88,7 @@ static inline size_t each_row(const char *path, const char *encoding, const char
         if (line[0] == '#' || line[0] == '\n') continue;
         row r = read_row(line);
         if (strcmp(r.encoding, encoding) == 0 && strcmp(r.terminal, terminal) == 0) use(&r), count++;
-        free(r.input.at), free(r.text.at), free(r.reports.at), free(r.pending.at), free(r.lines.at);
+        free(r.input.at), free(r.text.at), free(r.reports.at), free(r.pending.at), free(r.lines.at), free(r.repaint.at);
     }
     fclose(file);
     return count;

@@ -1,27 +1,42 @@
-"""The vectors of UTF-8 and of TERM=xterm, as tests-c/vectors.txt has them, and the repaints of tests-c/session-repaints.txt."""
+"""The conformance vectors, as tests-c/vectors.txt has them, and the repaints of tests-c/session-repaints.txt."""
 import pathlib
 import re
 from typing import NamedTuple
 
 LISTS = pathlib.Path(__file__).resolve().parents[1] / "tests-c"
 AT_POWER_UP = {"text": "", "cursor": "1;1", "wrap": "0", "brush": "", "alternate": "0", "paste": "0", "bells": "0", "pending": b"", "reports": b"", "lines": ""}
-ESCAPES = {b"e": b"\033", b"n": b"\n", b"r": b"\r", b"\\": b"\\"}
+ESCAPES = {b"e": b"\033", b"n": b"\n", b"r": b"\r", b"\\": b"\\",
+           b"H": b"\033(B\033*<\033+0\017", b"P": b'\033[0m\033[0"q', b"S": b"\033(B\033)B\033*<\033+<\017\033}"}
 
 
 class Vector(NamedTuple):
-    """A vector: `wanted` has a value for each name of AT_POWER_UP, and `differs` is how xterm differs, or nothing."""
+    """A vector: `wanted` has a value for each name of AT_POWER_UP. `repaint` is None if no field has it. `differs` is how xterm differs, or nothing."""
 
     name: str
     encoding: str
     terminal: str
     input: bytes
     wanted: dict
+    repaint: bytes | None
     differs: str
+
+    def text(self):
+        """Returns the screen as `vt220 text` writes it: 24 lines, without attributes."""
+        lines = re.sub("\033\\[[0-9;]*m", "", self.wanted["text"]).split("\n")
+        return "".join(line.rstrip(" ") + "\n" for line in lines + [""] * (24 - len(lines)))
 
 
 def spelled(field):
     """Returns the bytes that a field spells."""
-    return re.sub(rb"\\(x..|.)", lambda found: bytes.fromhex(found[1][1:].decode()) if found[1][:1] == b"x" else ESCAPES[found[1]], field.encode())
+    found = b""
+    for escape, plain in re.findall(rb"\\(x..|\{\d+\}|.)|([^\\]+)", field.encode()):
+        if escape[:1] == b"x":
+            found += bytes.fromhex(escape[1:].decode())
+        elif escape[:1] == b"{":
+            found += found[-1:] * (int(escape[1:-1]) - 1)
+        else:
+            found += plain or ESCAPES[escape]
+    return found
 
 
 def value(name, field):
@@ -42,9 +57,10 @@ def session_repaints():
         yield name, spelled(sent), spelled(repaint)
 
 
-def vectors():
-    """Yields each vector of vectors.txt."""
+def vectors(*kind):
+    """Yields each vector of vectors.txt, or those of an encoding and a terminal."""
     for name, encoding, terminal, sent, *fields in lines_of("vectors.txt"):
         named = dict(field.split("=", 1) for field in fields)
-        differs = named.pop("differs", "")
-        yield Vector(name, encoding, terminal, spelled(sent), AT_POWER_UP | {of: value(of, field) for of, field in named.items()}, differs)
+        differs, repaint = named.pop("differs", ""), spelled(named.pop("repaint")) if "repaint" in named else None
+        if kind in ((), (encoding, terminal)):
+            yield Vector(name, encoding, terminal, spelled(sent), AT_POWER_UP | {of: value(of, field) for of, field in named.items()}, repaint, differs)

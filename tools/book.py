@@ -246,16 +246,15 @@ def forms_in(data):
 
 @functools.cache
 def vectors_of_a_vt220():
-    """Returns the vectors of a VT220: the name, the input and the text."""
-    lines = [line.split("\t") for line in (ROOT / "vectors/stdout").read_text().splitlines()[1:]]
-    return [(name, bytes.fromhex(sent), bytes.fromhex(text).decode(errors="replace"), forms_in(bytes.fromhex(sent))) for name, sent, text, *_ in lines]
+    """Returns the vectors of a VT220's bytes: the name, the input, the text and the forms of its control functions."""
+    return [(one.name, one.input, one.text(), forms_in(one.input)) for one in vectors("dec", "vt220")]
 
 
 def examples(rule):
     """Returns the vectors of a rule, the shortest first: their names, inputs and what they want."""
     if rule.section in ("UTF-8", "Under TERM=xterm"):
         names = {rule.name, rule.cells[0], *rule.names, *(f"{rule.cells[0]}, {head.lower()}" for head in rule.heads[1:])}
-        found = [(one.name, one.input, one.wanted["text"]) for one in vectors() if one.name.partition(": ")[0] in names]
+        found = [(one.name, one.input, one.wanted["text"]) for one in vectors() if one.encoding != "dec" and one.name.partition(": ")[0] in names]
     elif rule.heads[:1] == ["Bytes"]:
         wanted = {*forms(rule.cells[0])}
         found = [(name, sent, text) for name, sent, text, has in vectors_of_a_vt220() if wanted & has]

@@ -33,35 +33,40 @@ func rowsOf(t *testing.T, variable, name string) (rows [][]string) {
 	return rows
 }
 
-// escaped is an escape of tests-c/vectors.txt.
-var escaped = regexp.MustCompile(`\\(x..|.)`)
+// spelling is a part of a field of tests-c/vectors.txt, and escapes is what a letter after a backslash spells.
+var (
+	spelling = regexp.MustCompile(`\\(x..|\{\d+\}|.)|[^\\]+`)
+	escapes  = map[string]string{`\e`: "\x1b", `\n`: "\n", `\r`: "\r", `\\`: `\`, `\H`: "\x1b(B\x1b*<\x1b+0\x0f", `\P`: "\x1b[0m\x1b[0\"q",
+		`\S`: "\x1b(B\x1b)B\x1b*<\x1b+<\x0f\x1b}"}
+)
 
 // spelled returns the bytes that a field spells.
-func spelled(field string) string {
-	return escaped.ReplaceAllStringFunc(field, func(found string) string {
-		switch found[1] {
-		case 'x':
-			number, _ := strconv.ParseUint(found[2:], 16, 8)
-			return string([]byte{byte(number)})
-		case 'e':
-			return "\x1b"
-		case 'n':
-			return "\n"
-		case 'r':
-			return "\r"
+func spelled(field string) (found string) {
+	for _, part := range spelling.FindAllString(field, -1) {
+		switch {
+		case strings.HasPrefix(part, `\x`):
+			number, _ := strconv.ParseUint(part[2:], 16, 8)
+			found += string([]byte{byte(number)})
+		case strings.HasPrefix(part, `\{`):
+			count, _ := strconv.Atoi(part[2 : len(part)-1])
+			found += strings.Repeat(found[len(found)-1:], count-1)
+		case part[0] == '\\':
+			found += escapes[part]
+		default:
+			found += part
 		}
-		return found[1:]
-	})
+	}
+	return found
 }
 
 // row is what a vector of tests-c/vectors.txt has: what its terminal shows and returned, by the names there.
-type row struct{ text, cursor, wrap, brush, alternate, paste, bells, pending, reports, lines string }
+type row struct{ text, cursor, wrap, brush, alternate, paste, bells, pending, reports, lines, repaint string }
 
 // wantedOf returns the row that some fields describe.
 func wantedOf(t *testing.T, fields []string) row {
 	wanted := row{cursor: "1;1", wrap: "0", alternate: "0", paste: "0", bells: "0"}
 	places := map[string]*string{"text": &wanted.text, "cursor": &wanted.cursor, "wrap": &wanted.wrap, "brush": &wanted.brush, "alternate": &wanted.alternate,
-		"paste": &wanted.paste, "bells": &wanted.bells, "pending": &wanted.pending, "reports": &wanted.reports, "lines": &wanted.lines, "differs": new(string)}
+		"paste": &wanted.paste, "bells": &wanted.bells, "pending": &wanted.pending, "reports": &wanted.reports, "lines": &wanted.lines, "repaint": &wanted.repaint, "differs": new(string)}
 	for _, field := range fields {
 		name, value, _ := strings.Cut(field, "=")
 		if places[name] == nil {
@@ -95,15 +100,38 @@ func shownBy(t *testing.T, terminal *Terminal, s *Scratch) row {
 		brush: strings.Join(names, " "), alternate: "0", paste: "0", bells: fmt.Sprint(terminal.Bells())}
 }
 
-// eachWay feeds the input of each vector for a terminal whole and byte by byte, and compares what that leads to with what the vector has.
-func eachWay(t *testing.T, terminal string, fed func([]byte, int) row) {
+// fed feeds an input in chunks of a size, with the log and without one. It returns the terminal, and what that leads to.
+func fed(t *testing.T, s *Scratch, language Language, input []byte, size int) (*Terminal, row) {
+	terminal, other := openAs(t, language), openAs(t, language)
+	var reports, lines string
+	for len(input) > 0 {
+		piece := input
+		if len(piece) > size {
+			piece = piece[:size]
+		}
+		now, off, err := terminal.FeedLog(piece, s)
+		if err != nil || string(other.Feed(piece)) != string(now) || !other.SameState(terminal) || string(other.Pending()) != string(terminal.Pending()) {
+			t.Errorf("% X: the log differs: %v", piece, err)
+		}
+		reports += string(now)
+		lines += string(off)
+		input = input[len(piece):]
+	}
+	found := shownBy(t, terminal, s)
+	found.pending, found.reports, found.lines = string(terminal.Pending()), reports, lines
+	return terminal, found
+}
+
+// eachWay feeds the input of each vector for an encoding and a terminal whole, byte by byte and in chunks of five, and compares what that
+// leads to with what the vector has.
+func eachWay(t *testing.T, encoding, terminal string, fed func([]byte, int) row) {
 	count := 0
-	for _, fields := range rowsOf(t, "VT220_ROWS", "tests-c/vectors.txt") {
-		if fields[2] != terminal {
+	for _, fields := range rowsOf(t, "VT220_VECTORS", "tests-c/vectors.txt") {
+		if fields[1] != encoding || fields[2] != terminal {
 			continue
 		}
 		input, wanted := []byte(spelled(fields[3])), wantedOf(t, fields[4:])
-		for _, size := range []int{len(input), 1} {
+		for _, size := range []int{len(input), 1, 5} {
 			if found := fed(input, size); found != wanted {
 				t.Errorf("%s in chunks of %d: %+v, and not %+v", fields[0], size, found, wanted)
 			}

@@ -2,30 +2,12 @@ package vt220
 
 import "testing"
 
-// fed returns what chunks of a size lead to, with the log and without one.
-func fed(t *testing.T, s *Scratch, input []byte, size int) (found row) {
-	terminal, other := openAs(t, UTF8), openAs(t, UTF8)
-	for len(input) > 0 {
-		piece := input
-		if len(piece) > size {
-			piece = piece[:size]
-		}
-		reports, lines, err := terminal.FeedLog(piece, s)
-		if err != nil || string(other.Feed(piece)) != string(reports) || !other.SameState(terminal) || string(other.Pending()) != string(terminal.Pending()) {
-			t.Errorf("% X: the log differs: %v", piece, err)
-		}
-		found.reports += string(reports)
-		found.lines += string(lines)
-		input = input[len(piece):]
-	}
-	shown := shownBy(t, terminal, s)
-	shown.pending, shown.reports, shown.lines = string(terminal.Pending()), found.reports, found.lines
-	return shown
-}
-
 func TestUTF8(t *testing.T) {
 	s := scratch(t)
-	eachWay(t, "vt220", func(input []byte, size int) row { return fed(t, s, input, size) })
+	eachWay(t, "utf-8", "vt220", func(input []byte, size int) row {
+		_, found := fed(t, s, UTF8, input, size)
+		return found
+	})
 }
 
 // By the tables of docs/SPECIFICATION.md, 'UTF-8'.

@@ -1,9 +1,9 @@
 package vt220
 
 import (
-	"bytes"
 	"encoding/hex"
 	"reflect"
+	"regexp"
 	"strings"
 	"testing"
 )
@@ -41,52 +41,47 @@ func unhex(t *testing.T, field string) []byte {
 	return content
 }
 
-// Each vector whole, byte by byte and in cuts.
-func TestVectors(t *testing.T) {
-	s, rows := scratch(t), rowsOf(t, "VT220_VECTORS", "crates/vectors/stdout")
-	if len(rows) < 163 {
-		t.Fatalf("%d lines", len(rows))
-	}
-	for _, fields := range rows[1:] {
-		for _, cut := range []int{1 << 30, 1, 5} {
-			oneWay(t, s, cut, fields)
-		}
-	}
-}
-
-func oneWay(t *testing.T, s *Scratch, cut int, fields []string) {
+// repainted returns the repaint of a terminal, which leads to its state, as an update does. There is none inside a sequence.
+func repainted(t *testing.T, s *Scratch, terminal *Terminal) string {
 	const start = "any\x1b[5mthing\x1b[?3h"
-	expect := func(is bool, what string) {
-		if !is {
-			t.Errorf("%s: %s", fields[0], what)
-		}
-	}
-	terminal, other, shown, played := open(t, ""), open(t, start), open(t, start), open(t, start)
-	var reports []byte
-	for input := unhex(t, fields[1]); len(input) > 0; {
-		piece := input
-		if len(piece) > cut {
-			piece = piece[:cut]
-		}
-		reports = append(reports, terminal.Feed(piece)...)
-		input = input[len(piece):]
-	}
-	text, err := terminal.Text(s)
-	expect(bytes.Equal(reports, unhex(t, fields[3])), "reports")
-	expect(err == nil && text == string(unhex(t, fields[2])), "text")
+	painted, updated, shown := open(t, start), open(t, start), open(t, start)
 	repaint, err := terminal.Repaint(s)
 	update, err2 := shown.Update(terminal, s)
-	if fields[4] == "-" {
-		expect(err == ErrPartial && err2 == ErrPartial, "refused")
-		expect(!terminal.IsBetween() && terminal.Held() != HeldNothing, "held")
-		return
+	if !terminal.IsBetween() {
+		if err != ErrPartial || err2 != ErrPartial || terminal.Held() == HeldNothing {
+			t.Errorf("inside a sequence: %v, %v", err, err2)
+		}
+		return ""
 	}
-	expect(err == nil && bytes.Equal(repaint, unhex(t, fields[4])), "repaint")
-	expect(len(other.Feed(repaint)) == 0 && other.SameState(terminal), "the repaint, played")
-	expect(err2 == nil && shown.SameState(terminal), "the update")
-	expect(len(played.Feed(update)) == 0 && played.SameState(terminal), "the update, played")
-	update, err = shown.Update(terminal, s)
-	expect(err == nil && len(update) == 0, "no update")
+	if err != nil || len(painted.Feed(repaint)) > 0 || !painted.SameState(terminal) {
+		t.Errorf("the repaint %q: %v", repaint, err)
+	}
+	if err2 != nil || !shown.SameState(terminal) || len(updated.Feed(update)) > 0 || !updated.SameState(terminal) {
+		t.Errorf("the update %q: %v", update, err2)
+	}
+	if update, err = shown.Update(terminal, s); err != nil || len(update) > 0 {
+		t.Errorf("an update of equal states: %q, %v", update, err)
+	}
+	return string(repaint)
+}
+
+// plain returns the lines that are shown, without SGR and without the spaces at their ends.
+func plain(shown string) string {
+	return regexp.MustCompile(`(?m) +$`).ReplaceAllString(regexp.MustCompile(`\x1b\[[0-9;]*m`).ReplaceAllString(shown, ""), "")
+}
+
+func TestVectors(t *testing.T) {
+	s := scratch(t)
+	eachWay(t, "dec", "vt220", func(input []byte, size int) row {
+		terminal, found := fed(t, s, Bytes, input, size)
+		text, err := terminal.Text(s)
+		shown, err2 := terminal.Show(s)
+		if err != nil || err2 != nil || text != plain(shown) {
+			t.Errorf("% X: the text %q, shown as %q", input, text, shown)
+		}
+		found.repaint = repainted(t, s, terminal)
+		return found
+	})
 }
 
 func TestDraw(t *testing.T) {

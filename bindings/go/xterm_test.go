@@ -57,7 +57,7 @@ func fedXterm(t *testing.T, s *Scratch, input []byte, size int) (found row) {
 
 func TestXterm(t *testing.T) {
 	s := scratch(t)
-	eachWay(t, "xterm", func(input []byte, size int) row { return fedXterm(t, s, input, size) })
+	eachWay(t, "utf-8", "xterm", func(input []byte, size int) row { return fedXterm(t, s, input, size) })
 }
 
 func TestLanguages(t *testing.T) {

@@ -1,4 +1,5 @@
-"""The vectors through Python: python3 test_vt220.py VECTORS."""
+"""The vectors and the calls through Python. It has no arguments."""
+import collections
 import pathlib
 import sys
 import vt220
@@ -34,26 +35,24 @@ def raises(fault, call, *arguments):
     return False
 
 
-def vector(name, data, text, reports, repaint):
-    for cut in (len(data) + 1, 1, 5):
-        terminal = vt220.Terminal()
-        sent = b"".join(terminal.feed(data[at : at + cut]) for at in range(0, len(data), cut))
-        check_same(sent, reports, name, "reports")
-        check_same(terminal.text().encode(), text, name, "text")
-        other, shown = vt220.Terminal(), vt220.Terminal()
-        if repaint is None:
-            check(raises(vt220.Partial, terminal.repaint), name, "the repaint is refused")
-            check(raises(vt220.Partial, shown.update, terminal), name, "the update is refused")
-            check(not terminal.is_between() and terminal.held() != "nothing", name, "held")
-            continue
-        check_same(terminal.repaint(), repaint, name, "repaint")
-        check(terminal.held() == "nothing", name, "nothing is held")
-        for start in (other, shown):
-            start.feed(b"any\033[5mthing\033[?3h")
-        check(other.feed(repaint) == b"" and other.same_state(terminal), name, "the repaint, played")
-        other.feed(b"\033cany\033[5mthing\033[?3h")
-        check(other.feed(shown.update(terminal)) == b"" and shown.same_state(terminal), name, "the update")
-        check(other.same_state(terminal) and shown.update(terminal) == b"", name, "the update, played")
+def leads(of):
+    """Checks the text of a vector of a VT220's bytes, and its repaint and an update on other terminals. Inside a sequence there is neither."""
+    terminal, other, shown = (vt220.Terminal() for _ in range(3))
+    terminal.feed(of.input)
+    check(terminal.text() == of.text(), of.name, "text")
+    if of.repaint is None:
+        check(raises(vt220.Partial, terminal.repaint), of.name, "the repaint is refused")
+        check(raises(vt220.Partial, shown.update, terminal), of.name, "the update is refused")
+        check(not terminal.is_between() and terminal.held() != "nothing", of.name, "held")
+        return
+    check_same(terminal.repaint(), of.repaint, of.name, "repaint")
+    check(terminal.held() == "nothing", of.name, "nothing is held")
+    for start in (other, shown):
+        start.feed(b"any\033[5mthing\033[?3h")
+    check(other.feed(of.repaint) == b"" and other.same_state(terminal), of.name, "the repaint, played")
+    other.feed(b"\033cany\033[5mthing\033[?3h")
+    check(other.feed(shown.update(terminal)) == b"" and shown.same_state(terminal), of.name, "the update")
+    check(other.same_state(terminal) and shown.update(terminal) == b"", of.name, "the update, played")
 
 
 def readers():
@@ -148,17 +147,17 @@ def fed(of, size, feed):
                 "reports": b"".join(reports for reports, _ in told), "lines": "".join(lines for _, lines in told)}
 
 
-def resumed(data, at):
+def resumed(of, at):
     """Returns whether a checkpoint after so many bytes leads to the same end, if one can be made there."""
-    with vt220.Terminal("utf-8") as whole, vt220.Terminal("utf-8") as first, vt220.Terminal("utf-8") as second:
-        whole.feed(data)
-        first.feed(data[:at])
+    with vt220.Terminal(of.encoding) as whole, vt220.Terminal(of.encoding) as first, vt220.Terminal(of.encoding) as second:
+        whole.feed(of.input)
+        first.feed(of.input[:at])
         copied = first.copy()
         if not first.is_between():
             return True
         second.feed(first.repaint() + first.pending())
-        copied.feed(data[at:])
-        second.feed(data[at:])
+        copied.feed(of.input[at:])
+        second.feed(of.input[at:])
         return all(one.same_state(whole) and one.pending() == whole.pending() for one in (second, copied))
 
 
@@ -169,26 +168,26 @@ def both_pages(terminal):
     return shown, terminal.text()
 
 
-def copied_xterm(data, at):
+def copied_xterm(of, at):
     """Returns whether a copy after so many bytes leads to the same end, on both pages, and scrolls off the same lines."""
     with vt220.Terminal(terminal="xterm") as first:
-        first.feed(data[:at])
+        first.feed(of.input[:at])
         with first.copy() as second:
             same = second.pending() == first.pending() and second.alternate() == first.alternate()
-            return same and first.feed_log(data[at:]) == second.feed_log(data[at:]) and both_pages(first) == both_pages(second)
+            return same and first.feed_log(of.input[at:]) == second.feed_log(of.input[at:]) and both_pages(first) == both_pages(second)
 
 
-def rebuilt_xterm(data, at):
+def rebuilt_xterm(of, at):
     """Returns whether the repaint after so many bytes, if there is one, rebuilds the terminal on another one."""
     with vt220.Terminal(terminal="xterm") as first, vt220.Terminal(terminal="xterm") as second:
-        first.feed(data[:at])
+        first.feed(of.input[:at])
         if not first.is_between():
             return raises(vt220.Partial, first.repaint)
         made = first.repaint()
         second.feed(b"other\033[?47hpage\xe2")
         silent = second.feed(made) == b"" and second.pending() == b"" and second.feed(first.pending()) == b""
         same = second.repaint() == made and second.same_state(first) and second.alternate() == first.alternate()
-        return silent and same and second.pending() == first.pending() and first.feed_log(data[at:]) == second.feed_log(data[at:]) and both_pages(first) == both_pages(second)
+        return silent and same and second.pending() == first.pending() and first.feed_log(of.input[at:]) == second.feed_log(of.input[at:]) and both_pages(first) == both_pages(second)
 
 
 def repaints_of_sessions():
@@ -204,19 +203,21 @@ def differences(found, wanted):
 
 
 def rows():
-    """Each vector of tests-c/vectors.txt, whole and byte by byte, and from a checkpoint at each byte."""
+    """Each vector of tests-c/vectors.txt, whole, byte by byte and in chunks of five, and from a checkpoint at each byte."""
     ways = {"vt220": [resumed], "xterm": [copied_xterm, rebuilt_xterm]}
-    counts = dict.fromkeys(ways, 0)
+    counts = collections.Counter()
     for one in vectors():
-        counts[one.terminal] += 1
-        for size in (len(one.input), 1):
+        counts[one.encoding, one.terminal] += 1
+        if one.encoding == "dec":
+            leads(one)
+        for size in (len(one.input) or 1, 1, 5):
             differs = differences(fed(one, size, vt220.Terminal.feed_log), one.wanted)
             check(not differs, one.terminal, f"{one.name}: chunks of {size}: {differs}")
             differs = differences(fed(one, size, lambda terminal, piece: (terminal.feed(piece), "")), {**one.wanted, "lines": ""})
             check(not differs, one.terminal, f"{one.name}: chunks of {size} without the log: {differs}")
         for way in ways[one.terminal]:
-            check(all(way(one.input, at) for at in range(len(one.input))), one.terminal, f"{one.name}: {way.__name__}")
-    check(min(counts.values()) > 50, "rows", f"{counts}")
+            check(all(way(one, at) for at in range(len(one.input))), one.terminal, f"{one.name}: {way.__name__}")
+    check(len(counts) == 3 and min(counts.values()) > 50, "rows", f"{counts}")
 
 
 def terminals():
@@ -262,11 +263,6 @@ def encodings():
         check(vt220.shown(text) == cells, "encodings", f"{text!r} is shown as {vt220.shown(text)!r}")
 
 
-with open(sys.argv[1]) as file:
-    next(file)
-    for line in file:
-        name, *fields = line.rstrip("\n").split("\t")
-        vector(name, *(None if field == "-" else bytes.fromhex(field) for field in fields))
 readers()
 parts()
 one_field_at_a_time()

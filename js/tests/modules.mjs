@@ -1,5 +1,5 @@
 // Tests the package in node: the vectors, inputs beside the library for C, each call, the Timeline, UTF-8 and TERM=xterm.
-//   node tests/modules.mjs PACKAGE VECTORS HASHES [first]      the last line is 'N passed, M failed'; with `first` it ends at the first failure
+//   node tests/modules.mjs PACKAGE HASHES [first]      the last line is 'N passed, M failed'; with `first` it ends at the first failure
 import { readFile } from "node:fs/promises";
 import { pathToFileURL } from "node:url";
 import { Worker } from "node:worker_threads";
@@ -8,9 +8,8 @@ import { hashes } from "./hashes.mjs";
 import { keys, keysOfAnXterm } from "./keys.mjs";
 import { tables } from "./tables.mjs";
 import { timelines } from "./timelines.mjs";
-import { vectors } from "./vectors.mjs";
 
-const [place, vectorFile, hashFile, first] = process.argv.slice(2);
+const [place, hashFile, first] = process.argv.slice(2);
 const from = (name) => import(new URL(name, pathToFileURL(`${place}/`)));
 const vt220 = { ...(await from("src/node.js")), ...(await from("src/timeline.js")) };
 let passed = 0, failed = 0;
@@ -25,9 +24,6 @@ const check = (what, isSo) => {
 
 const core = await vt220.load();
 const wasm = await readFile(`${place}/vt220.wasm`);
-const got = vectors(vt220, core, await readFile(vectorFile, "utf8"), say);
-passed += got.passed;
-failed += got.failed;
 
 const all = JSON.parse(await readFile(hashFile, "utf8"));
 const mine = hashes(vt220, core, all.map(([input]) => new Uint8Array(Buffer.from(input, "base64"))));

@@ -1,21 +1,25 @@
-// UTF-8 and TERM=xterm: each vector of tests-c/vectors.txt, whole and byte by byte, and from a checkpoint at each byte.
+// Each vector of tests-c/vectors.txt, whole, byte by byte and in chunks of five, and from a checkpoint at each byte. UTF-8 and TERM=xterm.
 const bytes = (hex) => Uint8Array.from(hex.match(/[0-9A-F]{2}/g) ?? [], (digits) => parseInt(digits, 16));
 const hex = (data) => Array.from(data, (byte) => byte.toString(16).toUpperCase().padStart(2, "0")).join(" ");
 const ascii = (text) => Uint8Array.from(text, (c) => c.charCodeAt(0));
 const equal = (a, b) => a.length === b.length && a.every((byte, i) => byte === b[i]);
 
-/** The vectors of each terminal: how it is made, and how many there are at least. */
-const TERMINALS = { vt220: { options: { encoding: "utf-8" }, least: 50 }, xterm: { options: { terminal: "xterm" }, least: 100 } };
+/** The fewest vectors of each encoding and terminal. */
+const LEAST = { "dec vt220": 150, "utf-8 vt220": 50, "utf-8 xterm": 100 };
 const AT_POWER_UP = { text: "", cursor: "1;1", wrap: "0", brush: "", alternate: "0", paste: "0", bells: "0", pending: "", reports: "", lines: "" };
-const ESCAPES = { e: 0x1b, n: 0x0a, r: 0x0d, "\\": 0x5c };
+const ESCAPES = { e: "\x1b", n: "\n", r: "\r", "\\": "\\", H: "\x1b(B\x1b*<\x1b+0\x0f", P: '\x1b[0m\x1b[0"q', S: "\x1b(B\x1b)B\x1b*<\x1b+<\x0f\x1b}" };
+const ANYTHING = ascii("\x1b[?3h\x1b[5mx\x1b[?6h\x1b(0\x1b[3;7r\x1b7");
 
 /** Returns the bytes that a field spells. */
 function spelled(field) {
-  const parts = field.match(/\\x..|\\.|[^\\]+/g) ?? [];
-  return Uint8Array.from(parts.flatMap((part) => {
-    if (part[0] !== "\\") return [...new TextEncoder().encode(part)];
-    return [part[1] === "x" ? parseInt(part.slice(2), 16) : ESCAPES[part[1]]];
-  }));
+  const found = [];
+  for (const part of field.match(/\\x..|\\\{\d+\}|\\.|[^\\]+/g) ?? []) {
+    if (part[0] !== "\\") found.push(...new TextEncoder().encode(part));
+    else if (part[1] === "x") found.push(parseInt(part.slice(2), 16));
+    else if (part[1] === "{") found.push(...Array(parseInt(part.slice(2), 10) - 1).fill(found.at(-1)));
+    else found.push(...ascii(ESCAPES[part[1]]));
+  }
+  return Uint8Array.from(found);
 }
 
 /** Returns a field's value: bytes in hexadecimal, or text. */
@@ -66,12 +70,43 @@ function resumes(core, Terminal, options, input, at) {
   return isSame;
 }
 
-/** Checks a vector: whole and byte by byte, with the log and without one, and from a checkpoint at each byte. */
-function row({ Terminal }, core, [name, , of, field, ...fields], check) {
-  const { options } = TERMINALS[of], input = spelled(field);
-  const changed = fields.map((one) => [one.slice(0, one.indexOf("=")), one.slice(one.indexOf("=") + 1)]).filter(([one]) => one !== "differs");
-  const wanted = { ...AT_POWER_UP, ...Object.fromEntries(changed.map(([one, spelling]) => [one, value(one, spelling)])) };
-  for (const size of [input.length, 1]) {
+/** Returns the code of the error that a call throws. */
+function thrown(call) {
+  try {
+    call();
+  } catch (error) {
+    return error.code ?? error.name;
+  }
+  return null;
+}
+
+/** Checks the text and the cells of a VT220, and its repaint and an update on other terminals. Inside a sequence there is neither. */
+function leads(Terminal, core, input, repaint, check) {
+  const [terminal, painted, shown, told] = Array.from({ length: 4 }, () => new Terminal(core)), rows = Array.from({ length: 24 }, (_, i) => i + 1);
+  terminal.feed(input);
+  const lines = terminal.show().replace(/\x1b\[[\d;]*m/g, "").split("\n"), text = lines.map((line) => line.trimEnd()).join("\n");
+  check("the text", terminal.text() === text && rows.map((one) => terminal.rowText(one) + "\n").join("") === text);
+  check("the cells", rows.map((one) => terminal.cells(one).map((cell) => cell.glyph).join("").trimEnd() + "\n").join("") === text);
+  if (repaint === undefined) {
+    check("no repaint", thrown(() => terminal.repaint()) === "PARTIAL" && thrown(() => painted.update(terminal)) === "PARTIAL");
+    check("the held part", !terminal.isBetween && terminal.held !== "nothing");
+  } else {
+    for (const each of [painted, shown, told]) each.feed(ANYTHING);
+    check("the repaint", equal(terminal.repaint(), repaint));
+    check("the repaint, played", painted.feed(repaint).length === 0 && painted.sameState(terminal));
+    check("the update, played", told.feed(shown.update(terminal)).length === 0 && told.sameState(terminal) && shown.sameState(terminal));
+    check("an update of equal states", shown.update(terminal).length === 0 && shown.changedRows(terminal).length === 0);
+  }
+  for (const each of [terminal, painted, shown, told]) each.close();
+}
+
+/** Checks a vector: whole and in chunks, with the log and without one, and from a checkpoint at each byte. */
+function row({ Terminal }, core, [name, encoding, terminal, field, ...fields], check) {
+  const options = { encoding, terminal }, of = `${encoding}, ${terminal}`, input = spelled(field);
+  const { differs: _, repaint, ...changed } = Object.fromEntries(fields.map((one) => [one.slice(0, one.indexOf("=")), one.slice(one.indexOf("=") + 1)]));
+  const wanted = { ...AT_POWER_UP, ...Object.fromEntries(Object.entries(changed).map(([one, spelling]) => [one, value(one, spelling)])) };
+  if (encoding === "dec") leads(Terminal, core, input, repaint && spelled(repaint), (what, isSo) => check(`${name}: ${what}`, isSo));
+  for (const size of [input.length, 1, 5]) {
     for (const log of [false, true]) {
       const found = fed(core, Terminal, options, input, size, log), due = { ...wanted, lines: log ? wanted.lines : "" };
       for (const one of Object.keys(due)) check(`${of}, ${name}: ${one} is ${JSON.stringify(found[one])}, and not ${JSON.stringify(due[one])}`, found[one] === due[one]);
@@ -83,7 +118,7 @@ function row({ Terminal }, core, [name, , of, field, ...fields], check) {
 function rows(vt220, core, file, check) {
   const all = file.split("\n").filter((line) => line !== "" && !line.startsWith("#")).map((line) => line.split("\t"));
   for (const fields of all) row(vt220, core, fields, check);
-  for (const [of, { least }] of Object.entries(TERMINALS)) check(`the vectors of ${of}`, all.filter((fields) => fields[2] === of).length >= least);
+  for (const [of, least] of Object.entries(LEAST)) check(`the vectors of ${of}`, all.filter((fields) => fields.slice(1, 3).join(" ") === of).length >= least);
 }
 
 // By the tables of docs/SPECIFICATION.md, 'UTF-8'.
@@ -91,7 +126,6 @@ const SHOWN = [["Welt", "Welt"], ["\u201cWelt\u201d", '"Welt"'], ["\u2501\u251b"
   ["\u{1f600}", "\u2426 "], ["a\n\t\x7f", "a\n\t\x7f"], ["\u0085", ""], ["", ""]];
 
 function encodings({ Terminal }, core, check) {
-  const thrown = (call) => { try { call(); } catch (error) { return error.code ?? error.name; } return null; };
   const terminal = new Terminal(core, { encoding: "utf-8" }), other = new Terminal(core, {});
   check("the encodings", terminal.encoding === "utf-8" && other.encoding === "dec" && new Terminal(core).encoding === "dec");
   check("another encoding", ["utf8", "UTF-8", "", null, 8].every((encoding) => thrown(() => new Terminal(core, { encoding })) === "TypeError"));
@@ -114,7 +148,6 @@ function encodings({ Terminal }, core, check) {
 }
 
 function terminals({ Terminal }, core, check) {
-  const thrown = (call) => { try { call(); } catch (error) { return error.code ?? error.name; } return null; };
   const terminal = new Terminal(core, { terminal: "xterm" }), other = new Terminal(core, { encoding: "utf-8", terminal: "vt220" });
   check("the terminals", terminal.terminal === "xterm" && terminal.encoding === "utf-8" && other.terminal === "vt220" && new Terminal(core).terminal === "vt220");
   check("another terminal", ["xterm-256color", "", null, 8].every((name) => thrown(() => new Terminal(core, { terminal: name })) === "TypeError"));

@@ -25,9 +25,11 @@ from vt220.rig import ENTER, F6, UP, Failure, Key, KeyboardLocked, Reports, Scre
 from vt220.screen import MASK, Place, Stored, difference, differing, renewed
 from vt220.watchdog import MARK
 
+sys.path.append(str(pathlib.Path(__file__).resolve().parents[3] / "tests"))
+from vectors import vectors  # noqa: E402
+
 # Limits that only say that something hangs.
 LONG = 300
-VECTORS = pathlib.Path(__file__).resolve().parents[3] / "crates" / "vectors" / "stdout"
 # Shows the bytes that it gets, after it has written its first argument.
 SHOWS = "stty raw -echo; printf \"$1\"; while :; do dd bs=100 count=1 2>/dev/null | od -An -tx1 -v; printf '\\r'; done"
 
@@ -501,14 +503,6 @@ def test_a_program_that_reads_is_still():
 
 # Screens.
 
-def vectors():
-    with open(VECTORS) as file:
-        next(file)
-        for line in file:
-            name, *fields = line.rstrip("\n").split("\t")
-            yield [name] + [None if field == "-" else bytes.fromhex(field) for field in fields]
-
-
 # Changes of parts that a screen doesn't show, each from one control function or two.
 HIDDEN = [b"", b"\033H", b"\033[1m", b"\0337\033[4;4H\0337", b"\033N", b"\033)0", b"\033[5;9r", b"\033[?1h", b"\033[1\"q", b"\033[1\"qx",
           b"\033[3g", b"\033[9C\033H", b"\016", b"\033|", b"\033~", b"\033o", b"\033O", b"\033(K", b"\033*A\033+B", b"\033[?6h\0337\033[?6l",
@@ -517,7 +511,7 @@ HIDDEN = [b"", b"\033H", b"\033[1m", b"\0337\033[4;4H\0337", b"\033N", b"\033)0"
 
 def test_stored_screens_are_equal_exactly_where_repaints_are():
     by_file, by_repaint = {}, {}
-    states = [(name, data, more) for name, data, _, _, repaint in vectors() if repaint is not None for more in HIDDEN[:5]]
+    states = [(one.name, one.input, more) for one in vectors("dec", "vt220") if one.repaint is not None for more in HIDDEN[:5]]
     for name, data, more in states + [("hidden", first, second) for first in HIDDEN for second in HIDDEN]:
         screen = screen_of(data + more)
         stored = screen.stored()
@@ -527,9 +521,9 @@ def test_stored_screens_are_equal_exactly_where_repaints_are():
 
 
 def test_screens_have_the_texts_and_repaints_of_the_vectors():
-    for name, data, text, _, repaint in vectors():
-        if repaint is not None:
-            assert (screen_of(data).text.encode(), screen_of(data).repaint) == (text, repaint), name
+    for one in vectors("dec", "vt220"):
+        if one.repaint is not None:
+            assert (screen_of(one.input).text, screen_of(one.input).repaint) == (one.text(), one.repaint), one.name
 
 
 def test_the_file_of_a_screen_can_be_read():

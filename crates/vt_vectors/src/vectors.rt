@@ -1,22 +1,13 @@
-//! The conformance vectors, one file a subject.
+//! The conformance vectors.
 ghost use Rattle.std.specs.Prelude.{◌≡◌, ◌==◌, ◌≤◌, ◌<◌, length, count_by};
 ghost use Rattle.vt_vectors.specs.Vectors.{IsOfRow};
 
-mod attributes;
-mod cursor;
-mod editing;
-mod held;
-mod modes;
-mod parts;
-mod plain;
-mod reports;
-mod sets;
-mod syntax;
-mod width;
+mod tables;
 
 use crate::expectation::Vector;
+use tables::{COUNT, tables};
 
-/// A vector as its file has it: its name, and the text and the repaint as strings.
+/// A vector as its table has it: its name, and the text and the repaint as strings.
 #[derive(Clone, Copy)]
 struct Row {
     name: &'static str,
@@ -40,16 +31,7 @@ impl Row {
 }
 
 /// The number of conformance vectors.
-pub const VECTOR_COUNT: usize = plain::COUNT
-    + syntax::COUNT
-    + held::COUNT
-    + sets::COUNT
-    + attributes::COUNT
-    + editing::COUNT
-    + cursor::COUNT
-    + modes::COUNT
-    + reports::COUNT
-    + width::COUNT;
+pub const VECTOR_COUNT: usize = COUNT;
 
 /// Returns the number of conformance vectors: at least 60.
 pub fn vector_count() -> usize
@@ -66,27 +48,8 @@ fn row_at(i: usize) -> Row
     ensures short { length result.input.now ≤ 200 }
     ensures lines { count_by (λ b. b == 0x0A) result.text.now ≡ 24 }
 {
-    let tables = [
-        plain::rows(),
-        syntax::first_rows(),
-        syntax::second_rows(),
-        held::rows(),
-        sets::first_rows(),
-        sets::second_rows(),
-        attributes::rows(),
-        editing::first_rows(),
-        editing::second_rows(),
-        cursor::first_rows(),
-        cursor::second_rows(),
-        cursor::third_rows(),
-        modes::rows(),
-        reports::rows(),
-        width::first_rows(),
-        width::second_rows(),
-        width::third_rows(),
-    ];
     let mut left = i;
-    for rows in tables {
+    for rows in tables() {
         if left < rows.len() {
             return rows[left];
         }

@@ -1,29 +1,16 @@
-//! UTF-8 through Rust: VT220_ROWS names the file of vectors.
+//! UTF-8 through Rust: VT220_VECTORS names the file of vectors.
 mod rows;
 
-use rows::{each_way, Row};
+use rows::{each_way, fed};
 use vt220::{shown, Language, Scratch, Terminal};
 
 fn opened() -> Terminal {
     Terminal::open_as(Language::Utf8).unwrap()
 }
 
-fn fed(input: &[u8], size: usize, scratch: &mut Scratch) -> Row {
-    let (mut terminal, mut other) = (opened(), opened());
-    let (mut reports, mut lines) = (Vec::new(), String::new());
-    for piece in input.chunks(size) {
-        let (now, off) = terminal.feed_log(piece, scratch);
-        assert_eq!(other.feed(piece), now);
-        assert!(other.same_state(&terminal) && other.pending() == terminal.pending());
-        reports.extend(now);
-        lines += &off;
-    }
-    Row { pending: terminal.pending(), reports, lines, ..Row::of(&terminal, scratch) }
-}
-
 #[test]
 fn rows() {
-    each_way("vt220", fed);
+    each_way("utf-8", "vt220", |input, size, scratch| fed(Language::Utf8, input, size, scratch).1);
 }
 
 // By the tables of docs/SPECIFICATION.md, 'UTF-8'.

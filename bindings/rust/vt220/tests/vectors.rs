@@ -1,8 +1,8 @@
-//! The vectors through Rust: VT220_VECTORS names their file.
+//! The vectors of a VT220's bytes through Rust: VT220_VECTORS names the file of vectors.
 mod rows;
 
-use rows::{bytes_of, rows_of};
-use vt220::{Error, Held, Scratch, Terminal};
+use rows::{each_way, fed, Row};
+use vt220::{Error, Held, Language, Scratch, Terminal};
 
 fn begun() -> Terminal {
     let mut terminal = Terminal::new().unwrap();
@@ -10,40 +10,35 @@ fn begun() -> Terminal {
     terminal
 }
 
-fn one_way(cut: usize, scratch: &mut Scratch, input: &[u8], fields: &[String]) {
-    let mut terminal = Terminal::new().unwrap();
-    let sent: Vec<u8> = input.chunks(cut).flat_map(|piece| terminal.feed(piece)).collect();
-    assert_eq!(sent, bytes_of(&fields[3]), "{}", fields[0]);
-    assert_eq!(terminal.text(scratch).into_bytes(), bytes_of(&fields[2]), "{}", fields[0]);
-    let (mut other, mut shown) = (begun(), begun());
-    if fields[4] == "-" {
-        assert_eq!(terminal.repaint(scratch), Err(Error::Partial), "{}", fields[0]);
-        assert_eq!(shown.update(&terminal, scratch), Err(Error::Partial), "{}", fields[0]);
-        assert!(!terminal.is_between() && terminal.held() != Held::Nothing, "{}", fields[0]);
-        return;
+/// Returns the repaint of a terminal, which leads to its state, as an update does. There is none inside a sequence.
+fn repainted(terminal: &Terminal, scratch: &mut Scratch) -> Option<Vec<u8>> {
+    let (mut painted, mut updated, mut shown) = (begun(), begun(), begun());
+    if !terminal.is_between() {
+        assert!(terminal.repaint(scratch) == Err(Error::Partial) && shown.update(terminal, scratch) == Err(Error::Partial));
+        assert!(terminal.held() != Held::Nothing);
+        return None;
     }
-    let painted = terminal.repaint(scratch).unwrap();
-    assert_eq!(painted, bytes_of(&fields[4]), "{}", fields[0]);
-    assert!(other.feed(&painted).is_empty() && other.same_state(&terminal), "{}", fields[0]);
-    let update = shown.update(&terminal, scratch).unwrap();
-    let mut played = begun();
-    assert!(played.feed(&update).is_empty() && played.same_state(&terminal), "{}", fields[0]);
-    assert!(shown.update(&terminal, scratch).unwrap().is_empty(), "{}", fields[0]);
+    let repaint = terminal.repaint(scratch).unwrap();
+    assert!(painted.feed(&repaint).is_empty() && painted.same_state(terminal));
+    let update = shown.update(terminal, scratch).unwrap();
+    assert!(updated.feed(&update).is_empty() && updated.same_state(terminal));
+    assert!(shown.update(terminal, scratch).unwrap().is_empty());
+    Some(repaint)
+}
+
+/// Returns the lines that are shown, without SGR and without the spaces at their ends.
+fn plain(shown: &str) -> String {
+    let parts = shown.split('\x1b').enumerate().map(|(i, part)| if i == 0 { part } else { part.split_once('m').unwrap().1 });
+    parts.collect::<String>().split('\n').map(str::trim_end).collect::<Vec<_>>().join("\n")
 }
 
 #[test]
 fn vectors() {
-    let (rows, mut scratch) = match rows_of("VT220_VECTORS", "crates/vectors/stdout") {
-        Some(rows) => (rows, Scratch::new().unwrap()),
-        None => return,
-    };
-    for fields in &rows[1..] {
-        let input = bytes_of(&fields[1]);
-        for cut in [input.len().max(1), 1, 5] {
-            one_way(cut, &mut scratch, &input, fields);
-        }
-    }
-    assert!(rows.len() > 162);
+    each_way("dec", "vt220", |input, size, scratch| {
+        let (terminal, row) = fed(Language::Bytes, input, size, scratch);
+        assert_eq!(terminal.text(scratch), plain(&terminal.show(scratch)));
+        Row { repaint: repainted(&terminal, scratch), ..row }
+    });
 }
 
 #[test]

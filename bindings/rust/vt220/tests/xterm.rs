@@ -1,4 +1,4 @@
-//! What programs send under TERM=xterm, through Rust: VT220_ROWS names the file of vectors.
+//! What programs send under TERM=xterm, through Rust: VT220_VECTORS names the file of vectors.
 mod rows;
 
 use rows::{each_way, Row};
@@ -44,7 +44,7 @@ fn fed(input: &[u8], size: usize, scratch: &mut Scratch) -> Row {
 
 #[test]
 fn rows() {
-    each_way("xterm", fed);
+    each_way("utf-8", "xterm", fed);
 }
 
 #[test]

@@ -1,7 +1,7 @@
 //! Reads rows of tests that other languages have, too.
 #![allow(dead_code)]
 use std::{env, fs, str};
-use vt220::{Scratch, Terminal};
+use vt220::{Language, Scratch, Terminal};
 
 pub fn bytes_of(hex: &str) -> Vec<u8> {
     let digits: Vec<u8> = hex.bytes().filter(|b| *b != b' ').collect();
@@ -25,17 +25,27 @@ fn spelled(field: &str) -> Vec<u8> {
     let (mut bytes, mut rest) = (Vec::new(), field.bytes());
     while let Some(byte) = rest.next() {
         let escape = if byte == b'\\' { rest.next() } else { None };
-        bytes.push(match escape {
-            None => byte,
+        match escape {
+            None => bytes.push(byte),
             Some(b'x') => {
                 let digits = [rest.next().unwrap(), rest.next().unwrap()];
-                u8::from_str_radix(str::from_utf8(&digits).unwrap(), 16).unwrap()
+                bytes.push(u8::from_str_radix(str::from_utf8(&digits).unwrap(), 16).unwrap());
             }
-            Some(b'e') => 0x1b,
-            Some(b'n') => b'\n',
-            Some(b'r') => b'\r',
-            Some(other) => other,
-        });
+            Some(b'{') => {
+                let digits: Vec<u8> = rest.by_ref().take_while(|byte| *byte != b'}').collect();
+                let (count, last): (usize, u8) = (str::from_utf8(&digits).unwrap().parse().unwrap(), *bytes.last().unwrap());
+                bytes.resize(bytes.len() + count - 1, last);
+            }
+            Some(letter) => bytes.extend_from_slice(match letter {
+                b'e' => b"\x1b",
+                b'n' => b"\n",
+                b'r' => b"\r",
+                b'H' => b"\x1b(B\x1b*<\x1b+0\x0f",
+                b'P' => b"\x1b[0m\x1b[0\"q",
+                b'S' => b"\x1b(B\x1b)B\x1b*<\x1b+<\x0f\x1b}",
+                _ => b"\\",
+            }),
+        }
     }
     bytes
 }
@@ -53,6 +63,7 @@ pub struct Row {
     pub pending: Vec<u8>,
     pub reports: Vec<u8>,
     pub lines: String,
+    pub repaint: Option<Vec<u8>>,
 }
 
 impl Row {
@@ -71,6 +82,7 @@ impl Row {
             pending: vec![],
             reports: vec![],
             lines: String::new(),
+            repaint: None,
         }
     }
 
@@ -90,6 +102,7 @@ impl Row {
                 ("pending", value) => row.pending = spelled(value),
                 ("reports", value) => row.reports = spelled(value),
                 ("lines", value) => row.lines = text(value),
+                ("repaint", value) => row.repaint = Some(spelled(value)),
                 ("differs", _) => {}
                 other => panic!("{other:?}"),
             }
@@ -98,15 +111,31 @@ impl Row {
     }
 }
 
-/// Feeds the input of each vector for a terminal whole and byte by byte, and compares what that leads to with what the vector has.
-pub fn each_way(terminal: &str, fed: impl Fn(&[u8], usize, &mut Scratch) -> Row) {
-    let (rows, mut scratch, mut count) = match rows_of("VT220_ROWS", "tests-c/vectors.txt") {
+/// Feeds an input in chunks of a size, with the log and without one. Returns the terminal, and what that leads to.
+pub fn fed(language: Language, input: &[u8], size: usize, scratch: &mut Scratch) -> (Terminal, Row) {
+    let (mut terminal, mut other) = (Terminal::open_as(language).unwrap(), Terminal::open_as(language).unwrap());
+    let (mut reports, mut lines) = (Vec::new(), String::new());
+    for piece in input.chunks(size) {
+        let (now, off) = terminal.feed_log(piece, scratch);
+        assert_eq!(other.feed(piece), now);
+        assert!(other.same_state(&terminal) && other.pending() == terminal.pending());
+        reports.extend(now);
+        lines += &off;
+    }
+    let row = Row { pending: terminal.pending(), reports, lines, ..Row::of(&terminal, scratch) };
+    (terminal, row)
+}
+
+/// Feeds the input of each vector for an encoding and a terminal whole, byte by byte and in chunks of five, and compares what that leads to
+/// with what the vector has.
+pub fn each_way(encoding: &str, terminal: &str, fed: impl Fn(&[u8], usize, &mut Scratch) -> Row) {
+    let (rows, mut scratch, mut count) = match rows_of("VT220_VECTORS", "tests-c/vectors.txt") {
         Some(rows) => (rows, Scratch::new().unwrap(), 0),
         None => return,
     };
-    for fields in rows.iter().filter(|fields| fields[2] == terminal) {
+    for fields in rows.iter().filter(|fields| fields[1..3] == [encoding, terminal]) {
         let (input, wanted) = (spelled(&fields[3]), Row::wanted(&fields[4..], &mut scratch));
-        for size in [input.len(), 1] {
+        for size in [input.len().max(1), 1, 5] {
             assert_eq!(fed(&input, size, &mut scratch), wanted, "{} in chunks of {size}", fields[0]);
         }
         count += 1;

@@ -253,9 +253,9 @@ static void answer(struct client *c) {
 static void begin(struct client *c) {
     bool is_known = c->in[HELLO_LOWEST] <= PROTOCOL_HIGHEST && c->in[HELLO_HIGHEST] >= PROTOCOL_LOWEST;
     uint8_t version = c->in[HELLO_HIGHEST] < PROTOCOL_HIGHEST ? c->in[HELLO_HIGHEST] : PROTOCOL_HIGHEST;
-    uint8_t told[64] = {is_known ? version : 0, PROTOCOL_LOWEST, PROTOCOL_HIGHEST, the.is_over + the.is_shown};
-    int len = snprintf((char *)told + 4, sizeof told - 4, "%d.%d.%d", VT220_VERSION / 10000, VT220_VERSION / 100 % 100, VT220_VERSION % 100);
-    put(c, FRAME_HELLO, told, 4 + (size_t)len);
+    uint8_t told[4 + sizeof KEEP_VERSION - 1] = {is_known ? version : 0, PROTOCOL_LOWEST, PROTOCOL_HIGHEST, the.is_over + the.is_shown};
+    memcpy(told + 4, KEEP_VERSION, sizeof KEEP_VERSION - 1);
+    put(c, FRAME_HELLO, told, sizeof told);
     c->ask = (char)c->in[HELLO_ASK];
     c->version = told[0];
     if (types_keys(c->ask) && told[0] >= PROTOCOL_ENCODING) put(c, FRAME_ENCODING, &(uint8_t){the.language != VT220_BYTES}, 1);

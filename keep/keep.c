@@ -247,7 +247,7 @@ static int do_help(char **words, const struct options *options) {
 
 static int do_version(char **words, const struct options *options) {
     (void)words, (void)options;
-    printf("vt220-keep %d.%d.%d\n", VT220_VERSION / 10000, VT220_VERSION / 100 % 100, VT220_VERSION % 100);
+    puts("vt220-keep " KEEP_VERSION);
     return 0;
 }
 

@@ -12,6 +12,8 @@
 #include <stdnoreturn.h>
 #include <sys/types.h>
 
+#define KEEP_VERSION "0.4.0" /* of vt220-keep, which has its own */
+
 enum { NAME_LIMIT = 64, WHY_LIMIT = PATH_MAX + 512 /* a reason may begin with a path */ };
 
 /* --- keep.c --- */

@@ -4,6 +4,7 @@ import json
 import os
 import signal
 import time
+import unittest
 
 import load
 from harness import (
@@ -350,10 +351,13 @@ def a_backlog_of_many_sessions_takes_little_memory(url, _):
 
 
 def what_the_store_says_is_printed_without_its_escapes(url, _):
-    store = stores.connect(url)
+    store, one = stores.connect(url), worker(url)
     evil = "\033]0;title\007\033[2J\u009b1m"
     source = Source(url, "plain", lease=600)
     store.hset(source.part("about"), mapping={"host": evil, "name": evil + "n" * 5000})
+    with unittest.TestCase().assertLogs("fleet.worker") as logged:
+        until(lambda: one.kept, one)
+    check("took \\x1b]0" in logged.output[0] and not set("".join(logged.output)) & {"\033", "\007", "\u009b"}, f"a worker's log: {logged.output}")
     store.set(source.part("fault"), "Poison: " + evil)
     status, out, said = fleet(url, "list")
     check(status == 0 and not set(out + said) & {"\033", "\007", "\u009b"}, repr(out + said))

@@ -1,8 +1,13 @@
-// packed.js: a recording as vt220-page writes it: JSON with the bytes and the list of chunks, both by gzip in base64.
-import { arranged, at9600Baud, objectIn, preceded, valueIn } from "./reading.js";
+// packed.js: a recording as vt220-page writes it: JSON with the list of chunks and the bytes, both by gzip in base64. The bytes come last.
+import { fileOf, incoming } from "./incoming.js";
+import { LF, arranged, at9600Baud, preceded, valueIn } from "./reading.js";
 
-const SLICE = 1 << 20; // characters of base64, a multiple of four
-const LF = 10, SPACE = 32, ZERO = 48;
+// Characters of base64 that are unpacked at once: first a few, and then more. Each is a multiple of four.
+const FIRST = 1 << 16, MOST = 1 << 20;
+const SPACE = 32, QUOTE = 34, ZERO = 48;
+const BEFORE_BYTES = '"bytes": "';
+
+const text = (bytes) => new TextDecoder().decode(bytes);
 
 function decoded(base64) {
   const text = atob(base64), bytes = new Uint8Array(text.length);
@@ -10,14 +15,32 @@ function decoded(base64) {
   return bytes;
 }
 
-/** Returns a stream of the bytes that are packed, a slice at a time. */
-function unpacking(base64) {
-  let at = 0;
+/** Yields the pieces of a text in base64. */
+function* pieces(base64) {
+  for (let at = 0, size = FIRST; at < base64.length; size = Math.min(2 * size, MOST)) {
+    yield base64.slice(at, at + size);
+    at += size;
+  }
+}
+
+/** Yields the pieces of a text in base64 that begins at a place of a file, and ends at a quotation mark, as they come. */
+async function* comingPieces(file, at) {
+  for (let size = FIRST; ; size = Math.min(2 * size, MOST)) {
+    const piece = (await file.first(at + size)).subarray(at), end = piece.indexOf(QUOTE);
+    yield text(end < 0 ? piece : piece.subarray(0, end));
+    if (end >= 0) return;
+    if (piece.length < size) throw new RangeError("the bytes are cut short");
+    at += size;
+  }
+}
+
+/** Returns a stream of the bytes that are packed in pieces of base64. */
+function unpacking(pieces) {
   const source = new ReadableStream({
-    pull(control) {
-      control.enqueue(decoded(base64.slice(at, at + SLICE)));
-      at += SLICE;
-      if (at >= base64.length) control.close();
+    async pull(control) {
+      const { done, value } = await pieces.next();
+      if (done) control.close();
+      else control.enqueue(decoded(value));
     },
   });
   return source.pipeThrough(new DecompressionStream("gzip"));
@@ -25,7 +48,7 @@ function unpacking(base64) {
 
 /** Returns a promise of the bytes that are packed. */
 export async function unpacked(base64) {
-  return new Uint8Array(await new Response(unpacking(base64)).arrayBuffer());
+  return new Uint8Array(await new Response(unpacking(pieces(base64))).arrayBuffer());
 }
 
 /** Returns the times and the ends of chunks, of their lines 'MICROS BYTES'. */
@@ -60,7 +83,7 @@ export async function opened({ bytes: packed, chunks, length, read, asked: wante
   const { times, ends } = chunks === null ? at9600Baud(length) : listed(await unpacked(chunks));
   const recording = preceded(how.front, { bytes: new Uint8Array(ends[ends.length - 1] ?? 0), times, ends }), { bytes } = recording;
   const fill = async (arrived) => {
-    const reader = unpacking(packed).getReader();
+    const reader = unpacking(typeof packed === "string" ? pieces(packed) : packed).getReader();
     for (let at = how.front.length; ; ) {
       const { done, value } = await reader.read();
       if (done && at !== bytes.length) throw new RangeError("the bytes are cut short");
@@ -73,14 +96,28 @@ export async function opened({ bytes: packed, chunks, length, read, asked: wante
   return { recording, fill, options: { ...options, ...how.options }, notes: [...how.notes, ...(notes ?? [])] };
 }
 
-/** Returns a promise of the bytes that a source is or leads to: an address, a file, or bytes. */
-async function fileOf(source) {
-  if (source instanceof Blob) return new Uint8Array(await source.arrayBuffer());
-  if (source instanceof ArrayBuffer) return new Uint8Array(source);
-  if (ArrayBuffer.isView(source)) return new Uint8Array(source.buffer, source.byteOffset, source.byteLength);
-  const response = await fetch(source);
-  if (!response.ok) throw new TypeError(`${source} has the status ${response.status}`);
-  return new Uint8Array(await response.arrayBuffer());
+const isPacked = (value) => typeof value?.bytes === "string" && value.chunks !== undefined;
+
+/** Returns whether a text's first line is a value in JSON, such as the header of a recording by asciinema. */
+function hasHeader(text) {
+  const end = text.indexOf("\n");
+  return end >= 0 && valueIn(text.slice(0, end)) !== null;
+}
+
+/**
+ * Returns a promise of the recording that vt220-page wrote into a file, or of null if that has something else. What is before its bytes is read as
+ * soon as it has come. The bytes are then pieces, which come later.
+ */
+async function packedIn(file) {
+  for (let size = FIRST; ; size *= 2) {
+    const bytes = await file.first(size), head = text(bytes), at = head.indexOf(BEFORE_BYTES), before = head.slice(0, at + BEFORE_BYTES.length);
+    if (!/^\s*\{/.test(head) || (at < 0 && hasHeader(head))) return null;
+    const packed = at < 0 ? null : valueIn(`${before}"}`);
+    if (isPacked(packed)) return { ...packed, bytes: comingPieces(file, new TextEncoder().encode(before).length) };
+    if (at >= 0 || bytes.length < size) break;
+  }
+  const whole = valueIn(text(await file.whole()));
+  return isPacked(whole) ? whole : null;
 }
 
 /**
@@ -89,8 +126,8 @@ async function fileOf(source) {
  */
 export async function source(wanted, timing) {
   if (wanted?.bytes instanceof Uint8Array) return { recording: wanted };
-  const isText = typeof wanted === "string" && /^\s*\{/.test(wanted), file = isText ? null : await fileOf(wanted);
-  const packed = isText ? valueIn(wanted) : objectIn(file);
-  if (typeof packed?.bytes === "string" && packed.chunks !== undefined) return { packed };
-  return { file: file ?? new TextEncoder().encode(wanted), timing: timing === null ? null : await fileOf(timing) };
+  const isText = typeof wanted === "string" && /^\s*\{/.test(wanted), inside = isText ? valueIn(wanted) : null;
+  if (isPacked(inside)) return { packed: inside };
+  const file = isText ? fileOf(new TextEncoder().encode(wanted)) : await incoming(wanted), packed = await packedIn(file);
+  return packed === null ? { file, timing: timing === null ? null : await (await incoming(timing)).whole() } : { packed };
 }

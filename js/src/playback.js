@@ -4,6 +4,8 @@ export class Playback {
   /** `find` returns the spans of a text, or a promise of them. */
   constructor(line, { changed = () => {}, told = () => {}, find = (text, how) => line.search(text, how) } = {}) {
     this.line = line;
+    /** Whether `line` has the whole recording. Otherwise it waits at the end for more. */
+    this.isWhole = true;
     this.find = find;
     this.changed = changed;
     this.told = told;
@@ -35,7 +37,7 @@ export class Playback {
     if (this.isPlaying) return;
     this.now = this.from ?? this.now;
     this.from = null;
-    if (this.now >= this.line.duration) this.now = 0;
+    if (this.isWhole && this.now >= this.line.duration) this.now = 0;
     this.isPlaying = true;
     this.tell("play");
     this.changed();
@@ -55,7 +57,7 @@ export class Playback {
     this.now += seconds * this.speed;
     if (this.skips) this.skipPause();
     this.pass(before);
-    if (this.isPlaying && this.now >= this.line.duration) this.finish();
+    if (this.isPlaying && this.now >= this.line.duration) this.isWhole ? this.finish() : (this.now = this.line.duration);
     this.changed();
   }
 

@@ -40,7 +40,7 @@ export declare class Vt220Player extends HTMLElement {
   static reader: Source | Promise<Source> | undefined;
   /** A promise of the shared core. */
   static readonly core: Promise<Core>;
-  /** A promise that the whole recording has come, or can't. */
+  /** A promise that the whole recording has come and has been read, or can't. */
   readonly loaded: Promise<void>;
   /** The address of the recording, or the recording: a file, its bytes, or the bytes of a program with their times. */
   src: string | Blob | ArrayBuffer | Uint8Array | Recording | null;
@@ -73,13 +73,13 @@ export declare class Vt220Player extends HTMLElement {
   /** Plays, as soon as it is ready. */
   play(): Promise<void>;
   pause(): Promise<void>;
-  /** Goes to a moment in seconds, as "M:SS", as "50%", or to a marker by its index or a direction. */
+  /** Goes, once the whole recording has been read, to a moment in seconds, as "M:SS", as "50%", or to a marker by its index or a direction. */
   seek(where: number | string | { marker: number | "prev" | "next" }): Promise<void>;
   /** Searches all time, as the controls for case and expressions say, and returns what was found. */
   search(text: string): Promise<Span[]>;
   /** Returns the moment that is shown, in seconds. */
   getCurrentTime(): number;
-  /** Returns how long the recording is, in seconds, or null if it isn't ready. */
+  /** Returns how long the recording is, in seconds. Returns null until that is known: of a large file, until all has been read. */
   getDuration(): number | null;
   /** Plays bytes on a player with the attribute `live`. Throws Vt220Error if it isn't ready. */
   feed(bytes: Uint8Array): void;

@@ -3,7 +3,7 @@ import { Live, connected } from "./live.js";
 import { MARKUP, STYLE } from "./look.js";
 import { lacking } from "./notes.js";
 import { opened, source } from "./packed.js";
-import { noteOnBytes, played } from "./reading.js";
+import { noteOnBytes, played, readable } from "./reading.js";
 import { Reader } from "./recordings.js";
 import { Searcher } from "./searcher.js";
 import { Timeline } from "./timeline.js";
@@ -24,6 +24,8 @@ const ATTRIBUTES = {
   encoding: ["encoding", "encoding", TEXT], terminal: ["terminal", "terminal", TEXT], links: ["links", "links", FLAG],
   fit: ["fit", "fit", TEXT], keystrokes: ["keystrokes", "keystrokes", FLAG], "audio-url": ["audioUrl", "audio", TEXT],
 };
+// What is read and shown of a larger file before the rest has come, in bytes.
+const BEGINNING = 1 << 18;
 const LONGEST_TURN = 30; // milliseconds without a turn of the page
 const EVENTS = { seek: "seeked" };
 // In node, in which nothing can be shown, the module can be imported.
@@ -188,15 +190,43 @@ export class Vt220Player extends Base {
     because("The recording can't be fetched.");
     const { packed, recording, file, timing } = await source(wanted, this.timing);
     because(file ? "The recording can't be read." : "The recording is damaged.");
-    const made = packed ? await opened(packed, this.#asked()) : file ? await played(Vt220Player.#recordings, file, timing, this.#asked()) : { recording };
+    const made = packed ? await opened(packed, this.#asked()) : file ? await this.#read(file, timing, core, because, isOver) : { recording };
     if (isOver()) return;
     const options = this.#options(made.options), notes = made.notes ?? [];
     const { encoding, terminal } = options, line = new Timeline(core, made.recording, { encoding, terminal });
     const searcher = new Searcher(core, line, made.recording, { encoding, terminal });
     this.#parts.push(searcher, line);
     if (made.fill) await this.#fill(made.fill, line, () => this.#begin(core, line, searcher, options, notes), options, isOver);
-    else this.#begin(core, line, searcher, options, notes);
+    else if (this.#view === null) this.#begin(core, line, searcher, options, notes);
+    else {
+      this.#view.line.close();
+      this.#view.complete(line, searcher, options);
+      this.#view.addNotes(notes);
+    }
     if (!isOver()) this.noted = this.#note(core, line, made.recording.bytes, isOver);
+  }
+
+  /** Returns a promise of what is played of a file. The beginning of a large one is shown first. */
+  async #read(file, timing, core, because, isOver) {
+    const first = await file.first(BEGINNING), beginning = first.length < BEGINNING ? null : readable(first);
+    const read = (bytes) => played(Vt220Player.#recordings, bytes, timing, this.#asked());
+    if (beginning !== null) {
+      const { recording, options } = await read(beginning);
+      if (!isOver()) this.#preview(recording, this.#options(options), core);
+      await turn();
+    }
+    because("The recording can't be fetched.");
+    const whole = await file.whole();
+    because("The recording can't be read.");
+    return read(whole);
+  }
+
+  /** Shows the beginning of a recording, and plays it, until the whole is there. If it lacks the first frame, it does nothing. */
+  #preview(recording, options, core) {
+    const { encoding, terminal, poster, start, links } = options, line = new Timeline(core, recording, { encoding, terminal });
+    if (Math.max(poster ?? start, start) >= line.duration || (links && location.hash !== "")) return line.close();
+    this.#parts.push(line);
+    this.#begin(core, line, null, options, []);
   }
 
   /** Adds a note on the characters of the bytes, after the first frame. */
@@ -297,6 +327,7 @@ export class Vt220Player extends Base {
 
   async seek(where) {
     const view = await this.#ready(), { player } = view;
+    if (!player.isWhole) await this.loaded;
     if (typeof where !== "object") return player.go(/%$/.test(where) ? (view.line.duration * parseFloat(where)) / 100 : seconds(where));
     if (where.marker === "next" || where.marker === "prev") return view.marker(where.marker === "next" ? 1 : -1);
     if (where.marker in player.markers) player.go(player.markers[where.marker]);
@@ -312,7 +343,7 @@ export class Vt220Player extends Base {
   }
 
   getDuration() {
-    return this.#view?.line.duration ?? null;
+    return this.#view?.player.isWhole ? this.#view.line.duration : null;
   }
 }
 

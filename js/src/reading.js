@@ -2,6 +2,8 @@
 // recording. Otherwise the reader reads the file.
 import { INPUT, MARKER, OUTPUT } from "./reader.js";
 
+/** LF, which ends a line. */
+export const LF = 0x0a;
 const CHUNK = 48, PACE = 0.05; // a line of 9600 baud carries 960 bytes a second: a chunk every 50 ms
 const WIDE = 132, SIZES = [80, WIDE], HEIGHT = 24;
 const TO_WIDE = { vt220: "\x1b[?3h", xterm: "\x1b[?40h\x1b[?3h\x1b[?40l" };
@@ -22,7 +24,7 @@ const isObject = (value) => typeof value === "object" && value !== null && !Arra
 /** Returns the object in JSON that a file's first line is, or the file as a whole, or null. */
 export function objectIn(file) {
   if (!utf8.to(file.subarray(0, 1024)).trimStart().startsWith("{")) return null;
-  const end = file.indexOf(0x0a), value = (end < 0 ? null : valueIn(utf8.to(file.subarray(0, end)))) ?? valueIn(utf8.to(file));
+  const end = file.indexOf(LF), value = (end < 0 ? null : valueIn(utf8.to(file.subarray(0, end)))) ?? valueIn(utf8.to(file));
   return isObject(value) ? value : null;
 }
 
@@ -40,8 +42,12 @@ function inLines(file, cast) {
 
 /** Returns the times and the ends of chunks of so many bytes that have no times. */
 export function at9600Baud(length) {
-  const count = Math.ceil(length / CHUNK);
-  return { times: Float64Array.from({ length: count }, (_, i) => PACE * (i + 1)), ends: Float64Array.from({ length: count }, (_, i) => Math.min(length, CHUNK * (i + 1))) };
+  const count = Math.ceil(length / CHUNK), times = new Float64Array(count), ends = new Float64Array(count);
+  for (let i = 0; i < count; i++) {
+    times[i] = PACE * (i + 1);
+    ends[i] = Math.min(length, CHUNK * (i + 1));
+  }
+  return { times, ends };
 }
 
 /** Moves the bytes of the events that are output together, and returns these, with their times and ends. A time that is earlier than the one before it is that one. */
@@ -130,6 +136,16 @@ export function arranged(read, asked) {
     front: utf8.from(read.size?.[0] === WIDE ? TO_WIDE[chosen.terminal] : ""),
     notes: notesOn(read, chosen.terminal),
   };
+}
+
+/**
+ * Returns the part of a file's beginning that can be read by itself: of a recording by asciinema whole lines. Returns null if its format needs
+ * the whole file.
+ */
+export function readable(beginning) {
+  if (!utf8.to(beginning.subarray(0, 1024)).trimStart().startsWith("{")) return beginning;
+  const { version } = objectIn(beginning) ?? {};
+  return version === 2 || version === 3 ? beginning.subarray(0, beginning.lastIndexOf(LF) + 1) : null;
 }
 
 /** Returns a promise of what is played of a file: the recording, and how. `timing` is the timing file of script, or null. `asked` is that of arranged(). */

@@ -57,18 +57,18 @@ function save(name, type, text) {
 }
 
 export class View {
-  /** `line` is a Timeline, or a Live with the option `isLive`. `searcher` is null if it is live. */
+  /** `line` is a Timeline, or a Live with the option `isLive`. `searcher` is null if it is live, and while `line` has only the beginning of a recording. */
   constructor(host, core, line, searcher, options) {
-    Object.assign(this, { host, line, options, root: host.shadowRoot, scale: 1 });
+    Object.assign(this, { host, options, root: host.shadowRoot, scale: 1 });
     this.abort = new AbortController();
     /** Is called after each draw. */
     this.drawn = () => {};
     this.screen = new Screen(core, this.$("screen"));
     // Whether the focus was last moved by a pointer, what was selected then, and whether the last click on the screen plays or pauses.
     Object.assign(this, { isPointed: false, hadSelection: false, isClick: false });
-    const find = (text, how) => searcher.search(text, how);
+    const find = (text, how) => this.searcher.search(text, how);
     this.player = new Playback(line, { changed: () => this.draw(), told: (event, time, more) => this.told(event, time, more), find });
-    Object.assign(this.player, { loops: options.loop === true ? Infinity : Number(options.loop), longestPause: options.pause, stops: options.stops, markers: options.markers.map(([time]) => time), inputs: options.inputs });
+    Object.assign(this.player, { loops: options.loop === true ? Infinity : Number(options.loop), longestPause: options.pause, stops: options.stops });
     // What is heard would be out of step if pauses were skipped.
     this.sound = options.audio === null ? null : new Sound(options.audio);
     this.$("skip").checked = this.player.skips = this.sound === null;
@@ -78,9 +78,26 @@ export class View {
     for (const part of ["controls", "keys"]) this.$(part).classList.toggle("live", options.isLive);
     this.$("keys").hidden = options.isLive;
     this.setSpeed(options.speed);
-    this.$("time").max = line.duration;
-    this.listMarkers();
+    this.take(line, searcher, options);
     this.listen();
+  }
+
+  /** Takes a recording, or its beginning, with its markers and what was typed. */
+  take(line, searcher, { markers, inputs, isLive }) {
+    Object.assign(this, { line, searcher });
+    Object.assign(this.options, { markers, inputs });
+    Object.assign(this.player, { line, inputs, markers: markers.map(([time]) => time), isWhole: isLive || searcher !== null });
+    this.$("time").max = line.duration;
+    this.$("time").disabled = !this.player.isWhole;
+    this.listMarkers();
+  }
+
+  /** Goes on with the whole of a recording, of which it had the beginning. */
+  complete(line, searcher, options) {
+    this.take(line, searcher, options);
+    this.say("");
+    this.drawMarks();
+    this.draw();
   }
 
   $(id) {
@@ -125,7 +142,7 @@ export class View {
   /** Shows the moment of the link, or the poster. */
   start() {
     const { options, player } = this;
-    this.say("");
+    this.say(player.isWhole ? "" : "Loading");
     player.wait(options.poster ?? options.start, options.start);
     this.$("stage").classList.toggle("waiting", !options.isLive);
     if (options.links) this.follow();
@@ -244,7 +261,7 @@ export class View {
     if (target.matches?.("input[type=search], select") && event.key !== "Escape") return;
     // Space presses a control that Tab reached. A control that was clicked has the focus, too, and Space plays.
     if (event.key === " " && !this.isPointed && target.matches?.("button, summary, input[type=checkbox]")) return;
-    const { player } = this, act = /^[0-9]$/.test(event.key) ? () => player.go((this.line.duration * Number(event.key)) / 10) : this.acts(event)[event.key];
+    const { player } = this, act = /^[0-9]$/.test(event.key) ? () => this.goTo(Number(event.key) / 10) : this.acts(event)[event.key];
     if (act === undefined) return;
     event.preventDefault();
     act();
@@ -257,10 +274,16 @@ export class View {
     if (this.options.isLive) return always;
     return {
       ...always, " ": () => this.toggle(), ArrowLeft: () => player.go(player.now - far), ArrowRight: () => player.go(player.now + far), ",": () => player.step(-1),
-      ".": () => player.step(1), Home: () => player.go(0), End: () => player.go(this.line.duration), "/": () => this.$("needle").focus(), n: () => this.hit(1),
+      ".": () => player.step(1), Home: () => player.go(0), End: () => this.goTo(1), "/": () => this.$("needle").focus(), n: () => this.hit(1),
       N: () => this.hit(-1), "[": () => this.marker(-1), "]": () => this.marker(1), "<": () => this.faster(-1), ">": () => this.faster(1), s: () => this.$("skip").click(),
       "?": () => this.$("keys").toggleAttribute("open"),
     };
+  }
+
+  /** Goes to a part of the whole time, as soon as that is known. */
+  async goTo(part) {
+    if (!this.player.isWhole) await this.host.loaded;
+    this.player.go(this.line.duration * part);
   }
 
   /** Goes to the next speed, or to the one before. */
@@ -320,6 +343,7 @@ export class View {
   }
 
   listMarkers() {
+    this.$("markers").replaceChildren();
     for (const [time, label] of this.options.markers) {
       const button = document.createElement("button");
       button.textContent = `${clock(time)} ${label}`.trim();
@@ -330,11 +354,11 @@ export class View {
   }
 
   draw() {
-    const { player, line } = this, time = clock(player.now);
+    const { player, line } = this, time = clock(player.now), whole = player.isWhole ? clock(line.duration) : "…";
     this.screen.draw(line.seekTime(player.now));
     this.$("time").value = player.now;
-    this.$("time").setAttribute("aria-valuetext", `${time} of ${clock(line.duration)}`);
-    this.$("clock").textContent = `${time} / ${clock(line.duration)}`;
+    this.$("time").setAttribute("aria-valuetext", `${time} of ${whole}`);
+    this.$("clock").textContent = `${time} / ${whole}`;
     this.$("play").textContent = player.isPlaying ? "Pause" : "Play";
     this.$("stage").classList.toggle("playing", player.isPlaying || this.options.isLive);
     this.drawTyped();

@@ -63,8 +63,9 @@ def recording(
     if unknown:
         raise TypeError(f"a page has no option {', '.join(sorted(unknown))}")
     listed = None if chunks is None else packed("\n".join(f"{micros} {size}" for micros, size in chunks).encode())
-    made = {"title": title, "notes": list(notes), "options": {**OPTIONS, **options}, "bytes": packed(content), "chunks": listed, "length": len(content)}
-    return json.dumps({**made, **({} if read is None else {"read": read, "asked": asked})})
+    made = {"title": title, "notes": list(notes), "options": {**OPTIONS, **options}, "chunks": listed, "length": len(content)}
+    # The bytes come last: what is before them is read while they come.
+    return json.dumps({**made, **({} if read is None else {"read": read, "asked": asked}), "bytes": packed(content)})
 
 
 def _player(recorded: str, attributes: str = "") -> str:

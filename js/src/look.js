@@ -47,7 +47,7 @@ export const STYLE = `
 /* The text fills the width, but it is never smaller than the least size: then the screen scrolls. */
 #screen { --columns: 80; --wide: calc(100cqw / (var(--columns) * .602 + 1.4)); --high: calc(100cqh / (24 * 1.17 + 1.2)); --size: var(--wide); --glass: var(--vt220-background, #10140f); --glow: var(--vt220-foreground, #b8e0b0); --bright: var(--vt220-bright, #f0fff0); background: var(--glass); color: var(--glow); padding: .6em; border-radius: 6px;
   overflow: auto hidden; outline-offset: 3px; font: max(var(--vt220-least, 12px), var(--size) * var(--scale, 1)) / 1.17 var(--vt220-font, "DejaVu Sans Mono", Menlo, Consolas, "Liberation Mono", monospace);
-  font-variant-ligatures: none; cursor: text; min-height: calc(24 * 1.17em + 1.2em); }
+  font-variant-ligatures: none; cursor: text; scrollbar-color: var(--glow) var(--glass); min-height: calc(24 * 1.17em + 1.2em); }
 #screen.reversed { --glass: var(--vt220-foreground, #b8e0b0); --glow: var(--vt220-background, #10140f); --bright: #000000; }
 #screen div { white-space: pre; height: 1.17em; width: max-content; min-width: 100%; }
 #screen .b { color: var(--bright); font-weight: bold; }

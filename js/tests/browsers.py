@@ -33,6 +33,11 @@ class Page:
     def wait(self, script):
         until(lambda: self.evaluate(script), script)
 
+    def picture(self, path):
+        """Writes a picture of what the window shows."""
+        with open(path, "wb") as file:
+            file.write(base64.b64decode(self.pictured()))
+
     def end(self):
         """Kills the browser, and removes its profile. Nothing of it is kept, and to close may take minutes on a busy machine."""
         self.process.kill()
@@ -131,9 +136,8 @@ class Chromium(Page):
         clip = {"x": round(place["x"] + part * place["width"]), "y": round(place["y"] + (place["height"] - size) / 2), "width": size, "height": size, "scale": 1}
         return self.call("Page.captureScreenshot", format="png", clip=clip)["data"]
 
-    def picture(self, path):
-        with open(path, "wb") as file:
-            file.write(base64.b64decode(self.call("Page.captureScreenshot", format="png")["data"]))
+    def pictured(self):
+        return self.call("Page.captureScreenshot", format="png")["data"]
 
     def close(self):
         self.end()
@@ -142,10 +146,11 @@ class Chromium(Page):
 
 
 class Firefox(Page):
-    def __init__(self, url):
+    def __init__(self, url, scheme="light"):
         self.folder = tempfile.mkdtemp(prefix="firefox-")
         with open(os.path.join(self.folder, "user.js"), "w") as file:
             file.write('user_pref("marionette.port", 0);\n')
+            file.write(f'user_pref("layout.css.prefers-color-scheme.content-override", {int(scheme == "light")});\n')
         environment = dict(os.environ, HOME=self.folder, MOZ_HEADLESS="1")
         words = ["firefox-esr", "--headless", "--no-remote", "--marionette", "--profile", self.folder]
         self.process = subprocess.Popen(words, env=environment, stdin=subprocess.DEVNULL, stdout=subprocess.DEVNULL, stderr=subprocess.DEVNULL)
@@ -198,6 +203,19 @@ class Firefox(Page):
         if isinstance(got, dict) and "fault" in got:
             raise RuntimeError(got["fault"])
         return got
+
+    def names(self):
+        """Returns the roles and the names that a screen reader has of the elements in the first player."""
+        player = self.call("WebDriver:FindElement", using="css selector", value="vt220-player")["value"]
+        root = next(iter(self.call("WebDriver:GetShadowRoot", id=next(iter(player.values())))["value"].values()))
+        found = [next(iter(each.values())) for each in self.call("WebDriver:FindElementsFromShadowRoot", shadowRoot=root, using="css selector", value="*")]
+        return [tuple(self.call(f"WebDriver:GetComputed{what}", id=each)["value"] for what in ("Role", "Label")) for each in found]
+
+    def size(self, width, height):
+        self.call("WebDriver:SetWindowRect", width=width, height=height)
+
+    def pictured(self):
+        return self.call("WebDriver:TakeScreenshot", full=False)["value"]
 
     def close(self):
         self.end()

@@ -10,7 +10,7 @@ use vt_screen::{Brush, Cell, Rendition, Screen};
 /// Writes a text starting at a place, if it fits.
 fn write(screen: &mut Screen, row: usize, column: usize, text: &[u8], like: &Cell) {
     let fits = 1 <= row
-        && row <= 24
+        && row <= screen.size().rows
         && 1 <= column
         && column <= screen.width()
         && text.len() <= screen.width() + 1 - column;
@@ -20,9 +20,10 @@ fn write(screen: &mut Screen, row: usize, column: usize, text: &[u8], like: &Cel
 }
 
 /// Returns whether a row shows a text, and spaces after it.
-fn shows(screen: &Screen, row: usize, text: &str) -> bool
-    requires { (1 ≤ row) × (row ≤ 24) }
-{
+fn shows(screen: &Screen, row: usize, text: &str) -> bool {
+    if row < 1 || screen.size().rows < row {
+        return false;
+    }
     let codes = text.as_bytes();
     for (i, cell) in screen.row(row).iter().enumerate() {
         let code = if i < codes.len() { codes[i] } else { b' ' };
@@ -34,9 +35,10 @@ fn shows(screen: &Screen, row: usize, text: &str) -> bool
 }
 
 /// Returns whether a row has plain spaces alone.
-fn is_blank(screen: &Screen, row: usize) -> bool
-    requires { (1 ≤ row) × (row ≤ 24) }
-{
+fn is_blank(screen: &Screen, row: usize) -> bool {
+    if row < 1 || screen.size().rows < row {
+        return false;
+    }
     for cell in screen.row(row) {
         if *cell != Cell::blank() {
             return false;
@@ -76,7 +78,9 @@ fn scroll_numbers(alloc: Global, screen: &mut Screen) -> Result<(), AllocError> 
     for k in 1..1001u16 {
         let line = format!(in alloc; "{k}")?;
         write(screen, 10, 1, line.as_bytes(), &Cell::blank());
-        screen.scroll_up(5, 10, 1);
+        if screen.size().rows == 24 {
+            screen.scroll_up(5, 10, 1);
+        }
     }
     Ok(())
 }
@@ -101,7 +105,7 @@ fn change_cells(screen: &mut Screen) {
     for row in 1..6 {
         write(screen, row, 1, b"ABC", &Cell::blank());
     }
-    if screen.width() == 80 {
+    if screen.size().rows == 24 && screen.width() == 80 {
         screen.erase(1, 2, 2, false);
         screen.insert_cells(2, 2, 2);
         screen.insert_cells(3, 2, 9999);
@@ -131,6 +135,9 @@ fn write_letters(screen: &mut Screen) {
 
 /// Returns whether lines are moved down in a region, then all of them, and then up by more than there are.
 fn lines_are_moved(screen: &mut Screen) -> bool {
+    if screen.size().rows != 24 {
+        return false;
+    }
     screen.scroll_down(2, 3, 1);
     let in_a_region = shows_lines(screen, &["A", "", "B"]);
     screen.scroll_down(1, 24, 1);
@@ -168,7 +175,7 @@ fn space(reverse: bool, protected: bool) -> Cell {
 fn erase_first_row(screen: &mut Screen, selective: bool) {
     write(screen, 1, 1, b"AB", &space(false, true));
     write(screen, 1, 3, b"C", &space(true, false));
-    if screen.width() == 80 {
+    if screen.size().rows == 24 && screen.width() == 80 {
         screen.erase(1, 1, 80, selective);
     }
 }
@@ -177,7 +184,8 @@ fn erase_first_row(screen: &mut Screen, selective: bool) {
 fn keeps_brushes(screen: &Screen) -> bool {
     let protected = space(false, true).brush();
     let reverse = space(true, false).rendition;
-    screen.width() == 80
+    screen.size().rows == 24
+        && screen.width() == 80
         && screen.cell(1, 1).brush() == protected
         && screen.cell(1, 3).rendition == reverse
 }
@@ -206,7 +214,7 @@ fn write_corners(screen: &mut Screen) {
 
 /// Moves by 0, writes no codes, and says whether the last row has its letters still.
 fn stays_by_nothing(screen: &mut Screen) -> bool {
-    if screen.width() != 132 {
+    if screen.size().rows != 24 || screen.width() != 132 {
         return false;
     }
     screen.scroll_up(1, 24, 0);
@@ -220,7 +228,7 @@ fn stays_by_nothing(screen: &mut Screen) -> bool {
 
 /// Writes and deletes in the last column, and says whether what was there is lost.
 fn loses_the_last_column(screen: &mut Screen) -> bool {
-    if screen.width() != 132 {
+    if screen.size().rows != 24 || screen.width() != 132 {
         return false;
     }
     let mark = Cell::new(Glyph::substitute(), Brush::plain());
@@ -232,7 +240,7 @@ fn loses_the_last_column(screen: &mut Screen) -> bool {
 
 /// Inserts more cells in the last row than there are, and scrolls a region of one row up and down.
 fn clear_by_edges(screen: &mut Screen) {
-    if screen.width() == 132 {
+    if screen.size().rows == 24 && screen.width() == 132 {
         screen.insert_cells(24, 1, 65535);
         screen.scroll_up(1, 1, 1);
         screen.put(1, 132, Cell::new(Glyph::substitute(), Brush::plain()));
@@ -260,6 +268,9 @@ fn the_edges_hold(rt: HostRuntime) {
 fn is_filled(screen: &Screen, width: usize, letter: u8) -> bool
     requires { (32 ≤ letter) × (letter ≤ 126) }
 {
+    if screen.size().rows != 24 {
+        return false;
+    }
     for row in 1..25 {
         let cells = screen.row(row);
         let last = Cell::new(Glyph::ascii(letter), Brush::plain());
@@ -292,7 +303,9 @@ fn differs_while_changed(screen: &mut Screen, new: &Screen) -> bool {
     screen.set_width(true);
     let is_same_wide = screen.same(new);
     screen.set_width(false);
-    screen.scroll_up(1, 24, 7);
+    if screen.size().rows == 24 {
+        screen.scroll_up(1, 24, 7);
+    }
     !is_same_filled && !is_same_wide && screen.same(new)
 }
 
@@ -324,7 +337,7 @@ fn bold() -> Brush {
 fn write_graphics(screen: &mut Screen) {
     let mut sets = Sets::power_up();
     sets.designate(0, Set::Special);
-    if screen.width() == 80 {
+    if screen.size().rows == 24 && screen.width() == 80 {
         let like = Cell::new(Glyph::blank(), bold());
         screen.put_graphics(3, 76, b"lqk\xE9\xA3", &sets.in_use(), like);
     }
@@ -345,6 +358,9 @@ fn are_shown(cells: &[Cell], brush: Brush) -> bool {
 
 /// Returns whether the last five cells of row 3 show that, and the cell in front of them is blank.
 fn graphics_are_written(screen: &Screen) -> bool {
+    if screen.size().rows != 24 {
+        return false;
+    }
     let cells = screen.row(3);
     cells.len() == 80 && cells[74] == Cell::blank() && are_shown(&cells[75..], bold())
 }

@@ -5,7 +5,6 @@ ghost use Rattle.vt_vectors.specs.Vectors.{IsOfRow};
 mod tables;
 
 use crate::expectation::Vector;
-use tables::{COUNT, tables};
 
 /// A vector as its table has it: its name, and the text and the repaint as strings.
 #[derive(Clone, Copy)]
@@ -31,7 +30,7 @@ impl Row {
 }
 
 /// The number of conformance vectors.
-pub const VECTOR_COUNT: usize = COUNT;
+pub const VECTOR_COUNT: usize = tables::COUNT;
 
 /// Returns the number of conformance vectors: at least 60.
 pub fn vector_count() -> usize
@@ -48,8 +47,9 @@ fn row_at(i: usize) -> Row
     ensures short { length result.input.now ≤ 200 }
     ensures lines { count_by (λ b. b == 0x0A) result.text.now ≡ 24 }
 {
+    let tables = tables::tables();
     let mut left = i;
-    for rows in tables() {
+    for rows in tables {
         if left < rows.len() {
             return rows[left];
         }

@@ -471,6 +471,7 @@ pub(super) const COUNT: usize = 191;
 
 /// Returns the tables.
 pub(super) fn tables() -> [&'static [Row]; 24]
+    ensures size { length result ≡ 24 }
     ensures count { sum_by (λ rows. length rows.now) result ≡ COUNT }
     ensures fit { All (λ rows. AreFit rows.now) result }
 {

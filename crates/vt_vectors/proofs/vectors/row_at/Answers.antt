@@ -32,6 +32,13 @@ lines-at : (rows : List Row) (i : ℕ) (d : Row) → i < length rows → AreFit 
 lines-at rows i d within fit = let has = all-at (λ row. has_all_lines row) rows i d within fit.lines in
     grind (arith, nat_tests)
 
+-- a place below the size of a list is one of the list
+below : {X : Type 0} (xs : List X) (k n : ℕ) → length xs ≡ n → k < n → k < length xs
+below xs k n size within = omega (arith, size, within)
+
+at-end : {X : Type 0} (xs : List X) (k n : ℕ) → length xs ≡ n → n ≤ k → length xs ≤ k
+at-end xs k n size past = omega (arith, size, past)
+
 -- one table more is passed
 passed-more : {X : Type 0} (f : X → ℕ) (xs : List X) (k left i : ℕ) (d : X) → k < length xs
     → sum_by f (take k xs) + left ≡ i → f (get_or xs k d) ≤ left
@@ -49,22 +56,22 @@ not-past f xs k left i n past all passed within =
 pub loop-rows-preserved : goal.loop-rows-preserved
 loop-rows-preserved c = record {
   all = c.loop-rows.invariant.all;
-  passed = passed-more _ _ _ _ _ _ c.loop-rows-test.true c.loop-rows.invariant.passed c.if-left-rows.false;
+  passed = passed-more _ _ _ _ _ _ (below _ _ _ c.tables-tables.ensures.size c.loop-rows-test.true) c.loop-rows.invariant.passed c.if-left-rows.false;
   fit = c.loop-rows.invariant.fit;
 }
 
 pub unreachable-requires : goal.unreachable-requires
 unreachable-requires c =
-    not-past _ _ _ _ _ _ c.loop-rows-test.false c.loop-rows.invariant.all c.loop-rows.invariant.passed c.requires
+    not-past _ _ _ _ _ _ (at-end _ _ _ c.tables-tables.ensures.size c.loop-rows-test.false) c.loop-rows.invariant.all c.loop-rows.invariant.passed c.requires
 
 pub returns-then-left-rows-clause-named : goal.returns-then-left-rows-clause-named
 returns-then-left-rows-clause-named c =
-    named-at _ _ _ c.if-left-rows.true (c.loop-rows.invariant.fit _ _ c.loop-rows-test.true)
+    named-at _ _ _ c.if-left-rows.true (c.loop-rows.invariant.fit _ _ (below _ _ _ c.tables-tables.ensures.size c.loop-rows-test.true))
 
 pub returns-then-left-rows-clause-short : goal.returns-then-left-rows-clause-short
 returns-then-left-rows-clause-short c =
-    short-at _ _ _ c.if-left-rows.true (c.loop-rows.invariant.fit _ _ c.loop-rows-test.true)
+    short-at _ _ _ c.if-left-rows.true (c.loop-rows.invariant.fit _ _ (below _ _ _ c.tables-tables.ensures.size c.loop-rows-test.true))
 
 pub returns-then-left-rows-clause-lines : goal.returns-then-left-rows-clause-lines
 returns-then-left-rows-clause-lines c =
-    lines-at _ _ _ c.if-left-rows.true (c.loop-rows.invariant.fit _ _ c.loop-rows-test.true)
+    lines-at _ _ _ c.if-left-rows.true (c.loop-rows.invariant.fit _ _ (below _ _ _ c.tables-tables.ensures.size c.loop-rows-test.true))

@@ -9,7 +9,7 @@
 #   make player       out/vt220-play, over the reader of recordings
 #   make python       out/_calls.abi3.so, the extension module of the Python package, with the headers of PYTHON
 #   make holder       out/vt220-fleet-holder, which needs nothing that is proved
-#   make js           the package for JavaScript in out/js/: vt220.wasm, package/ and vt220-VERSION.tgz; and what js/vt220-page
+#   make js           the package for JavaScript in out/js/: vt220.wasm, package/ and vt220-VERSION.tgz; and what apps/page/vt220-page
 #                     and the fleet's page need
 #   make install      installs these under PREFIX with their manual pages and completions, and prints each file
 #   make install-lib  installs the library alone, with its headers and its manual page
@@ -34,7 +34,7 @@ TARGET ?= x86_64
 CFLAGS ?= -O2
 PYTHON ?= python3
 NATIVE := crates/vt220_c/out/libvt220_c.a
-# What allocates for the proved code: the toolchain's own shim, which is for x86-64, or c/heap.c.
+# What allocates for the proved code: the toolchain's own shim, which is for x86-64, or lib/c/heap.c.
 ifeq ($(TARGET),aarch64)
 OUT ?= out/aarch64
 TOOLS := aarch64-linux-gnu-
@@ -51,9 +51,9 @@ endif
 ifeq ($(origin CC),default)
 CC := $(TOOLS)gcc
 endif
-VERSION := $(shell awk '$$2 == "VT220_VERSION" { printf "%d.%d.%d", $$3 / 10000, $$3 / 100 % 100, $$3 % 100 }' include/vt220.h)
+VERSION := $(shell awk '$$2 == "VT220_VERSION" { printf "%d.%d.%d", $$3 / 10000, $$3 / 100 % 100, $$3 % 100 }' lib/c/include/vt220.h)
 SONAME := libvt220.so.$(firstword $(subst ., ,$(VERSION)))
-HEADERS := include/vt220.h include/vt220-keys.h
+HEADERS := lib/c/include/vt220.h lib/c/include/vt220-keys.h
 FILL = sed 's,@PREFIX@,$(PREFIX),; s,@LIBDIR@,$(LIBDIR),; s,@VERSION@,$(VERSION),'
 
 # crates.txt: CRATES, lowest first, and deps_NAME of each.
@@ -96,9 +96,9 @@ crates/vt220_c/out/libvt220_c-aarch64.a: $(NATIVE)
 	@tools/compile-core vt220_c aarch64-unknown-linux-gnu $@
 
 # One object, in which only the library's own calls are global: two such libraries then link into one program.
-$(OUT)/objects/%.o: c/%.c $(HEADERS)
+$(OUT)/objects/%.o: lib/c/%.c $(HEADERS)
 	@mkdir -p $(@D)
-	$(CC) -std=c11 $(CFLAGS) -fPIC -fasynchronous-unwind-tables -Iinclude -c -o $@ $<
+	$(CC) -std=c11 $(CFLAGS) -fPIC -fasynchronous-unwind-tables -Ilib/c/include -c -o $@ $<
 $(OUT)/vt220.o: $(addprefix $(OUT)/objects/,$(addsuffix .o,vt220 vt220-keys $(HEAP))) $(ARCHIVE)
 	@TOOLS=$(TOOLS) tools/link-object $@ $^
 $(OUT)/libvt220.a: $(OUT)/vt220.o
@@ -109,45 +109,45 @@ $(OUT)/libvt220.so: $(OUT)/vt220.o packaging/libvt220.map
 	$(CC) $(CFLAGS) $(LDFLAGS) -shared -Wl,-soname,$(SONAME) -Wl,--version-script=packaging/libvt220.map -Wl,-z,defs,-z,relro,-z,now -o $@.$(VERSION) $<
 	@ln -s libvt220.so.$(VERSION) $(OUT)/$(SONAME)
 	@ln -s $(SONAME) $@
-$(OUT)/vt220.pc: packaging/vt220.pc.in include/vt220.h
+$(OUT)/vt220.pc: packaging/vt220.pc.in lib/c/include/vt220.h
 	@$(FILL) $< >$@
-$(OUT)/%.h: include/%.h
+$(OUT)/%.h: lib/c/include/%.h
 	@cp $< $@
-$(OUT)/vt220-keep: $(wildcard keep/*.[ch]) $(HEADERS) $(OUT)/libvt220.a
-	$(CC) $(CFLAGS) $(LDFLAGS) -Iinclude -o $@ keep/*.c $(OUT)/libvt220.a
+$(OUT)/vt220-keep: $(wildcard apps/keep/*.[ch]) $(HEADERS) $(OUT)/libvt220.a
+	$(CC) $(CFLAGS) $(LDFLAGS) -Ilib/c/include -o $@ apps/keep/*.c $(OUT)/libvt220.a
 # The proved reader as one object, since it has the same allocation shim as the library.
 $(OUT)/recording.o: $(READER)
 	@mkdir -p $(@D)
 	@TOOLS=$(TOOLS) tools/link-object $@ $<
-PLAYER := $(wildcard play/*.c) keep/outer.c
-$(OUT)/vt220-play: $(PLAYER) $(wildcard play/*.h) keep/outer.h keep/utf8.h c/recording.h $(HEADERS) $(OUT)/recording.o $(OUT)/libvt220.a
-	$(CC) $(CFLAGS) $(LDFLAGS) -Iinclude -o $@ $(PLAYER) $(OUT)/recording.o $(OUT)/libvt220.a
-$(OUT)/_calls.abi3.so: bindings/python/calls.c include/vt220.h
+PLAYER := $(wildcard apps/play/*.c) apps/keep/outer.c
+$(OUT)/vt220-play: $(PLAYER) $(wildcard apps/play/*.h) apps/keep/outer.h apps/keep/utf8.h lib/c/recording.h $(HEADERS) $(OUT)/recording.o $(OUT)/libvt220.a
+	$(CC) $(CFLAGS) $(LDFLAGS) -Ilib/c/include -o $@ $(PLAYER) $(OUT)/recording.o $(OUT)/libvt220.a
+$(OUT)/_calls.abi3.so: lib/python/calls.c lib/c/include/vt220.h
 	@mkdir -p $(@D)
-	$(CC) -std=c11 $(CFLAGS) $(LDFLAGS) -fPIC -shared -I$$($(PYTHON) -c 'import sysconfig; print(sysconfig.get_paths()["include"])') -Iinclude -o $@ $<
-$(OUT)/vt220-fleet-holder: fleet/holder/holder.c $(wildcard keep/command.[ch] keep/frame.[ch])
+	$(CC) -std=c11 $(CFLAGS) $(LDFLAGS) -fPIC -shared -I$$($(PYTHON) -c 'import sysconfig; print(sysconfig.get_paths()["include"])') -Ilib/c/include -o $@ $<
+$(OUT)/vt220-fleet-holder: apps/fleet/holder/holder.c $(wildcard apps/keep/command.[ch] apps/keep/frame.[ch])
 	@mkdir -p $(@D)
 	$(CC) -std=c11 $(CFLAGS) $(LDFLAGS) -o $@ $(filter %.c,$^)
 
 js: program lib $(READER)
-	@js/build
+	@lib/js/build
 
 # What is installed: FROM:TO:MODE of each file, and TARGET:TO of each link. vt220.pc comes from standard input, since PREFIX may be another than
 # when the library was built.
-PAGES := man/vt220.1 man/vt220.3 man/vt220.7 keep/vt220-keep.1 play/vt220-play.1
+PAGES := docs/man/vt220.1 docs/man/vt220.3 docs/man/vt220.7 docs/man/vt220-keep.1 docs/man/vt220-play.1
 SHARE = $(PREFIX)/share
 FILES = $(PROGRAM):$(PREFIX)/bin/vt220:755 $(OUT)/vt220-keep:$(PREFIX)/bin/vt220-keep:755 $(OUT)/vt220-play:$(PREFIX)/bin/vt220-play:755 \
   $(foreach page,$(PAGES),$(page):$(SHARE)/man/man$(subst .,,$(suffix $(page)))/$(notdir $(page)):644) \
-  $(foreach name,vt220 vt220-keep vt220-play,completions/$(name).bash:$(SHARE)/bash-completion/completions/$(name):644 \
-    completions/_$(name):$(SHARE)/zsh/site-functions/_$(name):644 completions/$(name).fish:$(SHARE)/fish/vendor_completions.d/$(name).fish:644) \
+  $(foreach name,vt220 vt220-keep vt220-play,packaging/completions/$(name).bash:$(SHARE)/bash-completion/completions/$(name):644 \
+    packaging/completions/_$(name):$(SHARE)/zsh/site-functions/_$(name):644 packaging/completions/$(name).fish:$(SHARE)/fish/vendor_completions.d/$(name).fish:644) \
   $(foreach header,$(HEADERS),$(header):$(PREFIX)/include/$(notdir $(header)):644) $(OUT)/libvt220.a:$(LIBDIR)/libvt220.a:644 \
   $(OUT)/libvt220.so.$(VERSION):$(LIBDIR)/libvt220.so.$(VERSION):755 /dev/stdin:$(LIBDIR)/pkgconfig/vt220.pc:644
 LINKS = libvt220.so.$(VERSION):$(LIBDIR)/$(SONAME) $(SONAME):$(LIBDIR)/libvt220.so
 # The command vt220-page needs the program vt220, which reads recordings. The module that writes a page and the template are next to it. So is
 # vt220-keep-serve, which `vt220-keep serve` runs.
 PAGE = $(PREFIX)/lib/vt220
-PAGE_FILES = $(PROGRAM):$(PREFIX)/bin/vt220:755 js/vt220-page:$(PAGE)/vt220-page:755 keep/serve:$(PAGE)/vt220-keep-serve:755 /dev/null:$(PAGE)/vt220/__init__.py:644 \
-  bindings/python/vt220/page.py:$(PAGE)/vt220/page.py:644 out/js/page.html:$(PAGE)/vt220/page.html:644 man/vt220-page.1:$(SHARE)/man/man1/vt220-page.1:644
+PAGE_FILES = $(PROGRAM):$(PREFIX)/bin/vt220:755 apps/page/vt220-page:$(PAGE)/vt220-page:755 apps/keep/serve:$(PAGE)/vt220-keep-serve:755 /dev/null:$(PAGE)/vt220/__init__.py:644 \
+  lib/python/vt220/page.py:$(PAGE)/vt220/page.py:644 out/js/page.html:$(PAGE)/vt220/page.html:644 docs/man/vt220-page.1:$(SHARE)/man/man1/vt220-page.1:644
 PAGE_LINKS = ../lib/vt220/vt220-page:$(PREFIX)/bin/vt220-page
 INSTALLED = $(foreach file,$(LINKS) $(FILES) $(PAGE_LINKS) $(PAGE_FILES),$(word 2,$(subst :, ,$(file))))
 # A directory and those above it, up to PREFIX or LIBDIR. The directories that every system has stay.
@@ -158,7 +158,7 @@ LOADER = DESTDIR='$(DESTDIR)' packaging/loader
 
 install: everything
 install-lib: lib
-install-lib: FILES := $(filter man/vt220.3:% include/% $(OUT)/libvt220.% /dev/stdin:%,$(FILES))
+install-lib: FILES := $(filter docs/man/vt220.3:% lib/c/include/% $(OUT)/libvt220.% /dev/stdin:%,$(FILES))
 install-page: js
 install-page: FILES := $(PAGE_FILES)
 install-page: LINKS := $(PAGE_LINKS)

@@ -12,7 +12,7 @@ import re
 import sys
 
 TOP = pathlib.Path(__file__).resolve().parents[1]
-sys.path.insert(0, str(TOP / "tests"))
+sys.path.insert(0, str(TOP / "lib/rows"))
 from clauses import ROOT, START, WORD, Reading, imports, module_of  # noqa: E402
 from vectors import vectors  # noqa: E402
 
@@ -282,7 +282,7 @@ def edits():
 def mutants():
     """Returns the changes of the model, each with its rule."""
     found, rule = [], ""
-    for block in re.split(r"\n\n+", (TOP / "model/mutants.txt").read_text().strip()):
+    for block in re.split(r"\n\n+", (TOP / "tests/model/mutants.txt").read_text().strip()):
         rule = " ".join(line[1:].strip() for line in block.split("\n") if line.startswith("#")) or rule
         found.append((rule, "\n".join(line for line in block.split("\n") if line[:1] in "-+")))
     return found

@@ -222,9 +222,9 @@ static int do_resume(char **words, const struct options *options) {
     resume_session(atoi(words[0]), words[1] != NULL ? atoi(words[1]) : -1);
 }
 
-/* Becomes the program that serves a session to browsers. It is installed with vt220-page; in the repository it is in keep/. */
+/* Becomes the program that serves a session to browsers. It is installed with vt220-page; in the repository it is in apps/keep/. */
 static int do_serve(char **words, const struct options *options) {
-    static const char *const places[] = {"../lib/vt220/vt220-keep-serve", "../keep/serve"};
+    static const char *const places[] = {"../lib/vt220/vt220-keep-serve", "../apps/keep/serve"};
     char path[PATH_MAX];
     (void)options;
     ssize_t len = readlink("/proc/self/exe", path, sizeof path - 64);

@@ -1,6 +1,6 @@
 // page.js: the page of a recording, or of two side by side. The players are elements, and each has its recording inside.
-import "../src/player.js";
-import { clock } from "../src/view.js";
+import "../../lib/js/src/player.js";
+import { clock } from "../../lib/js/src/view.js";
 
 const players = [...document.querySelectorAll("vt220-player")];
 const $ = (id) => document.getElementById(id);

@@ -2,7 +2,7 @@
 #ifndef PLAY_H
 #define PLAY_H
 
-#include "../c/recording.h"
+#include "../../lib/c/recording.h"
 #include "vt220.h"
 #include <stdnoreturn.h>
 

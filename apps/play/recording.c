@@ -1,5 +1,5 @@
 /* Reads a recording by asciinema, ttyrec or script, or the bytes of a program, by the proved reader. The page of a recording plays it in the
- * same way (js/src/reading.js). */
+ * same way (lib/js/src/reading.js). */
 #ifndef _GNU_SOURCE
 #define _GNU_SOURCE /* for memmem */
 #endif

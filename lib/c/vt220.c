@@ -9,7 +9,7 @@
 #endif
 
 /* A handle in the form of the proved calls. They empty it while they work and then put a block back, so each works on a copy. A handle
- * that isn't `const` takes over what is in the copy then. For a `const` one it must be the block of before (tests-c/stays). */
+ * that isn't `const` takes over what is in the copy then. For a `const` one it must be the block of before (lib/c/tests/stays). */
 typedef struct handle {
     void *at;
     bool is_open;

@@ -23,7 +23,7 @@ func nameInC(name string) string {
 	return strings.ToLower(name)
 }
 
-// fieldsOf returns what each reader returns, by the names of tests-c/fields.txt.
+// fieldsOf returns what each reader returns, by the names of lib/rows/fields.txt.
 func fieldsOf(t *Terminal) map[string]int {
 	is := func(set bool) int {
 		if set {
@@ -71,7 +71,7 @@ func fieldsOf(t *Terminal) map[string]int {
 }
 
 func TestFields(t *testing.T) {
-	rows := rowsOf(t, "VT220_FIELDS", "tests-c/fields.txt")
+	rows := rowsOf(t, "VT220_FIELDS", "lib/rows/fields.txt")
 	atPowerUp := map[string]int{}
 	for column := 1; column <= Columns; column++ {
 		atPowerUp[fmt.Sprintf("stop.%d", column)] = 0

@@ -32,7 +32,7 @@ func expected(t *testing.T, field string) ([]byte, error) {
 
 func TestKeys(t *testing.T) {
 	count := 0
-	for _, fields := range rowsOf(t, "VT220_KEYS", "tests-c/keys.txt") {
+	for _, fields := range rowsOf(t, "VT220_KEYS", "lib/rows/keys.txt") {
 		wanted, wantedError := expected(t, fields[1])
 		for _, name := range fields[2:] {
 			for setting := 0; setting < 16; setting++ {
@@ -68,7 +68,7 @@ func TestKeysOfAnXterm(t *testing.T) {
 			t.Errorf("%q under %v: %x, %v", name, modes, sent, err)
 		}
 	}
-	for _, fields := range rowsOf(t, "VT220_XTERM_KEYS", "tests-c/xterm-keys.txt") {
+	for _, fields := range rowsOf(t, "VT220_XTERM_KEYS", "lib/rows/xterm-keys.txt") {
 		if fields[0] == "modifiers" {
 			modifiers = append(modifiers, fields[1:])
 			continue

@@ -33,7 +33,7 @@ func rowsOf(t *testing.T, variable, name string) (rows [][]string) {
 	return rows
 }
 
-// spelling is a part of a field of tests-c/vectors.txt, and escapes is what a letter after a backslash spells.
+// spelling is a part of a field of lib/rows/vectors.txt, and escapes is what a letter after a backslash spells.
 var (
 	spelling = regexp.MustCompile(`\\(x..|\{\d+\}|.)|[^\\]+`)
 	escapes  = map[string]string{`\e`: "\x1b", `\n`: "\n", `\r`: "\r", `\\`: `\`, `\H`: "\x1b(B\x1b*<\x1b+0\x0f", `\P`: "\x1b[0m\x1b[0\"q",
@@ -59,7 +59,7 @@ func spelled(field string) (found string) {
 	return found
 }
 
-// row is what a vector of tests-c/vectors.txt has: what its terminal shows and returned, by the names there.
+// row is what a vector of lib/rows/vectors.txt has: what its terminal shows and returned, by the names there.
 type row struct{ text, cursor, wrap, brush, alternate, paste, bells, pending, reports, lines, repaint string }
 
 // wantedOf returns the row that some fields describe.
@@ -126,7 +126,7 @@ func fed(t *testing.T, s *Scratch, language Language, input []byte, size int) (*
 // leads to with what the vector has.
 func eachWay(t *testing.T, encoding, terminal string, fed func([]byte, int) row) {
 	count := 0
-	for _, fields := range rowsOf(t, "VT220_VECTORS", "tests-c/vectors.txt") {
+	for _, fields := range rowsOf(t, "VT220_VECTORS", "lib/rows/vectors.txt") {
 		if fields[1] != encoding || fields[2] != terminal {
 			continue
 		}

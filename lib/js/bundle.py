@@ -1,4 +1,4 @@
-"""Joins modules of js/ into one script: js/pack and js/template do so."""
+"""Joins modules of lib/js/ into one script: lib/js/pack and apps/page/template do so."""
 import functools
 import pathlib
 import re
@@ -10,7 +10,7 @@ JS = pathlib.Path(__file__).resolve().parent
 def printed(*command):
     """Returns what a script of packaging/ prints."""
     name, *words = command
-    return subprocess.run([JS.parent / "packaging" / name, *words], check=True, capture_output=True, text=True).stdout
+    return subprocess.run([JS.parents[1] / "packaging" / name, *words], check=True, capture_output=True, text=True).stdout
 
 
 def version():

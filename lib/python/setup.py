@@ -32,7 +32,7 @@ class NoSource(sdist):
 
     def run(self):
         raise BaseError("vt220 has no source distribution, since its library is built in the repository: run make lib there, "
-                        "copy out/libvt220.so to bindings/python/vt220/, and build a wheel (python3 -m build --wheel)")
+                        "copy out/libvt220.so to lib/python/vt220/, and build a wheel (python3 -m build --wheel)")
 
 
 setup(distclass=Package, cmdclass={"bdist_wheel": Wheel, "sdist": NoSource})

@@ -5,11 +5,11 @@ import sys
 import vt220
 
 TOP = pathlib.Path(__file__).resolve().parents[2]
-sys.path.insert(0, str(TOP / "tests"))
+sys.path.insert(0, str(TOP / "lib/rows"))
 from vectors import session_repaints, vectors
 
 # What each reader returns, as all bindings are tested with.
-FIELDS = TOP / "tests-c/fields.txt"
+FIELDS = TOP / "lib/rows/fields.txt"
 
 passed = failed = 0
 
@@ -109,7 +109,7 @@ def parts():
 
 
 def fields_of(terminal):
-    """Returns what each reader returns, by the names of tests-c/fields.txt."""
+    """Returns what each reader returns, by the names of lib/rows/fields.txt."""
     held = ("nothing", "escape", "control", "string").index(terminal.held())
     found = {"width": terminal.width(), "bells": terminal.bells(), "held": held}
     readers = {"cursor": terminal.cursor(), "margins": terminal.margins(), "modes": terminal.modes(), "cell": terminal.row(1)[0],
@@ -122,7 +122,7 @@ def fields_of(terminal):
 
 
 def one_field_at_a_time():
-    """Each row of tests-c/fields.txt on a new terminal."""
+    """Each row of lib/rows/fields.txt on a new terminal."""
     at_power_up = {f"stop.{column}": 0 for column in range(1, vt220.COLUMNS + 1)}
     rows = [line.split("\t") for line in FIELDS.read_text().splitlines() if not line.startswith("#")]
     for name, data, *changed in rows:
@@ -137,7 +137,7 @@ def one_field_at_a_time():
 
 
 def fed(of, size, feed):
-    """Returns what a new terminal that is fed the input of a vector in chunks of a size has and returned, by the names of tests-c/vectors.txt."""
+    """Returns what a new terminal that is fed the input of a vector in chunks of a size has and returned, by the names of lib/rows/vectors.txt."""
     with vt220.Terminal(of.encoding, of.terminal) as terminal:
         told = [feed(terminal, of.input[at : at + size]) for at in range(0, len(of.input), size)]
         cursor, brush = terminal.cursor(), terminal.brush()
@@ -191,7 +191,7 @@ def rebuilt_xterm(of, at):
 
 
 def repaints_of_sessions():
-    """Each row of tests-c/session-repaints.txt."""
+    """Each row of lib/rows/session-repaints.txt."""
     for name, data, wanted in session_repaints():
         with vt220.Terminal(terminal="xterm") as terminal:
             terminal.feed(data)
@@ -203,7 +203,7 @@ def differences(found, wanted):
 
 
 def rows():
-    """Each vector of tests-c/vectors.txt, whole, byte by byte and in chunks of five, and from a checkpoint at each byte."""
+    """Each vector of lib/rows/vectors.txt, whole, byte by byte and in chunks of five, and from a checkpoint at each byte."""
     ways = {"vt220": [resumed], "xterm": [copied_xterm, rebuilt_xterm]}
     counts = collections.Counter()
     for one in vectors():

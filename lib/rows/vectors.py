@@ -1,9 +1,9 @@
-"""The conformance vectors, as tests-c/vectors.txt has them, and the repaints of tests-c/session-repaints.txt."""
+"""The conformance vectors, as lib/rows/vectors.txt has them, and the repaints of lib/rows/session-repaints.txt."""
 import pathlib
 import re
 from typing import NamedTuple
 
-LISTS = pathlib.Path(__file__).resolve().parents[1] / "tests-c"
+LISTS = pathlib.Path(__file__).resolve().parent
 AT_POWER_UP = {"text": "", "cursor": "1;1", "wrap": "0", "brush": "", "alternate": "0", "paste": "0", "bells": "0", "pending": b"", "reports": b"", "lines": ""}
 ESCAPES = {b"e": b"\033", b"n": b"\n", b"r": b"\r", b"\\": b"\\",
            b"H": b"\033(B\033*<\033+0\017", b"P": b'\033[0m\033[0"q', b"S": b"\033(B\033)B\033*<\033+<\017\033}"}

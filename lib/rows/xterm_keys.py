@@ -1,8 +1,8 @@
-"""The keys of an xterm, as tests-c/xterm-keys.txt has them."""
+"""The keys of an xterm, as lib/rows/xterm-keys.txt has them."""
 import pathlib
 import re
 
-FILE = pathlib.Path(__file__).resolve().parents[1] / "tests-c/xterm-keys.txt"
+FILE = pathlib.Path(__file__).resolve().with_name("xterm-keys.txt")
 
 
 def sequence(text, is_8bit=False):

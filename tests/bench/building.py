@@ -1,4 +1,4 @@
-"""Builds the drivers of other terminals in bench/peers, as far as these are installed (Debian: libvterm-dev, libtsm-dev, librust-vt100-dev,
+"""Builds the drivers of other terminals in tests/bench/peers, as far as these are installed (Debian: libvterm-dev, libtsm-dev, librust-vt100-dev,
 librust-alacritty-terminal-dev).
 
 Each reads standard input to its end on a screen of 24 lines and 80 columns. With the word `text`, those in PRINTING then print the screen.

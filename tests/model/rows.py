@@ -1,10 +1,10 @@
-"""The rows by hand: the lists of tests-c/. A row is bytes that are played on a new terminal, and what is wanted then."""
+"""The rows by hand: the lists of lib/rows/. A row is bytes that are played on a new terminal, and what is wanted then."""
 import dataclasses
 import pathlib
 import sys
 
-TOP = pathlib.Path(__file__).resolve().parents[1]
-sys.path.append(str(TOP / "tests"))
+TOP = pathlib.Path(__file__).resolve().parents[2]
+sys.path.append(str(TOP / "lib/rows"))
 
 from terminal import ATTRIBUTES
 from utf8 import has_known_width
@@ -28,9 +28,9 @@ def all_rows():
 
 
 def rows_of_fields():
-    """Returns the rows of tests-c/fields.txt. Such a row has what isn't as at power-up, which the first row has."""
+    """Returns the rows of lib/rows/fields.txt. Such a row has what isn't as at power-up, which the first row has."""
     at_power_up = {f"stop.{column}": 0 for column in range(1, 133)}
-    for line in (TOP / "tests-c/fields.txt").read_text().splitlines():
+    for line in (TOP / "lib/rows/fields.txt").read_text().splitlines():
         if not line.startswith("#"):
             title, data, *fields = line.split("\t")
             wanted = at_power_up | {of: int(value) for of, value in (field.split("=", 1) for field in fields) if of != "bells"}
@@ -72,7 +72,7 @@ def attributes(brush):
 
 
 def screen(model):
-    """Returns what a vector wants, by the names of tests/vectors.py."""
+    """Returns what a vector wants, by the names of lib/rows/vectors.py."""
     flags = {"wrap": model.wrap, "alternate": getattr(model, "is_alternate", False), "paste": getattr(model, "paste", False)}
     return {of: str(int(flag)) for of, flag in flags.items()} | {
         "text": "\n".join(map(with_attributes, model.cells)).rstrip("\n"), "cursor": f"{model.row};{model.column}",
@@ -91,7 +91,7 @@ def with_attributes(cells):
 
 
 def parts(model):
-    """Returns the parts of a VT220, by the names of tests-c/fields.txt."""
+    """Returns the parts of a VT220, by the names of lib/rows/fields.txt."""
     (glyph, brush), saved = model.cells[0][0], model.saved
     found = {"width": model.width, "cell.glyph": ord(glyph), "margins.top": model.top, "margins.bottom": model.bottom, "saved.origin": saved.origin}
     found |= {f"modes.{name.lower()}": name in model.modes for name in MODES}

@@ -5,8 +5,8 @@ import sys
 
 VERSION = "0.4.0"  # of the fleet, which has its own
 
-_ROOT = os.path.join(os.path.dirname(os.path.abspath(__file__)), "..", "..")
-sys.path.insert(0, os.path.join(_ROOT, "bindings", "python"))
+_ROOT = os.path.join(os.path.dirname(os.path.abspath(__file__)), "..", "..", "..")
+sys.path.insert(0, os.path.join(_ROOT, "lib", "python"))
 
 
 def __getattr__(name):

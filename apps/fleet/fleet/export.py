@@ -11,7 +11,7 @@ from vt220.process import TERMS
 from .keys import key, language_of
 from .session import bytes_of
 
-PROGRAM = os.path.join(os.path.dirname(os.path.abspath(__file__)), "..", "..", "crates", "vt220", "out", "vt220")
+PROGRAM = os.path.join(os.path.dirname(os.path.abspath(__file__)), "..", "..", "..", "crates", "vt220", "out", "vt220")
 
 
 def program():

@@ -21,7 +21,7 @@ from .keys import PIECE, Fault, checked_name, language_of
 log = logging.getLogger("fleet.host")
 
 HERE = os.path.dirname(os.path.abspath(__file__))
-HOLDERS = [os.path.join(HERE, place, "vt220-fleet-holder") for place in ("..", "../../out")]  # of the package, and of the repository
+HOLDERS = [os.path.join(HERE, place, "vt220-fleet-holder") for place in ("..", "../../../out")]  # of the package, and of the repository
 GATHER = 0.003  # seconds that more of the same output is waited for
 CHOKED = 256  # inputs that a program may not have read; more stay in the store
 NEWS = object()  # the store said something of the session

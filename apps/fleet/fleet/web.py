@@ -33,7 +33,7 @@ HERE = os.path.join(os.path.dirname(os.path.abspath(__file__)), "page")
 PAUSE = 0.04  # seconds between two messages to a client
 ENTERING = 10.0  # seconds that a client has to say the token
 UNKNOWN = 4403  # the code with which a connection without the token is closed; page.js knows it
-BUILT = os.path.join(HERE, "..", "..", "..", "out", "js")  # of this repository
+BUILT = os.path.join(HERE, "..", "..", "..", "..", "out", "js")  # of this repository
 SCREEN = "screen.global.js"  # the terminal with its screen, which `make js` builds; the package has it next to the page
 POLICY = (
     "default-src 'none'; script-src {SCREEN} {SCRIPT} 'wasm-unsafe-eval'; style-src {STYLE}; connect-src 'self'; "

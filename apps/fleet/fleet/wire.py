@@ -1,4 +1,4 @@
-"""What goes between the host daemon and the holder of a program: frames of a letter, a length and so many bytes, as keep/frame.h has them.
+"""What goes between the host daemon and the holder of a program: frames of a letter, a length and so many bytes, as apps/keep/frame.h has them.
 Unless a frame's line here says otherwise, it begins with a number.
 
 A holder sends STATE first. Once it was sent NAMED, it sends BYTES and, when all are sent, ENDED.

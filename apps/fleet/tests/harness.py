@@ -19,7 +19,7 @@ from fleet.operate import comes
 from fleet.worker import Worker
 import vt220
 
-ROOT = os.path.join(HERE, "..", "..")
+ROOT = os.path.join(HERE, "..", "..", "..")
 PROGRAM = os.path.join(ROOT, "crates", "vt220", "out", "vt220")
 QUERIES = [b"\033[c", b"\033[5n", b"\033[6n", b"\033[>c", b"\033[?15n", b"\033[?26n"]
 
@@ -69,7 +69,7 @@ def end_of(store, incarnation):
 
 
 def recordings():
-    return [path.read_bytes() for path in sorted(pathlib.Path(ROOT, "bench", "recordings").glob("*.raw"))]
+    return [path.read_bytes() for path in sorted(pathlib.Path(ROOT, "tests/bench/recordings").glob("*.raw"))]
 
 
 def text_of(file):

@@ -21,7 +21,7 @@ from fleet.gallery import Followed, Picture
 from fleet.web import UNKNOWN
 import vt220
 
-sys.path.append(os.path.join(ROOT, "js", "tests"))
+sys.path.append(os.path.join(ROOT, "lib/js/tests"))
 
 from browsers import Chromium
 

@@ -1,4 +1,4 @@
-//! Prints the constants of the crates that include/vt220.h repeats, each with the header's name.
+//! Prints the constants of the crates that lib/c/include/vt220.h repeats, each with the header's name.
 #![tactic(auto)]
 
 use std::io;

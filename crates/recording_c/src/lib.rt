@@ -1,4 +1,4 @@
-//! The reader of recordings for C, and for all that calls C. js/ makes a module of WebAssembly of it.
+//! The reader of recordings for C, and for all that calls C. lib/js/ makes a module of WebAssembly of it.
 #![tactic(auto)]
 
 mod events;

@@ -1,4 +1,4 @@
-//! The statuses that the calls return. `specs/Status` and js/c/reader.c have the same numbers.
+//! The statuses that the calls return. `specs/Status` and lib/js/c/reader.c have the same numbers.
 
 /// Success.
 pub(crate) const OK: u32 = 0;

@@ -1,5 +1,5 @@
 /* keys: prints in hex what keys send to a host that has set DECCKM and S8C1T. A key is a character, or a name of vt220-keys.h.
- *   make lib && gcc -Iinclude -o keys examples/keys.c out/libvt220.a */
+ *   make lib && gcc -Ilib/c/include -o keys lib/c/examples/keys.c out/libvt220.a */
 #include "vt220-keys.h"
 #include <stdio.h>
 #include <string.h>

@@ -1,5 +1,5 @@
 /* screen: plays standard input on a terminal, writes the reports to standard error, and prints the screen.
- *   make lib && gcc -Iinclude -o screen examples/screen.c out/libvt220.a */
+ *   make lib && gcc -Ilib/c/include -o screen lib/c/examples/screen.c out/libvt220.a */
 #include <vt220.h>
 #include <stdio.h>
 

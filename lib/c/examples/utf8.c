@@ -1,5 +1,5 @@
 /* utf8: plays UTF-8 from standard input on a terminal, and prints the screen.
- *   make lib && gcc -Iinclude -o utf8 examples/utf8.c out/libvt220.a */
+ *   make lib && gcc -Ilib/c/include -o utf8 lib/c/examples/utf8.c out/libvt220.a */
 #include <vt220.h>
 #include <stdio.h>
 

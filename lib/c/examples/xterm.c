@@ -1,5 +1,5 @@
 /* xterm: plays on a terminal what a program sends under TERM=xterm, from standard input, and prints the screen.
- *   make lib && gcc -Iinclude -o xterm examples/xterm.c out/libvt220.a */
+ *   make lib && gcc -Ilib/c/include -o xterm lib/c/examples/xterm.c out/libvt220.a */
 #include <vt220.h>
 #include <stdio.h>
 

@@ -53,7 +53,7 @@
  *
  * Rows, columns and margins count from 1. Sizes and lengths are in bytes; those of vt220_row are in cells.
  *
- * Proof. Each call here is a short function of C (c/vt220.c) over a call of the core. What the core's calls write and return, and
+ * Proof. Each call here is a short function of C (lib/c/vt220.c) over a call of the core. What the core's calls write and return, and
  * the state that they leave, is proved. The C is tested: that a handle stays valid, closed handles, null pointers, the same terminal
  * twice, the sum of the bells, `reserved`, and `changed` after the width. docs/PROMISES.md lists both.
  */

@@ -1,4 +1,4 @@
-/* Prints the size of each public struct and the place of each field of it, as tests-c/abi.txt has them. abi.inc is made of that file. A
+/* Prints the size of each public struct and the place of each field of it, as lib/c/tests/abi.txt has them. abi.inc is made of that file. A
  * field that the file lacks moves `reserved`, the last field of each output struct. */
 #include <stdio.h>
 #include <stddef.h>

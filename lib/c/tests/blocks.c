@@ -1,4 +1,4 @@
-/* blocks: inputs longer than a block of c/vt220.c, with buffers of exactly the size that is passed, so that ASan sees a byte after one. */
+/* blocks: inputs longer than a block of lib/c/vt220.c, with buffers of exactly the size that is passed, so that ASan sees a byte after one. */
 #include "check.h"
 
 enum { LEN = 40000, BLOCK = 16384 };

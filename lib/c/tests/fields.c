@@ -1,5 +1,5 @@
-/* fields FILE ABI: what each reader returns, one field at a time, as FILE (tests-c/fields.txt) has it. So two fields of a struct can't be
- * swapped. ABI (tests-c/abi.txt) has the name and the place of each mode, which the compiler confirms apart from this. */
+/* fields FILE ABI: what each reader returns, one field at a time, as FILE (lib/rows/fields.txt) has it. So two fields of a struct can't be
+ * swapped. ABI (lib/c/tests/abi.txt) has the name and the place of each mode, which the compiler confirms apart from this. */
 #include "check.h"
 
 typedef struct field {

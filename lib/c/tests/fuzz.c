@@ -1,5 +1,5 @@
 /* fuzz: a libFuzzer harness over the interface. The proved calls have no coverage of their own, so the state of the terminal guides it.
- * An input is a byte that says how it is cut, and the bytes that a host sends. c/vt220.c is built with it, and with small blocks. */
+ * An input is a byte that says how it is cut, and the bytes that a host sends. lib/c/vt220.c is built with it, and with small blocks. */
 #include "vt220.h"
 #include <stdio.h>
 #include <stdlib.h>

@@ -343,8 +343,8 @@ static void lengths(void) {
 }
 
 int main(int argc, char **argv) {
-    rows(argc > 1 ? argv[1] : "tests-c/keys.txt");
-    CHECK(xterm_rows(argc > 2 ? argv[2] : "tests-c/xterm-keys.txt") > 400);
+    rows(argc > 1 ? argv[1] : "lib/rows/keys.txt");
+    CHECK(xterm_rows(argc > 2 ? argv[2] : "lib/rows/xterm-keys.txt") > 400);
     other_keys();
     xterm_keys();
     right_half();

@@ -1,4 +1,4 @@
-/* moved: c/vt220.c over stand-ins of the proved calls, which move the blocks of handles that aren't `const`. The handle must have the
+/* moved: lib/c/vt220.c over stand-ins of the proved calls, which move the blocks of handles that aren't `const`. The handle must have the
  * new block at the next call. It also looks at how input is cut: no byte is searched for BEL again and again. */
 #include "check.h"
 
@@ -12,7 +12,7 @@ static const void *search(const void *at, int byte, size_t len) {
 }
 
 #define memchr search
-#include "../c/vt220.c"
+#include "../vt220.c"
 #undef memchr
 
 #pragma GCC diagnostic ignored "-Wunused-parameter"

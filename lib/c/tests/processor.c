@@ -5,7 +5,7 @@
 static int processor(unsigned leaf, unsigned *a, unsigned *b, unsigned *c, unsigned *d);
 #define __get_cpuid processor
 #endif
-#include "../c/vt220.c"
+#include "../vt220.c"
 #include "check.h"
 
 static int opened;

@@ -1,4 +1,4 @@
-/* The vectors of tests-c/vectors.txt, whose head describes their form. */
+/* The vectors of lib/rows/vectors.txt, whose head describes their form. */
 #ifndef ROWS_H
 #define ROWS_H
 

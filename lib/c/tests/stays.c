@@ -1,7 +1,7 @@
-/* stays: a proved call puts back the block that it took. c/vt220.c relies on this for handles that are `const`, and no clause states it.
+/* stays: a proved call puts back the block that it took. lib/c/vt220.c relies on this for handles that are `const`, and no clause states it.
  * Linked with the core alone, whose calls are global then. */
 #include "check.h"
-#include "../c/vt220.c"
+#include "../vt220.c"
 
 static handle t, u, s, x, y;
 static uint8_t out[VT220_PICTURE_LIMIT], lines[VT220_XTERM_LINES_LIMIT];

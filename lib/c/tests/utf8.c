@@ -1,4 +1,4 @@
-/* utf8 FILE: input in UTF-8. The vectors of FILE, which is tests-c/vectors.txt, are played whole and in cuts. The characters and cells of
+/* utf8 FILE: input in UTF-8. The vectors of FILE, which is lib/rows/vectors.txt, are played whole and in cuts. The characters and cells of
  * the rest are those of the tables of docs/SPECIFICATION.md and of Unicode. */
 #include "rows.h"
 

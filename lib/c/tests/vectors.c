@@ -1,4 +1,4 @@
-/* vectors FILE: the vectors of a VT220's bytes in FILE, which is tests-c/vectors.txt, whole, byte by byte and in cuts, with rooms of all kinds. */
+/* vectors FILE: the vectors of a VT220's bytes in FILE, which is lib/rows/vectors.txt, whole, byte by byte and in cuts, with rooms of all kinds. */
 #include "rows.h"
 
 static vt220_scratch scratch;

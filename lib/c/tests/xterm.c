@@ -1,4 +1,4 @@
-/* xterm FILE: what programs send under TERM=xterm. The vectors of FILE, which is tests-c/vectors.txt, are played whole, byte by byte and by
+/* xterm FILE: what programs send under TERM=xterm. The vectors of FILE, which is lib/rows/vectors.txt, are played whole, byte by byte and by
  * threes, and each is rebuilt by its repaint. The rest is by hand from the header. */
 #include "rows.h"
 

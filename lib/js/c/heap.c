@@ -1,4 +1,4 @@
-/* The heap of the module: rattle_alloc, rattle_realloc and rattle_dealloc, which the proved code calls, and what c/ needs of stdlib.h and
+/* The heap of the module: rattle_alloc, rattle_realloc and rattle_dealloc, which the proved code calls, and what lib/c/ needs of stdlib.h and
  * string.h.
  * A block has a head of 16 bytes. A freed block is taken again by a request for the same size: a terminal, a scratch buffer and the
  * buffers of src/vt220.js have few sizes, and nothing else allocates. */
@@ -94,7 +94,7 @@ static bool has_zero(uint64_t word) {
     return ((word - ones) & ~word & (ones << 7)) != 0;
 }
 
-/* Speed: it compares eight bytes at a time, since c/vt220.c searches all input for BEL. */
+/* Speed: it compares eight bytes at a time, since lib/c/vt220.c searches all input for BEL. */
 void *memchr(const void *from, int byte, size_t n) {
     const uint8_t *at = from;
     const uint64_t wanted = 0x0101010101010101 * (uint8_t)byte;

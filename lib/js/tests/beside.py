@@ -5,9 +5,9 @@ import random
 import sys
 import zlib
 
-TOP = os.path.dirname(os.path.dirname(os.path.dirname(os.path.abspath(__file__))))
+TOP = os.path.abspath(os.path.join(os.path.dirname(__file__), "../../.."))
 sys.dont_write_bytecode = True
-sys.path[:0] = [os.path.join(TOP, "bindings/python"), os.path.join(TOP, "bench")]
+sys.path[:0] = [os.path.join(TOP, "lib/python"), os.path.join(TOP, "tests/bench")]
 os.environ.setdefault("VT220_LIBRARY", os.path.join(TOP, "out/libvt220.so"))
 import vt220  # noqa: E402
 
@@ -75,7 +75,7 @@ def inputs(count, seed=1):
     import workloads
 
     source = random.Random(seed)
-    large = [open(path, "rb").read() for path in sorted(glob.glob(os.path.join(TOP, "bench/recordings/*.raw")))]
+    large = [open(path, "rb").read() for path in sorted(glob.glob(os.path.join(TOP, "tests/bench/recordings/*.raw")))]
     large += [prefix + workloads.make(name, 30000) for prefix in (b"", b"\x1b[?3h") for name in workloads.WORKLOADS]
     large += charts() + functions() + cut() + characters()
     large += [b"".join(part(source) for _ in range(1200)) for _ in range(LONG)]

@@ -69,7 +69,7 @@ function pairs({ Terminal }, core, check) {
   b.close();
 }
 
-/** Tests the drawings of one terminal on another: the bytes are those of the C library's tests (tests-c/calls.c) and of the other bindings'. */
+/** Tests the drawings of one terminal on another: the bytes are those of the C library's tests (lib/c/tests/calls.c) and of the other bindings'. */
 function drawings({ Terminal }, core, check) {
   const t = new Terminal(core), fresh = new Terminal(core), session = new Terminal(core, { terminal: "xterm" });
   t.feed(bytes("\x1b[1mab"));

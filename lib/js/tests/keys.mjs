@@ -1,4 +1,4 @@
-// Tests what keys send, by the rows of tests-c/keys.txt and xterm-keys.txt.
+// Tests what keys send, by the rows of lib/rows/keys.txt and xterm-keys.txt.
 const ERRORS = { "no key": "NO_KEY", "no character": "NO_CHARACTER" };
 const MODES = ["lnm", "decckm", "keypadApplication", "reports8bit"];
 

@@ -30,11 +30,11 @@ const mine = hashes(vt220, core, all.map(([input]) => new Uint8Array(Buffer.from
 for (const [input, theirs] of all) check(`beside the library, ${input.slice(0, 200)}`, mine.next().value === theirs);
 mine.next();
 
-keys(core, await readFile(new URL("../../tests-c/keys.txt", import.meta.url), "utf8"), check);
-keysOfAnXterm(core, await readFile(new URL("../../tests-c/xterm-keys.txt", import.meta.url), "utf8"), check);
+keys(core, await readFile(new URL("../../rows/keys.txt", import.meta.url), "utf8"), check);
+keysOfAnXterm(core, await readFile(new URL("../../rows/xterm-keys.txt", import.meta.url), "utf8"), check);
 await calls(vt220, wasm, check);
 timelines(vt220, core, check);
-tables(vt220, core, await readFile(new URL("../../tests-c/vectors.txt", import.meta.url), "utf8"), check);
+tables(vt220, core, await readFile(new URL("../../rows/vectors.txt", import.meta.url), "utf8"), check);
 
 const script = `import { load, Terminal } from ${JSON.stringify(pathToFileURL(`${place}/src/node.js`).href)};
 import { parentPort } from "node:worker_threads";

@@ -1,4 +1,4 @@
-// Each vector of tests-c/vectors.txt, whole, byte by byte and in chunks of five, and from a checkpoint at each byte. UTF-8 and TERM=xterm.
+// Each vector of lib/rows/vectors.txt, whole, byte by byte and in chunks of five, and from a checkpoint at each byte. UTF-8 and TERM=xterm.
 const bytes = (hex) => Uint8Array.from(hex.match(/[0-9A-F]{2}/g) ?? [], (digits) => parseInt(digits, 16));
 const hex = (data) => Array.from(data, (byte) => byte.toString(16).toUpperCase().padStart(2, "0")).join(" ");
 const ascii = (text) => Uint8Array.from(text, (c) => c.charCodeAt(0));

@@ -5,8 +5,8 @@ import sys
 from typing import NamedTuple, Optional
 
 sys.dont_write_bytecode = True
-ROOT = pathlib.Path(__file__).resolve().parents[2]
-sys.path.insert(0, str(ROOT / "js"))
+ROOT = pathlib.Path(__file__).resolve().parents[3]
+sys.path.insert(0, str(ROOT / "lib/js"))
 from wasm import CODE, CUSTOM, EXPORTS, GLOBALS, encoded, module, number, sections  # noqa: E402
 
 # The instructions with immediates, by the binary format: how many LEB128 numbers they have, or how many bytes.

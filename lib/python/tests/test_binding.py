@@ -143,7 +143,7 @@ BEFORE = [b"", b"x" * 2000, b"\033[?6h\033[4h\033[3;9r", b"\033(0\016\033[?3h", 
 
 @pytest.mark.parametrize("data", [b"", b"\033[?3h\033[3;130Hwide", b"\033[7mtext\033[5;9r\033[?6h\0337\033[3g", b"\033[4h\033)0\016q"])
 def test_a_repaint_is_for_terminals_that_read_a_vt220s_bytes_or_utf_8(data):
-    """include/vt220.h has it: the bytes of vt220_repaint_as are fed to a VT220, and those of vt220_repaint to a terminal of the language."""
+    """lib/c/include/vt220.h has it: the bytes of vt220_repaint_as are fed to a VT220, and those of vt220_repaint to a terminal of the language."""
     source, xterm = vt220.Terminal(), vt220.Terminal(terminal="xterm")
     source.feed(data)
     xterm.feed(b"\033[?40h" + data + b"\033[?47hother page")

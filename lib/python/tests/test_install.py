@@ -13,7 +13,7 @@ import vt220
 
 PACKAGE = pathlib.Path(vt220.__file__).resolve().parent
 PYTHON = PACKAGE.parent
-HEADER = PYTHON.parents[1] / "include" / "vt220.h"
+HEADER = PYTHON.parent / "c/include/vt220.h"
 # A test of somebody who has never heard of vt220, and one of somebody who uses it.
 UNRELATED = "def test_it():\n    assert 1 + 1 == 2\n"
 RIG = "def test_it(vt):\n    vt.run('echo', 'hello', timeout=300).wait('hello')\n"
@@ -80,9 +80,9 @@ def installing():
 def repository(tmp_path):
     """Makes a repository whose library is built."""
     directory = tmp_path / "repository"
-    copied(directory / "bindings" / "python")
-    (directory / "include").mkdir()
-    shutil.copy(HEADER, directory / "include")
+    copied(directory / "lib" / "python")
+    (directory / "lib/c/include").mkdir(parents=True)
+    shutil.copy(HEADER, directory / "lib/c/include")
     (directory / "out").mkdir()
     shutil.copy(vt220._find(), directory / "out" / "libvt220.so")
     (directory / "Makefile").write_text("lib:\n# The gate has built it.\n")
@@ -96,15 +96,15 @@ def test_the_blocks_of_the_page_work_in_one_shell(tmp_path, venv, tests, reposit
     done = go(["sh", "-e", "-c", first + run_tests + second + run_tests], repository, environment(venv))
     assert done.returncode == 0 and done.stdout.count("1 passed") == 2, done.stdout
     used = [line for line in done.stdout.split("\n") if line.endswith("/__init__.py")]
-    assert used[0] == str(repository / "bindings/python/vt220/__init__.py") and used[1].startswith(str(venv)), done.stdout
+    assert used[0] == str(repository / "lib/python/vt220/__init__.py") and used[1].startswith(str(venv)), done.stdout
 
 
 def test_a_plugin_that_is_named_and_installed_is_loaded_once(venv, tests, repository):
     (tests / "test_it.py").write_text(RIG)
-    shutil.copy(repository / "out" / "libvt220.so", repository / "bindings" / "python" / "vt220")
-    done = go(["pip", "install", "bindings/python"], repository, environment(venv))
+    shutil.copy(repository / "out" / "libvt220.so", repository / "lib" / "python" / "vt220")
+    done = go(["pip", "install", "lib/python"], repository, environment(venv))
     assert done.returncode == 0, done.stdout
-    named = environment(venv, PYTEST_PLUGINS="vt220.pytest_plugin", PYTHONPATH=str(repository / "bindings" / "python"))
+    named = environment(venv, PYTEST_PLUGINS="vt220.pytest_plugin", PYTHONPATH=str(repository / "lib" / "python"))
     for env, options in ((environment(venv), []), (named, []), (environment(venv), ["-p", "vt220.pytest_plugin"]), (named, ["-p", "vt220.pytest_plugin"])):
         done = go(["python3", "-m", "pytest", "-q", *options], tests, env)
         assert done.returncode == 0 and "1 passed" in done.stdout, done.stdout

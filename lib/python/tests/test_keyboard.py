@@ -1,4 +1,4 @@
-"""Holds the keyboard against tests-c/keys.txt, which has the tables of the VT220 Programmer Reference Manual."""
+"""Holds the keyboard against lib/rows/keys.txt, which has the tables of the VT220 Programmer Reference Manual."""
 import pathlib
 import subprocess
 
@@ -8,7 +8,7 @@ import vt220
 from vt220 import Terminal
 from vt220.keyboard import Key, alt, ctrl, shift, spelled, typed
 
-ROWS = pathlib.Path(__file__).parents[3] / "tests-c/keys.txt"
+ROWS = pathlib.Path(__file__).parents[2] / "rows/keys.txt"
 POWER_UP = Terminal().modes()
 MODES = ("lnm", "decckm", "keypad_application", "reports_8bit")
 SETTINGS = [dict(zip(MODES, (bool(setting & bit) for bit in (8, 4, 2, 1)))) for setting in range(16)]

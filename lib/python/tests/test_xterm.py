@@ -12,7 +12,7 @@ from vt220.keyboard import Key, alt, ctrl, shift, spelled, typed
 from vt220.page import template
 from vt220.rig import END, F5, HOME, LEFT, TAB, UP, Failure, Reports
 
-sys.path.insert(0, str(pathlib.Path(__file__).resolve().parents[3] / "tests"))
+sys.path.insert(0, str(pathlib.Path(__file__).resolve().parents[2] / "rows"))
 import xterm_keys
 
 # A limit that only says that something hangs.

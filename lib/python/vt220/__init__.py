@@ -267,7 +267,7 @@ def _built(name: str) -> Optional[str]:
     repository = package.parents[2] if len(package.parents) > 2 else package
     places = [package / name]
     # The repository's own file is meant only if this module is in the repository, not in a directory three below any other.
-    if (repository / "include" / "vt220.h").exists():
+    if (repository / "lib/c/include/vt220.h").exists():
         places.append(repository / "out" / name)
     return next((str(place) for place in places if place.exists()), None)
 

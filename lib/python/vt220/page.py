@@ -56,7 +56,7 @@ def recording(
     """Returns a recording as the element <vt220-player> takes it: JSON with its bytes, and for each chunk its microseconds and its number of bytes.
 
     Without chunks it is played as over a line of 9600 baud. `notes` are sentences on what can't be shown. The options are those of OPTIONS, as
-    js/vt220-page describes them. `read` is what was read of the recording, and `asked` what is asked for: js/src/reading.js describes them, and
+    apps/page/vt220-page describes them. `read` is what was read of the recording, and `asked` what is asked for: lib/js/src/reading.js describes them, and
     decides by them how it is played.
     """
     unknown = options.keys() - OPTIONS.keys()

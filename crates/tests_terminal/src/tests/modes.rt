@@ -4,7 +4,7 @@ use std::alloc::Global;
 use std::test::Fail;
 use vt_term::{Modes, Terminal};
 
-/// Returns inputs, and the modes that each leaves, by those at power-up. (tests-c/fields.txt has the modes at power-up.)
+/// Returns inputs, and the modes that each leaves, by those at power-up. (lib/rows/fields.txt has the modes at power-up.)
 fn rows(power_up: Modes) -> [(&'static [u8], Modes); 8] {
     [
         (

@@ -1,4 +1,4 @@
-//! The rows of the conformance vectors, in tables of a subject. `tools/vectors` makes this file of tests-c/vectors.txt.
+//! The rows of the conformance vectors, in tables of a subject. `tools/vectors` makes this file of lib/rows/vectors.txt.
 ghost use Rattle.std.specs.Prelude.{◌≡◌, length, sum_by};
 ghost use Rattle.std.specs.List.{All};
 ghost use Rattle.vt_vectors.specs.Vectors.{AreFit};

@@ -1,4 +1,4 @@
-/* What c/ needs of the C11 header. */
+/* What lib/c/ needs of the C11 header. */
 typedef __UINT8_TYPE__ uint8_t;
 typedef __UINT32_TYPE__ uint32_t;
 typedef __UINT64_TYPE__ uint64_t;

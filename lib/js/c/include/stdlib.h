@@ -1,4 +1,4 @@
-/* What c/ needs of stdlib.h; c/heap.c has it. */
+/* What lib/c/ needs of stdlib.h; lib/c/heap.c has it. */
 #include <stddef.h>
 void *malloc(size_t n);
 void free(void *p);

@@ -1,4 +1,4 @@
-/* What c/ needs of string.h; c/heap.c has it. */
+/* What lib/c/ needs of string.h; lib/c/heap.c has it. */
 #include <stddef.h>
 void *memcpy(void *to, const void *from, size_t n);
 void *memset(void *to, int byte, size_t n);

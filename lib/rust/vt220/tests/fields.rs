@@ -42,7 +42,7 @@ fn put_modes(fields: &mut Fields, terminal: &Terminal) {
     }
 }
 
-/// Returns what each reader returns, by the names of tests-c/fields.txt.
+/// Returns what each reader returns, by the names of lib/rows/fields.txt.
 fn fields_of(terminal: &Terminal) -> Fields {
     let mut fields = Fields::new();
     fields.insert("width".to_string(), terminal.width() as u32);
@@ -78,7 +78,7 @@ fn fields_of(terminal: &Terminal) -> Fields {
 
 #[test]
 fn rows() {
-    let rows = match rows_of("VT220_FIELDS", "tests-c/fields.txt") {
+    let rows = match rows_of("VT220_FIELDS", "lib/rows/fields.txt") {
         Some(rows) => rows,
         None => return,
     };

@@ -29,7 +29,7 @@ fn expected(field: &str) -> Result<Vec<u8>, Error> {
 
 #[test]
 fn rows() {
-    let rows = match rows_of("VT220_KEYS", "tests-c/keys.txt") {
+    let rows = match rows_of("VT220_KEYS", "lib/rows/keys.txt") {
         Some(rows) => rows,
         None => return,
     };
@@ -54,7 +54,7 @@ fn sequence_of(text: &str, number: &str, is_8bit: bool) -> Vec<u8> {
 
 #[test]
 fn xterm_rows() {
-    let rows = match rows_of("VT220_XTERM_KEYS", "tests-c/xterm-keys.txt") {
+    let rows = match rows_of("VT220_XTERM_KEYS", "lib/rows/xterm-keys.txt") {
         Some(rows) => rows,
         None => return,
     };

@@ -20,7 +20,7 @@ pub fn rows_of(variable: &str, name: &str) -> Option<Vec<Vec<String>>> {
     Some(lines.map(|line| line.split('\t').map(str::to_string).collect()).collect())
 }
 
-/// Returns the bytes that a field of tests-c/vectors.txt spells.
+/// Returns the bytes that a field of lib/rows/vectors.txt spells.
 fn spelled(field: &str) -> Vec<u8> {
     let (mut bytes, mut rest) = (Vec::new(), field.bytes());
     while let Some(byte) = rest.next() {
@@ -50,7 +50,7 @@ fn spelled(field: &str) -> Vec<u8> {
     bytes
 }
 
-/// What a vector of tests-c/vectors.txt has: what its terminal shows and returned, by the names there.
+/// What a vector of lib/rows/vectors.txt has: what its terminal shows and returned, by the names there.
 #[derive(Debug, PartialEq)]
 pub struct Row {
     pub text: String,
@@ -129,7 +129,7 @@ pub fn fed(language: Language, input: &[u8], size: usize, scratch: &mut Scratch)
 /// Feeds the input of each vector for an encoding and a terminal whole, byte by byte and in chunks of five, and compares what that leads to
 /// with what the vector has.
 pub fn each_way(encoding: &str, terminal: &str, fed: impl Fn(&[u8], usize, &mut Scratch) -> Row) {
-    let (rows, mut scratch, mut count) = match rows_of("VT220_VECTORS", "tests-c/vectors.txt") {
+    let (rows, mut scratch, mut count) = match rows_of("VT220_VECTORS", "lib/rows/vectors.txt") {
         Some(rows) => (rows, Scratch::new().unwrap(), 0),
         None => return,
     };

@@ -13,7 +13,7 @@ from prometheus_client import CollectorRegistry, generate_latest
 
 from harness import (
     HERE, PATIENCE, PATIENT, Clock, Failing, Processes, Proxy, Source, begun, check, conf, configured, ending, fleet, free_port, keys,
-    launched, playing, program, replace, settings, stores, text_of, until, wait_for, worker,
+    launched, outlast, playing, program, replace, settings, stores, text_of, until, wait_for, worker,
 )
 from operators import asked, metrics_at, state
 from fleet import config, metrics
@@ -421,7 +421,7 @@ def a_host_is_behind(machine, day):
     clock.now = ran.sends_since + 60
     yield
     one = worker(machine.url, lease=3600)
-    check(until(lambda: host.poll() is not None, one) and host.returncode == 0, "a worker plays it, so the program goes on")
+    check(outlast(host, lambda: one.turn(0.01) or one.counts["bytes"]) == 0, f"a worker plays it, so the program goes on: {host.returncode}")
     yield
 
 

@@ -350,11 +350,20 @@ class Terminal:
 
 
 def sweep():
-    """Ends all that the tests left."""
-    for line in keep("list", "--tsv").stdout.splitlines():
+    """Ends all that the tests left, also sessions that the list leaves out, since their end was shown."""
+    for each in SOCKETS.glob("*"):
         with contextlib.suppress(Exception):
-            keep("kill", line.split("\t")[0])
+            keep("kill", each.name)
+    wait(lambda: not any(programs_of_tests()), "no keeper is left")
     shutil.rmtree(ROOM, ignore_errors=True)
+
+
+def programs_of_tests():
+    """The processes whose program is in the directory of the tests."""
+    for link in pathlib.Path("/proc").glob("[0-9]*/exe"):
+        with contextlib.suppress(OSError):
+            if os.readlink(link).startswith(f"{ROOM}/"):
+                yield link
 
 
 def report(title):

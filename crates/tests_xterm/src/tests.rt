@@ -3,3 +3,4 @@
 mod attributes;
 mod checkpoints;
 mod rows;
+mod sizes;

@@ -3,7 +3,8 @@ use Rattle.std.proofs.Common.{◌≡◌, ℕ, suc, ◌<◌, true, List, [], ◌�
 use Rattle.std.specs.Prelude.{nat_lt}
 use Rattle.std.proofs.lemmas.Bool.Decides.{nat_tests}
 use Rattle.vt_term.specs.State.{State}
-use Rattle.vt_term.specs.Sound.{IsSound}
+use Rattle.vt_screen.specs.declared.size.Size.{Size}
+use Rattle.vt_term.specs.Sound.{IsSoundAt}
 use Rattle.vt_term.specs.Play.{Played, play, both, joined}
 use Rattle.vt_utf8.specs.Decoding.{is_begun, read, characters, pending_after}
 use Rattle.vt_utf8.specs.Translation.{translation}
@@ -26,14 +27,14 @@ characters-append pending (x ∷ a) b =
 
 -- ---- translating
 
-module _ (none : (s : State) → IsSound s → play s [] ≡ record { state = s; reports = [] })
+module _ {size : Size} (none : (s : State) → IsSoundAt size s → play s [] ≡ record { state = s; reports = [] })
     (two : (s : State) (a b : List ℕ) → play s (a ++ b) ≡ both (play s a) (play (play s a).state b))
-    (keeps : (s : State) (bytes : List ℕ) → IsSound s → IsSound (play s bytes).state) where
+    (keeps : (s : State) (bytes : List ℕ) → IsSoundAt size s → IsSoundAt size (play s bytes).state) where
   -- the state after two lists of bytes
   state-append : (s : State) (a b : List ℕ) → (play s (a ++ b)).state ≡ (play (play s a).state b).state
   state-append s a b = ap (λ (p : Played). p.state) (two s a b)
 
-  pub translated-append : (s : State) (xs ys : List ℕ) → IsSound s → translated_all s (xs ++ ys)
+  pub translated-append : (s : State) (xs ys : List ℕ) → IsSoundAt size s → translated_all s (xs ++ ys)
       ≡ translated_all s xs ++ translated_all (play s (translated_all s xs)).state ys
   translated-append s [] ys sound = rw (none s sound) refl
   translated-append s (x ∷ xs) ys sound =
@@ -44,14 +45,14 @@ module _ (none : (s : State) → IsSound s → play s [] ≡ record { state = s;
       ∙ ap (λ (u : State). (own ++ translated_all t xs) ++ translated_all u ys)
       (sym (state-append s own (translated_all t xs)))
 
-  pub translated-parts : (s : State) (pending a b : List ℕ) → IsSound s → translated s pending (a ++ b)
+  pub translated-parts : (s : State) (pending a b : List ℕ) → IsSoundAt size s → translated s pending (a ++ b)
       ≡ translated s pending a ++ translated (play_utf8 s pending a).state (pending_after pending a) b
   unfolding play_utf8 translated
   translated-parts s pending a b sound =
       ap (λ (cs : List ℕ). translated_all s cs) (characters-append pending a b)
       ∙ translated-append s (characters pending a) (characters (pending_after pending a) b) sound
 
-  pub translated-byte : (s : State) (pending : List ℕ) (b : ℕ) (xs ys : List ℕ) → IsSound s
+  pub translated-byte : (s : State) (pending : List ℕ) (b : ℕ) (xs ys : List ℕ) → IsSoundAt size s
       → xs ++ ys ≡ (read pending b).characters
       → translated s pending (b ∷ []) ≡ translated_all s xs ++ translated_all (play s (translated_all s xs)).state ys
   unfolding translated
@@ -59,12 +60,12 @@ module _ (none : (s : State) → IsSound s → play s [] ≡ record { state = s;
       ap (λ (cs : List ℕ). translated_all s cs) (append-nil (read pending b).characters ∙ sym are)
       ∙ translated-append s xs ys sound
 
-  pub utf8-nothing : (s : State) (pending : List ℕ) → IsSound s
+  pub utf8-nothing : (s : State) (pending : List ℕ) → IsSoundAt size s
       → play_utf8 s pending [] ≡ record { state = s; reports = [] }
   unfolding play_utf8 translated
   utf8-nothing s pending sound = none s sound
 
-  pub utf8-append : (s : State) (pending a b : List ℕ) → IsSound s → play_utf8 s pending (a ++ b)
+  pub utf8-append : (s : State) (pending a b : List ℕ) → IsSoundAt size s → play_utf8 s pending (a ++ b)
       ≡ both (play_utf8 s pending a) (play_utf8 (play_utf8 s pending a).state (pending_after pending a) b)
   unfolding play_utf8 translated
   utf8-append s pending a b sound =
@@ -74,11 +75,11 @@ module _ (none : (s : State) → IsSound s → play s [] ≡ record { state = s;
       ∙ ap (λ (bytes : List ℕ). play s bytes) (translated-append s first second sound)
       ∙ two s (translated_all s first) (translated_all (play s (translated_all s first)).state second)
 
-  pub utf8-sound : (s : State) (pending bytes : List ℕ) → IsSound s → IsSound (play_utf8 s pending bytes).state
+  pub utf8-sound : (s : State) (pending bytes : List ℕ) → IsSoundAt size s → IsSoundAt size (play_utf8 s pending bytes).state
   unfolding play_utf8
   utf8-sound s pending bytes sound = keeps s (translated s pending bytes) sound
 
-  pub utf8-joined : (s : State) (pending : List ℕ) (pieces : List (List ℕ)) → IsSound s
+  pub utf8-joined : (s : State) (pending : List ℕ) (pieces : List (List ℕ)) → IsSoundAt size s
       → play_utf8_all s pending pieces ≡ play_utf8 s pending (joined pieces)
   utf8-joined s pending [] sound = sym (utf8-nothing s pending sound)
   utf8-joined s pending (piece ∷ pieces) sound =

@@ -3,7 +3,8 @@ use Rattle.std.proofs.Common.{◌≡◌, ℕ, ◌+◌, ◌-◌, ◌≤◌, arith
 use Rattle.std.specs.Prelude.{slice_index}
 use Rattle.std.proofs.Math.Seq.{take-add, take-length}
 use Rattle.vt_term.specs.State.{State}
-use Rattle.vt_term.specs.Sound.{IsSound}
+use Rattle.vt_screen.specs.declared.size.Size.{Size}
+use Rattle.vt_term.specs.Sound.{IsSoundAt}
 use Rattle.vt_term.specs.Play.{Played, play, both}
 use Rattle.vt_utf8.specs.Decoding.{read, characters, pending_after}
 use Rattle.vt_utf8.specs.Translation.{translation}
@@ -29,18 +30,18 @@ translated-one s c = append-nil (translation s c)
 pub played-one : (s : State) (c : ℕ) → play s (translated_all s (c ∷ [])) ≡ play s (translation s c)
 played-one s c = ap (λ (t : List ℕ). play s t) (translated-one s c)
 
-module _ (none : (s : State) → IsSound s → play s [] ≡ record { state = s; reports = [] })
+module _ {size : Size} (none : (s : State) → IsSoundAt size s → play s [] ≡ record { state = s; reports = [] })
     (two : (s : State) (a b : List ℕ) → play s (a ++ b) ≡ both (play s a) (play (play s a).state b))
-    (keeps : (s : State) (bytes : List ℕ) → IsSound s → IsSound (play s bytes).state) where
+    (keeps : (s : State) (bytes : List ℕ) → IsSoundAt size s → IsSoundAt size (play s bytes).state) where
   -- what was given up, and the characters after it
-  played-two : (s t : State) (xs ys : List ℕ) → IsSound s → t ≡ (play s (translated_all s xs)).state
+  played-two : (s t : State) (xs ys : List ℕ) → IsSoundAt size s → t ≡ (play s (translated_all s xs)).state
       → play s (translated_all s (xs ++ ys)) ≡ both (play s (translated_all s xs)) (play t (translated_all t ys))
   played-two s t xs ys sound is =
       ap (λ (bytes : List ℕ). play s bytes) (translated-append none two keeps s xs ys sound)
       ∙ two s (translated_all s xs) (translated_all (play s (translated_all s xs)).state ys)
       ∙ ap (λ (u : State). both (play s (translated_all s xs)) (play u (translated_all u ys))) (sym is)
 
-  pub feeds-byte : (s t u : State) (pending : List ℕ) (b : ℕ) (xs ys after before out : List ℕ) → IsSound s
+  pub feeds-byte : (s t u : State) (pending : List ℕ) (b : ℕ) (xs ys after before out : List ℕ) → IsSoundAt size s
       → xs ++ ys ≡ (read pending b).characters → after ≡ (read pending b).pending
       → t ≡ (play s (translated_all s xs)).state → (play s (translated_all s xs)).reports ≡ []
       → u ≡ (play t (translated_all t ys)).state → out ≡ before ++ (play t (translated_all t ys)).reports
@@ -76,13 +77,13 @@ feeds-whole s t piece c n before out whole state silent same =
 
 -- ---- one part of a piece, and the next
 
-module _ (none : (s : State) (pending : List ℕ) → IsSound s
+module _ {size : Size} (none : (s : State) (pending : List ℕ) → IsSoundAt size s
     → play_utf8 s pending [] ≡ record { state = s; reports = [] })
-    (two : (s : State) (pending a b : List ℕ) → IsSound s → play_utf8 s pending (a ++ b)
+    (two : (s : State) (pending a b : List ℕ) → IsSoundAt size s → play_utf8 s pending (a ++ b)
     ≡ both (play_utf8 s pending a) (play_utf8 (play_utf8 s pending a).state (pending_after pending a) b))
     (lasting : (pending a b : List ℕ)
     → pending_after pending (a ++ b) ≡ pending_after (pending_after pending a) b) where
-  pub feeds-nothing : (s : State) (pending out : List ℕ) → IsSound s → FeedsUtf8 s pending [] s pending out out
+  pub feeds-nothing : (s : State) (pending out : List ℕ) → IsSoundAt size s → FeedsUtf8 s pending [] s pending out out
   feeds-nothing s pending out sound = record {
     state = sym (ap (λ (p : Played). p.state) (none s pending sound));
     left = refl;
@@ -90,7 +91,7 @@ module _ (none : (s : State) (pending : List ℕ) → IsSound s
         (sym (ap (λ (p : Played). p.reports) (none s pending sound)));
   }
 
-  pub feeds-more : (s t u : State) (pending after left piece before out last : List ℕ) (at n : ℕ) → IsSound s
+  pub feeds-more : (s t u : State) (pending after left piece before out last : List ℕ) (at n : ℕ) → IsSoundAt size s
       → FeedsUtf8 s pending (take at piece) t after before out → FeedsUtf8 t after (take n (drop at piece)) u left out last
       → FeedsUtf8 s pending (take (at + n) piece) u left before last
   feeds-more s t u pending after left piece before out last at n sound first second =
@@ -108,12 +109,12 @@ module _ (none : (s : State) (pending : List ℕ) → IsSound s
       })
 
   -- the front that was tried first is empty
-  pub same-state : (s t : State) (piece before out : List ℕ) (w : ℕ) → IsSound s → w ≡ 0
+  pub same-state : (s t : State) (piece before out : List ℕ) (w : ℕ) → IsSoundAt size s → w ≡ 0
       → FeedsUtf8 s [] (take w piece) t [] before out → t ≡ s
   same-state s t piece before out w sound zero first =
       first.state ∙ rw zero (ap (λ (p : Played). p.state) (none s [] sound))
 
-  pub feeds-next : (s t u : State) (pending left piece before out last : List ℕ) (w n : ℕ) → IsSound s → w ≡ 0
+  pub feeds-next : (s t u : State) (pending left piece before out last : List ℕ) (w n : ℕ) → IsSoundAt size s → w ≡ 0
       → FeedsUtf8 s [] (take w piece) t [] before out → out ≡ before → FeedsUtf8 t pending (take n piece) u left out last
       → FeedsUtf8 s pending (take n piece) u left before last
   feeds-next s t u pending left piece before out last w n sound zero first same second =

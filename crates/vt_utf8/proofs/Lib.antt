@@ -1,5 +1,6 @@
 mod Tables
 mod Reading
+pub mod Sizes
 pub mod Cuts
 pub mod Silence
 mod Plain

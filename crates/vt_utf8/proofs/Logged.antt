@@ -3,10 +3,10 @@ use Rattle.std.proofs.Common.{◌≡◌, ℕ, ◌+◌, List, [], ◌∷◌, ◌+
 use Rattle.std.proofs.Math.Seq.{take-add}
 use Rattle.vt_syntax.specs.Laws.{SplitLaw}
 use Rattle.vt_screen.specs.declared.cell.Cell.{Cell}
-use Rattle.vt_screen.specs.Sizes.{vt220_size}
 use Rattle.vt_term.proofs.SizeKept.{own-size}
 use Rattle.vt_term.specs.State.{State}
-use Rattle.vt_term.specs.Sound.{IsSound}
+use Rattle.vt_screen.specs.declared.size.Size.{Size}
+use Rattle.vt_term.specs.Sound.{IsSoundAt}
 use Rattle.vt_term.specs.Play.{play}
 use Rattle.vt_term.specs.Scrolling.{scrolled_off}
 use Rattle.vt_term.specs.Observers.{scrolled-append, scrolled-nothing}
@@ -21,11 +21,11 @@ abbrev pub Rows : Type 0
 Rows = List (List Cell)
 
 -- what UTF-8 scrolls off in two parts
-abbrev pub PartsLaw : Type 0
-PartsLaw = (s : State) (pending a b : List ℕ) → IsSound s → translated s pending (a ++ b)
+abbrev pub PartsLaw : Size → Type 0
+PartsLaw size = (s : State) (pending a b : List ℕ) → IsSoundAt size s → translated s pending (a ++ b)
     ≡ translated s pending a ++ translated (play_utf8 s pending a).state (pending_after pending a) b
 
-off-two : SplitLaw → PartsLaw → (s t : State) (pending after a b : List ℕ) → IsSound s → t ≡ (play_utf8 s pending a).state
+off-two : {size : Size} → SplitLaw → PartsLaw size → (s t : State) (pending after a b : List ℕ) → IsSoundAt size s → t ≡ (play_utf8 s pending a).state
     → after ≡ pending_after pending a → utf8_off s pending (a ++ b) ≡ utf8_off s pending a ++ utf8_off t after b
 unfolding play_utf8
 off-two split parts s t pending after a b sound is left =
@@ -35,9 +35,9 @@ off-two split parts s t pending after a b sound is left =
     ∙ ap (λ (u : State). utf8_off s pending a ++ utf8_off u (pending_after pending a) b) (sym is)
     ∙ ap (λ (p : List ℕ). utf8_off s pending a ++ utf8_off t p b) (sym left)
 
-off-none : SplitLaw → (s : State) (pending : List ℕ) → IsSound s → utf8_off s pending [] ≡ []
+off-none : {size : Size} → SplitLaw → (s : State) (pending : List ℕ) → IsSoundAt size s → utf8_off s pending [] ≡ []
 unfolding translated
-off-none split s pending sound = scrolled-nothing split s (own-size vt220_size s sound)
+off-none {size} split s pending sound = scrolled-nothing split s (own-size size s sound)
 
 module _ {O : Type 0} (Keeps : O → Rows → O → Type 0) (HasRoom IsFull : O → ℕ → Type 0) (kept : AreKept Keeps HasRoom IsFull) where
   pub keeps-nothing : (o : O) (rows : Rows) → rows ≡ [] → Keeps o rows o
@@ -46,10 +46,10 @@ module _ {O : Type 0} (Keeps : O → Rows → O → Type 0) (HasRoom IsFull : O 
   pub keeps-both : (o p q : O) (a b rows : Rows) → Keeps o a p → Keeps p b q → rows ≡ a ++ b → Keeps o rows q
   keeps-both o p q a b rows first second is = subst (λ (r : Rows). Keeps o r q) (sym is) (kept.more o p q a b first second)
 
-  pub keeps-none : SplitLaw → (s : State) (pending : List ℕ) (o : O) → IsSound s → Keeps o (utf8_off s pending []) o
+  pub keeps-none : {size : Size} → SplitLaw → (s : State) (pending : List ℕ) (o : O) → IsSoundAt size s → Keeps o (utf8_off s pending []) o
   keeps-none split s pending o sound = keeps-nothing o (utf8_off s pending []) (off-none split s pending sound)
 
-  pub keeps-more : SplitLaw → PartsLaw → (s t : State) (pending after piece : List ℕ) (at n : ℕ) (o p q : O) → IsSound s
+  pub keeps-more : {size : Size} → SplitLaw → PartsLaw size → (s t : State) (pending after piece : List ℕ) (at n : ℕ) (o p q : O) → IsSoundAt size s
       → t ≡ (play_utf8 s pending (take at piece)).state → after ≡ pending_after pending (take at piece)
       → Keeps o (utf8_off s pending (take at piece)) p → Keeps p (utf8_off t after (take n (drop at piece))) q
       → Keeps o (utf8_off s pending (take (at + n) piece)) q
@@ -60,7 +60,7 @@ module _ {O : Type 0} (Keeps : O → Rows → O → Type 0) (HasRoom IsFull : O 
       (ap (λ (bytes : List ℕ). utf8_off s pending bytes) (take-add at n piece)
       ∙ off-two split parts s t pending after a b sound is left)
 
-  pub keeps-next : (s t : State) (pending piece : List ℕ) (w n : ℕ) (o p q : O) → SplitLaw → IsSound s → t ≡ s → w ≡ 0
+  pub keeps-next : {size : Size} (s t : State) (pending piece : List ℕ) (w n : ℕ) (o p q : O) → SplitLaw → IsSoundAt size s → t ≡ s → w ≡ 0
       → Keeps o (utf8_off s [] (take w piece)) p → Keeps p (utf8_off t pending (take n piece)) q
       → Keeps o (utf8_off s pending (take n piece)) q
   keeps-next s t pending piece w n o p q split sound same zero first second =

@@ -30,7 +30,8 @@ use Rattle.vt_glyph.specs.Laws.{GlyphLaws, SpellingLaws}
 use Rattle.vt_glyph.proofs.EachSet as each_set
 use Rattle.vt_term.specs.Scrolling.{log}
 use Rattle.vt_term.specs.State.{Display, State}
-use Rattle.vt_term.specs.Sound.{IsSound}
+use Rattle.vt_screen.specs.declared.size.Size.{Size}
+use Rattle.vt_term.specs.Sound.{IsSoundAt}
 use Rattle.vt_term.specs.Functions.{effect}
 use Rattle.vt_term.specs.Reports.{report, control_report}
 use Rattle.vt_term.specs.Play.{Played, play, both, reports_of}
@@ -250,7 +251,7 @@ module _ (glyphs : GlyphLaws) (spelling : SpellingLaws) where
       quiet-if (cells c == 0) _ _ quiet-nothing
       (quiet-if (cells c == 1) _ _ (quiet-written (shown c) s.sets is) (quiet-wide (shown c) s is))
 
-module _ (none : (s : State) → IsSound s → play s [] ≡ record { state = s; reports = [] }) (spelled : SpellingLaw) where
+module _ {size : Size} (none : (s : State) → IsSoundAt size s → play s [] ≡ record { state = s; reports = [] }) (spelled : SpellingLaw) where
   -- quiet bytes between sequences
   silent-between : (d : Display) (bytes : List ℕ) → AreQuiet bytes
       → (play (record { display = d; held = held.Nothing }) bytes).reports ≡ []
@@ -275,7 +276,7 @@ module _ (none : (s : State) → IsSound s → play s [] ≡ record { state = s;
   silent-cut d h bytes is quiet =
       silent-escape d h (0x5C ∷ bytes) is (quiet-append (0x1B ∷ 0x5C ∷ []) bytes (quietly _ _ spell-st) quiet)
 
-  silent-beyond : (d : Display) (h : Held) (bytes : List ℕ) → IsSound (record { display = d; held = h }) → AreQuiet bytes
+  silent-beyond : (d : Display) (h : Held) (bytes : List ℕ) → IsSoundAt size (record { display = d; held = h }) → AreQuiet bytes
       → (play (record { display = d; held = h }) (beyond_ascii h bytes)).reports ≡ []
   silent-beyond d held.Nothing bytes sound quiet = silent-between d bytes quiet
   silent-beyond d (held.Escape inters) bytes sound quiet = silent-cut d (held.Escape inters) bytes sound.held quiet
@@ -285,7 +286,7 @@ module _ (none : (s : State) → IsSound s → play s [] ≡ record { state = s;
   silent-beyond d (held.Text osc) bytes sound quiet =
       ap (λ (p : Played). p.reports) (none (record { display = d; held = held.Text osc }) sound)
 
-  pub silent-translation : GlyphLaws → SpellingLaws → (s : State) (c : ℕ) → IsSound s → 0x80 ≤ c
+  pub silent-translation : GlyphLaws → SpellingLaws → (s : State) (c : ℕ) → IsSoundAt size s → 0x80 ≤ c
       → (play s (translation s c)).reports ≡ []
   unfolding translation
   silent-translation glyphs spelling s c sound beyond =

@@ -16,12 +16,12 @@ use Rattle.vt_glyph.specs.Laws.{GlyphLaws, SpellingLaws}
 use Rattle.vt_term.specs.State.{Display, State, last_column}
 use Rattle.vt_screen.specs.declared.cell.Cell.{Cell}
 use Rattle.vt_screen.specs.declared.size.Size.{Size}
+use Rattle.vt_screen.specs.Sizes.{vt220_size, width_of, IsSize}
 use Rattle.vt_screen.specs.Grid.{scroll_up}
-use Rattle.vt_screen.specs.Sizes.{width_of, IsSize}
 use Rattle.vt_syntax.specs.Laws.{SplitLaw}
 use Rattle.vt_term.specs.Observers.{scrolled-append}
 use Rattle.vt_term.specs.Scrolling.{scrolled_off}
-use Rattle.vt_term.specs.Sound.{IsSound, IsSoundDisplay}
+use Rattle.vt_term.specs.Sound.{IsSoundAt, IsSoundDisplayAt}
 use Rattle.vt_term.specs.Moving.{next_line}
 use Rattle.vt_term.specs.Writing.{write_glyph, after_wrap}
 use Rattle.vt_term.specs.Functions.{control}
@@ -37,8 +37,11 @@ use Rattle.vt_utf8.proofs.Written.{writes, off-written, unshifted-same, leaves-s
 abbrev pub silently : State → Display → Played
 silently s d = record { state = record s { display = d }; reports = [] }
 
+abbrev pub KeepsSoundAt : Size → Type 0
+KeepsSoundAt size = (s : State) (bytes : List ℕ) → IsSoundAt size s → IsSoundAt size (play s bytes).state
+
 abbrev pub KeepsSound : Type 0
-KeepsSound = (s : State) (bytes : List ℕ) → IsSound s → IsSound (play s bytes).state
+KeepsSound = KeepsSoundAt vt220_size
 
 abbrev pub PlaysTwo : Type 0
 PlaysTwo = (s : State) (a b : List ℕ) → play s (a ++ b) ≡ both (play s a) (play (play s a).state b)
@@ -55,24 +58,24 @@ next_line-width d = go (d.cursor.row == d.margins.bottom)
     go true = refl
     go false = refl
 
-wide-columns : (w : ℕ) (size : Size) → IsSize size → (wide : Bool) × (w ≡ width_of size wide) → 1 < w
-wide-columns w size of (true, is) = omega (arith, of.narrow, of.wide, is)
-wide-columns w size of (false, is) = omega (arith, of.narrow, is)
+wide-columns : (size : Size) (w : ℕ) → IsSize size → (wide : Bool) × (w ≡ width_of size wide) → 1 < w
+wide-columns size w is (true, wide) = omega (arith, is.narrow, is.wide, wide)
+wide-columns size w is (false, narrow) = omega (arith, is.narrow, narrow)
 
-has-cell : (d : Display) → IsSoundDisplay d → is_at_end d ≡ false
+has-cell : {size : Size} (d : Display) → IsSoundDisplayAt size d → is_at_end d ≡ false
     → nat_lt (after_wrap d).cursor.col (last_column (after_wrap d)) ≡ true
 has-cell d sound inside = go d.cursor.wrap refl
   where
     go : (b : Bool) → d.cursor.wrap ≡ b → nat_lt (after_wrap d).cursor.col (last_column (after_wrap d)) ≡ true
     go true wrap =
-        let first : 1 < last_column d = wide-columns (last_column d) d.grid.size sound.grid.shape.size sound.grid.shape.width in
+        let first : 1 < last_column d = wide-columns d.grid.size (last_column d) sound.grid.shape.size sound.grid.shape.width in
         rw (wrap, next_line-width d) (grind (arith, nat_tests, first))
     go false wrap =
         let other : (d.cursor.col == last_column d) ≡ false = rw (← wrap) (search rules) in
         let within : d.cursor.col ≤ last_column d = sound.cursor.col_last in
         rw wrap (grind (arith, nat_tests, other, within))
 
-no-wrap : (n : ℕ) (d : Display) → IsSoundDisplay d → is_at_end d ≡ false → (write_glyph n d).cursor.wrap ≡ false
+no-wrap : {size : Size} (n : ℕ) (d : Display) → IsSoundDisplayAt size d → is_at_end d ≡ false → (write_glyph n d).cursor.wrap ≡ false
 no-wrap n d sound inside = rw (has-cell d sound inside) refl
 
 no-glyph_off : (d : Display) → d.cursor.wrap ≡ false → glyph_off d ≡ []
@@ -89,17 +92,17 @@ module _ (spelled : SpellingLaw) where
       rw (between, are, left) refl
 
 module _ (spelled : SpellingLaw) (spelling : SpellingLaws) where
-  pub plays-glyph : (s : State) (n : ℕ) → IsSound s → s.held ≡ Nothing → s.display.sets.pending ≡ None → IsGlyph n
+  pub plays-glyph : {size : Size} (s : State) (n : ℕ) → IsSoundAt size s → s.held ≡ Nothing → s.display.sets.pending ≡ None → IsGlyph n
       → play s (written n s.display.sets) ≡ silently s (write_glyph n s.display)
   plays-glyph s n sound between none is =
       writes spelled spelling s n sound between is
       ∙ ap (λ (d : Display). silently s (write_glyph n d)) (unshifted-same s.display none)
 
   -- a glyph and a space
-  pub plays-halves : KeepsSound → PlaysTwo → (s : State) (n : ℕ) → IsSound s → s.held ≡ Nothing
+  pub plays-halves : {size : Size} → KeepsSoundAt size → PlaysTwo → (s : State) (n : ℕ) → IsSoundAt size s → s.held ≡ Nothing
       → s.display.sets.pending ≡ None → IsGlyph n → IsGlyph space
       → play s (both_halves n s.display.sets) ≡ silently s (write_glyph space (write_glyph n s.display))
-  plays-halves keeps two s n sound between none is blank =
+  plays-halves {size} keeps two s n sound between none is blank =
       let d = s.display in
       let a = written n d.sets in
       let t : State = record s { display = write_glyph n d } in
@@ -109,15 +112,15 @@ module _ (spelled : SpellingLaw) (spelling : SpellingLaws) where
       ∙ ap (λ (p : Played). both p (play p.state (written space d.sets))) first
       ∙ ap (λ (g : GraphicSets). both (silently s (write_glyph n d)) (play t (written space g))) (sym sets)
       ∙ ap (λ (p : Played). both (silently s (write_glyph n d)) p)
-      (plays-glyph t space (subst IsSound (ap (λ (p : Played). p.state) first) (keeps s a sound)) between
+      (plays-glyph t space (subst (IsSoundAt size) (ap (λ (p : Played). p.state) first) (keeps s a sound)) between
       (ap (λ (g : GraphicSets). g.pending) sets ∙ none) blank)
 
-  pub plays-wide : GlyphLaws → KeepsSound → PlaysTwo
-      → ((s : State) → IsSound s → play s [] ≡ record { state = s; reports = [] })
-      → (s : State) (c : ℕ) → IsSound s → s.held ≡ Nothing → s.display.sets.pending ≡ None → 0x80 ≤ c → cells c ≡ 2
+  pub plays-wide : {size : Size} → GlyphLaws → KeepsSoundAt size → PlaysTwo
+      → ((s : State) → IsSoundAt size s → play s [] ≡ record { state = s; reports = [] })
+      → (s : State) (c : ℕ) → IsSoundAt size s → s.held ≡ Nothing → s.display.sets.pending ≡ None → 0x80 ≤ c → cells c ≡ 2
       → play s (translation s c) ≡ silently s (write_wide (shown c) s.display)
   unfolding translation
-  plays-wide glyphs keeps two nothing s c sound between none beyond is = by_end (is_at_end d) refl
+  plays-wide {size} glyphs keeps two nothing s c sound between none beyond is = by_end (is_at_end d) refl
     where
       d : Display
       d = s.display
@@ -146,7 +149,7 @@ module _ (spelled : SpellingLaw) (spelling : SpellingLaws) where
           ∙ ap (λ (p : Played). both p (play p.state (both_halves n d.sets))) first
           ∙ ap (λ (p : Played). both (silently s (next_line d)) p)
           (plays-halves keeps two t n
-          (subst IsSound (ap (λ (p : Played). p.state) first) (keeps s (0x1B ∷ 0x45 ∷ []) sound)) between none
+          (subst (IsSoundAt size) (ap (λ (p : Played). p.state) first) (keeps s (0x1B ∷ 0x45 ∷ []) sound)) between none
           (shown-glyph glyphs c) glyphs.space)
           ∙ ap (λ (e : Display). silently s e) (sym here)
       by_mode false off last =
@@ -165,11 +168,11 @@ module _ (spelled : SpellingLaw) (spelling : SpellingLaws) where
           ∙ ap (λ (e : Display). silently s e) (sym here)
 
   -- the glyph's line; the space begins without the wrap flag
-  pub off-wide : GlyphLaws → SplitLaw → KeepsSound → (s : State) (c : ℕ) → IsSound s → s.held ≡ Nothing
+  pub off-wide : {size : Size} → GlyphLaws → SplitLaw → KeepsSoundAt size → (s : State) (c : ℕ) → IsSoundAt size s → s.held ≡ Nothing
       → s.display.sets.pending ≡ None → 0x80 ≤ c → cells c ≡ 2 → is_at_end s.display ≡ false
       → scrolled_off s (translation s c) ≡ glyph_off s.display
   unfolding translation
-  off-wide glyphs split keeps s c sound between none beyond is inside =
+  off-wide {size} glyphs split keeps s c sound between none beyond is inside =
       let high : nat_lt c 0x80 ≡ false = is-beyond c beyond in
       let d = s.display in
       let n = shown c in
@@ -185,7 +188,7 @@ module _ (spelled : SpellingLaw) (spelling : SpellingLaws) where
       ∙ ap (λ (u : State). scrolled_off s a ++ scrolled_off u (written space d.sets)) after
       ∙ ap (λ (g : GraphicSets). scrolled_off s a ++ scrolled_off t (written space g)) (sym sets)
       ∙ ap (λ (rows : List (List Cell)). scrolled_off s a ++ rows)
-      (off-written spelled spelling t space (subst IsSound after (keeps s a sound)) between glyphs.space
+      (off-written spelled spelling t space (subst (IsSoundAt size) after (keeps s a sound)) between glyphs.space
       ∙ no-glyph_off t.display (no-wrap n d sound.display inside))
       ∙ append-nil (scrolled_off s a)
       ∙ off-written spelled spelling s n sound between (shown-glyph glyphs c)

@@ -27,7 +27,8 @@ use Rattle.vt_screen.specs.declared.cell.Cell.{Cell}
 use Rattle.vt_screen.specs.Grid.{row_of}
 use Rattle.vt_term.specs.Scrolling.{is_at_end, line_off, lines_off, scrolled_off}
 use Rattle.vt_term.specs.State.{Display, State}
-use Rattle.vt_term.specs.Sound.{IsSound}
+use Rattle.vt_screen.specs.declared.size.Size.{Size}
+use Rattle.vt_term.specs.Sound.{IsSoundAt}
 use Rattle.vt_term.specs.Moving.{next_line}
 use Rattle.vt_term.specs.Writing.{write_glyph, put_glyph, print}
 use Rattle.vt_term.specs.Functions.{effect, control, escape_with, with_sets}
@@ -300,14 +301,14 @@ module _ (spelled : SpellingLaw) (spelling : SpellingLaws) where
   unfolding scrolled_off
   scrolls d e bytes off does = rw (reads d e bytes off does) does.lines
 
-  written-does : (s : State) (n : ℕ) → IsSound s → IsGlyph n
+  written-does : {size : Size} (s : State) (n : ℕ) → IsSoundAt size s → IsGlyph n
       → Does (written n s.display.sets) s.display (write_glyph n (unshifted s.display)) (glyph_off s.display)
   written-does s n sound is =
       let code = spelling.code n is in
       does-spelled s.display (spelling_of n) n sound.display.sets.four code.0 code.1
       (spelling.writes spelling_sets n spelling_sets-are is)
 
-  pub writes : (s : State) (n : ℕ) → IsSound s → s.held ≡ Nothing → IsGlyph n
+  pub writes : {size : Size} (s : State) (n : ℕ) → IsSoundAt size s → s.held ≡ Nothing → IsGlyph n
       → play s (written n s.display.sets)
       ≡ record { state = record s { display = write_glyph n (unshifted s.display) }; reports = [] }
   writes s n sound between is =
@@ -319,7 +320,7 @@ module _ (spelled : SpellingLaw) (spelling : SpellingLaws) where
       (sym between)
 
   -- a character of one cell
-  pub writes-one : GlyphLaws → (s : State) (c : ℕ) → IsSound s → s.held ≡ Nothing → 0x80 ≤ c → cells c ≡ 1
+  pub writes-one : {size : Size} → GlyphLaws → (s : State) (c : ℕ) → IsSoundAt size s → s.held ≡ Nothing → 0x80 ≤ c → cells c ≡ 1
       → play s (translation s c)
       ≡ record { state = record s { display = write_glyph (shown c) (unshifted s.display) }; reports = [] }
   unfolding translation
@@ -328,7 +329,7 @@ module _ (spelled : SpellingLaw) (spelling : SpellingLaws) where
       let bytes : translation s c ≡ written (shown c) s.display.sets = rw (high, between, one) refl in
       ap (λ (b : List ℕ). play s b) bytes ∙ writes s (shown c) sound between (shown-glyph glyphs c)
 
-  pub off-written : (s : State) (n : ℕ) → IsSound s → s.held ≡ Nothing → IsGlyph n
+  pub off-written : {size : Size} (s : State) (n : ℕ) → IsSoundAt size s → s.held ≡ Nothing → IsGlyph n
       → scrolled_off s (written n s.display.sets) ≡ glyph_off s.display
   off-written s n sound between is =
       let d = s.display in
@@ -336,7 +337,7 @@ module _ (spelled : SpellingLaw) (spelling : SpellingLaws) where
       ∙ scrolls d (write_glyph n (unshifted d)) (written n d.sets) (glyph_off d) (written-does s n sound is)
 
   -- the line that it scrolls off
-  pub off-one : GlyphLaws → (s : State) (c : ℕ) → IsSound s → s.held ≡ Nothing → 0x80 ≤ c → cells c ≡ 1
+  pub off-one : {size : Size} → GlyphLaws → (s : State) (c : ℕ) → IsSoundAt size s → s.held ≡ Nothing → 0x80 ≤ c → cells c ≡ 1
       → scrolled_off s (translation s c) ≡ glyph_off s.display
   unfolding translation
   off-one glyphs s c sound between beyond one =

@@ -3,6 +3,7 @@ pub mod Similar
 pub mod Cells
 pub mod Showing
 pub mod Translation
+pub mod Limits
 pub mod Play
 pub mod Placing
 pub mod Logs

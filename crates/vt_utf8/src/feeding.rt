@@ -9,18 +9,19 @@ ghost use Rattle.vt_glyph.specs.Tables.{space};
 ghost use Rattle.vt_syntax.specs.declared.held.Held.TheVariants.{Nothing};
 ghost use Rattle.vt_term.specs.Play.{play};
 ghost use Rattle.vt_term.specs.Scrolling.{log, scrolled_off};
-ghost use Rattle.vt_term.specs.Text.{line_text};
+ghost use Rattle.vt_term.specs.Text.{line_text, row_text_limit};
 ghost use Rattle.vt_term.specs.Writing.{write_glyph};
 ghost use Rattle.vt_utf8.specs.Cells.{cells};
 ghost use Rattle.vt_utf8.specs.Similar.{shown};
 ghost use Rattle.vt_utf8.specs.Decoding.{pending_after};
+ghost use Rattle.vt_utf8.specs.Limits.{lines_limit, utf8_lines_limit};
 ghost use Rattle.vt_utf8.specs.Translation.{glyph_off, translation};
 ghost use Rattle.vt_utf8.specs.Play.{translated_all, translated, play_utf8};
 ghost use Rattle.vt_utf8.specs.Private.Feeds.{FeedsUtf8, utf8_off};
 
 use crate::ascii::ascii_run;
 use crate::decoder::{Decoder, whole_character};
-use crate::laws::{ascii, cuts, one_byte, silence, writes};
+use crate::laws::{ascii, sized_cuts, sized_one_byte, sized_silence, sized_writes};
 use crate::log::BytesLog;
 use crate::similar::{code_of, glyph_of_code};
 use crate::translation::{
@@ -29,19 +30,23 @@ use crate::translation::{
 use std::alloc::AllocError;
 use vt_syntax::Held;
 use vt_syntax::laws::one_split;
-use vt_term::laws::{cuts as played_cuts, log_cuts, soundness as played_soundness};
-use vt_term::{Glyph, Lines, Nobody, REPORT_LIMIT, ROW_TEXT_LIMIT, Terminal};
+use vt_term::laws::{
+    sized_cuts as played_cuts, sized_log_cuts, sized_soundness as played_soundness,
+};
+use vt_term::{Glyph, Lines, Nobody, REPORT_LIMIT, SizedTerminal};
 
 /// Plays a chunk of a host's UTF-8, and appends the reports to `out`. `decoder` keeps what is pending between chunks.
 ///
 /// It first reserves ten bytes of capacity for each byte of the chunk. Returns `Err` if that fails, or is more than any
 /// vector may hold. Then the terminal, the decoder and the contents of `out` are unchanged.
+#[tactic(auto, using(crate::proofs::Sizes::utf8_kept))]
 pub fn feed_utf8(
-    terminal: &mut Terminal,
+    terminal: &mut SizedTerminal,
     decoder: &mut Decoder,
     piece: &[u8],
     out: &mut Vec<u8>,
 ) -> Result<(), AllocError>
+    ensures size { terminal.new.display.grid.size ≡ terminal.old.display.grid.size }
     ensures state { OnOk result (terminal.new ≡ (play_utf8 terminal.old decoder.old piece.now).state) }
     ensures pending { OnOk result (decoder.new ≡ pending_after decoder.old piece.now) }
     ensures reports { OnOk result (out.new.items
@@ -64,7 +69,7 @@ pub fn feed_utf8(
 /// Plays a chunk of a host's UTF-8, and appends the reports to `out`. `decoder` keeps what is pending between chunks.
 /// `out` has capacity for ten more bytes for each byte of the chunk. It never fails and allocates nothing.
 pub fn feed_utf8_reserved(
-    terminal: &mut Terminal,
+    terminal: &mut SizedTerminal,
     decoder: &mut Decoder,
     piece: &[u8],
     out: &mut Vec<u8>,
@@ -79,19 +84,23 @@ pub fn feed_utf8_reserved(
     feed_front(terminal, decoder, piece, &mut Nobody, out);
 }
 
-/// The capacity for lines without which a feed with a log stops: the most bytes of lines for one byte of UTF-8.
-pub const UTF8_LINES_LIMIT: usize = BYTE_LIMIT * ROW_TEXT_LIMIT;
-
-const _: () = prove!(UTF8_LINES_LIMIT == 17468);
+/// Returns the capacity for lines without which a feed with a log stops: the most bytes of lines for one byte of UTF-8.
+#[inline(always)]
+pub fn utf8_lines_limit(terminal: &SizedTerminal) -> usize
+    ensures { result ≡ utf8_lines_limit terminal.now.display.grid.size }
+{
+    let _ = terminal.size();
+    BYTE_LIMIT * terminal.row_text_limit()
+}
 
 /// Plays the front of a chunk of a host's UTF-8. It appends the reports to `reports` and at most `most` bytes of the lines that
 /// scroll off to `lines`. Returns how many bytes it played. `decoder` keeps what is pending between chunks.
 ///
-/// If it stops early, `lines` has fewer than `UTF8_LINES_LIMIT` bytes free, or fewer of `most` are left. `reports` has capacity for
+/// If it stops early, `lines` has fewer than `utf8_lines_limit` bytes free, or fewer of `most` are left. `reports` has capacity for
 /// ten more bytes for each byte of the chunk. It never fails and allocates nothing.
 #[tactic(auto, unfolding(vt_term::specs::Scrolling::log))]
 pub fn feed_utf8_log_reserved(
-    terminal: &mut Terminal,
+    terminal: &mut SizedTerminal,
     decoder: &mut Decoder,
     piece: &[u8],
     reports: &mut Vec<u8>,
@@ -100,8 +109,8 @@ pub fn feed_utf8_log_reserved(
 ) -> usize
     requires { vec_len reports.old + 10 * length piece.now ≤ vec_capacity reports.old }
     ensures within { result ≤ length piece.now }
-    ensures all { result < length piece.now → (vec_capacity lines.new < vec_len lines.new + UTF8_LINES_LIMIT)
-        ⊎ (vec_len lines.old + most < vec_len lines.new + UTF8_LINES_LIMIT) }
+    ensures all { result < length piece.now → (vec_capacity lines.new < vec_len lines.new + utf8_lines_limit terminal.old.display.grid.size)
+        ⊎ (vec_len lines.old + most < vec_len lines.new + utf8_lines_limit terminal.old.display.grid.size) }
     ensures state { terminal.new ≡ (play_utf8 terminal.old decoder.old (take result piece.now)).state }
     ensures pending { decoder.new ≡ pending_after decoder.old (take result piece.now) }
     ensures reports { reports.new.items
@@ -114,9 +123,10 @@ pub fn feed_utf8_log_reserved(
     ensures lines_capacity { vec_capacity lines.old ≤ vec_capacity lines.new }
 {
     let end = lines.len().saturating_add(most);
+    let limit = terminal.row_text_limit();
     let mut log = Lines {
         lines,
-        limit: ROW_TEXT_LIMIT,
+        limit,
         end,
         beside: Nobody,
     };
@@ -125,7 +135,7 @@ pub fn feed_utf8_log_reserved(
 
 /// Plays the front of a chunk, until the log is full. Returns how many bytes it played.
 fn feed_front<L: BytesLog>(
-    terminal: &mut Terminal,
+    terminal: &mut SizedTerminal,
     decoder: &mut Decoder,
     piece: &[u8],
     log: &mut L,
@@ -133,7 +143,7 @@ fn feed_front<L: BytesLog>(
 ) -> usize
     requires { vec_len out.old + 10 * length piece.now ≤ vec_capacity out.old }
     ensures within { result ≤ length piece.now }
-    ensures all { result < length piece.now → L.IsFull log.new 17468 }
+    ensures all { result < length piece.now → L.IsFull log.new (utf8_lines_limit terminal.old.display.grid.size) }
     ensures fed { FeedsUtf8 terminal.old decoder.old (take result piece.now) terminal.new decoder.new
         out.old.items out.new.items }
     ensures keeps { L.Keeps log.old (utf8_off terminal.old decoder.old (take result piece.now)) log.new }
@@ -141,11 +151,12 @@ fn feed_front<L: BytesLog>(
     ensures capacity { vec_capacity out.old ≤ vec_capacity out.new }
 {
     let _ = terminal.width();
-    cuts();
+    sized_cuts();
     one_split();
+    let limit = utf8_lines_limit(terminal);
     let mut at = 0;
     while at < piece.len() {
-        let count = feed_next(terminal, decoder, &piece[at..], log, out);
+        let count = feed_next(terminal, decoder, &piece[at..], limit, log, out);
         if count == 0 {
             return at;
         }
@@ -171,15 +182,17 @@ fn ascii_front(piece: &[u8]) -> usize
 /// otherwise a byte. Returns how many bytes it played: none if the log is full.
 #[inline(always)]
 fn feed_next<L: BytesLog>(
-    terminal: &mut Terminal,
+    terminal: &mut SizedTerminal,
     decoder: &mut Decoder,
     piece: &[u8],
+    limit: usize,
     log: &mut L,
     out: &mut Vec<u8>,
 ) -> usize
     requires some { 1 ≤ length piece.now }
     requires room { vec_len out.old + 10 * length piece.now ≤ vec_capacity out.old }
-    ensures none { result ≡ 0 → L.IsFull log.new 17468 }
+    requires limit { limit ≡ utf8_lines_limit terminal.old.display.grid.size }
+    ensures none { result ≡ 0 → L.IsFull log.new (utf8_lines_limit terminal.old.display.grid.size) }
     ensures within { result ≤ length piece.now }
     ensures fed { FeedsUtf8 terminal.old decoder.old (take result piece.now) terminal.new decoder.new
         out.old.items out.new.items }
@@ -192,15 +205,15 @@ fn feed_next<L: BytesLog>(
         if run > 0 {
             return feed_ascii(terminal, decoder, &piece[..run], log, out);
         }
-        return feed_beyond(terminal, decoder, piece, log, out);
+        return feed_beyond(terminal, decoder, piece, limit, log, out);
     }
-    feed_first(terminal, decoder, piece, log, out)
+    feed_first(terminal, decoder, piece, limit, log, out)
 }
 
 /// Plays ASCII bytes with nothing pending. Returns how many it played: fewer if the log is full.
 #[inline(always)]
 fn feed_ascii<L: BytesLog>(
-    terminal: &mut Terminal,
+    terminal: &mut SizedTerminal,
     decoder: &Decoder,
     run: &[u8],
     log: &mut L,
@@ -210,7 +223,7 @@ fn feed_ascii<L: BytesLog>(
     requires ascii { All (λ b. b < 0x80) run.now }
     requires room { vec_len out.old + 10 * length run.now ≤ vec_capacity out.old }
     ensures within { result ≤ length run.now }
-    ensures all { result < length run.now → L.IsFull log.new 17468 }
+    ensures all { result < length run.now → L.IsFull log.new (utf8_lines_limit terminal.old.display.grid.size) }
     ensures fed { FeedsUtf8 terminal.old decoder.now (take result run.now) terminal.new decoder.now
         out.old.items out.new.items }
     ensures keeps { L.Keeps log.old (utf8_off terminal.old decoder.now (take result run.now)) log.new }
@@ -226,12 +239,14 @@ fn feed_ascii<L: BytesLog>(
 /// bytes they take. Speed: a byte at a time leaves the same.
 #[inline(always)]
 fn feed_whole<L: BytesLog>(
-    terminal: &mut Terminal,
+    terminal: &mut SizedTerminal,
     piece: &[u8],
+    limit: usize,
     log: &mut L,
     out: &mut Vec<u8>,
 ) -> usize
-    requires { vec_len out.old + 10 ≤ vec_capacity out.old }
+    requires room { vec_len out.old + 10 ≤ vec_capacity out.old }
+    requires limit { limit ≡ utf8_lines_limit terminal.old.display.grid.size }
     ensures within { result ≤ length piece.now }
     ensures fed { FeedsUtf8 terminal.old [] (take result piece.now) terminal.new [] out.old.items out.new.items }
     ensures keeps { L.Keeps log.old (utf8_off terminal.old [] (take result piece.now)) log.new }
@@ -239,11 +254,11 @@ fn feed_whole<L: BytesLog>(
     ensures capacity { vec_capacity out.old ≤ vec_capacity out.new }
 {
     let _ = terminal.width();
-    cuts();
+    sized_cuts();
     one_split();
     let mut at = 0;
     while let Some((c, size)) = whole_character(&piece[at..]) {
-        if log.is_full(UTF8_LINES_LIMIT) {
+        if log.is_full(limit) {
             return at;
         }
         log.character(terminal, c, out);
@@ -256,16 +271,18 @@ fn feed_whole<L: BytesLog>(
 /// Returns how many bytes it played: none if the log is full.
 #[inline(always)]
 fn feed_beyond<L: BytesLog>(
-    terminal: &mut Terminal,
+    terminal: &mut SizedTerminal,
     decoder: &mut Decoder,
     piece: &[u8],
+    limit: usize,
     log: &mut L,
     out: &mut Vec<u8>,
 ) -> usize
     requires nothing { decoder.old ≡ [] }
     requires some { 1 ≤ length piece.now }
     requires room { vec_len out.old + 10 ≤ vec_capacity out.old }
-    ensures none { result ≡ 0 → L.IsFull log.new 17468 }
+    requires limit { limit ≡ utf8_lines_limit terminal.old.display.grid.size }
+    ensures none { result ≡ 0 → L.IsFull log.new (utf8_lines_limit terminal.old.display.grid.size) }
     ensures within { result ≤ length piece.now }
     ensures fed { FeedsUtf8 terminal.old decoder.old (take result piece.now) terminal.new decoder.new
         out.old.items out.new.items }
@@ -274,27 +291,29 @@ fn feed_beyond<L: BytesLog>(
     ensures capacity { vec_capacity out.old ≤ vec_capacity out.new }
 {
     let _ = terminal.width();
-    cuts();
+    sized_cuts();
     one_split();
-    let whole = feed_whole(terminal, piece, log, out);
+    let whole = feed_whole(terminal, piece, limit, log, out);
     if whole > 0 {
         return whole;
     }
-    feed_first(terminal, decoder, piece, log, out)
+    feed_first(terminal, decoder, piece, limit, log, out)
 }
 
 /// Plays the first byte of a chunk. Returns how many bytes it played: none if the log is full.
 #[inline(always)]
 fn feed_first<L: BytesLog>(
-    terminal: &mut Terminal,
+    terminal: &mut SizedTerminal,
     decoder: &mut Decoder,
     piece: &[u8],
+    limit: usize,
     log: &mut L,
     out: &mut Vec<u8>,
 ) -> usize
     requires some { 1 ≤ length piece.now }
     requires room { vec_len out.old + 10 ≤ vec_capacity out.old }
-    ensures none { result ≡ 0 → L.IsFull log.new 17468 }
+    requires limit { limit ≡ utf8_lines_limit terminal.old.display.grid.size }
+    ensures none { result ≡ 0 → L.IsFull log.new (utf8_lines_limit terminal.old.display.grid.size) }
     ensures within { result ≤ 1 }
     ensures fed { FeedsUtf8 terminal.old decoder.old (take result piece.now) terminal.new decoder.new
         out.old.items out.new.items }
@@ -303,9 +322,9 @@ fn feed_first<L: BytesLog>(
     ensures capacity { vec_capacity out.old ≤ vec_capacity out.new }
 {
     let _ = terminal.width();
-    cuts();
+    sized_cuts();
     one_split();
-    if log.is_full(UTF8_LINES_LIMIT) {
+    if log.is_full(limit) {
         return 0;
     }
     feed_byte(terminal, decoder, piece[0], log, out);
@@ -314,14 +333,14 @@ fn feed_first<L: BytesLog>(
 
 /// Plays a byte.
 fn feed_byte<L: BytesLog>(
-    terminal: &mut Terminal,
+    terminal: &mut SizedTerminal,
     decoder: &mut Decoder,
     b: u8,
     log: &mut L,
     out: &mut Vec<u8>,
 )
     requires room { vec_len out.old + 10 ≤ vec_capacity out.old }
-    requires lines_room { L.HasRoom log.old 17468 }
+    requires lines_room { L.HasRoom log.old (utf8_lines_limit terminal.old.display.grid.size) }
     ensures fed { FeedsUtf8 terminal.old decoder.old (b ∷ []) terminal.new decoder.new out.old.items out.new.items }
     ensures keeps { L.Keeps log.old (utf8_off terminal.old decoder.old (b ∷ [])) log.new }
     ensures bounded { vec_len out.new ≤ vec_len out.old + 10 }
@@ -331,7 +350,7 @@ fn feed_byte<L: BytesLog>(
     played_cuts();
     played_soundness();
     one_split();
-    one_byte();
+    sized_one_byte();
     let (lost, character) = decoder.push(b);
     feed_lost(terminal, lost, log, out);
     feed_completed(terminal, character, log, out);
@@ -340,18 +359,18 @@ fn feed_byte<L: BytesLog>(
 /// Plays U+FFFD if what was pending is ill-formed.
 #[inline(always)]
 fn feed_lost<L: BytesLog>(
-    terminal: &mut Terminal,
+    terminal: &mut SizedTerminal,
     lost: Option<char>,
     log: &mut L,
     out: &mut Vec<u8>,
 )
     requires lost { IfSome lost (λ c. c ≡ replacement) }
     requires room { vec_len out.old + 10 ≤ vec_capacity out.old }
-    requires lines_room { L.HasRoom log.old 17468 }
+    requires lines_room { L.HasRoom log.old (utf8_lines_limit terminal.old.display.grid.size) }
     ensures state { terminal.new ≡ (play terminal.old (translated_all terminal.old (option_to_list lost))).state }
     ensures silent { (play terminal.old (translated_all terminal.old (option_to_list lost))).reports ≡ [] }
     ensures keeps { L.Keeps log.old (scrolled_off terminal.old (translated_all terminal.old (option_to_list lost))) log.new }
-    ensures left { L.HasRoom log.new 8734 }
+    ensures left { L.HasRoom log.new (lines_limit terminal.old.display.grid.size) }
     ensures out { out.new.items ≡ out.old.items }
     ensures capacity { vec_capacity out.old ≤ vec_capacity out.new }
 {
@@ -366,13 +385,13 @@ fn feed_lost<L: BytesLog>(
 /// Plays the character that a byte completes, if it completes one.
 #[inline(always)]
 fn feed_completed<L: BytesLog>(
-    terminal: &mut Terminal,
+    terminal: &mut SizedTerminal,
     character: Option<char>,
     log: &mut L,
     out: &mut Vec<u8>,
 )
     requires room { vec_len out.old + 10 ≤ vec_capacity out.old }
-    requires lines_room { L.HasRoom log.old 8734 }
+    requires lines_room { L.HasRoom log.old (lines_limit terminal.old.display.grid.size) }
     ensures state { terminal.new
         ≡ (play terminal.old (translated_all terminal.old (option_to_list character))).state }
     ensures reports { out.new.items ≡ out.old.items
@@ -391,9 +410,14 @@ fn feed_completed<L: BytesLog>(
 }
 
 /// Plays a character.
-fn feed_character<L: BytesLog>(terminal: &mut Terminal, c: char, log: &mut L, out: &mut Vec<u8>)
+fn feed_character<L: BytesLog>(
+    terminal: &mut SizedTerminal,
+    c: char,
+    log: &mut L,
+    out: &mut Vec<u8>,
+)
     requires room { vec_len out.old + 10 ≤ vec_capacity out.old }
-    requires lines_room { L.HasRoom log.old 8734 }
+    requires lines_room { L.HasRoom log.old (lines_limit terminal.old.display.grid.size) }
     ensures state { terminal.new ≡ (play terminal.old (translation terminal.old c)).state }
     ensures reports { out.new.items ≡ out.old.items ++ (play terminal.old (translation terminal.old c)).reports }
     ensures keeps { L.Keeps log.old (scrolled_off terminal.old (translation terminal.old c)) log.new }
@@ -409,7 +433,7 @@ fn feed_character<L: BytesLog>(terminal: &mut Terminal, c: char, log: &mut L, ou
 
 /// Returns whether a glyph is written as it is: between sequences, if no single shift is pending.
 #[inline(always)]
-fn writes_glyphs(terminal: &Terminal) -> bool
+fn writes_glyphs(terminal: &SizedTerminal) -> bool
     ensures { OnTrue result ((terminal.now.held ≡ Nothing) × (terminal.now.display.sets.pending ≡ None)) }
 {
     match terminal.held() {
@@ -421,7 +445,7 @@ fn writes_glyphs(terminal: &Terminal) -> bool
 /// Plays a character beyond ASCII, which causes no report. Speed: most characters are one glyph between sequences, or one and
 /// a space.
 #[inline(always)]
-pub fn feed_beyond_ascii(terminal: &mut Terminal, c: char, out: &mut Vec<u8>)
+pub fn feed_beyond_ascii(terminal: &mut SizedTerminal, c: char, out: &mut Vec<u8>)
     requires beyond { 0x80 ≤ c }
     requires room { vec_len out.old + 10 ≤ vec_capacity out.old }
     ensures state { terminal.new ≡ (play terminal.old (translation terminal.old c)).state }
@@ -430,8 +454,8 @@ pub fn feed_beyond_ascii(terminal: &mut Terminal, c: char, out: &mut Vec<u8>)
     ensures capacity { vec_capacity out.old ≤ vec_capacity out.new }
 {
     let _ = terminal.width();
-    silence();
-    writes();
+    sized_silence();
+    sized_writes();
     if writes_glyphs(terminal) {
         if let Some(code) = narrow_code(c) {
             terminal.write_glyph(glyph_of_code(code));
@@ -447,7 +471,7 @@ pub fn feed_beyond_ascii(terminal: &mut Terminal, c: char, out: &mut Vec<u8>)
 
 /// Writes the glyph that is shown for a character, and a space after it.
 #[inline(never)]
-fn write_both(terminal: &mut Terminal, c: char)
+fn write_both(terminal: &mut SizedTerminal, c: char)
     ensures { terminal.new ≡ record terminal.old {
       display = write_glyph space (write_glyph (shown c) terminal.old.display);
     } }
@@ -458,7 +482,7 @@ fn write_both(terminal: &mut Terminal, c: char)
 
 /// Plays the bytes that a character beyond ASCII is translated to, which cause no report.
 #[inline(never)]
-fn feed_translated(terminal: &mut Terminal, c: char, out: &mut Vec<u8>)
+fn feed_translated(terminal: &mut SizedTerminal, c: char, out: &mut Vec<u8>)
     requires beyond { 0x80 ≤ c }
     requires room { vec_len out.old + 10 ≤ vec_capacity out.old }
     ensures state { terminal.new ≡ (play terminal.old (translation terminal.old c)).state }
@@ -466,13 +490,13 @@ fn feed_translated(terminal: &mut Terminal, c: char, out: &mut Vec<u8>)
     ensures capacity { vec_capacity out.old ≤ vec_capacity out.new }
 {
     let _ = terminal.width();
-    silence();
+    sized_silence();
     let bytes = translation(terminal, c);
     feed_silently(terminal, bytes.as_slice(), out);
 }
 
 /// Plays bytes that cause no report. `out` may have capacity for the reports of only one of them.
-fn feed_silently(terminal: &mut Terminal, bytes: &[u8], out: &mut Vec<u8>)
+fn feed_silently(terminal: &mut SizedTerminal, bytes: &[u8], out: &mut Vec<u8>)
     requires silent { (play terminal.old bytes.now).reports ≡ [] }
     requires room { vec_len out.old + 10 ≤ vec_capacity out.old }
     ensures state { terminal.new ≡ (play terminal.old bytes.now).state }
@@ -490,33 +514,37 @@ fn feed_silently(terminal: &mut Terminal, bytes: &[u8], out: &mut Vec<u8>)
     }
 }
 
-/// The most bytes of lines that a character scrolls off: a line for each byte of its translation.
-pub const LINES_LIMIT: usize = TRANSLATION_LIMIT * ROW_TEXT_LIMIT;
-
-const _: () = prove!(LINES_LIMIT == 8734);
+/// Returns the most bytes of lines that a character scrolls off: a line for each byte of its translation.
+#[inline(always)]
+pub fn lines_limit(terminal: &SizedTerminal) -> usize
+    ensures { result ≡ lines_limit terminal.now.display.grid.size }
+{
+    let _ = terminal.size();
+    TRANSLATION_LIMIT * terminal.row_text_limit()
+}
 
 /// Plays a character beyond ASCII, which causes no report, and appends the lines that scroll off to `lines`. These have
-/// capacity for `LINES_LIMIT` more bytes.
+/// capacity for `lines_limit` more bytes.
 pub fn feed_beyond_ascii_log(
-    terminal: &mut Terminal,
+    terminal: &mut SizedTerminal,
     c: char,
     out: &mut Vec<u8>,
     lines: &mut Vec<u8>,
 )
     requires beyond { 0x80 ≤ c }
     requires room { vec_len out.old + 10 ≤ vec_capacity out.old }
-    requires lines_room { vec_len lines.old + LINES_LIMIT ≤ vec_capacity lines.old }
+    requires lines_room { vec_len lines.old + lines_limit terminal.old.display.grid.size ≤ vec_capacity lines.old }
     ensures state { terminal.new ≡ (play terminal.old (translation terminal.old c)).state }
     ensures silent { (play terminal.old (translation terminal.old c)).reports ≡ [] }
     ensures out { out.new.items ≡ out.old.items }
     ensures lines { lines.new.items ≡ lines.old.items ++ log terminal.old (translation terminal.old c) }
-    ensures lines_bounded { vec_len lines.new ≤ vec_len lines.old + LINES_LIMIT }
+    ensures lines_bounded { vec_len lines.new ≤ vec_len lines.old + lines_limit terminal.old.display.grid.size }
     ensures capacity { vec_capacity out.old ≤ vec_capacity out.new }
     ensures lines_capacity { vec_capacity lines.old ≤ vec_capacity lines.new }
 {
     let _ = terminal.width();
-    silence();
-    writes();
+    sized_silence();
+    sized_writes();
     if writes_glyphs(terminal) {
         if let Some(code) = narrow_code(c) {
             write_logged(terminal, glyph_of_code(code), lines);
@@ -532,11 +560,11 @@ pub fn feed_beyond_ascii_log(
 
 /// Writes a glyph, and appends the line that it scrolls off.
 #[inline(always)]
-fn write_logged(terminal: &mut Terminal, glyph: Glyph, lines: &mut Vec<u8>)
-    requires { vec_len lines.old + LINES_LIMIT ≤ vec_capacity lines.old }
+fn write_logged(terminal: &mut SizedTerminal, glyph: Glyph, lines: &mut Vec<u8>)
+    requires { vec_len lines.old + lines_limit terminal.old.display.grid.size ≤ vec_capacity lines.old }
     ensures terminal { terminal.new ≡ record terminal.old { display = write_glyph glyph terminal.old.display } }
     ensures lines { lines.new.items ≡ lines.old.items ++ flat_map line_text (glyph_off terminal.old.display) }
-    ensures bounded { vec_len lines.new ≤ vec_len lines.old + LINES_LIMIT }
+    ensures bounded { vec_len lines.new ≤ vec_len lines.old + lines_limit terminal.old.display.grid.size }
     ensures capacity { vec_capacity lines.old ≤ vec_capacity lines.new }
 {
     if terminal.cursor().wrap && terminal.is_at_end() {
@@ -547,10 +575,10 @@ fn write_logged(terminal: &mut Terminal, glyph: Glyph, lines: &mut Vec<u8>)
 
 /// Writes the glyph that is shown for a character, and a space after it. Appends the line that the glyph scrolls off.
 #[inline(never)]
-fn write_both_logged(terminal: &mut Terminal, c: char, lines: &mut Vec<u8>)
-    requires { vec_len lines.old + LINES_LIMIT ≤ vec_capacity lines.old }
+fn write_both_logged(terminal: &mut SizedTerminal, c: char, lines: &mut Vec<u8>)
+    requires { vec_len lines.old + lines_limit terminal.old.display.grid.size ≤ vec_capacity lines.old }
     ensures lines { lines.new.items ≡ lines.old.items ++ flat_map line_text (glyph_off terminal.old.display) }
-    ensures bounded { vec_len lines.new ≤ vec_len lines.old + LINES_LIMIT }
+    ensures bounded { vec_len lines.new ≤ vec_len lines.old + lines_limit terminal.old.display.grid.size }
     ensures capacity { vec_capacity lines.old ≤ vec_capacity lines.new }
     ensures terminal { terminal.new ≡ record terminal.old {
       display = write_glyph space (write_glyph (shown c) terminal.old.display);
@@ -562,39 +590,49 @@ fn write_both_logged(terminal: &mut Terminal, c: char, lines: &mut Vec<u8>)
 
 /// Plays the bytes that a character beyond ASCII is translated to, and appends the lines that scroll off.
 #[inline(never)]
-fn feed_translated_log(terminal: &mut Terminal, c: char, out: &mut Vec<u8>, lines: &mut Vec<u8>)
+fn feed_translated_log(
+    terminal: &mut SizedTerminal,
+    c: char,
+    out: &mut Vec<u8>,
+    lines: &mut Vec<u8>,
+)
     requires beyond { 0x80 ≤ c }
     requires room { vec_len out.old + 10 ≤ vec_capacity out.old }
-    requires lines_room { vec_len lines.old + LINES_LIMIT ≤ vec_capacity lines.old }
+    requires lines_room { vec_len lines.old + lines_limit terminal.old.display.grid.size ≤ vec_capacity lines.old }
     ensures state { terminal.new ≡ (play terminal.old (translation terminal.old c)).state }
     ensures out { out.new.items ≡ out.old.items }
     ensures lines { lines.new.items ≡ lines.old.items ++ log terminal.old (translation terminal.old c) }
-    ensures lines_bounded { vec_len lines.new ≤ vec_len lines.old + LINES_LIMIT }
+    ensures lines_bounded { vec_len lines.new ≤ vec_len lines.old + lines_limit terminal.old.display.grid.size }
     ensures capacity { vec_capacity out.old ≤ vec_capacity out.new }
     ensures lines_capacity { vec_capacity lines.old ≤ vec_capacity lines.new }
 {
     let _ = terminal.width();
-    silence();
+    sized_silence();
     let bytes = translation(terminal, c);
     feed_silently_log(terminal, bytes.as_slice(), out, lines);
 }
 
 /// Plays bytes that cause no report, and appends the lines that scroll off. `out` may have capacity for the reports of only
 /// one of the bytes.
-fn feed_silently_log(terminal: &mut Terminal, bytes: &[u8], out: &mut Vec<u8>, lines: &mut Vec<u8>)
+fn feed_silently_log(
+    terminal: &mut SizedTerminal,
+    bytes: &[u8],
+    out: &mut Vec<u8>,
+    lines: &mut Vec<u8>,
+)
     requires silent { (play terminal.old bytes.now).reports ≡ [] }
     requires room { vec_len out.old + 10 ≤ vec_capacity out.old }
-    requires lines_room { vec_len lines.old + ROW_TEXT_LIMIT * length bytes.now ≤ vec_capacity lines.old }
+    requires lines_room { vec_len lines.old + row_text_limit terminal.old.display.grid.size * length bytes.now ≤ vec_capacity lines.old }
     ensures state { terminal.new ≡ (play terminal.old bytes.now).state }
     ensures out { out.new.items ≡ out.old.items }
     ensures lines { lines.new.items ≡ lines.old.items ++ log terminal.old bytes.now }
-    ensures lines_bounded { vec_len lines.new ≤ vec_len lines.old + ROW_TEXT_LIMIT * length bytes.now }
+    ensures lines_bounded { vec_len lines.new ≤ vec_len lines.old + row_text_limit terminal.old.display.grid.size * length bytes.now }
     ensures capacity { vec_capacity out.old ≤ vec_capacity out.new }
     ensures lines_capacity { vec_capacity lines.old ≤ vec_capacity lines.new }
 {
     let _ = terminal.width();
     played_cuts();
-    log_cuts();
+    sized_log_cuts();
     let most = (out.capacity() - out.len()) / REPORT_LIMIT;
     let mut at = 0;
     while at < bytes.len() {

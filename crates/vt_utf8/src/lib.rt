@@ -4,18 +4,20 @@
 mod ascii;
 mod decoder;
 mod feeding;
+mod feeds;
 pub mod laws;
 mod log;
 mod showing;
 mod similar;
+pub mod sized;
 mod translation;
 
 pub use ascii::ascii_run;
 pub use decoder::{Decoder, whole_character};
-pub use feeding::{
+pub use feeds::{
     LINES_LIMIT, UTF8_LINES_LIMIT, feed_beyond_ascii, feed_beyond_ascii_log, feed_utf8,
-    feed_utf8_log_reserved, feed_utf8_reserved,
+    feed_utf8_log_reserved, feed_utf8_reserved, translated,
 };
 pub use log::Log;
 pub use showing::shown_as;
-pub use translation::{BYTE_LIMIT, Bytes, TRANSLATION_LIMIT, cells, translated};
+pub use translation::{BYTE_LIMIT, Bytes, TRANSLATION_LIMIT, cells};

@@ -4,12 +4,14 @@ ghost use Rattle.std.specs.Bool.{OnTrue, OnFalse};
 ghost use Rattle.vt_screen.specs.declared.cell.Cell.{Cell};
 ghost use Rattle.vt_term.specs.Play.{play};
 ghost use Rattle.vt_term.specs.Scrolling.{scrolled_off};
+ghost use Rattle.vt_term.specs.Text.{row_text_limit};
+ghost use Rattle.vt_utf8.specs.Limits.{lines_limit};
 ghost use Rattle.vt_utf8.specs.Translation.{translation};
 ghost use Rattle.vt_utf8.specs.Logs.{AreKept};
 
 use crate::feeding::{feed_beyond_ascii, feed_beyond_ascii_log};
 use vt_term::laws::sized_happened;
-use vt_term::{Lines, Nobody, Observer, ROW_TEXT_LIMIT, Terminal};
+use vt_term::{Lines, Nobody, Observer, SizedTerminal};
 
 /// A place for the lines that scroll off.
 pub trait Log: Drop {
@@ -28,15 +30,15 @@ pub trait Log: Drop {
         ensures room { OnFalse result (HasRoom self.now limit) };
 
     /// Plays a character beyond ASCII, which causes no report.
-    fn character(&mut self, terminal: &mut Terminal, c: char, out: &mut Vec<u8>)
+    fn character(&mut self, terminal: &mut SizedTerminal, c: char, out: &mut Vec<u8>)
         requires beyond { 0x80 ≤ c }
         requires room { vec_len out.old + 10 ≤ vec_capacity out.old }
-        requires lines_room { HasRoom self.old 8734 }
+        requires lines_room { HasRoom self.old (lines_limit terminal.old.display.grid.size) }
         ensures state { terminal.new ≡ (play terminal.old (translation terminal.old c)).state }
         ensures silent { (play terminal.old (translation terminal.old c)).reports ≡ [] }
         ensures out { out.new.items ≡ out.old.items }
         ensures keeps { Keeps self.old (scrolled_off terminal.old (translation terminal.old c)) self.new }
-        ensures left { (n : ℕ) → HasRoom self.old (n + 8734) → HasRoom self.new n }
+        ensures left { (n : ℕ) → HasRoom self.old (n + lines_limit terminal.old.display.grid.size) → HasRoom self.new n }
         ensures capacity { vec_capacity out.old ≤ vec_capacity out.new };
 
     /// Lines in turn are the lines joined, and capacity for some bytes is capacity for fewer.
@@ -46,11 +48,11 @@ pub trait Log: Drop {
 /// A place for the lines that a VT220's bytes scroll off.
 pub(crate) trait BytesLog: Log {
     /// Plays the front of a chunk, up to a line for which there is no capacity. Returns how many bytes it played.
-    fn feed(&mut self, terminal: &mut Terminal, piece: &[u8], out: &mut Vec<u8>) -> usize
+    fn feed(&mut self, terminal: &mut SizedTerminal, piece: &[u8], out: &mut Vec<u8>) -> usize
         requires { vec_len out.old + 10 * length piece.now ≤ vec_capacity out.old }
         ensures within { result ≤ length piece.now }
-        ensures all { result < length piece.now → Self.IsFull self.new 397 }
-        ensures whole { Self.HasRoom self.old (397 * length piece.now) → result ≡ length piece.now }
+        ensures all { result < length piece.now → Self.IsFull self.new (row_text_limit terminal.old.display.grid.size) }
+        ensures whole { Self.HasRoom self.old (row_text_limit terminal.old.display.grid.size * length piece.now) → result ≡ length piece.now }
         ensures state { terminal.new ≡ (play terminal.old (take result piece.now)).state }
         ensures reports { out.new.items ≡ out.old.items ++ (play terminal.old (take result piece.now)).reports }
         ensures keeps { Self.Keeps self.old (scrolled_off terminal.old (take result piece.now)) self.new }
@@ -77,14 +79,14 @@ impl Log for Nobody {
     }
 
     #[inline(always)]
-    fn character(&mut self, terminal: &mut Terminal, c: char, out: &mut Vec<u8>) {
+    fn character(&mut self, terminal: &mut SizedTerminal, c: char, out: &mut Vec<u8>) {
         feed_beyond_ascii(terminal, c, out);
     }
 }
 
 impl BytesLog for Nobody {
     #[inline(always)]
-    fn feed(&mut self, terminal: &mut Terminal, piece: &[u8], out: &mut Vec<u8>) -> usize {
+    fn feed(&mut self, terminal: &mut SizedTerminal, piece: &[u8], out: &mut Vec<u8>) -> usize {
         terminal.feed_reserved(piece, out);
         piece.len()
     }
@@ -114,17 +116,17 @@ impl<A: Observer + Drop> Log for Lines<'_, A> {
     }
 
     #[inline(always)]
-    fn character(&mut self, terminal: &mut Terminal, c: char, out: &mut Vec<u8>) {
+    fn character(&mut self, terminal: &mut SizedTerminal, c: char, out: &mut Vec<u8>) {
         feed_beyond_ascii_log(terminal, c, out, self.lines);
     }
 }
 
 impl BytesLog for Lines<'_, Nobody> {
     #[inline(always)]
-    fn feed(&mut self, terminal: &mut Terminal, piece: &[u8], out: &mut Vec<u8>) -> usize {
+    fn feed(&mut self, terminal: &mut SizedTerminal, piece: &[u8], out: &mut Vec<u8>) -> usize {
         let _ = terminal.width();
         sized_happened();
-        self.limit = ROW_TEXT_LIMIT;
+        self.limit = terminal.row_text_limit();
         terminal.feed_observed(piece, self, out)
     }
 }

@@ -18,7 +18,7 @@ use arrayvec::ArrayVec;
 use unicode_width::UnicodeWidthChar;
 use vt_glyph::{Glyph, Set, Sets, Spelling};
 use vt_syntax::Held;
-use vt_term::Terminal;
+use vt_term::SizedTerminal;
 
 /// The limit of the bytes for one character: ST, NEL, and two glyphs of nine bytes.
 pub const TRANSLATION_LIMIT: usize = 22;
@@ -180,7 +180,7 @@ fn append_both(c: char, sets: &Sets, bytes: &mut Bytes)
 
 /// Returns whether one cell is left in the cursor's row.
 #[inline(always)]
-pub(crate) fn is_at_end(terminal: &Terminal) -> bool
+pub(crate) fn is_at_end(terminal: &SizedTerminal) -> bool
     ensures { result ≡ is_at_end terminal.now.display }
 {
     let cursor = terminal.cursor();
@@ -188,7 +188,7 @@ pub(crate) fn is_at_end(terminal: &Terminal) -> bool
 }
 
 /// Appends the bytes for a character of two cells.
-fn append_wide(c: char, terminal: &Terminal, bytes: &mut Bytes)
+fn append_wide(c: char, terminal: &SizedTerminal, bytes: &mut Bytes)
     requires { array_vec_len bytes.old + 20 ≤ 22 }
     ensures items { bytes.new.items ≡ bytes.old.items ++ written_wide (shown c) terminal.now.display }
 {
@@ -202,7 +202,7 @@ fn append_wide(c: char, terminal: &Terminal, bytes: &mut Bytes)
 }
 
 /// Appends the bytes for a character beyond ASCII, between sequences.
-fn append_character(c: char, terminal: &Terminal, bytes: &mut Bytes)
+fn append_character(c: char, terminal: &SizedTerminal, bytes: &mut Bytes)
     requires { array_vec_len bytes.old + 20 ≤ 22 }
     ensures { bytes.new.items ≡ bytes.old.items ++ put c terminal.now.display }
 {
@@ -215,7 +215,7 @@ fn append_character(c: char, terminal: &Terminal, bytes: &mut Bytes)
 
 /// Returns the terminal's bytes for a character beyond ASCII, in the terminal's state: none if it is content of a string.
 #[tactic(auto, unfolding(crate::specs::Translation::translation))]
-pub(crate) fn translation(terminal: &Terminal, c: char) -> Bytes
+pub(crate) fn translation(terminal: &SizedTerminal, c: char) -> Bytes
     requires { 0x80 ≤ c }
     ensures { result.items ≡ translation terminal.now c }
 {
@@ -232,7 +232,7 @@ pub(crate) fn translation(terminal: &Terminal, c: char) -> Bytes
 }
 
 /// Returns the terminal's bytes for a character, in the terminal's state.
-fn bytes_of(terminal: &Terminal, c: char) -> Bytes
+fn bytes_of(terminal: &SizedTerminal, c: char) -> Bytes
     ensures { result.items ≡ translation terminal.now c }
 {
     if (c as u32) < 0x80 {
@@ -245,7 +245,7 @@ fn bytes_of(terminal: &Terminal, c: char) -> Bytes
 }
 
 /// Returns the terminal's bytes for a character, if there is one, in the terminal's state.
-pub fn translated(terminal: &Terminal, character: Option<char>) -> Bytes
+pub fn translated(terminal: &SizedTerminal, character: Option<char>) -> Bytes
     ensures { result.items ≡ translated_all terminal.now (option_to_list character) }
 {
     match character {

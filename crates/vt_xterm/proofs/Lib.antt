@@ -6,6 +6,7 @@ mod Times
 pub mod SoundScreens
 pub mod Stays
 pub mod Screens
+mod Limits
 mod Logged
 mod Unseen
 pub mod OfOneSize

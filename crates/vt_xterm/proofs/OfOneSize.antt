@@ -1,18 +1,19 @@
 -- The display and the page that isn't shown stay sound and of one size.
-use Rattle.std.proofs.Common.{◌≡◌, ◌∙◌, ℕ, List, subst, sym}
+use Rattle.std.proofs.Common.{◌≡◌, ◌∙◌, ℕ, List, ap, refl, subst, sym}
 use Rattle.vt_glyph.specs.Laws.{GlyphLaws, SetsLaws}
 use Rattle.vt_screen.specs.Laws.{RowLaws, TestLaws}
 use Rattle.vt_screen.specs.declared.size.Size.{Size}
-use Rattle.vt_screen.specs.Sizes.{vt220_size}
-use Rattle.vt_term.specs.State.{Display, State}
-use Rattle.vt_term.specs.Sound.{IsSoundDisplay}
-use Rattle.vt_term.specs.Pages.{IsSoundPage, IsSoundPageAt}
+use Rattle.vt_term.specs.State.{State}
+use Rattle.vt_syntax.specs.declared.held.Held.{Held}
+use Rattle.vt_term.specs.Sound.{IsSoundSized}
+use Rattle.vt_term.specs.Pages.{IsSoundSizedPage, IsSoundPageAt}
+use Rattle.vt_term.specs.Play.{Played, play}
 use Rattle.vt_term.specs.Machines.{KeepsSize}
-use Rattle.vt_term.specs.Observing.{Feeds}
-use Rattle.vt_term.proofs.SizeKept.{own-display}
+use Rattle.vt_term.proofs.SizeKept.{own-display, play_kept}
 use Rattle.vt_xterm.specs.Pages.{Screens, PagesState}
 use Rattle.vt_xterm.specs.Front.{xterm_effect}
 use Rattle.vt_xterm.specs.Play.{xterm}
+use Rattle.vt_xterm.specs.Private.Feeds.{KeepSizes}
 use Rattle.vt_xterm.specs.Private.Profiles.{AreOfOneSize, screens_on}
 use Rattle.vt_xterm.proofs.SoundScreens.{AreSound, event-keeps}
 
@@ -27,17 +28,38 @@ xterm-keeps glyphs sets rows tests = record {
   size = λ event s one. (event-keeps glyphs sets rows tests event s.display.grid.size s one).0.of_size;
 }
 
--- a VT220's display and pages
-pub of-vt220 : (d : Display) (pages : PagesState) → IsSoundDisplay d → IsSoundPage pages.other → AreOfOneSize (screens_on d pages)
-of-vt220 d pages i page = one-of-size vt220_size (screens_on d pages) (i, page)
+-- ---- what is played keeps both sizes
 
-pub of-vt220-at : (s u : State) (p q : PagesState) → s ≡ u → p ≡ q → IsSoundDisplay u.display → IsSoundPage q.other
-    → AreOfOneSize (screens_on s.display p)
-of-vt220-at s u p q here there i page = rw (here, there) (of-vt220 u.display q i page)
+pub keep-nothing : (s : State) (p : PagesState) → KeepSizes s p s p
+keep-nothing s p = record { shown = refl; other = refl }
 
--- a feed of the same from equal states
-pub feeds-moved : (s u t : State) (p q r : PagesState) (bytes before after : List ℕ) → s ≡ u → p ≡ q
-    → Feeds xterm screens_on s p bytes t r before after → Feeds xterm screens_on u q bytes t r before after
-feeds-moved s u t p q r bytes before after here there fed =
-    subst (λ (x : PagesState). Feeds xterm screens_on u x bytes t r before after) there
-    (subst (λ (x : State). Feeds xterm screens_on x p bytes t r before after) here fed)
+pub keep-both : (s t u : State) (p q r : PagesState) → KeepSizes s p t q → KeepSizes t q u r → KeepSizes s p u r
+keep-both s t u p q r first second = record { shown = second.shown ∙ first.shown; other = second.other ∙ first.other }
+
+pub keep-shown : (s t : State) (p : PagesState) → t.display.grid.size ≡ s.display.grid.size → KeepSizes s p t p
+keep-shown s t p is = record { shown = is; other = refl }
+
+-- they are still one
+pub still-one : (s t : State) (p q : PagesState) → KeepSizes s p t q → p.other.grid.size ≡ s.display.grid.size
+    → q.other.grid.size ≡ t.display.grid.size
+still-one s t p q kept one = kept.other ∙ one ∙ sym kept.shown
+
+pub still-shown : (s t : State) (p : PagesState) → t.display.grid.size ≡ s.display.grid.size
+    → p.other.grid.size ≡ s.display.grid.size → p.other.grid.size ≡ t.display.grid.size
+still-shown s t p is one = one ∙ sym is
+
+pub played-size : (s t : State) (bytes : List ℕ) → t ≡ (play s bytes).state → t.display.grid.size ≡ s.display.grid.size
+played-size s t bytes is = ap (λ (u : State). u.display.grid.size) is ∙ play_kept s bytes
+
+-- lines that nobody sees
+pub unseen-size : (s t : State) (a b : List ℕ) → play t a ≡ play s b → t.display.grid.size ≡ s.display.grid.size
+unseen-size s t a b same =
+    sym (play_kept t a) ∙ ap (λ (p : Played). p.state.display.grid.size) same ∙ play_kept s b
+
+-- bytes that are read, and no event
+pub read-size : (s t : State) (h : Held) → t ≡ record s { held = h } → t.display.grid.size ≡ s.display.grid.size
+read-size s t h is = ap (λ (u : State). u.display.grid.size) is
+
+pub sound-one : (s : State) (p : PagesState) → IsSoundSized s → IsSoundSizedPage p.other
+    → p.other.grid.size ≡ s.display.grid.size → AreOfOneSize (screens_on s.display p)
+sound-one s p i page one = (i.display, subst (λ z. IsSoundPageAt z p.other) one page)

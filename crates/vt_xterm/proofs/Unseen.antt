@@ -1,11 +1,10 @@
 -- Lines that nobody sees, with the functions of xterm: their events are a VT220's.
-use Rattle.std.proofs.Common.{◌≡◌, ℕ, ◌+◌, ◌-◌, ◌≤◌, List, [], ◌∷◌, ◌++◌, All, take, drop, refl, sym, ap, ◌∙◌, subst, arith, length}
+use Rattle.std.proofs.Common.{◌≡◌, ℕ, ◌+◌, ◌-◌, ◌≤◌, List, [], ◌∷◌, ◌++◌, All, take, drop, refl, sym, ap, ◌∙◌, subst, arith}
 use Rattle.std.proofs.Common.{Bool, true, false}
 use Rattle.std.specs.Prelude.{nat_le, ◌==◌, ◌||◌, if◌then◌else◌}
 use Rattle.std.proofs.Math.Seq.{take-add}
 use Rattle.std.proofs.lemmas.List.{drop-take, drop-drop}
 use Rattle.std.proofs.lemmas.List.Elements.{All-head, All-tail, All-drop}
-use Rattle.vt_syntax.specs.declared.event.Event.{Event}
 use Rattle.vt_syntax.specs.declared.event.Event.TheVariants.{Print, Control}
 use Rattle.vt_syntax.specs.declared.held.Held.{Held}
 use Rattle.vt_syntax.specs.declared.held.Held.TheVariants.{Nothing}
@@ -18,9 +17,9 @@ use Rattle.vt_term.specs.Play.{Played, play}
 use Rattle.vt_term.proofs.Bytes.{nothing-held}
 use Rattle.vt_term.proofs.Passing.{opens-nothing}
 use Rattle.vt_xterm.specs.Pages.{PagesState}
-use Rattle.vt_xterm.specs.Play.{Whole, WholePlayed, both, play_bytes}
+use Rattle.vt_xterm.specs.Play.{Whole, WholePlayed, play_bytes}
 use Rattle.vt_xterm.specs.Terminals.{AreTerminals, PlaysTerminals}
-use Rattle.vt_xterm.specs.Private.Feeds.{whole_of, Leaves, FeedsBytes}
+use Rattle.vt_xterm.specs.Private.Feeds.{whole_of, FeedsBytes}
 use Rattle.vt_xterm.specs.Private.Finding.{terminals-append, terminals-none}
 use Rattle.vt_xterm.proofs.Cuts.{bytes-two}
 use Rattle.vt_xterm.proofs.Terminals.{bytes-terminals}

@@ -5,6 +5,7 @@ pub mod Scroll
 pub mod Attributes
 pub mod Pages
 pub mod Front
+pub mod Limits
 pub mod Log
 pub mod Terminals
 pub mod Play

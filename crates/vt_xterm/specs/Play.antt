@@ -3,6 +3,8 @@ use Rattle.std.specs.Prelude.{ℕ, List, [], ◌∷◌, ◌++◌, nat_lt, flat_m
 use Rattle.vt_syntax.specs.declared.event.Event.{Event}
 use Rattle.vt_syntax.specs.Held.{events_from, held_from}
 use Rattle.vt_screen.specs.declared.cell.Cell.{Cell}
+use Rattle.vt_screen.specs.declared.size.Size.{Size}
+use Rattle.vt_screen.specs.Sizes.{vt220_size}
 use Rattle.vt_term.specs.State.{State}
 use Rattle.vt_term.specs.Sound.{IsSound}
 use Rattle.vt_term.specs.Pages.{IsSoundPage}
@@ -13,7 +15,7 @@ use Rattle.vt_term.specs.Machines.{Machine, screens_after, reports_after}
 use Rattle.vt_term.specs.Play.{play}
 use Rattle.vt_utf8.specs.Decoding.{characters, pending_after}
 use Rattle.vt_utf8.specs.Translation.{translation}
-use Rattle.vt_xterm.specs.Pages.{PagesState, Screens, screens, shown_by, pages_at_power_up}
+use Rattle.vt_xterm.specs.Pages.{PagesState, Screens, screens, shown_by, pages_of}
 use Rattle.vt_xterm.specs.Front.{xterm_effect}
 use Rattle.vt_xterm.specs.Log.{xterm_lines_off}
 
@@ -41,8 +43,12 @@ pub record FrontState : Type 0 where
   pub pending : List ℕ
   pub pages : PagesState
 
+abbrev pub front_of : Size → FrontState
+front_of size = record { pending = []; pages = pages_of size }
+
+-- that of a VT220's size
 abbrev pub front_at_power_up : FrontState
-front_at_power_up = record { pending = []; pages = pages_at_power_up }
+front_at_power_up = front_of vt220_size
 
 -- a terminal and a front
 abbrev pub behind : State → FrontState → Whole

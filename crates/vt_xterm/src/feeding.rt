@@ -5,21 +5,24 @@ ghost use Rattle.std.specs.Option.{option_to_list};
 ghost use Rattle.bstr.specs.Utf8.{replacement};
 ghost use Rattle.vt_syntax.specs.Event.{event_of};
 ghost use Rattle.vt_utf8.specs.Decoding.{pending_after};
+ghost use Rattle.vt_utf8.specs.Limits.{lines_limit as utf8_lines_limit};
+ghost use Rattle.vt_xterm.specs.Limits.{lines_limit, xterm_lines_limit};
 ghost use Rattle.vt_xterm.specs.Pages.{screens};
 ghost use Rattle.vt_xterm.specs.Log.{xterm_line_off};
 ghost use Rattle.vt_xterm.specs.Play.{behind, play_bytes, play_characters, play_xterm, xterm_log};
-ghost use Rattle.vt_xterm.specs.Private.Feeds.{whole_of, Leaves, FeedsBytes, FeedsXterm};
+ghost use Rattle.vt_xterm.specs.Private.Feeds.{whole_of, Leaves, FeedsBytes, FeedsXterm, KeepSizes};
 
 use crate::finder::Finder;
-use crate::front::{Front, Pages};
+use crate::front::{SizedFront, SizedPages};
 use crate::laws::cuts;
-use crate::log::{LINES_LIMIT, LineLog, PageLog, feed_terminals};
+use crate::log::{LineLog, PageLog, feed_terminals};
 use crate::playing::carry_out_whole;
 use std::alloc::AllocError;
 use vt_syntax::laws::one_split;
 use vt_syntax::{EventKind, Taken, Values};
-use vt_term::{Lines, Nobody, REPORT_LIMIT, ROW_TEXT_LIMIT, Terminal};
-use vt_utf8::{ascii_run, feed_beyond_ascii, whole_character};
+use vt_term::{Lines, Nobody, REPORT_LIMIT, SizedTerminal};
+use vt_utf8::sized::feed_beyond_ascii;
+use vt_utf8::{TRANSLATION_LIMIT, ascii_run, whole_character};
 
 /// Plays a chunk of a host's bytes, in UTF-8 and with the functions of xterm, and appends the reports to `out`. `front` keeps
 /// what is pending between chunks, and the page that isn't shown.
@@ -27,11 +30,14 @@ use vt_utf8::{ascii_run, feed_beyond_ascii, whole_character};
 /// It first reserves ten bytes of capacity for each byte of the chunk. Returns `Err` if that fails, or is more than any
 /// vector may hold. Then the terminal, the front and the contents of `out` are unchanged.
 pub fn feed_xterm(
-    terminal: &mut Terminal,
-    front: &mut Front,
+    terminal: &mut SizedTerminal,
+    front: &mut SizedFront,
     piece: &[u8],
     out: &mut Vec<u8>,
 ) -> Result<(), AllocError>
+    requires one_size { front.old.pages.other.grid.size ≡ terminal.old.display.grid.size }
+    ensures size { terminal.new.display.grid.size ≡ terminal.old.display.grid.size }
+    ensures other_size { front.new.pages.other.grid.size ≡ front.old.pages.other.grid.size }
     ensures state { OnOk result (terminal.new
         ≡ (play_xterm (behind terminal.old front.old) front.old.pending piece.now).whole.state) }
     ensures pages { OnOk result (front.new.pages
@@ -58,12 +64,15 @@ pub fn feed_xterm(
 /// what is pending between chunks, and the page that isn't shown. `out` has capacity for ten more bytes for each byte of the
 /// chunk. It never fails and allocates nothing.
 pub fn feed_xterm_reserved(
-    terminal: &mut Terminal,
-    front: &mut Front,
+    terminal: &mut SizedTerminal,
+    front: &mut SizedFront,
     piece: &[u8],
     out: &mut Vec<u8>,
 )
-    requires { vec_len out.old + 10 * length piece.now ≤ vec_capacity out.old }
+    requires room { vec_len out.old + 10 * length piece.now ≤ vec_capacity out.old }
+    requires one_size { front.old.pages.other.grid.size ≡ terminal.old.display.grid.size }
+    ensures size { terminal.new.display.grid.size ≡ terminal.old.display.grid.size }
+    ensures other_size { front.new.pages.other.grid.size ≡ front.old.pages.other.grid.size }
     ensures state { terminal.new
         ≡ (play_xterm (behind terminal.old front.old) front.old.pending piece.now).whole.state }
     ensures pages { front.new.pages
@@ -77,24 +86,46 @@ pub fn feed_xterm_reserved(
     feed_front(terminal, front, piece, &mut Nobody, out);
 }
 
+/// Returns the most bytes of lines that an event or a character scrolls off: the rows of a screen, or a line for each byte of a
+/// translation.
+#[inline(always)]
+fn lines_limit(terminal: &SizedTerminal) -> usize
+    ensures value { result ≡ lines_limit terminal.now.display.grid.size }
+    ensures few { result ≤ 195330 }
+{
+    let size = terminal.size();
+    size.rows.max(TRANSLATION_LIMIT) * terminal.row_text_limit()
+}
+
+/// Returns the capacity for lines without which a feed with a log stops: the most bytes of lines for one byte.
+#[inline(always)]
+pub fn xterm_lines_limit(terminal: &SizedTerminal) -> usize
+    ensures { result ≡ xterm_lines_limit terminal.now.display.grid.size }
+{
+    2 * lines_limit(terminal)
+}
+
 /// Plays the front of a chunk of a host's bytes, in UTF-8 and with the functions of xterm. It appends the reports to `reports`
 /// and at most `most` bytes of the lines that scroll off the main page to `lines`. Returns how many bytes it played. `front`
 /// keeps what is pending between chunks, and the page that isn't shown.
 ///
-/// If it stops early, `lines` has fewer than `LINES_LIMIT` bytes free, the capacity of two screens, or fewer of `most` are left.
+/// If it stops early, `lines` has fewer than `xterm_lines_limit` bytes free, or fewer of `most` are left.
 /// `reports` has capacity for ten more bytes for each byte of the chunk. It never fails and allocates nothing.
 pub fn feed_xterm_log_reserved(
-    terminal: &mut Terminal,
-    front: &mut Front,
+    terminal: &mut SizedTerminal,
+    front: &mut SizedFront,
     piece: &[u8],
     reports: &mut Vec<u8>,
     lines: &mut Vec<u8>,
     most: usize,
 ) -> usize
-    requires { vec_len reports.old + 10 * length piece.now ≤ vec_capacity reports.old }
+    requires room { vec_len reports.old + 10 * length piece.now ≤ vec_capacity reports.old }
+    requires one_size { front.old.pages.other.grid.size ≡ terminal.old.display.grid.size }
     ensures within { result ≤ length piece.now }
-    ensures all { result < length piece.now → (vec_capacity lines.new < vec_len lines.new + LINES_LIMIT)
-        ⊎ (vec_len lines.old + most < vec_len lines.new + LINES_LIMIT) }
+    ensures all { result < length piece.now → (vec_capacity lines.new < vec_len lines.new + xterm_lines_limit terminal.old.display.grid.size)
+        ⊎ (vec_len lines.old + most < vec_len lines.new + xterm_lines_limit terminal.old.display.grid.size) }
+    ensures size { terminal.new.display.grid.size ≡ terminal.old.display.grid.size }
+    ensures other_size { front.new.pages.other.grid.size ≡ front.old.pages.other.grid.size }
     ensures state { terminal.new ≡ (play_xterm (behind terminal.old front.old) front.old.pending
         (take result piece.now)).whole.state }
     ensures pages { front.new.pages ≡ (play_xterm (behind terminal.old front.old) front.old.pending
@@ -110,9 +141,10 @@ pub fn feed_xterm_log_reserved(
     ensures lines_capacity { vec_capacity lines.old ≤ vec_capacity lines.new }
 {
     let end = lines.len().saturating_add(most);
+    let limit = terminal.row_text_limit();
     let mut log = Lines {
         lines,
-        limit: ROW_TEXT_LIMIT,
+        limit,
         end,
         beside: Finder,
     };
@@ -121,15 +153,17 @@ pub fn feed_xterm_log_reserved(
 
 /// Plays the front of a chunk, until the log is full. Returns how many bytes it played.
 fn feed_front<L: PageLog>(
-    terminal: &mut Terminal,
-    front: &mut Front,
+    terminal: &mut SizedTerminal,
+    front: &mut SizedFront,
     piece: &[u8],
     log: &mut L,
     out: &mut Vec<u8>,
 ) -> usize
-    requires { vec_len out.old + 10 * length piece.now ≤ vec_capacity out.old }
+    requires room { vec_len out.old + 10 * length piece.now ≤ vec_capacity out.old }
+    requires one_size { front.old.pages.other.grid.size ≡ terminal.old.display.grid.size }
     ensures within { result ≤ length piece.now }
-    ensures all { result < length piece.now → L.IsFull log.new 19056 }
+    ensures all { result < length piece.now → L.IsFull log.new (xterm_lines_limit terminal.old.display.grid.size) }
+    ensures sizes { KeepSizes terminal.old front.old.pages terminal.new front.new.pages }
     ensures fed { FeedsXterm terminal.old front.old (take result piece.now) terminal.new front.new
         out.old.items out.new.items }
     ensures keeps { L.Keeps log.old (play_xterm (behind terminal.old front.old) front.old.pending
@@ -138,9 +172,10 @@ fn feed_front<L: PageLog>(
     ensures capacity { vec_capacity out.old ≤ vec_capacity out.new }
 {
     cuts();
+    let limit = xterm_lines_limit(terminal);
     let mut at = 0;
     while at < piece.len() {
-        let count = feed_next(terminal, front, &piece[at..], log, out);
+        let count = feed_next(terminal, front, &piece[at..], limit, log, out);
         if count == 0 {
             return at;
         }
@@ -152,16 +187,20 @@ fn feed_front<L: PageLog>(
 /// Plays the front of a chunk that isn't empty. Returns how many bytes it played: none if the log is full.
 #[inline(always)]
 fn feed_next<L: PageLog>(
-    terminal: &mut Terminal,
-    front: &mut Front,
+    terminal: &mut SizedTerminal,
+    front: &mut SizedFront,
     piece: &[u8],
+    limit: usize,
     log: &mut L,
     out: &mut Vec<u8>,
 ) -> usize
     requires some { 1 ≤ length piece.now }
     requires room { vec_len out.old + 10 * length piece.now ≤ vec_capacity out.old }
-    ensures none { result ≡ 0 → L.IsFull log.new 19056 }
+    requires one_size { front.old.pages.other.grid.size ≡ terminal.old.display.grid.size }
+    requires limit { limit ≡ xterm_lines_limit terminal.old.display.grid.size }
+    ensures none { result ≡ 0 → L.IsFull log.new (xterm_lines_limit terminal.old.display.grid.size) }
     ensures within { result ≤ length piece.now }
+    ensures sizes { KeepSizes terminal.old front.old.pages terminal.new front.new.pages }
     ensures fed { FeedsXterm terminal.old front.old (take result piece.now) terminal.new front.new
         out.old.items out.new.items }
     ensures keeps { L.Keeps log.old (play_xterm (behind terminal.old front.old) front.old.pending
@@ -170,9 +209,9 @@ fn feed_next<L: PageLog>(
     ensures capacity { vec_capacity out.old ≤ vec_capacity out.new }
 {
     if front.decoder.is_empty() {
-        return feed_first(terminal, front, piece, log, out);
+        return feed_first(terminal, front, piece, limit, log, out);
     }
-    if log.is_full(LINES_LIMIT) {
+    if log.is_full(limit) {
         return 0;
     }
     feed_byte(terminal, front, piece[0], log, out);
@@ -183,17 +222,21 @@ fn feed_next<L: PageLog>(
 /// bytes it played: none if the log is full.
 #[inline(always)]
 fn feed_first<L: PageLog>(
-    terminal: &mut Terminal,
-    front: &mut Front,
+    terminal: &mut SizedTerminal,
+    front: &mut SizedFront,
     piece: &[u8],
+    limit: usize,
     log: &mut L,
     out: &mut Vec<u8>,
 ) -> usize
     requires nothing { front.old.pending ≡ [] }
     requires some { 1 ≤ length piece.now }
     requires room { vec_len out.old + 10 * length piece.now ≤ vec_capacity out.old }
-    ensures none { result ≡ 0 → L.IsFull log.new 19056 }
+    requires one_size { front.old.pages.other.grid.size ≡ terminal.old.display.grid.size }
+    requires limit { limit ≡ xterm_lines_limit terminal.old.display.grid.size }
+    ensures none { result ≡ 0 → L.IsFull log.new (xterm_lines_limit terminal.old.display.grid.size) }
     ensures within { result ≤ length piece.now }
+    ensures sizes { KeepSizes terminal.old front.old.pages terminal.new front.new.pages }
     ensures fed { FeedsXterm terminal.old front.old (take result piece.now) terminal.new front.new
         out.old.items out.new.items }
     ensures keeps { L.Keeps log.old (play_xterm (behind terminal.old front.old) front.old.pending
@@ -203,9 +246,9 @@ fn feed_first<L: PageLog>(
 {
     let run = ascii_run(piece);
     if run > 0 {
-        return feed_ascii(terminal, front, &piece[..run], log, out);
+        return feed_ascii(terminal, front, &piece[..run], limit, log, out);
     }
-    if log.is_full(LINES_LIMIT) {
+    if log.is_full(limit) {
         return 0;
     }
     match whole_character(piece) {
@@ -223,17 +266,21 @@ fn feed_first<L: PageLog>(
 /// Plays ASCII bytes with nothing pending. Returns how many it played: fewer if the log is full.
 #[inline(always)]
 fn feed_ascii<L: PageLog>(
-    terminal: &mut Terminal,
-    front: &mut Front,
+    terminal: &mut SizedTerminal,
+    front: &mut SizedFront,
     run: &[u8],
+    limit: usize,
     log: &mut L,
     out: &mut Vec<u8>,
 ) -> usize
     requires nothing { front.old.pending ≡ [] }
     requires ascii { All (λ b. b < 0x80) run.now }
     requires room { vec_len out.old + 10 * length run.now ≤ vec_capacity out.old }
+    requires one_size { front.old.pages.other.grid.size ≡ terminal.old.display.grid.size }
+    requires limit { limit ≡ xterm_lines_limit terminal.old.display.grid.size }
     ensures within { result ≤ length run.now }
-    ensures all { result < length run.now → L.IsFull log.new 19056 }
+    ensures all { result < length run.now → L.IsFull log.new (xterm_lines_limit terminal.old.display.grid.size) }
+    ensures sizes { KeepSizes terminal.old front.old.pages terminal.new front.new.pages }
     ensures fed { FeedsXterm terminal.old front.old (take result run.now) terminal.new front.new out.old.items out.new.items }
     ensures keeps { L.Keeps log.old (play_xterm (behind terminal.old front.old) front.old.pending
         (take result run.now)).lines log.new }
@@ -242,19 +289,21 @@ fn feed_ascii<L: PageLog>(
 {
     let _ = terminal.width();
     one_split();
-    log.play(terminal, &mut front.pages, run, out)
+    log.play(terminal, &mut front.pages, run, limit, out)
 }
 
 /// Plays a byte.
 fn feed_byte<L: PageLog>(
-    terminal: &mut Terminal,
-    front: &mut Front,
+    terminal: &mut SizedTerminal,
+    front: &mut SizedFront,
     b: u8,
     log: &mut L,
     out: &mut Vec<u8>,
 )
     requires room { vec_len out.old + 10 ≤ vec_capacity out.old }
-    requires lines_room { L.HasRoom log.old 19056 }
+    requires lines_room { L.HasRoom log.old (xterm_lines_limit terminal.old.display.grid.size) }
+    requires one_size { front.old.pages.other.grid.size ≡ terminal.old.display.grid.size }
+    ensures sizes { KeepSizes terminal.old front.old.pages terminal.new front.new.pages }
     ensures fed { FeedsXterm terminal.old front.old (b ∷ []) terminal.new front.new out.old.items out.new.items }
     ensures keeps { L.Keeps log.old (play_xterm (behind terminal.old front.old) front.old.pending (b ∷ [])).lines log.new }
     ensures bounded { vec_len out.new ≤ vec_len out.old + 10 }
@@ -268,19 +317,20 @@ fn feed_byte<L: PageLog>(
 /// Plays U+FFFD if what was pending is ill-formed. It causes no report.
 #[inline(always)]
 fn feed_lost<L: PageLog>(
-    terminal: &mut Terminal,
-    pages: &Pages,
+    terminal: &mut SizedTerminal,
+    pages: &SizedPages,
     lost: Option<char>,
     log: &mut L,
     out: &mut Vec<u8>,
 )
     requires lost { IfSome lost (λ c. c ≡ replacement) }
     requires room { vec_len out.old + 10 ≤ vec_capacity out.old }
-    requires lines_room { L.HasRoom log.old 19056 }
+    requires lines_room { L.HasRoom log.old (xterm_lines_limit terminal.old.display.grid.size) }
+    ensures size { terminal.new.display.grid.size ≡ terminal.old.display.grid.size }
     ensures leaves { Leaves (play_characters (whole_of terminal.old pages.now) (option_to_list lost))
         (whole_of terminal.new pages.now) out.old.items out.new.items }
     ensures keeps { L.Keeps log.old (play_characters (whole_of terminal.old pages.now) (option_to_list lost)).lines log.new }
-    ensures left { L.HasRoom log.new 9528 }
+    ensures left { L.HasRoom log.new (lines_limit terminal.old.display.grid.size) }
     ensures out { out.new.items ≡ out.old.items }
     ensures capacity { vec_capacity out.old ≤ vec_capacity out.new }
 {
@@ -294,14 +344,16 @@ fn feed_lost<L: PageLog>(
 /// Plays the character that a byte completes, if it completes one.
 #[inline(always)]
 fn feed_completed<L: PageLog>(
-    terminal: &mut Terminal,
-    pages: &mut Pages,
+    terminal: &mut SizedTerminal,
+    pages: &mut SizedPages,
     character: Option<char>,
     log: &mut L,
     out: &mut Vec<u8>,
 )
     requires room { vec_len out.old + 10 ≤ vec_capacity out.old }
-    requires lines_room { L.HasRoom log.old 9528 }
+    requires lines_room { L.HasRoom log.old (lines_limit terminal.old.display.grid.size) }
+    requires one_size { pages.old.other.grid.size ≡ terminal.old.display.grid.size }
+    ensures sizes { KeepSizes terminal.old pages.old terminal.new pages.new }
     ensures leaves { Leaves (play_characters (whole_of terminal.old pages.old) (option_to_list character))
         (whole_of terminal.new pages.new) out.old.items out.new.items }
     ensures keeps { L.Keeps log.old (play_characters (whole_of terminal.old pages.old) (option_to_list character)).lines
@@ -317,14 +369,16 @@ fn feed_completed<L: PageLog>(
 
 /// Plays a character.
 fn feed_character<L: PageLog>(
-    terminal: &mut Terminal,
-    pages: &mut Pages,
+    terminal: &mut SizedTerminal,
+    pages: &mut SizedPages,
     c: char,
     log: &mut L,
     out: &mut Vec<u8>,
 )
     requires room { vec_len out.old + 10 ≤ vec_capacity out.old }
-    requires lines_room { L.HasRoom log.old 9528 }
+    requires lines_room { L.HasRoom log.old (lines_limit terminal.old.display.grid.size) }
+    requires one_size { pages.old.other.grid.size ≡ terminal.old.display.grid.size }
+    ensures sizes { KeepSizes terminal.old pages.old terminal.new pages.new }
     ensures leaves { Leaves (play_characters (whole_of terminal.old pages.old) (c ∷ []))
         (whole_of terminal.new pages.new) out.old.items out.new.items }
     ensures keeps { L.Keeps log.old (play_characters (whole_of terminal.old pages.old) (c ∷ [])).lines log.new }
@@ -341,19 +395,20 @@ fn feed_character<L: PageLog>(
 /// Plays a character beyond ASCII, which causes no report.
 #[inline(always)]
 fn feed_beyond<L: PageLog>(
-    terminal: &mut Terminal,
-    pages: &Pages,
+    terminal: &mut SizedTerminal,
+    pages: &SizedPages,
     c: char,
     log: &mut L,
     out: &mut Vec<u8>,
 )
     requires beyond { 0x80 ≤ c }
     requires room { vec_len out.old + 10 ≤ vec_capacity out.old }
-    requires lines_room { L.HasRoom log.old 9528 }
+    requires lines_room { L.HasRoom log.old (lines_limit terminal.old.display.grid.size) }
+    ensures size { terminal.new.display.grid.size ≡ terminal.old.display.grid.size }
     ensures leaves { Leaves (play_characters (whole_of terminal.old pages.now) (c ∷ []))
         (whole_of terminal.new pages.now) out.old.items out.new.items }
     ensures keeps { L.Keeps log.old (play_characters (whole_of terminal.old pages.now) (c ∷ [])).lines log.new }
-    ensures left { (n : ℕ) → L.HasRoom log.old (n + 8734) → L.HasRoom log.new n }
+    ensures left { (n : ℕ) → L.HasRoom log.old (n + utf8_lines_limit terminal.old.display.grid.size) → L.HasRoom log.new n }
     ensures out { out.new.items ≡ out.old.items }
     ensures capacity { vec_capacity out.old ≤ vec_capacity out.new }
 {
@@ -366,15 +421,19 @@ fn feed_beyond<L: PageLog>(
 
 /// Plays bytes of the terminal, with the functions of xterm. Returns how many it played: fewer if the log is full.
 pub(crate) fn feed_bytes<L: LineLog>(
-    terminal: &mut Terminal,
-    pages: &mut Pages,
+    terminal: &mut SizedTerminal,
+    pages: &mut SizedPages,
     piece: &[u8],
+    limit: usize,
     log: &mut L,
     out: &mut Vec<u8>,
 ) -> usize
-    requires { vec_len out.old + 10 * length piece.now ≤ vec_capacity out.old }
+    requires room { vec_len out.old + 10 * length piece.now ≤ vec_capacity out.old }
+    requires one_size { pages.old.other.grid.size ≡ terminal.old.display.grid.size }
+    requires limit { limit ≡ xterm_lines_limit terminal.old.display.grid.size }
     ensures within { result ≤ length piece.now }
-    ensures all { result < length piece.now → L.IsFull log.new 19056 }
+    ensures all { result < length piece.now → L.IsFull log.new (xterm_lines_limit terminal.old.display.grid.size) }
+    ensures sizes { KeepSizes terminal.old pages.old terminal.new pages.new }
     ensures fed { FeedsBytes (whole_of terminal.old pages.old) (take result piece.now) (whole_of terminal.new pages.new)
         out.old.items out.new.items }
     ensures keeps { L.Keeps log.old (play_bytes (whole_of terminal.old pages.old) (take result piece.now)).lines log.new }
@@ -385,7 +444,7 @@ pub(crate) fn feed_bytes<L: LineLog>(
     one_split();
     let mut at = 0;
     while at < piece.len() {
-        let count = feed_some(terminal, pages, &piece[at..], log, out);
+        let count = feed_some(terminal, pages, &piece[at..], limit, log, out);
         if count == 0 {
             return at;
         }
@@ -398,16 +457,20 @@ pub(crate) fn feed_bytes<L: LineLog>(
 /// bytes it played: none if the log is full.
 #[inline(always)]
 fn feed_some<L: LineLog>(
-    terminal: &mut Terminal,
-    pages: &mut Pages,
+    terminal: &mut SizedTerminal,
+    pages: &mut SizedPages,
     piece: &[u8],
+    limit: usize,
     log: &mut L,
     out: &mut Vec<u8>,
 ) -> usize
     requires some { 1 ≤ length piece.now }
     requires room { vec_len out.old + 10 * length piece.now ≤ vec_capacity out.old }
-    ensures none { result ≡ 0 → L.IsFull log.new 19056 }
+    requires one_size { pages.old.other.grid.size ≡ terminal.old.display.grid.size }
+    requires limit { limit ≡ xterm_lines_limit terminal.old.display.grid.size }
+    ensures none { result ≡ 0 → L.IsFull log.new (xterm_lines_limit terminal.old.display.grid.size) }
     ensures within { result ≤ length piece.now }
+    ensures sizes { KeepSizes terminal.old pages.old terminal.new pages.new }
     ensures fed { FeedsBytes (whole_of terminal.old pages.old) (take result piece.now)
         (whole_of terminal.new pages.new) out.old.items out.new.items }
     ensures keeps { L.Keeps log.old (play_bytes (whole_of terminal.old pages.old) (take result piece.now)).lines log.new }
@@ -416,7 +479,7 @@ fn feed_some<L: LineLog>(
 {
     one_split();
     let played = feed_page(terminal, pages, piece, log, out);
-    if played == piece.len() || log.is_full(LINES_LIMIT) {
+    if played == piece.len() || log.is_full(limit) {
         return played;
     }
     played + feed_event(terminal, pages, &piece[played..], log, out)
@@ -426,14 +489,15 @@ fn feed_some<L: LineLog>(
 /// Returns how many bytes it played.
 #[inline(always)]
 fn feed_page<L: LineLog>(
-    terminal: &mut Terminal,
-    pages: &Pages,
+    terminal: &mut SizedTerminal,
+    pages: &SizedPages,
     piece: &[u8],
     log: &mut L,
     out: &mut Vec<u8>,
 ) -> usize
     requires { vec_len out.old + 10 * length piece.now ≤ vec_capacity out.old }
     ensures within { result ≤ length piece.now }
+    ensures size { terminal.new.display.grid.size ≡ terminal.old.display.grid.size }
     ensures fed { FeedsBytes (whole_of terminal.old pages.now) (take result piece.now)
         (whole_of terminal.new pages.now) out.old.items out.new.items }
     ensures keeps { L.Keeps log.old (play_bytes (whole_of terminal.old pages.now) (take result piece.now)).lines log.new }
@@ -450,17 +514,19 @@ fn feed_page<L: LineLog>(
 /// Plays the front of a chunk that isn't empty, up to the first event. Returns how many bytes it played.
 #[inline(never)]
 pub(crate) fn feed_event<L: LineLog>(
-    terminal: &mut Terminal,
-    pages: &mut Pages,
+    terminal: &mut SizedTerminal,
+    pages: &mut SizedPages,
     piece: &[u8],
     log: &mut L,
     out: &mut Vec<u8>,
 ) -> usize
     requires some { 1 ≤ length piece.now }
     requires room { vec_len out.old + 10 ≤ vec_capacity out.old }
-    requires lines_room { L.HasRoom log.old 9528 }
+    requires lines_room { L.HasRoom log.old (lines_limit terminal.old.display.grid.size) }
+    requires one_size { pages.old.other.grid.size ≡ terminal.old.display.grid.size }
     ensures some { 1 ≤ result }
     ensures within { result ≤ length piece.now }
+    ensures sizes { KeepSizes terminal.old pages.old terminal.new pages.new }
     ensures fed { FeedsBytes (whole_of terminal.old pages.old) (take result piece.now)
         (whole_of terminal.new pages.new) out.old.items out.new.items }
     ensures keeps { L.Keeps log.old (play_bytes (whole_of terminal.old pages.old) (take result piece.now)).lines log.new }
@@ -480,13 +546,13 @@ pub(crate) fn feed_event<L: LineLog>(
 /// Gives the log the lines that an event is about to scroll off.
 #[inline(always)]
 fn log_event<L: LineLog>(
-    terminal: &Terminal,
-    pages: &Pages,
+    terminal: &SizedTerminal,
+    pages: &SizedPages,
     kind: EventKind,
     values: &[u16],
     log: &mut L,
 )
-    requires { L.HasRoom log.old 9528 }
+    requires { L.HasRoom log.old (lines_limit terminal.now.display.grid.size) }
     ensures { L.Keeps log.old (xterm_line_off (event_of kind values.now) (screens terminal.now pages.now)) log.new }
 {
     if pages.is_alternate() {

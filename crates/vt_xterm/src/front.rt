@@ -1,13 +1,14 @@
 //! Has the state that a front keeps.
 ghost use Rattle.std.specs.Prelude.{◌≡◌, ◌≤◌, IfOk, length};
-ghost use Rattle.vt_term.specs.State.{display_at_power_up, power_up};
-ghost use Rattle.vt_term.specs.Pages.{IsSoundPage, IsSoundSizedPage, with_page};
+ghost use Rattle.vt_screen.specs.Sizes.{IsSize};
+ghost use Rattle.vt_term.specs.State.{display_at_power_up, power_up, display_of, state_of};
+ghost use Rattle.vt_term.specs.Pages.{IsSoundSizedPage, with_page};
 ghost use Rattle.vt_xterm.specs.Pages.{pages_of};
-ghost use Rattle.vt_xterm.specs.Play.{front_at_power_up};
+ghost use Rattle.vt_xterm.specs.Play.{front_at_power_up, front_of};
 
 use std::alloc::{AllocError, Global};
 use std::marker::Model;
-use vt_term::{Size, SizedPage, Terminal};
+use vt_term::{Size, SizedPage, SizedTerminal, Terminal};
 use vt_utf8::Decoder;
 
 /// The page that isn't shown, of any size, and which page is.
@@ -69,59 +70,15 @@ impl SizedPages {
     }
 }
 
-/// The pages of a VT220's size.
+/// Keeps what a terminal of any size lacks under TERM=xterm: what is pending of UTF-8, the page that isn't shown, and three modes.
+/// `new` allocates its memory, and nothing else does.
 #[derive(Drop)]
-pub(crate) struct Pages {
-    /// The pages, whose size is a VT220's.
-    pub(crate) sized: SizedPages,
-}
-
-impl Model for Pages {
-    ghost use Rattle.std.specs.Prelude.{◌≡◌};
-    ghost use Rattle.vt_screen.specs.Sizes.{vt220_size};
-    ghost use Rattle.vt_xterm.specs.Pages.{PagesState};
-
-    ghost Value = { PagesState };
-
-    ghost view = { λ p. p.sized };
-
-    ghost invariant = { λ p. p.sized.other.grid.size ≡ vt220_size };
-}
-
-impl Pages {
-    /// Returns whether the alternate page is shown.
-    #[inline(always)]
-    pub(crate) fn is_alternate(&self) -> bool
-        ensures { result ≡ self.now.alternate }
-    {
-        self.sized.is_alternate()
-    }
-
-    /// Makes the pages equal to others.
-    fn copy_from(&mut self, other: &Pages)
-        ensures { self.new ≡ other.now }
-    {
-        self.sized.copy_from(&other.sized);
-    }
-
-    /// States that the page that isn't shown is sound, for proofs. It does nothing when it runs.
-    #[inline(always)]
-    pub(crate) fn soundness(&self)
-        ensures { IsSoundPage self.now.other }
-    {
-        self.sized.soundness();
-    }
-}
-
-/// Keeps what a terminal lacks under TERM=xterm: what is pending of UTF-8, the page that isn't shown, and three modes. `new`
-/// allocates its memory, and nothing else does.
-#[derive(Drop)]
-pub struct Front {
+pub struct SizedFront {
     pub(crate) decoder: Decoder,
-    pub(crate) pages: Pages,
+    pub(crate) pages: SizedPages,
 }
 
-impl Model for Front {
+impl Model for SizedFront {
     ghost use Rattle.vt_xterm.specs.Play.{FrontState};
 
     ghost Value = { FrontState };
@@ -129,40 +86,43 @@ impl Model for Front {
     ghost view = { λ f. record { pending = f.decoder; pages = f.pages } };
 }
 
-impl Front {
-    /// Returns a front at power-up, for a terminal at power-up: nothing is pending, and the main page is shown. Returns `Err`
-    /// if allocation fails.
-    pub fn new(alloc: Global) -> Result<Front, AllocError>
-        ensures { IfOk result (λ front. front ≡ front_at_power_up) }
+impl SizedFront {
+    /// Returns a front at power-up, for a terminal of a size at power-up: nothing is pending, and the main page is shown. Returns
+    /// `Err` if allocation fails.
+    pub fn new(alloc: Global, size: Size) -> Result<SizedFront, AllocError>
+        requires { IsSize size }
+        ensures { IfOk result (λ front. front ≡ front_of size) }
     {
-        let other = SizedPage::new(alloc, Size::vt220())?;
-        Ok(Front {
+        let other = SizedPage::new(alloc, size)?;
+        Ok(SizedFront {
             decoder: Decoder::new(),
-            pages: Pages {
-                sized: SizedPages {
-                    other,
-                    alternate: false,
-                    resizes: false,
-                    brackets: false,
-                },
+            pages: SizedPages {
+                other,
+                alternate: false,
+                resizes: false,
+                brackets: false,
             },
         })
     }
 
-    /// Makes what the front keeps equal to what another one keeps. It never fails and allocates nothing.
-    pub fn copy_from(&mut self, other: &Front)
+    /// Makes what the front keeps equal to what another one of the same size keeps. It never fails and allocates nothing.
+    pub fn copy_from(&mut self, other: &SizedFront)
+        requires { self.old.pages.other.grid.size ≡ other.now.pages.other.grid.size }
         ensures { self.new ≡ other.now }
     {
         self.decoder = other.decoder.copied();
         self.pages.copy_from(&other.pages);
     }
 
-    /// Makes a terminal as at power-up, with a copy of the cells of the page that isn't shown and of what DECSC saved on it. It
-    /// never fails and allocates nothing.
-    pub fn show_other(&self, terminal: &mut Terminal)
-        ensures { terminal.new ≡ record power_up { display = with_page self.now.pages.other display_at_power_up } }
+    /// Makes a terminal of the same size as at power-up, with a copy of the cells of the page that isn't shown and of what DECSC
+    /// saved on it. It never fails and allocates nothing.
+    pub fn show_other(&self, terminal: &mut SizedTerminal)
+        requires { terminal.old.display.grid.size ≡ self.now.pages.other.grid.size }
+        ensures { terminal.new ≡ record (state_of terminal.old.display.grid.size) {
+          display = with_page self.now.pages.other (display_of terminal.old.display.grid.size);
+        } }
     {
-        terminal.sized.show_copy(&self.pages.sized.other);
+        terminal.show_copy(&self.pages.other);
     }
 
     /// Returns the pending bytes of UTF-8: at most three.
@@ -184,13 +144,89 @@ impl Front {
     pub fn brackets(&self) -> bool
         ensures { result ≡ self.now.pages.brackets }
     {
-        self.pages.sized.brackets
+        self.pages.brackets
     }
 
     /// Returns whether DECCOLM has an effect.
     pub fn resizes(&self) -> bool
         ensures { result ≡ self.now.pages.resizes }
     {
-        self.pages.sized.resizes
+        self.pages.resizes
+    }
+}
+
+/// Keeps what a VT220's terminal lacks under TERM=xterm: what is pending of UTF-8, the page that isn't shown, and three modes. `new`
+/// allocates its memory, and nothing else does.
+#[derive(Drop)]
+pub struct Front {
+    /// The front, whose size is a VT220's.
+    pub sized: SizedFront,
+}
+
+impl Model for Front {
+    ghost use Rattle.std.specs.Prelude.{◌≡◌};
+    ghost use Rattle.vt_screen.specs.Sizes.{vt220_size};
+    ghost use Rattle.vt_xterm.specs.Play.{FrontState};
+
+    ghost Value = { FrontState };
+
+    ghost view = { λ f. f.sized };
+
+    ghost invariant = { λ f. f.sized.pages.other.grid.size ≡ vt220_size };
+}
+
+impl Front {
+    /// Returns a front at power-up, for a terminal at power-up: nothing is pending, and the main page is shown. Returns `Err`
+    /// if allocation fails.
+    pub fn new(alloc: Global) -> Result<Front, AllocError>
+        ensures { IfOk result (λ front. front ≡ front_at_power_up) }
+    {
+        Ok(Front {
+            sized: SizedFront::new(alloc, Size::vt220())?,
+        })
+    }
+
+    /// Makes what the front keeps equal to what another one keeps. It never fails and allocates nothing.
+    pub fn copy_from(&mut self, other: &Front)
+        ensures { self.new ≡ other.now }
+    {
+        self.sized.copy_from(&other.sized);
+    }
+
+    /// Makes a terminal as at power-up, with a copy of the cells of the page that isn't shown and of what DECSC saved on it. It
+    /// never fails and allocates nothing.
+    pub fn show_other(&self, terminal: &mut Terminal)
+        ensures { terminal.new ≡ record power_up { display = with_page self.now.pages.other display_at_power_up } }
+    {
+        self.sized.show_other(&mut terminal.sized);
+    }
+
+    /// Returns the pending bytes of UTF-8: at most three.
+    pub fn pending(&self) -> &[u8]
+        ensures value { result.now ≡ self.now.pending }
+        ensures few { length result.now ≤ 3 }
+    {
+        self.sized.pending()
+    }
+
+    /// Returns whether the alternate page is shown.
+    pub fn is_alternate(&self) -> bool
+        ensures { result ≡ self.now.pages.alternate }
+    {
+        self.sized.is_alternate()
+    }
+
+    /// Returns whether pasted text is wanted in brackets, `CSI 200 ~` and `CSI 201 ~` (?2004).
+    pub fn brackets(&self) -> bool
+        ensures { result ≡ self.now.pages.brackets }
+    {
+        self.sized.brackets()
+    }
+
+    /// Returns whether DECCOLM has an effect.
+    pub fn resizes(&self) -> bool
+        ensures { result ≡ self.now.pages.resizes }
+    {
+        self.sized.resizes()
     }
 }

@@ -7,6 +7,7 @@
 mod attributes;
 mod columns;
 mod feeding;
+mod feeds;
 mod finder;
 mod front;
 mod functions;
@@ -16,8 +17,8 @@ mod modes;
 mod playing;
 mod profile;
 mod repeating;
+pub mod sized;
 mod tabs;
 
-pub use feeding::{feed_xterm, feed_xterm_log_reserved, feed_xterm_reserved};
-pub use front::Front;
-pub use log::LINES_LIMIT;
+pub use feeds::{LINES_LIMIT, feed_xterm, feed_xterm_log_reserved, feed_xterm_reserved};
+pub use front::{Front, SizedFront};

@@ -3,41 +3,41 @@ ghost use Rattle.std.specs.Prelude.{◌≡◌, ◌≤◌, ◌<◌, ◌+◌, ◌*
 ghost use Rattle.vt_syntax.specs.Event.{event_of};
 ghost use Rattle.vt_term.specs.Play.{play};
 ghost use Rattle.vt_term.specs.Scrolling.{scrolled_off};
-ghost use Rattle.vt_term.specs.Text.{line_text};
+ghost use Rattle.vt_term.specs.Text.{line_text, text_limit};
 ghost use Rattle.vt_utf8.specs.Translation.{glyph_off};
+ghost use Rattle.vt_xterm.specs.Limits.{lines_limit, xterm_lines_limit};
 ghost use Rattle.vt_xterm.specs.Log.{first_rows, rows_off, function_off, page_line_off};
 ghost use Rattle.vt_xterm.specs.Play.{play_bytes};
 ghost use Rattle.vt_xterm.specs.Terminals.{PlaysTerminals};
-ghost use Rattle.vt_xterm.specs.Private.Feeds.{whole_of, FeedsBytes};
+ghost use Rattle.vt_xterm.specs.Private.Feeds.{whole_of, FeedsBytes, KeepSizes};
 
 use crate::feeding::{feed_bytes, feed_event};
 use crate::finder::Finder;
-use crate::front::Pages;
+use crate::front::SizedPages;
 use crate::playing::feed_pages;
 use vt_syntax::EventKind;
-use vt_term::laws::{happened, sized_happened};
-use vt_term::{Lines, Nobody, ROW_TEXT_LIMIT, TEXT_LIMIT, Terminal, count};
-use vt_utf8::{Log, UTF8_LINES_LIMIT};
-
-/// The capacity for lines without which a feed with a log stops: that of two screens.
-pub const LINES_LIMIT: usize = 2 * TEXT_LIMIT;
-
-const _: () = prove!(UTF8_LINES_LIMIT <= LINES_LIMIT);
+use vt_term::laws::sized_happened;
+use vt_term::{Lines, Nobody, SizedTerminal, count};
+use vt_utf8::Log;
 
 /// A place for the lines that scroll off the main page: nowhere, or after others. It plays the bytes that cause them.
 pub(crate) trait PageLog: Log {
     /// Plays the front of a chunk of the terminal's bytes, with the functions of xterm, until the log is full. Returns how many
-    /// bytes it played.
+    /// bytes it played. `limit` is `xterm_lines_limit` of the terminal.
     fn play(
         &mut self,
-        terminal: &mut Terminal,
-        pages: &mut Pages,
+        terminal: &mut SizedTerminal,
+        pages: &mut SizedPages,
         piece: &[u8],
+        limit: usize,
         out: &mut Vec<u8>,
     ) -> usize
-        requires { vec_len out.old + 10 * length piece.now ≤ vec_capacity out.old }
+        requires room { vec_len out.old + 10 * length piece.now ≤ vec_capacity out.old }
+        requires one_size { pages.old.other.grid.size ≡ terminal.old.display.grid.size }
+        requires limit { limit ≡ xterm_lines_limit terminal.old.display.grid.size }
         ensures within { result ≤ length piece.now }
-        ensures all { result < length piece.now → Self.IsFull self.new 19056 }
+        ensures all { result < length piece.now → Self.IsFull self.new (xterm_lines_limit terminal.old.display.grid.size) }
+        ensures sizes { KeepSizes terminal.old pages.old terminal.new pages.new }
         ensures fed { FeedsBytes (whole_of terminal.old pages.old) (take result piece.now) (whole_of terminal.new pages.new)
             out.old.items out.new.items }
         ensures keeps { Self.Keeps self.old (play_bytes (whole_of terminal.old pages.old) (take result piece.now)).lines self.new }
@@ -47,16 +47,18 @@ pub(crate) trait PageLog: Log {
     /// Plays the front of a chunk that isn't empty: one byte, or more of them. Returns how many bytes it played.
     fn play_some(
         &mut self,
-        terminal: &mut Terminal,
-        pages: &mut Pages,
+        terminal: &mut SizedTerminal,
+        pages: &mut SizedPages,
         piece: &[u8],
         out: &mut Vec<u8>,
     ) -> usize
         requires some { 1 ≤ length piece.now }
         requires room { vec_len out.old + 10 * length piece.now ≤ vec_capacity out.old }
-        requires lines_room { Self.HasRoom self.old 9528 }
+        requires lines_room { Self.HasRoom self.old (lines_limit terminal.old.display.grid.size) }
+        requires one_size { pages.old.other.grid.size ≡ terminal.old.display.grid.size }
         ensures some { 1 ≤ result }
         ensures within { result ≤ length piece.now }
+        ensures sizes { KeepSizes terminal.old pages.old terminal.new pages.new }
         ensures fed { FeedsBytes (whole_of terminal.old pages.old) (take result piece.now) (whole_of terminal.new pages.new)
             out.old.items out.new.items }
         ensures keeps { Self.Keeps self.old (play_bytes (whole_of terminal.old pages.old) (take result piece.now)).lines self.new }
@@ -69,9 +71,10 @@ impl PageLog for Nobody {
     #[inline(always)]
     fn play(
         &mut self,
-        terminal: &mut Terminal,
-        pages: &mut Pages,
+        terminal: &mut SizedTerminal,
+        pages: &mut SizedPages,
         piece: &[u8],
+        limit: usize,
         out: &mut Vec<u8>,
     ) -> usize {
         feed_pages(terminal, pages, piece, out)
@@ -80,8 +83,8 @@ impl PageLog for Nobody {
     #[inline(always)]
     fn play_some(
         &mut self,
-        terminal: &mut Terminal,
-        pages: &mut Pages,
+        terminal: &mut SizedTerminal,
+        pages: &mut SizedPages,
         piece: &[u8],
         out: &mut Vec<u8>,
     ) -> usize {
@@ -93,18 +96,19 @@ impl PageLog for Nobody {
 impl PageLog for Lines<'_, Finder> {
     fn play(
         &mut self,
-        terminal: &mut Terminal,
-        pages: &mut Pages,
+        terminal: &mut SizedTerminal,
+        pages: &mut SizedPages,
         piece: &[u8],
+        limit: usize,
         out: &mut Vec<u8>,
     ) -> usize {
-        feed_bytes(terminal, pages, piece, self, out)
+        feed_bytes(terminal, pages, piece, limit, self, out)
     }
 
     fn play_some(
         &mut self,
-        terminal: &mut Terminal,
-        pages: &mut Pages,
+        terminal: &mut SizedTerminal,
+        pages: &mut SizedPages,
         piece: &[u8],
         out: &mut Vec<u8>,
     ) -> usize {
@@ -117,7 +121,7 @@ impl PageLog for Lines<'_, Finder> {
 pub(crate) trait LineLog: Log {
     /// Plays the front of a chunk, up to the first event that isn't a VT220's, or up to a line for which there is no capacity.
     /// Returns how many bytes it played.
-    fn feed(&mut self, terminal: &mut Terminal, piece: &[u8], out: &mut Vec<u8>) -> usize
+    fn feed(&mut self, terminal: &mut SizedTerminal, piece: &[u8], out: &mut Vec<u8>) -> usize
         requires { vec_len out.old + 10 * length piece.now ≤ vec_capacity out.old }
         ensures within { result ≤ length piece.now }
         ensures terminals { PlaysTerminals terminal.old (take result piece.now) }
@@ -128,15 +132,15 @@ pub(crate) trait LineLog: Log {
         ensures capacity { vec_capacity out.old ≤ vec_capacity out.new };
 
     /// Gets the lines that an event is about to scroll off.
-    fn event(&mut self, terminal: &Terminal, kind: EventKind, values: &[u16])
-        requires { Self.HasRoom self.old 9528 }
+    fn event(&mut self, terminal: &SizedTerminal, kind: EventKind, values: &[u16])
+        requires { Self.HasRoom self.old (lines_limit terminal.now.display.grid.size) }
         ensures { Self.Keeps self.old (page_line_off (event_of kind values.now) terminal.now.display) self.new };
 }
 
 /// Plays the front of a chunk, up to the first event that isn't a VT220's. Returns how many bytes it played. Speed: nothing else
 /// feeds with this observer alone, so there is one copy of the loop, in which all is inline.
 #[inline(never)]
-pub(crate) fn feed_terminals(terminal: &mut Terminal, piece: &[u8], out: &mut Vec<u8>) -> usize
+pub(crate) fn feed_terminals(terminal: &mut SizedTerminal, piece: &[u8], out: &mut Vec<u8>) -> usize
     requires { vec_len out.old + 10 * length piece.now ≤ vec_capacity out.old }
     ensures within { result ≤ length piece.now }
     ensures terminals { PlaysTerminals terminal.old (take result piece.now) }
@@ -146,32 +150,33 @@ pub(crate) fn feed_terminals(terminal: &mut Terminal, piece: &[u8], out: &mut Ve
     ensures capacity { vec_capacity out.old ≤ vec_capacity out.new }
 {
     let _ = terminal.width();
-    happened();
+    sized_happened();
     terminal.feed_observed(piece, &mut Finder, out)
 }
 
 impl LineLog for Lines<'_, Finder> {
     #[inline(always)]
-    fn feed(&mut self, terminal: &mut Terminal, piece: &[u8], out: &mut Vec<u8>) -> usize {
+    fn feed(&mut self, terminal: &mut SizedTerminal, piece: &[u8], out: &mut Vec<u8>) -> usize {
         let _ = terminal.width();
         sized_happened();
-        self.limit = ROW_TEXT_LIMIT;
+        self.limit = terminal.row_text_limit();
         terminal.feed_observed(piece, self, out)
     }
 
-    fn event(&mut self, terminal: &Terminal, kind: EventKind, values: &[u16]) {
+    fn event(&mut self, terminal: &SizedTerminal, kind: EventKind, values: &[u16]) {
         push_line_off(terminal, kind, values, self.lines);
     }
 }
 
 /// Appends the lines that an event is about to scroll off. `lines` has capacity for a screen.
-fn push_line_off(terminal: &Terminal, kind: EventKind, values: &[u16], lines: &mut Vec<u8>)
-    requires { vec_len lines.old + TEXT_LIMIT ≤ vec_capacity lines.old }
+fn push_line_off(terminal: &SizedTerminal, kind: EventKind, values: &[u16], lines: &mut Vec<u8>)
+    requires { vec_len lines.old + text_limit terminal.now.display.grid.size ≤ vec_capacity lines.old }
     ensures items { lines.new.items
         ≡ lines.old.items ++ flat_map line_text (page_line_off (event_of kind values.now) terminal.now.display) }
-    ensures bounded { vec_len lines.new ≤ vec_len lines.old + TEXT_LIMIT }
+    ensures bounded { vec_len lines.new ≤ vec_len lines.old + text_limit terminal.now.display.grid.size }
     ensures capacity { vec_capacity lines.old ≤ vec_capacity lines.new }
 {
+    let _ = terminal.size();
     match kind {
         EventKind::Print(_) => terminal.line_off_reserved(kind, lines),
         EventKind::Control(_) => terminal.line_off_reserved(kind, lines),
@@ -187,17 +192,17 @@ fn push_line_off(terminal: &Terminal, kind: EventKind, values: &[u16], lines: &m
 /// Appends the lines that a control sequence is about to scroll off.
 #[tactic(auto, unfolding(crate::specs::Log::function_off))]
 fn push_function(
-    terminal: &Terminal,
+    terminal: &SizedTerminal,
     marker: Option<u8>,
     inter: Option<u8>,
     last: u8,
     values: &[u16],
     lines: &mut Vec<u8>,
 )
-    requires { vec_len lines.old + TEXT_LIMIT ≤ vec_capacity lines.old }
+    requires { vec_len lines.old + text_limit terminal.now.display.grid.size ≤ vec_capacity lines.old }
     ensures items { lines.new.items
         ≡ lines.old.items ++ flat_map line_text (function_off marker inter last values.now terminal.now.display) }
-    ensures bounded { vec_len lines.new ≤ vec_len lines.old + TEXT_LIMIT }
+    ensures bounded { vec_len lines.new ≤ vec_len lines.old + text_limit terminal.now.display.grid.size }
     ensures capacity { vec_capacity lines.old ≤ vec_capacity lines.new }
 {
     match (marker, inter) {
@@ -208,11 +213,11 @@ fn push_function(
 
 /// Appends the lines that a control sequence without marker and intermediate is about to scroll off.
 #[tactic(auto, unfolding(crate::specs::Log::function_off))]
-fn push_plain(terminal: &Terminal, last: u8, values: &[u16], lines: &mut Vec<u8>)
-    requires { vec_len lines.old + TEXT_LIMIT ≤ vec_capacity lines.old }
+fn push_plain(terminal: &SizedTerminal, last: u8, values: &[u16], lines: &mut Vec<u8>)
+    requires { vec_len lines.old + text_limit terminal.now.display.grid.size ≤ vec_capacity lines.old }
     ensures items { lines.new.items
         ≡ lines.old.items ++ flat_map line_text (function_off None None last values.now terminal.now.display) }
-    ensures bounded { vec_len lines.new ≤ vec_len lines.old + TEXT_LIMIT }
+    ensures bounded { vec_len lines.new ≤ vec_len lines.old + text_limit terminal.now.display.grid.size }
     ensures capacity { vec_capacity lines.old ≤ vec_capacity lines.new }
 {
     match last {
@@ -223,10 +228,10 @@ fn push_plain(terminal: &Terminal, last: u8, values: &[u16], lines: &mut Vec<u8>
 }
 
 /// Appends the rows that SU is about to scroll off.
-fn push_rows(terminal: &Terminal, n: u16, lines: &mut Vec<u8>)
-    requires { vec_len lines.old + TEXT_LIMIT ≤ vec_capacity lines.old }
+fn push_rows(terminal: &SizedTerminal, n: u16, lines: &mut Vec<u8>)
+    requires { vec_len lines.old + text_limit terminal.now.display.grid.size ≤ vec_capacity lines.old }
     ensures items { lines.new.items ≡ lines.old.items ++ flat_map line_text (rows_off n terminal.now.display) }
-    ensures bounded { vec_len lines.new ≤ vec_len lines.old + TEXT_LIMIT }
+    ensures bounded { vec_len lines.new ≤ vec_len lines.old + text_limit terminal.now.display.grid.size }
     ensures capacity { vec_capacity lines.old ≤ vec_capacity lines.new }
 {
     let _ = terminal.width();
@@ -237,12 +242,12 @@ fn push_rows(terminal: &Terminal, n: u16, lines: &mut Vec<u8>)
 }
 
 /// Appends the text of the first rows, so many.
-fn push_first(terminal: &Terminal, count: usize, lines: &mut Vec<u8>)
-    requires few { count ≤ 24 }
-    requires room { vec_len lines.old + TEXT_LIMIT ≤ vec_capacity lines.old }
+fn push_first(terminal: &SizedTerminal, count: usize, lines: &mut Vec<u8>)
+    requires few { count ≤ terminal.now.display.grid.size.rows }
+    requires room { vec_len lines.old + text_limit terminal.now.display.grid.size ≤ vec_capacity lines.old }
     ensures items { lines.new.items ≡ lines.old.items
         ++ flat_map line_text (first_rows count terminal.now.display.grid) }
-    ensures bounded { vec_len lines.new ≤ vec_len lines.old + TEXT_LIMIT }
+    ensures bounded { vec_len lines.new ≤ vec_len lines.old + text_limit terminal.now.display.grid.size }
     ensures capacity { vec_capacity lines.old ≤ vec_capacity lines.new }
 {
     for row in 1..count + 1 {
@@ -251,10 +256,10 @@ fn push_first(terminal: &Terminal, count: usize, lines: &mut Vec<u8>)
 }
 
 /// Appends line 1 if the glyph that REP writes is about to scroll it off.
-fn push_repeated(terminal: &Terminal, lines: &mut Vec<u8>)
-    requires { vec_len lines.old + TEXT_LIMIT ≤ vec_capacity lines.old }
+fn push_repeated(terminal: &SizedTerminal, lines: &mut Vec<u8>)
+    requires { vec_len lines.old + text_limit terminal.now.display.grid.size ≤ vec_capacity lines.old }
     ensures items { lines.new.items ≡ lines.old.items ++ flat_map line_text (glyph_off terminal.now.display) }
-    ensures bounded { vec_len lines.new ≤ vec_len lines.old + TEXT_LIMIT }
+    ensures bounded { vec_len lines.new ≤ vec_len lines.old + text_limit terminal.now.display.grid.size }
     ensures capacity { vec_capacity lines.old ≤ vec_capacity lines.new }
 {
     if terminal.cursor().wrap && terminal.is_at_end() {

@@ -5,26 +5,28 @@ ghost use Rattle.vt_syntax.specs.Spelling.{IsEvent};
 ghost use Rattle.vt_term.specs.Reports.{report};
 ghost use Rattle.vt_xterm.specs.Front.{xterm_effect};
 ghost use Rattle.vt_xterm.specs.Pages.{screens, shown_by};
-ghost use Rattle.vt_xterm.specs.Private.Feeds.{whole_of, FeedsBytes};
+ghost use Rattle.vt_xterm.specs.Private.Feeds.{whole_of, FeedsBytes, KeepSizes};
 
-use crate::front::Pages;
+use crate::front::SizedPages;
 use crate::functions::carry_out;
 use vt_syntax::EventKind;
 use vt_syntax::laws::{one_split, spelled};
-use vt_term::{Nobody, Passed, Profile, Terminal};
+use vt_term::{Nobody, Passed, Profile, SizedTerminal};
 
 /// The most bytes that are played before it is asked again whether nobody sees the next ones.
 const BLOCK: usize = 16384;
 
 /// Plays bytes of the terminal, with the functions of xterm. Returns how many it played: all. Lines that nobody sees aren't written.
 pub(crate) fn feed_pages(
-    terminal: &mut Terminal,
-    pages: &mut Pages,
+    terminal: &mut SizedTerminal,
+    pages: &mut SizedPages,
     piece: &[u8],
     out: &mut Vec<u8>,
 ) -> usize
-    requires { vec_len out.old + 10 * length piece.now ≤ vec_capacity out.old }
+    requires room { vec_len out.old + 10 * length piece.now ≤ vec_capacity out.old }
+    requires one_size { pages.old.other.grid.size ≡ terminal.old.display.grid.size }
     ensures all { result ≡ length piece.now }
+    ensures sizes { KeepSizes terminal.old pages.old terminal.new pages.new }
     ensures fed { FeedsBytes (whole_of terminal.old pages.old) (take result piece.now) (whole_of terminal.new pages.new)
         out.old.items out.new.items }
     ensures bounded { vec_len out.new ≤ vec_len out.old + 10 * result }
@@ -41,11 +43,18 @@ pub(crate) fn feed_pages(
 
 /// Plays the front of a chunk that isn't empty. Returns how many bytes it played.
 #[inline(always)]
-fn feed_block(terminal: &mut Terminal, pages: &mut Pages, piece: &[u8], out: &mut Vec<u8>) -> usize
+fn feed_block(
+    terminal: &mut SizedTerminal,
+    pages: &mut SizedPages,
+    piece: &[u8],
+    out: &mut Vec<u8>,
+) -> usize
     requires some { 1 ≤ length piece.now }
     requires room { vec_len out.old + 10 * length piece.now ≤ vec_capacity out.old }
+    requires one_size { pages.old.other.grid.size ≡ terminal.old.display.grid.size }
     ensures some { 1 ≤ result }
     ensures within { result ≤ length piece.now }
+    ensures sizes { KeepSizes terminal.old pages.old terminal.new pages.new }
     ensures fed { FeedsBytes (whole_of terminal.old pages.old) (take result piece.now) (whole_of terminal.new pages.new)
         out.old.items out.new.items }
     ensures bounded { vec_len out.new ≤ vec_len out.old + 10 * result }
@@ -67,13 +76,15 @@ fn feed_block(terminal: &mut Terminal, pages: &mut Pages, piece: &[u8], out: &mu
 /// in which all is inline.
 #[inline(never)]
 fn feed_written(
-    terminal: &mut Terminal,
-    pages: &mut Pages,
+    terminal: &mut SizedTerminal,
+    pages: &mut SizedPages,
     piece: &[u8],
     out: &mut Vec<u8>,
 ) -> usize
-    requires { vec_len out.old + 10 * length piece.now ≤ vec_capacity out.old }
+    requires room { vec_len out.old + 10 * length piece.now ≤ vec_capacity out.old }
+    requires one_size { pages.old.other.grid.size ≡ terminal.old.display.grid.size }
     ensures all { result ≡ length piece.now }
+    ensures sizes { KeepSizes terminal.old pages.old terminal.new pages.new }
     ensures fed { FeedsBytes (whole_of terminal.old pages.old) (take result piece.now) (whole_of terminal.new pages.new)
         out.old.items out.new.items }
     ensures bounded { vec_len out.new ≤ vec_len out.old + 10 * result }
@@ -81,23 +92,23 @@ fn feed_written(
 {
     let _ = terminal.width();
     pages.soundness();
-    pages.sized.keeps_size();
-    terminal
-        .sized
-        .feed_as(&mut pages.sized, piece, &mut Nobody, out)
+    pages.keeps_size();
+    terminal.feed_as(pages, piece, &mut Nobody, out)
 }
 
 /// Carries out an event, and appends its report to `out`, which has capacity for ten more bytes.
 #[inline(always)]
 pub(crate) fn carry_out_whole(
-    terminal: &mut Terminal,
-    pages: &mut Pages,
+    terminal: &mut SizedTerminal,
+    pages: &mut SizedPages,
     kind: EventKind,
     values: &[u16],
     out: &mut Vec<u8>,
 )
     requires event { IsEvent (event_of kind values.now) }
     requires room { vec_len out.old + 10 ≤ vec_capacity out.old }
+    requires one_size { pages.old.other.grid.size ≡ terminal.old.display.grid.size }
+    ensures sizes { KeepSizes terminal.old pages.old terminal.new pages.new }
     ensures terminal { terminal.new
         ≡ shown_by (xterm_effect (event_of kind values.now) (screens terminal.old pages.old)) terminal.old.held }
     ensures pages { pages.new ≡ (xterm_effect (event_of kind values.now) (screens terminal.old pages.old)).pages }
@@ -107,6 +118,6 @@ pub(crate) fn carry_out_whole(
 {
     let _ = terminal.width();
     pages.soundness();
-    pages.sized.keeps_size();
-    carry_out(&mut terminal.sized, &mut pages.sized, kind, values, out);
+    pages.keeps_size();
+    carry_out(terminal, pages, kind, values, out);
 }

@@ -22,3 +22,8 @@ pub record FeedsXterm (s : State) (front : FrontState) (bytes : List ℕ) (t : S
     (before after : List ℕ) : Type 0 where
   pub leaves : Leaves (play_xterm (behind s front) front.pending bytes) (behind t new) before after
   pub left : new.pending ≡ pending_after front.pending bytes
+
+-- the terminal and the page that isn't shown keep their sizes
+pub record KeepSizes (s : State) (pages : PagesState) (t : State) (new : PagesState) : Type 0 where
+  pub shown : t.display.grid.size ≡ s.display.grid.size
+  pub other : new.other.grid.size ≡ pages.other.grid.size

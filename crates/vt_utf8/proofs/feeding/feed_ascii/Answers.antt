@@ -1,5 +1,7 @@
 use Rattle.std.proofs.Common.{◌<◌, take, All, arith}
 use Rattle.std.proofs.lemmas.List.Elements.{All-take}
+use Rattle.vt_term.specs.Text.{row_text_limit}
+use Rattle.vt_utf8.specs.Limits.{utf8_lines_limit}
 use Rattle.vt_utf8.proofs.Fed.{feeds-ascii}
 use Rattle.vt_utf8.proofs.Logged.{keeps-same}
 use Rattle.vt_utf8.proofs.feeding.feed_ascii.Goals as goal
@@ -21,4 +23,5 @@ returns-clause-keeps g c =
     c.feed.ensures.keeps
 
 pub returns-clause-all : goal.returns-clause-all
-returns-clause-all g c = λ less. g.met.L.Log.kept.fuller c.feed.new.self 397 17468 (omega arith) (c.feed.ensures.all less)
+returns-clause-all g c = λ less. g.met.L.Log.kept.fuller c.feed.new.self (row_text_limit c.args.terminal.now.display.grid.size)
+    (utf8_lines_limit c.args.terminal.now.display.grid.size) (omega arith) (c.feed.ensures.all less)

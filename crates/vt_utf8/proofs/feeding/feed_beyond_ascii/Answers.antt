@@ -5,13 +5,13 @@ use Rattle.vt_utf8.proofs.feeding.feed_beyond_ascii.Goals as goal
 
 pub returns-clause-silent : goal.returns-clause-silent
 returns-clause-silent c =
-    c.silence.ensures.silent c.args.terminal.now c.args.c c.width.ensures.sound c.requires.beyond
+    c.sized_silence.ensures.silent c.args.terminal.now.display.grid.size c.args.terminal.now c.args.c c.width.ensures.sound c.requires.beyond
 
 pub returns-in-Some-clause-state : goal.returns-in-Some-clause-state
 returns-in-Some-clause-state c =
     let is = c.if-writes_glyphs.ensures in
     written-itself c.args.terminal.now c.write_glyph.new.self c.args.c c.glyph_of_code.result is.1
-    (c.writes.ensures.one c.args.terminal.now c.args.c c.width.ensures.sound is.0 c.requires.beyond
+    (c.sized_writes.ensures.one c.args.terminal.now.display.grid.size c.args.terminal.now c.args.c c.width.ensures.sound is.0 c.requires.beyond
     c.in-Some.ensures.0)
     (c.glyph_of_code.ensures ∙ c.in-Some.ensures.1) c.write_glyph.ensures
 
@@ -20,5 +20,5 @@ returns-then-not-is_at_end-clause-state c =
     let is = c.if-writes_glyphs.ensures in
     let fits : is_at_end c.args.terminal.now.display ≡ false = search rules in
     wide-itself c.args.terminal.now c.write_both.new.terminal c.args.c fits
-    (c.writes.ensures.two c.args.terminal.now c.args.c c.width.ensures.sound is.0 is.1 c.requires.beyond (search rules))
+    (c.sized_writes.ensures.two c.args.terminal.now.display.grid.size c.args.terminal.now c.args.c c.width.ensures.sound is.0 is.1 c.requires.beyond (search rules))
     c.write_both.ensures

@@ -9,17 +9,17 @@ use Rattle.vt_utf8.proofs.feeding.feed_beyond_ascii_log.Goals as goal
 
 pub returns-clause-silent : goal.returns-clause-silent
 returns-clause-silent c =
-    c.silence.ensures.silent c.args.terminal.now c.args.c c.width.ensures.sound c.requires.beyond
+    c.sized_silence.ensures.silent c.args.terminal.now.display.grid.size c.args.terminal.now c.args.c c.width.ensures.sound c.requires.beyond
 
 pub returns-in-Some-clause-silent : goal.returns-in-Some-clause-silent
 returns-in-Some-clause-silent c =
-    c.silence.ensures.silent c.args.terminal.now c.args.c c.width.ensures.sound c.requires.beyond
+    c.sized_silence.ensures.silent c.args.terminal.now.display.grid.size c.args.terminal.now c.args.c c.width.ensures.sound c.requires.beyond
 
 pub returns-in-Some-clause-state : goal.returns-in-Some-clause-state
 returns-in-Some-clause-state c =
     let is = c.if-writes_glyphs.ensures in
     written-itself c.args.terminal.now c.write_logged.new.terminal c.args.c c.glyph_of_code.result is.1
-    (c.writes.ensures.one c.args.terminal.now c.args.c c.width.ensures.sound is.0 c.requires.beyond
+    (c.sized_writes.ensures.one c.args.terminal.now.display.grid.size c.args.terminal.now c.args.c c.width.ensures.sound is.0 c.requires.beyond
     c.in-Some.ensures.0)
     (c.glyph_of_code.ensures ∙ c.in-Some.ensures.1) c.write_logged.ensures.terminal
 
@@ -29,7 +29,7 @@ returns-in-Some-clause-lines c =
     let is = c.if-writes_glyphs.ensures in
     c.write_logged.ensures.lines
     ∙ ap (λ (rows : List (List Cell)). c.args.lines.now.items ++ flat_map line_text rows)
-    (sym (c.writes.ensures.off c.args.terminal.now c.args.c c.width.ensures.sound is.0 c.requires.beyond
+    (sym (c.sized_writes.ensures.off c.args.terminal.now.display.grid.size c.args.terminal.now c.args.c c.width.ensures.sound is.0 c.requires.beyond
     c.in-Some.ensures.0))
 
 pub returns-then-not-is_at_end-clause-state : goal.returns-then-not-is_at_end-clause-state
@@ -37,7 +37,7 @@ returns-then-not-is_at_end-clause-state c =
     let is = c.if-writes_glyphs.ensures in
     let fits : is_at_end c.args.terminal.now.display ≡ false = search rules in
     wide-itself c.args.terminal.now c.write_both_logged.new.terminal c.args.c fits
-    (c.writes.ensures.two c.args.terminal.now c.args.c c.width.ensures.sound is.0 is.1 c.requires.beyond (search rules))
+    (c.sized_writes.ensures.two c.args.terminal.now.display.grid.size c.args.terminal.now c.args.c c.width.ensures.sound is.0 is.1 c.requires.beyond (search rules))
     c.write_both_logged.ensures.terminal
 
 pub returns-then-not-is_at_end-clause-lines : goal.returns-then-not-is_at_end-clause-lines
@@ -47,5 +47,5 @@ returns-then-not-is_at_end-clause-lines c =
     let fits : is_at_end c.args.terminal.now.display ≡ false = search rules in
     c.write_both_logged.ensures.lines
     ∙ ap (λ (rows : List (List Cell)). c.args.lines.now.items ++ flat_map line_text rows)
-    (sym (c.writes.ensures.two_off c.args.terminal.now c.args.c c.width.ensures.sound is.0 is.1 c.requires.beyond (search rules)
+    (sym (c.sized_writes.ensures.two_off c.args.terminal.now.display.grid.size c.args.terminal.now c.args.c c.width.ensures.sound is.0 is.1 c.requires.beyond (search rules)
     fits))

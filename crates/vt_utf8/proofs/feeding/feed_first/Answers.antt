@@ -4,7 +4,7 @@ use Rattle.vt_utf8.proofs.feeding.feed_first.Goals as goal
 
 pub returns-then-is_full-clause-fed : goal.returns-then-is_full-clause-fed
 returns-then-is_full-clause-fed g c =
-    feeds-nothing c.cuts.ensures.none c.cuts.ensures.two c.cuts.ensures.pending c.args.terminal.now c.args.decoder.now
+    feeds-nothing (c.sized_cuts.ensures.none c.args.terminal.now.display.grid.size) (c.sized_cuts.ensures.two c.args.terminal.now.display.grid.size) c.sized_cuts.ensures.pending c.args.terminal.now c.args.decoder.now
     c.args.out.now.items c.width.ensures.sound
 
 pub returns-then-is_full-clause-keeps : goal.returns-then-is_full-clause-keeps

@@ -2,6 +2,7 @@
 use Rattle.std.proofs.Common.{◌≡◌, ◌+◌, ◌-◌, ◌*◌, ◌≤◌, ◌++◌, length, take, vec_len, vec_capacity}
 use Rattle.vt_term.specs.Play.{play}
 use Rattle.vt_term.specs.Scrolling.{log}
+use Rattle.vt_term.specs.Text.{row_text_limit}
 use Rattle.vt_utf8.proofs.feeding.feed_silently_log.Given as goal
 
 abbrev pub invariant-loop-at : goal.invariant-loop-at
@@ -13,7 +14,7 @@ invariant-loop-at l = record {
   items : l.out.items ≡ l.initial.out.items;
   capacity : vec_capacity l.initial.out ≤ vec_capacity l.out;
   lines : l.lines.items ≡ l.initial.lines.items ++ log l.initial.terminal (take l.at l.bytes);
-  bounded : vec_len l.lines ≤ vec_len l.initial.lines + 397 * l.at;
+  bounded : vec_len l.lines ≤ vec_len l.initial.lines + row_text_limit l.initial.terminal.display.grid.size * l.at;
   lines_capacity : vec_capacity l.initial.lines ≤ vec_capacity l.lines;
 }
 

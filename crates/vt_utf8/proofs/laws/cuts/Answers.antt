@@ -1,13 +1,11 @@
-use Rattle.vt_utf8.proofs.Cuts.{utf8-nothing, utf8-append, utf8-joined, pending-append, translated-parts}
+use Rattle.vt_screen.specs.Sizes.{vt220_size}
 use Rattle.vt_utf8.proofs.laws.cuts.Goals as goal
 
 pub returns : goal.returns
-returns c =
-    let played = c.cuts.ensures in
-    let keeps = c.soundness.ensures.play in record {
-      none = utf8-nothing played.none played.two keeps;
-      two = utf8-append played.none played.two keeps;
-      pending = pending-append;
-      translated = translated-parts played.none played.two keeps;
-      all = utf8-joined played.none played.two keeps;
-    }
+returns c = let sized = c.sized_cuts.ensures in record {
+  none = sized.none vt220_size;
+  two = sized.two vt220_size;
+  pending = sized.pending;
+  translated = sized.translated vt220_size;
+  all = sized.all vt220_size;
+}

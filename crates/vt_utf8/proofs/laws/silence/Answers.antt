@@ -1,9 +1,5 @@
-use Rattle.vt_utf8.proofs.Silence.{silent-translation}
-use Rattle.vt_utf8.proofs.Plain.{plain-translation}
+use Rattle.vt_screen.specs.Sizes.{vt220_size}
 use Rattle.vt_utf8.proofs.laws.silence.Goals as goal
 
 pub returns : goal.returns
-returns c = record {
-  silent = silent-translation c.cuts.ensures.none c.spelled.ensures c.glyphs.ensures c.spelling.ensures;
-  plain = plain-translation c.glyphs.ensures c.spelling.ensures;
-}
+returns c = record { silent = c.sized_silence.ensures.silent vt220_size; plain = c.sized_silence.ensures.plain }

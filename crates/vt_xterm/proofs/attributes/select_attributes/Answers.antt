@@ -1,6 +1,4 @@
-use Rattle.std.proofs.Common.{◌≡◌, ◌∙◌, List, ℕ, ap, sym}
-use Rattle.vt_term.specs.State.{State}
-use Rattle.vt_term.specs.Rendition.{select_graphic_rendition}
+use Rattle.std.proofs.Common.{◌∙◌, sym}
 use Rattle.vt_xterm.proofs.Colours.{without-colours}
 use Rattle.vt_xterm.proofs.attributes.select_attributes.Goals as goal
 

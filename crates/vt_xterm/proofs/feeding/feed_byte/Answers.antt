@@ -1,3 +1,6 @@
+use Rattle.std.proofs.Common.{subst, sym}
+use Rattle.vt_screen.specs.declared.size.Size.{Size}
+use Rattle.vt_xterm.specs.Limits.{lines_limit}
 use Rattle.std.specs.Option.{option_to_list}
 use Rattle.vt_xterm.proofs.Fed.{feeds-byte}
 use Rattle.vt_xterm.proofs.Logged.{keeps-byte}
@@ -16,3 +19,8 @@ returns-clause-keeps g c =
     (option_to_list c.push-lost.result.0) (option_to_list c.push-lost.result.1) c.args.log.now c.feed_lost.new.log
     c.feed_completed.new.log c.front.view_is c.push-lost.ensures.characters c.feed_lost.ensures.leaves.whole
     c.feed_lost.ensures.keeps c.feed_completed.ensures.keeps
+
+pub feed_completed-requires-clause-lines_room : goal.feed_completed-requires-clause-lines_room
+feed_completed-requires-clause-lines_room g c =
+    subst (λ (z : Size). g.L.Log.HasRoom c.feed_lost.new.log (lines_limit z)) (sym c.feed_lost.ensures.size)
+    c.feed_lost.ensures.left

@@ -1,7 +1,7 @@
 -- The bytes before the place are played.
 use Rattle.std.proofs.Common.{◌+◌, ◌-◌, ◌*◌, ◌≤◌, length, take, vec_len, vec_capacity}
 use Rattle.vt_xterm.specs.Play.{play_bytes}
-use Rattle.vt_xterm.specs.Private.Feeds.{whole_of, FeedsBytes}
+use Rattle.vt_xterm.specs.Private.Feeds.{whole_of, FeedsBytes, KeepSizes}
 use Rattle.vt_xterm.proofs.feeding.feed_bytes.Given as goal
 
 abbrev pub invariant-loop-at : goal.invariant-loop-at
@@ -9,6 +9,7 @@ invariant-loop-at g l = record {
   within : l.at ≤ length l.piece;
   fed : FeedsBytes (whole_of l.initial.terminal l.initial.pages) (take l.at l.piece) (whole_of l.terminal l.pages)
       l.initial.out.items l.out.items;
+  sizes : KeepSizes l.initial.terminal l.initial.pages l.terminal l.pages;
   keeps : g.L.Log.Keeps l.initial.log (play_bytes (whole_of l.initial.terminal l.initial.pages) (take l.at l.piece)).lines l.log;
   bounded : vec_len l.out ≤ vec_len l.initial.out + 10 * l.at;
   capacity : vec_capacity l.initial.out ≤ vec_capacity l.out;

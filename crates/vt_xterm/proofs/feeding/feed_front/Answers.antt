@@ -1,9 +1,23 @@
-use Rattle.std.proofs.Common.{◌≡◌, ◌+◌, arith, length-drop}
+use Rattle.std.proofs.Common.{◌≡◌, ◌+◌, arith, length-drop, subst}
 use Rattle.vt_term.proofs.Bytes.{rest-of}
+use Rattle.vt_screen.specs.declared.size.Size.{Size}
+use Rattle.vt_xterm.specs.Limits.{xterm_lines_limit}
 use Rattle.vt_xterm.specs.Play.{behind}
 use Rattle.vt_xterm.proofs.Fed.{xterm-more}
 use Rattle.vt_xterm.proofs.Logged.{keeps-xterm}
+use Rattle.vt_xterm.proofs.Limits.{limit-stays}
+use Rattle.vt_xterm.proofs.OfOneSize.{keep-both, still-one}
 use Rattle.vt_xterm.proofs.feeding.feed_front.Goals as goal
+
+pub feed_next-count-requires-clause-one_size : goal.feed_next-count-requires-clause-one_size
+feed_next-count-requires-clause-one_size g c =
+    still-one c.args.terminal.now c.loop-at.terminal c.args.front.now.pages c.loop-at.front.pages c.loop-at.invariant.sizes
+    c.requires.one_size
+
+pub feed_next-count-requires-clause-limit : goal.feed_next-count-requires-clause-limit
+feed_next-count-requires-clause-limit g c =
+    limit-stays c.args.terminal.now.display.grid.size c.loop-at.terminal.display.grid.size _ c.loop-at.invariant.sizes.shown
+    c.xterm_lines_limit-limit.ensures
 
 pub loop-at-preserved : goal.loop-at-preserved
 loop-at-preserved g c =
@@ -14,6 +28,8 @@ loop-at-preserved g c =
           c.loop-at.front c.feed_next-count.new.front c.args.piece.now c.loop-at.at c.feed_next-count.result
           c.args.out.now.items c.loop-at.out.items c.feed_next-count.new.out.items c.loop-at.invariant.fed
           (rw rest at c.feed_next-count.ensures.fed);
+      sizes = keep-both c.args.terminal.now c.loop-at.terminal c.feed_next-count.new.terminal c.args.front.now.pages
+          c.loop-at.front.pages c.feed_next-count.new.front.pages c.loop-at.invariant.sizes c.feed_next-count.ensures.sizes;
       keeps = keeps-xterm g.L.Log.Keeps g.L.Log.HasRoom g.L.Log.IsFull g.met.L.Log.kept (behind c.args.terminal.now c.args.front.now)
           (behind c.loop-at.terminal c.loop-at.front) c.args.front.now.pending c.loop-at.front.pending c.args.piece.now
           c.loop-at.at c.feed_next-count.result c.args.log.now c.loop-at.log c.feed_next-count.new.log
@@ -40,3 +56,13 @@ returns-then-count-eq0-clause-keeps g c =
     (behind c.loop-at.terminal c.loop-at.front) c.args.front.now.pending c.loop-at.front.pending c.args.piece.now
     c.loop-at.at next.result c.args.log.now c.loop-at.log next.new.log c.loop-at.invariant.fed.leaves.whole
     c.loop-at.invariant.fed.left c.loop-at.invariant.keeps (rw (rest-of c.args.piece.now c.loop-at.at) at next.ensures.keeps))
+
+pub returns-then-count-eq0-clause-sizes : goal.returns-then-count-eq0-clause-sizes
+returns-then-count-eq0-clause-sizes g c =
+    keep-both c.args.terminal.now c.loop-at.terminal c.feed_next-count.new.terminal c.args.front.now.pages c.loop-at.front.pages
+    c.feed_next-count.new.front.pages c.loop-at.invariant.sizes c.feed_next-count.ensures.sizes
+
+pub returns-then-count-eq0-clause-all : goal.returns-then-count-eq0-clause-all
+returns-then-count-eq0-clause-all g c = λ less.
+    subst (λ (z : Size). g.L.Log.IsFull c.feed_next-count.new.log (xterm_lines_limit z)) c.loop-at.invariant.sizes.shown
+    (c.feed_next-count.ensures.none (omega (arith, c.if-count-eq0.true)))

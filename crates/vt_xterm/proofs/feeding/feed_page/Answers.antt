@@ -1,4 +1,5 @@
 use Rattle.std.proofs.Common.{take, sym, ◌∙◌}
+use Rattle.vt_xterm.proofs.OfOneSize.{played-size}
 use Rattle.vt_xterm.proofs.Fed.{feeds-terminals}
 use Rattle.vt_xterm.proofs.Logged.{terminals-alternate, terminals-main}
 use Rattle.vt_xterm.proofs.feeding.feed_page.Goals as goal
@@ -24,3 +25,10 @@ pub returns-else-is_alternate-clause-keeps : goal.returns-else-is_alternate-clau
 returns-else-is_alternate-clause-keeps g c =
     terminals-main g.L.Log.Keeps g.L.Log.HasRoom g.L.Log.IsFull g.met.L.Log.kept c.args.terminal.now c.args.pages.now (take c.feed.result c.args.piece.now)
     c.args.log.now c.feed.new.self c.feed.ensures.terminals (sym c.is_alternate.ensures ∙ c.if-is_alternate.false) c.feed.ensures.keeps
+
+pub returns-then-is_alternate-clause-size : goal.returns-then-is_alternate-clause-size
+returns-then-is_alternate-clause-size g c =
+    played-size c.args.terminal.now c.feed_terminals.new.terminal _ c.feed_terminals.ensures.state
+
+pub returns-else-is_alternate-clause-size : goal.returns-else-is_alternate-clause-size
+returns-else-is_alternate-clause-size g c = played-size c.args.terminal.now c.feed.new.terminal _ c.feed.ensures.state

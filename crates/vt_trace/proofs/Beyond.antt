@@ -8,7 +8,8 @@ use Rattle.std.proofs.lemmas.Bool.Decides.{nat_tests}
 use Rattle.std.specs.Prelude.{All, Option, IfSome, nat_lt, ◌==◌, slice_index, ⊤, if◌then◌else◌}
 use Rattle.std.specs.Option.{option_to_list}
 use Rattle.vt_term.specs.State.{State}
-use Rattle.vt_term.specs.Sound.{IsSound}
+use Rattle.vt_screen.specs.declared.size.Size.{Size}
+use Rattle.vt_term.specs.Sound.{IsSoundAt}
 use Rattle.vt_term.specs.Play.{Played, play, both}
 use Rattle.bstr.specs.Utf8.{replacement}
 use Rattle.vt_utf8.specs.Decoding.{read, characters, pending_after, IsWhole}
@@ -208,19 +209,19 @@ place_utf8 s t pending (b ∷ bytes) =
 
 -- ---- one part after another
 
-module _ (none : (s : State) (pending : List ℕ) → IsSound s
+module _ {size : Size} (none : (s : State) (pending : List ℕ) → IsSoundAt size s
     → play_utf8 s pending [] ≡ record { state = s; reports = [] })
-    (two : (s : State) (pending a b : List ℕ) → IsSound s → play_utf8 s pending (a ++ b)
+    (two : (s : State) (pending a b : List ℕ) → IsSoundAt size s → play_utf8 s pending (a ++ b)
     ≡ both (play_utf8 s pending a) (play_utf8 (play_utf8 s pending a).state (pending_after pending a) b))
     (lasting : (pending a b : List ℕ)
     → pending_after pending (a ++ b) ≡ pending_after (pending_after pending a) b)
-    (keeps : (s : State) (pending bytes : List ℕ) → IsSound s → IsSound (play_utf8 s pending bytes).state) where
-  behind : (s : State) (pending : List ℕ) (b : ℕ) (bytes : List ℕ) → IsSound s
+    (keeps : (s : State) (pending bytes : List ℕ) → IsSoundAt size s → IsSoundAt size (play_utf8 s pending bytes).state) where
+  behind : (s : State) (pending : List ℕ) (b : ℕ) (bytes : List ℕ) → IsSoundAt size s
       → (play_utf8 (play_utf8 s pending (b ∷ [])).state (read pending b).pending bytes).state
       ≡ (play_utf8 s pending (b ∷ bytes)).state
   behind s pending b bytes sound = ap (λ (p : Played). p.state) (sym (two s pending (b ∷ []) bytes sound))
 
-  pub trace_append : (s : State) (t : Tracer) (pending a b : List ℕ) → IsSound s → trace_utf8 s t pending (a ++ b)
+  pub trace_append : (s : State) (t : Tracer) (pending a b : List ℕ) → IsSoundAt size s → trace_utf8 s t pending (a ++ b)
       ≡ trace_utf8 s t pending a
       ++ trace_utf8 (play_utf8 s pending a).state (tracer_utf8 s t pending a) (pending_after pending a) b
   unfolding trace_utf8 tracer_utf8
@@ -237,7 +238,7 @@ module _ (none : (s : State) (pending : List ℕ) → IsSound s
       ∙ sym (append_assoc (traced_as t x e) (trace_utf8 next u q a)
       (trace_utf8 (play_utf8 s pending (x ∷ a)).state (tracer_utf8 next u q a) left b))
 
-  pub tracer_append : (s : State) (t : Tracer) (pending a b : List ℕ) → IsSound s → tracer_utf8 s t pending (a ++ b)
+  pub tracer_append : (s : State) (t : Tracer) (pending a b : List ℕ) → IsSoundAt size s → tracer_utf8 s t pending (a ++ b)
       ≡ tracer_utf8 (play_utf8 s pending a).state (tracer_utf8 s t pending a) (pending_after pending a) b
   unfolding tracer_utf8
   tracer_append s t pending [] b sound = ap (λ (p : Played). tracer_utf8 p.state t pending b) (sym (none s pending sound))
@@ -248,7 +249,7 @@ module _ (none : (s : State) (pending : List ℕ) → IsSound s
       tracer_append next u q a b (keeps s pending (x ∷ []) sound)
       ∙ ap (λ (z : State). tracer_utf8 z (tracer_utf8 next u q a) (pending_after q a) b) (behind s pending x a sound)
 
-  pub traces_nothing : (s : State) (t : Tracer) (pending before old : List ℕ) → IsSound s
+  pub traces_nothing : (s : State) (t : Tracer) (pending before old : List ℕ) → IsSoundAt size s
       → TracesUtf8 s t pending [] s t pending before before old old
   unfolding trace_utf8 tracer_utf8
   traces_nothing s t pending before old sound = record {
@@ -257,7 +258,7 @@ module _ (none : (s : State) (pending : List ℕ) → IsSound s
     lines = sym (append-nil old);
   }
 
-  pub traces_both : (s z y : State) (t u v : Tracer) (pending after left a b before mid out old cur new : List ℕ) → IsSound s
+  pub traces_both : (s z y : State) (t u v : Tracer) (pending after left a b before mid out old cur new : List ℕ) → IsSoundAt size s
       → TracesUtf8 s t pending a z u after before mid old cur → TracesUtf8 z u after b y v left mid out cur new
       → TracesUtf8 s t pending (a ++ b) y v left before out old new
   traces_both s z y t u v pending after left a b before mid out old cur new sound first second =
@@ -353,10 +354,10 @@ traces_whole s z t u c bytes before out old new whole high state silent same lin
 
 -- ---- a byte
 
-module _ (none : (s : State) → IsSound s → play s [] ≡ record { state = s; reports = [] })
+module _ {size : Size} (none : (s : State) → IsSoundAt size s → play s [] ≡ record { state = s; reports = [] })
     (two : (s : State) (a b : List ℕ) → play s (a ++ b) ≡ both (play s a) (play (play s a).state b))
-    (keeps : (s : State) (bytes : List ℕ) → IsSound s → IsSound (play s bytes).state) where
-  completed_after : (s y : State) (lost last : Option ℕ) → IsSound s → IfSome lost (λ c. c ≡ replacement)
+    (keeps : (s : State) (bytes : List ℕ) → IsSoundAt size s → IsSoundAt size (play s bytes).state) where
+  completed_after : (s y : State) (lost last : Option ℕ) → IsSoundAt size s → IfSome lost (λ c. c ≡ replacement)
       → y ≡ (play s (translated_all s (option_to_list lost))).state
       → completed s (option_to_list lost ++ option_to_list last) ≡ completed y (option_to_list last)
   completed_after s y None last sound is state =
@@ -368,7 +369,7 @@ module _ (none : (s : State) → IsSound s → play s [] ≡ record { state = s;
       (sym (state ∙ ap (λ (p : Played). p.state) (played-one s d)))
 
   pub traces_byte : (s y z : State) (t u : Tracer) (pending : List ℕ) (b : ℕ) (lost last : Option ℕ) (after before out old new : List ℕ)
-      → IsSound s → option_to_list lost ++ option_to_list last ≡ (read pending b).characters → IfSome lost (λ c. c ≡ replacement)
+      → IsSoundAt size s → option_to_list lost ++ option_to_list last ≡ (read pending b).characters → IfSome lost (λ c. c ≡ replacement)
       → after ≡ (read pending b).pending → y ≡ (play s (translated_all s (option_to_list lost))).state
       → (play s (translated_all s (option_to_list lost))).reports ≡ []
       → z ≡ (play y (translated_all y (option_to_list last))).state

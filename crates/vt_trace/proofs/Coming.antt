@@ -14,8 +14,8 @@ use Rattle.vt_trace.specs.Names.{names, numbered}
 use Rattle.vt_trace.specs.Skipped.{code_of, item_kinds, kinds_of}
 use Rattle.vt_trace.specs.Trace.{is_nothing, is_string, open_kind, code_after}
 use Rattle.vt_trace.specs.Runs.{byte_kind}
-use Rattle.vt_trace.specs.Summary.{has_name, is_ignored_kind, times_named, times_ignored, times_skipped, counted, all_ignored}
-use Rattle.vt_trace.specs.Summary.{ignored_lines, named_lines, named_line, count_line, event_summary, summary}
+use Rattle.vt_trace.specs.Summary.{has_name, is_ignored_kind, times_named, times_named_on, times_ignored, times_ignored_on, times_skipped, counted, all_ignored}
+use Rattle.vt_trace.specs.Summary.{ignored_lines, named_lines, named_line, count_line, event_summary, summary, summary_on}
 use Rattle.vt_trace.specs.Counted.{HasCounted, kinds_from, summary_after}
 use Rattle.vt_trace.specs.declared.summary.Summary.{Summary}
 use Rattle.vt_trace.proofs.Counts.{events_more, held_more, flat_agree}
@@ -90,7 +90,7 @@ module _ (s : Summary) (bytes more : List ℕ) (law : SplitLaw) (was : HasCounte
 
   ignored_so : (k : ℕ) → counted (get_or s.ignored.items k 0 + (times_ignored k come + times_skipped k kinds_come))
       ≡ all_ignored (events_of bytes ++ come) (item_kinds bytes ++ kinds_come) k
-  unfolding times_ignored times_skipped
+  unfolding times_ignored_on times_skipped
   ignored_so k =
       ap (λ n. counted (n + (times_ignored k come + times_skipped k kinds_come))) (was.counts.of_ignored k)
       ∙ joined _ _ _ _ _ _ (count_append (is_ignored_kind k) (events_of bytes) come)
@@ -98,14 +98,14 @@ module _ (s : Summary) (bytes more : List ℕ) (law : SplitLaw) (was : HasCounte
 
   named_so : (k : ℕ) → k < length names → counted (get_or s.named k 0 + times_named (numbered k) come)
       ≡ counted (times_named (numbered k) (events_of bytes ++ come))
-  unfolding times_named
+  unfolding times_named_on
   named_so k low =
       ap (λ n. counted (n + times_named (numbered k) come)) (was.counts.of_named k low)
       ∙ joined_names _ _ _ (count_append (has_name (numbered k)) (events_of bytes) come)
 
   -- the bytes that come go on
   pub goes_on : summary_after s more ≡ summary (bytes ++ more)
-  unfolding summary
+  unfolding summary_on
   goes_on =
       let events = events_of bytes ++ come in
       let kinds = item_kinds bytes ++ kinds_come in

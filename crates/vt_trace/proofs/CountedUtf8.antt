@@ -5,7 +5,7 @@ use Rattle.std.specs.Option.{option_to_list}
 use Rattle.vt_utf8.specs.Decoding.{read, characters, pending_after, IsWhole}
 use Rattle.vt_utf8.proofs.Cuts.{characters-append, pending-append, ascii-characters}
 use Rattle.vt_trace.specs.declared.summary.Summary.{Summary}
-use Rattle.vt_trace.specs.Counted.{HasCounted}
+use Rattle.vt_trace.specs.Counted.{HasCountedOn}
 use Rattle.vt_trace.specs.Utf8.{counted_as, counted_bytes}
 use Rattle.vt_trace.specs.Private.Traces.{CountsUtf8}
 use Rattle.vt_trace.proofs.Beyond.{is_ascii, tail_of}
@@ -34,7 +34,7 @@ counted-ascii bytes all = ap (λ (cs : List ℕ). map counted_as cs) (ascii-char
 pub counts_none : (pending : List ℕ) (s : Summary) → CountsUtf8 pending [] pending s s
 counts_none pending s = record {
   left = refl;
-  counted = λ front was. rw (append-nil front) was;
+  counted = λ rows front was. rw (append-nil front) was;
 }
 
 pub counts_both : (pending after left a b : List ℕ) (s t u : Summary) → CountsUtf8 pending a after s t → CountsUtf8 after b left t u
@@ -46,29 +46,29 @@ counts_both pending after left a b s t u first second =
     ∙ sym (counted-append pending a b)) in
     record {
       left = second.left ∙ ap (λ (q : List ℕ). pending_after q b) first.left ∙ sym (pending-append pending a b);
-      counted = λ front was. rw (joined front) at (second.counted (front ++ counted_bytes pending a) (first.counted front was));
+      counted = λ rows front was. rw (joined front) at (second.counted rows (front ++ counted_bytes pending a) (first.counted rows front was));
     }
 
 pub counts_ascii : (pending bytes : List ℕ) (s u : Summary) → pending ≡ [] → All (λ b. b < 0x80) bytes → pending_after [] bytes ≡ []
-    → ((front : List ℕ) → HasCounted front s → HasCounted (front ++ bytes) u) → CountsUtf8 pending bytes pending s u
+    → ((rows : ℕ) (front : List ℕ) → HasCountedOn rows front s → HasCountedOn rows (front ++ bytes) u) → CountsUtf8 pending bytes pending s u
 counts_ascii pending bytes s u nothing all left counts = rw nothing (record {
   left = sym left;
-  counted = λ front was. rw (counted-ascii bytes all) (counts front was);
+  counted = λ rows front was. rw (counted-ascii bytes all) (counts rows front was);
 })
 
 -- a whole character
 pub counts_whole : (pending piece : List ℕ) (c n : ℕ) (s u : Summary) → pending ≡ [] → IsWhole piece c n
-    → ((front : List ℕ) → HasCounted front s → HasCounted (front ++ counted_as c ∷ []) u) → CountsUtf8 pending (take n piece) pending s u
+    → ((rows : ℕ) (front : List ℕ) → HasCountedOn rows front s → HasCountedOn rows (front ++ counted_as c ∷ []) u) → CountsUtf8 pending (take n piece) pending s u
 counts_whole pending piece c n s u nothing whole counts = rw nothing (record {
   left = sym whole.pending;
-  counted = λ front was. rw whole.characters (counts front was);
+  counted = λ rows front was. rw whole.characters (counts rows front was);
 })
 
 -- a byte, by the characters that it completes, in two parts
 pub counts_byte : (pending : List ℕ) (b : ℕ) (lost last : Option ℕ) (after : List ℕ) (s t u : Summary)
     → option_to_list lost ++ option_to_list last ≡ (read pending b).characters → after ≡ (read pending b).pending
-    → ((front : List ℕ) → HasCounted front s → HasCounted (front ++ map counted_as (option_to_list lost)) t)
-    → ((front : List ℕ) → HasCounted front t → HasCounted (front ++ map counted_as (option_to_list last)) u)
+    → ((rows : ℕ) (front : List ℕ) → HasCountedOn rows front s → HasCountedOn rows (front ++ map counted_as (option_to_list lost)) t)
+    → ((rows : ℕ) (front : List ℕ) → HasCountedOn rows front t → HasCountedOn rows (front ++ map counted_as (option_to_list last)) u)
     → CountsUtf8 pending (b ∷ []) after s u
 counts_byte pending b lost last after s t u are left first second =
     let xs = option_to_list lost in
@@ -79,15 +79,15 @@ counts_byte pending b lost last after s t u are left first second =
     ∙ ap (λ (l : List ℕ). front ++ l) (sym (map_both xs ys) ∙ ap (λ (cs : List ℕ). map counted_as cs) (sym all)) in
     record {
       left = left;
-      counted = λ front was. rw (joined front) at (second (front ++ map counted_as xs) (first front was));
+      counted = λ rows front was. rw (joined front) at (second rows (front ++ map counted_as xs) (first rows front was));
     }
 
 -- the first byte of a piece
 pub counts_first : (pending piece : List ℕ) (lost last : Option ℕ) (after : List ℕ) (s t u : Summary) → 1 ≤ length piece
     → option_to_list lost ++ option_to_list last ≡ (read pending (slice_index piece 0)).characters
     → after ≡ (read pending (slice_index piece 0)).pending
-    → ((front : List ℕ) → HasCounted front s → HasCounted (front ++ map counted_as (option_to_list lost)) t)
-    → ((front : List ℕ) → HasCounted front t → HasCounted (front ++ map counted_as (option_to_list last)) u)
+    → ((rows : ℕ) (front : List ℕ) → HasCountedOn rows front s → HasCountedOn rows (front ++ map counted_as (option_to_list lost)) t)
+    → ((rows : ℕ) (front : List ℕ) → HasCountedOn rows front t → HasCountedOn rows (front ++ map counted_as (option_to_list last)) u)
     → CountsUtf8 pending (take 1 piece) after s u
 counts_first pending piece lost last after s t u some are left first second =
     rw (first_of piece some) (counts_byte pending (slice_index piece 0) lost last after s t u are left first second)

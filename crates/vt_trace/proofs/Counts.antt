@@ -17,15 +17,16 @@ use Rattle.vt_syntax.specs.Reading.{events_of}
 use Rattle.vt_syntax.specs.Held.{IsHeldPart, events_from, held_from, held_after}
 use Rattle.vt_syntax.specs.Laws.{SplitLaw}
 use Rattle.vt_glyph.proofs.Lists.{all_in_range}
-use Rattle.vt_term.specs.Names.{name_of}
+use Rattle.vt_term.specs.Names.{name_on}
 use Rattle.vt_trace.specs.Names.{names, numbered}
 use Rattle.std.specs.Option.{option_to_list}
 use Rattle.vt_syntax.specs.Split.{split_of}
 use Rattle.vt_trace.specs.Skipped.{item_kinds, rest_kind, kinds_of}
 use Rattle.vt_trace.specs.Runs.{times_at}
-use Rattle.vt_trace.specs.Summary.{kind_number, has_name, is_ignored_kind, times_named, times_ignored, times_skipped, counted, all_ignored}
-use Rattle.vt_trace.specs.Summary.{ignored_lines, named_lines, named_line, count_line, summary}
-use Rattle.vt_trace.specs.Counted.{AreCounts, HasCounted}
+use Rattle.vt_trace.specs.Summary.{kind_number, has_name_on, is_ignored_kind_on, times_named_on, times_ignored_on, times_skipped, counted}
+use Rattle.vt_trace.specs.Summary.{all_ignored_on}
+use Rattle.vt_trace.specs.Summary.{ignored_lines, named_lines, named_line, count_line, summary_on}
+use Rattle.vt_trace.specs.Counted.{AreCounts, HasCountedOn}
 use Rattle.vt_trace.specs.declared.summary.Summary.{Summary}
 
 -- ---- one more event
@@ -72,18 +73,18 @@ itself name = (bytes_decides name name).1 refl
 
 -- ---- what one more event adds
 
-pub named_by : (name word : List ℕ) (e : Event) → name_of e ≡ Some word → has_name name e ≡ pointwise nat_eq name word
-named_by name word e is = ap (λ (o : Option (List ℕ)). elim o [ None ↦ false | Some other ↦ pointwise nat_eq name other ]) is
+pub named_by : (rows : ℕ) (name word : List ℕ) (e : Event) → name_on rows e ≡ Some word → has_name_on rows name e ≡ pointwise nat_eq name word
+named_by rows name word e is = ap (λ (o : Option (List ℕ)). elim o [ None ↦ false | Some other ↦ pointwise nat_eq name other ]) is
 
-pub not_ignored : (k : ℕ) (e : Event) (word : List ℕ) → name_of e ≡ Some word → is_ignored_kind k e ≡ false
-not_ignored k e word is =
+pub not_ignored : (rows : ℕ) (k : ℕ) (e : Event) (word : List ℕ) → name_on rows e ≡ Some word → is_ignored_kind_on rows k e ≡ false
+not_ignored rows k e word is =
     ap (λ (o : Option (List ℕ)). (elim o [ None ↦ true | Some name ↦ false ]) && kind_number e == k) is
 
-pub not_named : (name : List ℕ) (e : Event) → name_of e ≡ None → has_name name e ≡ false
-not_named name e is = ap (λ (o : Option (List ℕ)). elim o [ None ↦ false | Some other ↦ pointwise nat_eq name other ]) is
+pub not_named : (rows : ℕ) (name : List ℕ) (e : Event) → name_on rows e ≡ None → has_name_on rows name e ≡ false
+not_named rows name e is = ap (λ (o : Option (List ℕ)). elim o [ None ↦ false | Some other ↦ pointwise nat_eq name other ]) is
 
-pub ignored_by : (k : ℕ) (e : Event) → name_of e ≡ None → is_ignored_kind k e ≡ (kind_number e == k)
-ignored_by k e is =
+pub ignored_by : (rows : ℕ) (k : ℕ) (e : Event) → name_on rows e ≡ None → is_ignored_kind_on rows k e ≡ (kind_number e == k)
+ignored_by rows k e is =
     ap (λ (o : Option (List ℕ)). (elim o [ None ↦ true | Some name ↦ false ]) && kind_number e == k) is
 
 -- one more in a table, at the number n of the whole table
@@ -118,16 +119,16 @@ is_equal n k same = go (eqb_tells n k)
     go (inl t) = t.0
     go (inr f) = absurd (f.1 same)
 
-module _ (events : List Event) (kinds ignored named : List ℕ) (counts : AreCounts events kinds ignored named) where
+module _ {rows : ℕ} (events : List Event) (kinds ignored named : List ℕ) (counts : AreCounts rows events kinds ignored named) where
   -- an item without a function
   pub counts-skipped : (n : ℕ) (more : List ℕ) → n < 13312 → IsSet ignored n more → length more ≡ length ignored
-      → AreCounts events (kinds ++ n ∷ []) more named
-  unfolding times_named times_ignored times_skipped
+      → AreCounts rows events (kinds ++ n ∷ []) more named
+  unfolding times_named_on times_ignored_on times_skipped
   counts-skipped n more within inside len = record {
     size = len ∙ counts.size;
     of_ignored = λ k.
         let size : length ignored ≡ 13312 = counts.size in
-        let a = count_by (is_ignored_kind k) events in
+        let a = count_by (is_ignored_kind_on rows k) events in
         let b = count_by (λ m. m == k) kinds in
         set_at ignored more n k (a + b) (a + count_by (λ m. m == k) (kinds ++ n ∷ [])) inside (omega (arith, within, size))
         (counts.of_ignored k)
@@ -138,39 +139,39 @@ module _ (events : List Event) (kinds ignored named : List ℕ) (counts : AreCou
 
   module _ (e : Event) where
     -- an event with a name
-    pub counts-named : (n : ℕ) (more : List ℕ) → name_of e ≡ Some (numbered n) → n < length names → length named ≡ length names
-        → more ≡ set named n (min (get_or named n 0 + 1) (2 ^ 64 - 1)) → AreCounts (events ++ e ∷ []) kinds ignored more
-    unfolding times_named times_ignored times_skipped
+    pub counts-named : (n : ℕ) (more : List ℕ) → name_on rows e ≡ Some (numbered n) → n < length names → length named ≡ length names
+        → more ≡ set named n (min (get_or named n 0 + 1) (2 ^ 64 - 1)) → AreCounts rows (events ++ e ∷ []) kinds ignored more
+    unfolding times_named_on times_ignored_on times_skipped
     counts-named n more is within len was = record {
       size = counts.size;
       of_ignored = λ k. counts.of_ignored k ∙ ap (λ m. counted (m + count_by (λ i. i == k) kinds))
-          (sym (counts_none (is_ignored_kind k) events e (not_ignored k e (numbered n) is)));
-      of_named = λ k low. set_at named more n k (count_by (has_name (numbered k)) events)
-          (count_by (has_name (numbered k)) (events ++ e ∷ [])) (λ h. was) (omega (arith, within, len)) (counts.of_named k low)
-          (λ same. counts_one (has_name (numbered k)) events e
-          (named_by (numbered k) (numbered n) e is ∙ ap (λ m. pointwise nat_eq (numbered k) (numbered m)) same ∙ itself (numbered k)))
-          (λ other. counts_none (has_name (numbered k)) events e
-          (named_by (numbered k) (numbered n) e is ∙ apart k n low within (λ h. other (sym h))));
+          (sym (counts_none (is_ignored_kind_on rows k) events e (not_ignored rows k e (numbered n) is)));
+      of_named = λ k low. set_at named more n k (count_by (has_name_on rows (numbered k)) events)
+          (count_by (has_name_on rows (numbered k)) (events ++ e ∷ [])) (λ h. was) (omega (arith, within, len)) (counts.of_named k low)
+          (λ same. counts_one (has_name_on rows (numbered k)) events e
+          (named_by rows (numbered k) (numbered n) e is ∙ ap (λ m. pointwise nat_eq (numbered k) (numbered m)) same ∙ itself (numbered k)))
+          (λ other. counts_none (has_name_on rows (numbered k)) events e
+          (named_by rows (numbered k) (numbered n) e is ∙ apart k n low within (λ h. other (sym h))));
     }
 
     -- an event that is ignored
-    pub counts-ignored : (n : ℕ) (more : List ℕ) → name_of e ≡ None → kind_number e ≡ n
-        → n < 13312 → IsSet ignored n more → length more ≡ length ignored → AreCounts (events ++ e ∷ []) kinds more named
-    unfolding times_named times_ignored times_skipped
+    pub counts-ignored : (n : ℕ) (more : List ℕ) → name_on rows e ≡ None → kind_number e ≡ n
+        → n < 13312 → IsSet ignored n more → length more ≡ length ignored → AreCounts rows (events ++ e ∷ []) kinds more named
+    unfolding times_named_on times_ignored_on times_skipped
     counts-ignored n more is kind within inside len = record {
       size = len ∙ counts.size;
       of_ignored = λ k.
           let size : length ignored ≡ 13312 = counts.size in
-          let a = count_by (is_ignored_kind k) events in
+          let a = count_by (is_ignored_kind_on rows k) events in
           let b = count_by (λ m. m == k) kinds in
-          set_at ignored more n k (a + b) (count_by (is_ignored_kind k) (events ++ e ∷ []) + b) inside (omega (arith, within, size))
+          set_at ignored more n k (a + b) (count_by (is_ignored_kind_on rows k) (events ++ e ∷ []) + b) inside (omega (arith, within, size))
           (counts.of_ignored k)
-          (λ same. let one = counts_one (is_ignored_kind k) events e
-          (ignored_by k e is ∙ ap (λ m. m == k) kind ∙ is_equal n k same) in omega (arith, one))
-          (λ other. let none = counts_none (is_ignored_kind k) events e
-          (ignored_by k e is ∙ ap (λ m. m == k) kind ∙ not_equal n k other) in omega (arith, none));
+          (λ same. let one = counts_one (is_ignored_kind_on rows k) events e
+          (ignored_by rows k e is ∙ ap (λ m. m == k) kind ∙ is_equal n k same) in omega (arith, one))
+          (λ other. let none = counts_none (is_ignored_kind_on rows k) events e
+          (ignored_by rows k e is ∙ ap (λ m. m == k) kind ∙ not_equal n k other) in omega (arith, none));
       of_named = λ k low. counts.of_named k low
-          ∙ ap counted (sym (counts_none (has_name (numbered k)) events e (not_named (numbered k) e is)));
+          ∙ ap counted (sym (counts_none (has_name_on rows (numbered k)) events e (not_named rows (numbered k) e is)));
     }
 
 -- ---- bytes
@@ -189,8 +190,9 @@ pub held_more : (held : Held) (bytes front : List ℕ) → SplitLaw → held ≡
 held_more held bytes front law is =
     law.held_append Nothing bytes front ∙ ap (λ (h : Held). held_from h front) (sym is)
 
-pub counted_more : (s : Summary) (bytes chunk : List ℕ) (at n : ℕ)
-    → HasCounted ((bytes ++ take at chunk) ++ take n (drop at chunk)) s → HasCounted (bytes ++ take (at + n) chunk) s
+pub counted_more : {rows : ℕ} (s : Summary) (bytes chunk : List ℕ) (at n : ℕ)
+    → HasCountedOn rows ((bytes ++ take at chunk) ++ take n (drop at chunk)) s
+    → HasCountedOn rows (bytes ++ take (at + n) chunk) s
 counted_more s bytes chunk at n was =
     rw (take-add at n chunk, sym (append_assoc bytes (take at chunk) (take n (drop at chunk)))) was
 
@@ -209,9 +211,9 @@ zeros_long : (n : ℕ) → length (zeros_of n) ≡ n
 zeros_long n = length-replicate n zero
 
 -- no events
-pub none_counted : AreCounts [] [] (replicate 13312 0) (replicate (length names) 0)
-unfolding times_named times_ignored times_skipped
-none_counted = record {
+pub none_counted : (rows : ℕ) → AreCounts rows [] [] (replicate 13312 0) (replicate (length names) 0)
+unfolding times_named_on times_ignored_on times_skipped
+none_counted rows = record {
   size = zeros_long 13312;
   of_ignored = λ k. zeros 13312 k;
   of_named = λ k low. zeros (length names) k;
@@ -278,48 +280,48 @@ abbrev pub found_at : List ℕ → ℕ → ℕ
 found_at counts number = get_or counts number 0
 
 -- what is open at the end
-last_counted : (events : List Event) (kinds ignored named : List ℕ) (kind : ℕ) → AreCounts events kinds ignored named
+last_counted : {rows : ℕ} (events : List Event) (kinds ignored named : List ℕ) (kind : ℕ) → AreCounts rows events kinds ignored named
     → (k : ℕ) (v : Bool) → eqb kind k ≡ v
-    → cond v (counted (get_or ignored k 0 + 1)) (get_or ignored k 0) ≡ all_ignored events (kinds ++ kind ∷ []) k
+    → cond v (counted (get_or ignored k 0 + 1)) (get_or ignored k 0) ≡ all_ignored_on rows events (kinds ++ kind ∷ []) k
 unfolding times_skipped
-last_counted events kinds ignored named kind counts k true is =
+last_counted {rows} events kinds ignored named kind counts k true is =
     let one = counts_one (λ m. m == k) kinds kind is in
     ap (λ n. counted (n + 1)) (counts.of_ignored k)
-    ∙ sym (one_more (times_ignored k events + count_by (λ m. m == k) kinds))
+    ∙ sym (one_more (times_ignored_on rows k events + count_by (λ m. m == k) kinds))
     ∙ ap (λ n. counted n) (omega (arith, one))
-last_counted events kinds ignored named kind counts k false is =
-    counts.of_ignored k ∙ ap (λ n. counted (times_ignored k events + n)) (sym (counts_none (λ m. m == k) kinds kind is))
+last_counted {rows} events kinds ignored named kind counts k false is =
+    counts.of_ignored k ∙ ap (λ n. counted (times_ignored_on rows k events + n)) (sym (counts_none (λ m. m == k) kinds kind is))
 
-with_last : (events : List Event) (kinds ignored named : List ℕ) (last : Option ℕ) → AreCounts events kinds ignored named
-    → (k : ℕ) → times_at ignored last k ≡ all_ignored events (kinds ++ option_to_list last) k
-with_last events kinds ignored named None counts k =
-    counts.of_ignored k ∙ ap (λ (l : List ℕ). all_ignored events l k) (sym (append-nil kinds))
-with_last events kinds ignored named (Some kind) counts k = last_counted events kinds ignored named kind counts k (eqb kind k) refl
+with_last : {rows : ℕ} (events : List Event) (kinds ignored named : List ℕ) (last : Option ℕ) → AreCounts rows events kinds ignored named
+    → (k : ℕ) → times_at ignored last k ≡ all_ignored_on rows events (kinds ++ option_to_list last) k
+with_last {rows} events kinds ignored named None counts k =
+    counts.of_ignored k ∙ ap (λ (l : List ℕ). all_ignored_on rows events l k) (sym (append-nil kinds))
+with_last {rows} events kinds ignored named (Some kind) counts k = last_counted events kinds ignored named kind counts k (eqb kind k) refl
 
-pub same_ignored : (events : List Event) (kinds ignored named : List ℕ) (last : Option ℕ) → AreCounts events kinds ignored named
-    → ignored_lines (times_at ignored last) ≡ ignored_lines (all_ignored events (kinds ++ option_to_list last))
-same_ignored events kinds ignored named last counts =
-    let same : times_at ignored last ≡ all_ignored events (kinds ++ option_to_list last) =
+pub same_ignored : {rows : ℕ} (events : List Event) (kinds ignored named : List ℕ) (last : Option ℕ) → AreCounts rows events kinds ignored named
+    → ignored_lines (times_at ignored last) ≡ ignored_lines (all_ignored_on rows events (kinds ++ option_to_list last))
+same_ignored {rows} events kinds ignored named last counts =
+    let same : times_at ignored last ≡ all_ignored_on rows events (kinds ++ option_to_list last) =
     λ i number. with_last events kinds ignored named last counts number i in
     ap ignored_lines same
 
-pub same_named : (events : List Event) (kinds ignored named : List ℕ) → AreCounts events kinds ignored named
-    → named_lines (found_at named) ≡ named_lines (λ number. counted (times_named (numbered number) events))
-same_named events kinds ignored named counts =
-    flat_agree (named_line (found_at named)) (named_line (λ number. counted (times_named (numbered number) events))) 0 (length names)
+pub same_named : {rows : ℕ} (events : List Event) (kinds ignored named : List ℕ) → AreCounts rows events kinds ignored named
+    → named_lines (found_at named) ≡ named_lines (λ number. counted (times_named_on rows (numbered number) events))
+same_named {rows} events kinds ignored named counts =
+    flat_agree (named_line (found_at named)) (named_line (λ number. counted (times_named_on rows (numbered number) events))) 0 (length names)
     (λ k low high. ap (λ n. count_line n (numbered k)) (counts.of_named k (omega (arith, high))))
 
-pub summed : (s : Summary) (bytes before first out : List ℕ) (last : Option ℕ) → HasCounted bytes s
+pub summed : {rows : ℕ} (s : Summary) (bytes before first out : List ℕ) (last : Option ℕ) → HasCountedOn rows bytes s
     → option_to_list last ≡ rest_kind (split_of bytes).rest
     → first ≡ before ++ ignored_lines (times_at s.ignored.items last) → out ≡ first ++ named_lines (found_at s.named)
-    → out ≡ before ++ summary bytes
-unfolding summary
-summed s bytes before first out last was is one two =
+    → out ≡ before ++ summary_on rows bytes
+unfolding summary_on
+summed {rows} s bytes before first out last was is one two =
     let events = events_of bytes in
     two ∙ ap (λ (l : List ℕ). l ++ named_lines (found_at s.named)) one
     ∙ append_assoc before (ignored_lines (times_at s.ignored.items last)) (named_lines (found_at s.named))
     ∙ ap (λ (l : List ℕ). before ++ (l ++ named_lines (found_at s.named)))
     (same_ignored events (item_kinds bytes) s.ignored.items s.named last was.counts
-    ∙ ap (λ (l : List ℕ). ignored_lines (all_ignored events (item_kinds bytes ++ l))) is)
-    ∙ ap (λ (l : List ℕ). before ++ (ignored_lines (all_ignored events (kinds_of bytes)) ++ l))
+    ∙ ap (λ (l : List ℕ). ignored_lines (all_ignored_on rows events (item_kinds bytes ++ l))) is)
+    ∙ ap (λ (l : List ℕ). before ++ (ignored_lines (all_ignored_on rows events (kinds_of bytes)) ++ l))
     (same_named events (item_kinds bytes) s.ignored.items s.named was.counts)

@@ -20,7 +20,7 @@ use Rattle.vt_term.specs.Reports.{report}
 use Rattle.vt_term.specs.Play.{play, after_events}
 use Rattle.vt_term.proofs.Bytes.{nothing-held}
 use Rattle.vt_trace.specs.declared.tracing.Tracer.{Tracer}
-use Rattle.vt_trace.specs.Lines.{shown_byte, shown, event_line}
+use Rattle.vt_trace.specs.Lines.{shown_byte, shown, event_line_on}
 use Rattle.vt_trace.specs.Skipped.{is_empty}
 use Rattle.vt_trace.specs.Trace.{begins, item_place, place_of, is_text, text_of, text_begin, text_end, written, written_all, text_after}
 use Rattle.vt_trace.specs.Trace.{between, is_nothing, is_string, cuts_off, ends_silent, item_first, code_after, ended_kind, skipped_lines}
@@ -101,7 +101,7 @@ event_skim s t b e events =
 
 -- what is written of an event whose bytes led to a tracer
 unfoldable pub told_at : Display → Tracer → ℕ → Event → List ℕ
-told_at d t last e = written t.in_text (place_of (t.place - 1) t.begin last e) e (report e d)
+told_at d t last e = written d.grid.size.rows t.in_text (place_of (t.place - 1) t.begin last e) e (report e d)
 
 event_line_of : (s : State) (t : Tracer) (b : ℕ) (e : Event) → events_from s.held (b ∷ []) ≡ e ∷ []
     → traced s t b ≡ skipped t s.held b ++ told_at s.display (skim s.held t b) b e
@@ -111,8 +111,8 @@ event_line_of s t b e events =
     let begin = item_place t s.held b in
     let on = goes_on t s.held b in
     ap (λ (es : List Event). skipped t s.held b ++ written_all on (place_of t.place begin b) es s.display) events
-    ∙ ap (λ (l : List ℕ). skipped t s.held b ++ l) (append-nil (written on (place_of t.place begin b e) e (report e s.display)))
-    ∙ ap (λ n. skipped t s.held b ++ written on (place_of n begin b e) e (report e s.display)) here
+    ∙ ap (λ (l : List ℕ). skipped t s.held b ++ l) (append-nil (written s.display.grid.size.rows on (place_of t.place begin b e) e (report e s.display)))
+    ∙ ap (λ n. skipped t s.held b ++ written s.display.grid.size.rows on (place_of n begin b e) e (report e s.display)) here
 
 -- ---- texts
 
@@ -155,9 +155,9 @@ glyphs_held law split (b ∷ run) all =
 text_written : (in_text : Bool) (place b : ℕ) (s : Display) (at : Event → ℕ) → HasGlyph b → at (Print b) ≡ place
     → written_all in_text at (Print b ∷ []) s ≡ text_of in_text place b
 text_written in_text place b s at i here =
-    ap (λ n. written in_text n (Print b) (report (Print b) s) ++ []) here
-    ∙ append-nil (written in_text place (Print b) (report (Print b) s))
-    ∙ ap (λ (v : Bool). cond v (text_end in_text ++ event_line place (Print b)) (text_of in_text place b)) (has-glyph b i)
+    ap (λ n. written s.grid.size.rows in_text n (Print b) (report (Print b) s) ++ []) here
+    ∙ append-nil (written s.grid.size.rows in_text place (Print b) (report (Print b) s))
+    ∙ ap (λ (v : Bool). cond v (text_end in_text ++ event_line_on s.grid.size.rows place (Print b)) (text_of in_text place b)) (has-glyph b i)
 
 module _ (law : SpellingLaw) (s : State) (t : Tracer) (b : ℕ) (nothing : s.held ≡ Nothing) (i : HasGlyph b) where
   character : events_from s.held (b ∷ []) ≡ Print b ∷ []

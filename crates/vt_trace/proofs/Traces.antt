@@ -3,7 +3,8 @@ use Rattle.std.proofs.Common.{◌≡◌, ℕ, List, [], ◌∷◌, ◌++◌, sym
 use Rattle.std.proofs.lemmas.List.{take_more}
 use Rattle.std.proofs.Math.Seq.{take-length}
 use Rattle.vt_term.specs.State.{State}
-use Rattle.vt_term.specs.Sound.{IsSound}
+use Rattle.vt_screen.specs.declared.size.Size.{Size}
+use Rattle.vt_term.specs.Sound.{IsSoundAt}
 use Rattle.vt_term.specs.Play.{Played, play, both}
 use Rattle.vt_trace.specs.declared.tracing.Tracer.{Tracer}
 use Rattle.vt_trace.specs.Trace.{traced, tracer_after, trace, tracer_all}
@@ -11,18 +12,18 @@ use Rattle.vt_trace.specs.Trace.{traced, tracer_after, trace, tracer_all}
 abbrev pub Plays : Type 0
 Plays = (s : State) (a b : List ℕ) → play s (a ++ b) ≡ both (play s a) (play (play s a).state b)
 
-abbrev pub Rests : Type 0
-Rests = (s : State) → IsSound s → play s [] ≡ record { state = s; reports = [] }
+abbrev pub Rests : Size → Type 0
+Rests size = (s : State) → IsSoundAt size s → play s [] ≡ record { state = s; reports = [] }
 
-abbrev pub Keeps : Type 0
-Keeps = (s : State) (bytes : List ℕ) → IsSound s → IsSound (play s bytes).state
+abbrev pub Keeps : Size → Type 0
+Keeps size = (s : State) (bytes : List ℕ) → IsSoundAt size s → IsSoundAt size (play s bytes).state
 
 -- bytes after a byte
 behind : Plays → (s : State) (x : ℕ) (bytes : List ℕ)
     → (play (play s (x ∷ [])).state bytes).state ≡ (play s (x ∷ bytes)).state
 behind plays s x bytes = ap (λ (p : Played). p.state) (sym (plays s (x ∷ []) bytes))
 
-pub trace-append : Plays → Rests → Keeps → (s : State) (t : Tracer) (a b : List ℕ) → IsSound s
+pub trace-append : {size : Size} → Plays → Rests size → Keeps size → (s : State) (t : Tracer) (a b : List ℕ) → IsSoundAt size s
     → trace s t (a ++ b) ≡ trace s t a ++ trace (play s a).state (tracer_all s t a) b
 unfolding trace tracer_all
 trace-append plays rests keeps s t [] b i = ap (λ (p : Played). trace p.state t b) (sym (rests s i))
@@ -34,7 +35,7 @@ trace-append plays rests keeps s t (x ∷ a) b i =
     (more ∙ ap (λ (v : State). trace next u a ++ trace v (tracer_all next u a) b) (behind plays s x a))
     ∙ sym (append_assoc (traced s t x) (trace next u a) (trace (play s (x ∷ a)).state (tracer_all next u a) b))
 
-pub tracer-append : Plays → Rests → Keeps → (s : State) (t : Tracer) (a b : List ℕ) → IsSound s
+pub tracer-append : {size : Size} → Plays → Rests size → Keeps size → (s : State) (t : Tracer) (a b : List ℕ) → IsSoundAt size s
     → tracer_all s t (a ++ b) ≡ tracer_all (play s a).state (tracer_all s t a) b
 unfolding tracer_all
 tracer-append plays rests keeps s t [] b i = ap (λ (p : Played). tracer_all p.state t b) (sym (rests s i))
@@ -46,12 +47,12 @@ tracer-append plays rests keeps s t (x ∷ a) b i =
 
 -- ---- one more byte
 
-abbrev pub Lines : Type 0
-Lines = (s : State) (t : Tracer) (a b : List ℕ) → IsSound s
+abbrev pub Lines : Size → Type 0
+Lines size = (s : State) (t : Tracer) (a b : List ℕ) → IsSoundAt size s
     → trace s t (a ++ b) ≡ trace s t a ++ trace (play s a).state (tracer_all s t a) b
 
-abbrev pub Tracers : Type 0
-Tracers = (s : State) (t : Tracer) (a b : List ℕ) → IsSound s
+abbrev pub Tracers : Size → Type 0
+Tracers size = (s : State) (t : Tracer) (a b : List ℕ) → IsSoundAt size s
     → tracer_all s t (a ++ b) ≡ tracer_all (play s a).state (tracer_all s t a) b
 
 pub more-state : Plays → (s u v : State) (front part : List ℕ) → u ≡ (play s front).state
@@ -70,7 +71,7 @@ more-reports plays s u front part before out more is was then =
     ∙ append_assoc before (play s front).reports second
     ∙ ap (λ (p : Played). before ++ p.reports) (sym (plays s front part))
 
-pub more-lines : Lines → (s u : State) (t v : Tracer) (front part before out more : List ℕ) → IsSound s
+pub more-lines : {size : Size} → Lines size → (s u : State) (t v : Tracer) (front part before out more : List ℕ) → IsSoundAt size s
     → u ≡ (play s front).state → v ≡ tracer_all s t front → out ≡ before ++ trace s t front
     → more ≡ out ++ trace u v part → more ≡ before ++ trace s t (front ++ part)
 more-lines lines s u t v front part before out more i is tracer was then =
@@ -82,7 +83,7 @@ more-lines lines s u t v front part before out more i is tracer was then =
     ∙ append_assoc before (trace s t front) last
     ∙ ap (λ (l : List ℕ). before ++ l) (sym (lines s t front part i))
 
-pub more-tracer : Tracers → (s u : State) (t v w : Tracer) (front part : List ℕ) → IsSound s
+pub more-tracer : {size : Size} → Tracers size → (s u : State) (t v w : Tracer) (front part : List ℕ) → IsSoundAt size s
     → u ≡ (play s front).state → v ≡ tracer_all s t front → w ≡ tracer_all u v part
     → w ≡ tracer_all s t (front ++ part)
 more-tracer tracers s u t v w front part i is was then =

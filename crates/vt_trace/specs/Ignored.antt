@@ -1,15 +1,20 @@
 -- The events that are ignored, and those that do something.
-use Rattle.std.specs.Prelude.{◌≡◌, ◌≢◌, ◌⊎◌, [], Bool, true, false, Some, None}
+use Rattle.std.specs.Prelude.{ℕ, ◌≡◌, ◌≢◌, ◌⊎◌, [], Bool, true, false, Some, None}
 use Rattle.vt_syntax.specs.declared.event.Event.{Event}
 use Rattle.vt_term.specs.State.{Display}
 use Rattle.vt_term.specs.Sound.{IsSoundDisplay}
 use Rattle.vt_term.specs.Functions.{effect}
 use Rattle.vt_term.specs.Reports.{report}
-use Rattle.vt_term.specs.Names.{name_of}
+use Rattle.vt_screen.specs.Grid.{last_row}
+use Rattle.vt_term.specs.Names.{name_on}
 
--- an event without a name
+-- an event without a name, on a screen of so many rows
+abbrev pub is_ignored_on : ℕ → Event → Bool
+is_ignored_on rows event = elim (name_on rows event) [ None ↦ true | Some name ↦ false ]
+
+-- on a VT220
 abbrev pub is_ignored : Event → Bool
-is_ignored event = elim (name_of event) [ None ↦ true | Some name ↦ false ]
+is_ignored event = is_ignored_on last_row event
 
 -- the event leaves the display as it is, and reports nothing
 pub record LeavesAlone (event : Event) (s : Display) : Type 0 where

@@ -6,7 +6,8 @@ use Rattle.std.specs.Option.{option_to_list}
 use Rattle.vt_syntax.specs.declared.event.Event.{Event}
 use Rattle.vt_syntax.specs.declared.event.Event.TheVariants.{Print, Control, Escape, Sequence}
 use Rattle.vt_syntax.specs.Class.{is_plain}
-use Rattle.vt_term.specs.Names.{name_of}
+use Rattle.vt_screen.specs.Grid.{last_row}
+use Rattle.vt_term.specs.Names.{name_on}
 
 -- ---- bytes as text
 
@@ -60,5 +61,10 @@ abbrev pub line_named : ℕ → Event → Option (List ℕ) → List ℕ
 line_named place event (Some name) = line place name (values_column event)
 line_named place event None = line place (codes "ignored") (bytes_column event)
 
-unfoldable pub event_line : ℕ → Event → List ℕ
-event_line place event = line_named place event (name_of event)
+-- on a screen of so many rows
+unfoldable pub event_line_on : ℕ → ℕ → Event → List ℕ
+event_line_on rows place event = line_named place event (name_on rows event)
+
+-- on a VT220's
+abbrev pub event_line : ℕ → Event → List ℕ
+event_line place event = event_line_on last_row place event

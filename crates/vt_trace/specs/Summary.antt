@@ -6,9 +6,10 @@ use Rattle.std.specs.Cmp.Lexicographic.{pointwise}
 use Rattle.vt_syntax.specs.declared.event.Event.{Event}
 use Rattle.vt_syntax.specs.declared.event.Event.TheVariants.{Print, Control, Escape, Sequence}
 use Rattle.vt_syntax.specs.Reading.{events_of}
-use Rattle.vt_term.specs.Names.{name_of}
+use Rattle.vt_screen.specs.Grid.{last_row}
+use Rattle.vt_term.specs.Names.{name_on}
 use Rattle.vt_trace.specs.Names.{names, numbered}
-use Rattle.vt_trace.specs.Ignored.{is_ignored}
+use Rattle.vt_trace.specs.Ignored.{is_ignored_on}
 use Rattle.vt_trace.specs.Lines.{shown_byte, bytes_column}
 use Rattle.vt_trace.specs.Skipped.{kind_name, kinds_of}
 
@@ -46,21 +47,21 @@ IsByteAtMost (Print b) = b ≤ 0xFF
 IsByteAtMost (Control b) = b ≤ 0xFF
 IsByteAtMost _ = Unit {0}
 
--- ---- counts
+-- ---- counts, on a screen of so many rows
 
 -- the event has this name
-abbrev pub has_name : List ℕ → Event → Bool
-has_name name event = elim (name_of event) [ None ↦ false | Some other ↦ pointwise nat_eq name other ]
+abbrev pub has_name_on : ℕ → List ℕ → Event → Bool
+has_name_on rows name event = elim (name_on rows event) [ None ↦ false | Some other ↦ pointwise nat_eq name other ]
 
 -- the event is ignored, and its kind has this number
-abbrev pub is_ignored_kind : ℕ → Event → Bool
-is_ignored_kind number event = is_ignored event && kind_number event == number
+abbrev pub is_ignored_kind_on : ℕ → ℕ → Event → Bool
+is_ignored_kind_on rows number event = is_ignored_on rows event && kind_number event == number
 
-unfoldable pub times_named : List ℕ → List Event → ℕ
-times_named name events = count_by (has_name name) events
+unfoldable pub times_named_on : ℕ → List ℕ → List Event → ℕ
+times_named_on rows name events = count_by (has_name_on rows name) events
 
-unfoldable pub times_ignored : ℕ → List Event → ℕ
-times_ignored number events = count_by (is_ignored_kind number) events
+unfoldable pub times_ignored_on : ℕ → ℕ → List Event → ℕ
+times_ignored_on rows number events = count_by (is_ignored_kind_on rows number) events
 
 -- among kinds of items without a function
 unfoldable pub times_skipped : ℕ → List ℕ → ℕ
@@ -127,18 +128,41 @@ abbrev pub named_lines : (ℕ → ℕ) → List ℕ
 named_lines times = flat_map (named_line times) (range_with_len 0 (length names))
 
 -- how often an event was ignored, or an item had no function, whose kind has this number
-abbrev pub all_ignored : List Event → List ℕ → ℕ → ℕ
-all_ignored events kinds number = counted (times_ignored number events + times_skipped number kinds)
+abbrev pub all_ignored_on : ℕ → List Event → List ℕ → ℕ → ℕ
+all_ignored_on rows events kinds number = counted (times_ignored_on rows number events + times_skipped number kinds)
 
 -- the summary of events, and of the kinds of items without a function
-abbrev pub event_summary : List Event → List ℕ → List ℕ
-event_summary events kinds =
-    ignored_lines (all_ignored events kinds)
-    ++ named_lines (λ number. counted (times_named (numbered number) events))
+abbrev pub event_summary_on : ℕ → List Event → List ℕ → List ℕ
+event_summary_on rows events kinds =
+    ignored_lines (all_ignored_on rows events kinds)
+    ++ named_lines (λ number. counted (times_named_on rows (numbered number) events))
 
 -- the summary of a terminal's input
-unfoldable pub summary : List ℕ → List ℕ
-summary bytes = event_summary (events_of bytes) (kinds_of bytes)
+unfoldable pub summary_on : ℕ → List ℕ → List ℕ
+summary_on rows bytes = event_summary_on rows (events_of bytes) (kinds_of bytes)
+
+-- ---- on a VT220
+
+abbrev pub has_name : List ℕ → Event → Bool
+has_name name event = has_name_on last_row name event
+
+abbrev pub is_ignored_kind : ℕ → Event → Bool
+is_ignored_kind number event = is_ignored_kind_on last_row number event
+
+abbrev pub times_named : List ℕ → List Event → ℕ
+times_named name events = times_named_on last_row name events
+
+abbrev pub times_ignored : ℕ → List Event → ℕ
+times_ignored number events = times_ignored_on last_row number events
+
+abbrev pub all_ignored : List Event → List ℕ → ℕ → ℕ
+all_ignored events kinds number = all_ignored_on last_row events kinds number
+
+abbrev pub event_summary : List Event → List ℕ → List ℕ
+event_summary events kinds = event_summary_on last_row events kinds
+
+abbrev pub summary : List ℕ → List ℕ
+summary bytes = summary_on last_row bytes
 
 -- ---- the line of a kind
 

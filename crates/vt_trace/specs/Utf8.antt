@@ -7,7 +7,8 @@ use Rattle.vt_utf8.specs.Translation.{translation}
 use Rattle.vt_utf8.specs.Play.{play_utf8}
 use Rattle.vt_trace.specs.declared.tracing.Tracer.{Tracer}
 use Rattle.vt_trace.specs.Trace.{between, open_lines, text_of, traced, tracer_after}
-use Rattle.vt_trace.specs.Summary.{summary}
+use Rattle.vt_screen.specs.Grid.{last_row}
+use Rattle.vt_trace.specs.Summary.{summary_on}
 
 -- ---- bytes of characters beyond ASCII, and ill-formed bytes
 
@@ -70,6 +71,10 @@ counted_as c = if nat_lt c 0x80 then c else 0xE9
 abbrev pub counted_bytes : List ℕ → List ℕ → List ℕ
 counted_bytes pending bytes = map counted_as (characters pending bytes)
 
--- the summary of a host's UTF-8
-unfoldable pub summary_utf8 : List ℕ → List ℕ
-summary_utf8 bytes = summary (counted_bytes [] bytes)
+-- the summary of a host's UTF-8, on a screen of so many rows
+unfoldable pub summary_utf8_on : ℕ → List ℕ → List ℕ
+summary_utf8_on rows bytes = summary_on rows (counted_bytes [] bytes)
+
+-- on a VT220
+abbrev pub summary_utf8 : List ℕ → List ℕ
+summary_utf8 bytes = summary_utf8_on last_row bytes

@@ -2,7 +2,7 @@
 ghost use Rattle.std.specs.Prelude.{◌≡◌, ◌≤◌, ◌++◌, List, ℕ, [], length, map, take};
 ghost use Rattle.std.specs.Option.{option_to_list};
 ghost use Rattle.vt_utf8.specs.Decoding.{pending_after};
-ghost use Rattle.vt_trace.specs.Counted.{HasCounted};
+ghost use Rattle.vt_trace.specs.Counted.{HasCountedOn};
 ghost use Rattle.vt_trace.specs.Utf8.{counted_as, counted_bytes};
 ghost use Rattle.vt_trace.specs.Private.Traces.{CountsUtf8};
 
@@ -14,8 +14,8 @@ impl Summary {
     /// Counts the events of a chunk of the host's UTF-8, and its items without a function. A character beyond ASCII counts as
     /// a graphic byte. `decoder` keeps what is pending between chunks. It never fails, and it allocates nothing.
     pub fn count_utf8(&mut self, decoder: &mut Decoder, chunk: &[u8])
-        ensures counted { (bytes : List ℕ) → HasCounted bytes self.old
-            → HasCounted (bytes ++ counted_bytes decoder.old chunk.now) self.new }
+        ensures counted { (rows : ℕ) (bytes : List ℕ) → HasCountedOn rows bytes self.old
+            → HasCountedOn rows (bytes ++ counted_bytes decoder.old chunk.now) self.new }
         ensures pending { decoder.new ≡ pending_after decoder.old chunk.now }
     {
         cuts();
@@ -53,8 +53,8 @@ impl Summary {
 
     /// Counts a character, if there is one.
     fn count_character(&mut self, character: Option<char>)
-        ensures { (bytes : List ℕ) → HasCounted bytes self.old
-            → HasCounted (bytes ++ map counted_as (option_to_list character)) self.new }
+        ensures { (rows : ℕ) (bytes : List ℕ) → HasCountedOn rows bytes self.old
+            → HasCountedOn rows (bytes ++ map counted_as (option_to_list character)) self.new }
     {
         if let Some(c) = character {
             self.count(&[counted_as(c)]);

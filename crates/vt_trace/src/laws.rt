@@ -1,7 +1,8 @@
 //! Laws of the definitions alone. A caller calls one for its clauses.
 ghost use Rattle.std.specs.Prelude.{◌≡◌, ◌++◌, List, ℕ};
 ghost use Rattle.vt_term.specs.State.{State};
-ghost use Rattle.vt_term.specs.Sound.{IsSound};
+ghost use Rattle.vt_screen.specs.declared.size.Size.{Size};
+ghost use Rattle.vt_term.specs.Sound.{IsSoundAt, IsSound};
 ghost use Rattle.vt_term.specs.Play.{play};
 ghost use Rattle.vt_trace.specs.declared.tracing.Tracer.{Tracer};
 ghost use Rattle.vt_trace.specs.Trace.{trace, tracer_all};
@@ -9,8 +10,19 @@ ghost use Rattle.vt_trace.specs.Utf8.{trace_utf8, tracer_utf8};
 ghost use Rattle.vt_utf8.specs.Decoding.{pending_after};
 ghost use Rattle.vt_utf8.specs.Play.{play_utf8};
 
-use vt_term::laws::{cuts as play_cuts, soundness};
-use vt_utf8::laws::{cuts as utf8_play_cuts, soundness as utf8_soundness};
+use vt_term::laws::{sized_cuts as play_cuts, sized_soundness};
+use vt_utf8::laws::{sized_cuts as utf8_play_cuts, sized_soundness as utf8_soundness};
+
+/// States at any size that bytes may be cut anywhere: the trace of chunks in turn is that of the chunks joined.
+pub fn sized_cuts()
+    ensures lines { (size : Size) (s : State) (t : Tracer) (a b : List ℕ) → IsSoundAt size s
+        → trace s t (a ++ b) ≡ trace s t a ++ trace (play s a).state (tracer_all s t a) b }
+    ensures tracer { (size : Size) (s : State) (t : Tracer) (a b : List ℕ) → IsSoundAt size s
+        → tracer_all s t (a ++ b) ≡ tracer_all (play s a).state (tracer_all s t a) b }
+{
+    play_cuts();
+    sized_soundness();
+}
 
 /// States that bytes may be cut anywhere: the trace of chunks in turn is that of the chunks joined.
 pub fn cuts()
@@ -19,8 +31,19 @@ pub fn cuts()
     ensures tracer { (s : State) (t : Tracer) (a b : List ℕ) → IsSound s
         → tracer_all s t (a ++ b) ≡ tracer_all (play s a).state (tracer_all s t a) b }
 {
-    play_cuts();
-    soundness();
+    sized_cuts();
+}
+
+/// States the same of UTF-8 at any size, also if a chunk ends inside a character.
+pub fn sized_utf8_cuts()
+    ensures lines { (size : Size) (s : State) (t : Tracer) (pending a b : List ℕ) → IsSoundAt size s → trace_utf8 s t pending (a ++ b)
+        ≡ trace_utf8 s t pending a
+        ++ trace_utf8 (play_utf8 s pending a).state (tracer_utf8 s t pending a) (pending_after pending a) b }
+    ensures tracer { (size : Size) (s : State) (t : Tracer) (pending a b : List ℕ) → IsSoundAt size s → tracer_utf8 s t pending (a ++ b)
+        ≡ tracer_utf8 (play_utf8 s pending a).state (tracer_utf8 s t pending a) (pending_after pending a) b }
+{
+    utf8_play_cuts();
+    utf8_soundness();
 }
 
 /// States the same of UTF-8, also if a chunk ends inside a character.
@@ -31,6 +54,5 @@ pub fn utf8_cuts()
     ensures tracer { (s : State) (t : Tracer) (pending a b : List ℕ) → IsSound s → tracer_utf8 s t pending (a ++ b)
         ≡ tracer_utf8 (play_utf8 s pending a).state (tracer_utf8 s t pending a) (pending_after pending a) b }
 {
-    utf8_play_cuts();
-    utf8_soundness();
+    sized_utf8_cuts();
 }

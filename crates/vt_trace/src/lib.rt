@@ -4,6 +4,7 @@
 mod buffer;
 mod bytes;
 mod characters;
+mod feeds;
 mod functions;
 mod items;
 pub mod laws;
@@ -11,15 +12,16 @@ mod lines;
 mod names;
 mod observer;
 mod sequences;
+pub mod sized;
 mod skipped;
 mod summary;
 mod tracing;
 mod utf8;
 
 pub use bytes::push_shown;
-pub use lines::{LINE_LIMIT, push_line};
-pub use names::{is_ignored, name};
+pub use feeds::{trace_reserved, trace_utf8_reserved};
+pub use lines::{LINE_LIMIT, push_line, push_line_on};
+pub use names::{is_ignored, name, name_on};
 pub use skipped::{First, SKIPPED_LIMIT};
 pub use summary::{SUMMARY_LIMIT, Summary};
-pub use tracing::{TRACE_LIMIT, Tracer, trace_end, trace_reserved};
-pub use utf8::trace_utf8_reserved;
+pub use tracing::{TRACE_LIMIT, Tracer, trace_end};

@@ -1,19 +1,34 @@
 //! The line of an event.
 ghost use Rattle.std.specs.Prelude.{◌≡◌, ◌+◌, ◌≤◌, ◌++◌, [], take, length, vec_len, vec_capacity};
 ghost use Rattle.vt_syntax.specs.Event.{event_of};
-ghost use Rattle.vt_trace.specs.Lines.{values_column, bytes_column, event_line};
+ghost use Rattle.vt_trace.specs.Lines.{values_column, bytes_column, event_line, event_line_on};
 
 use crate::buffer::{
     BUFFER, put, put_bytes, put_number, put_option, put_shown, put_shown_option, put_values,
 };
 use crate::bytes::{push_bytes, push_option, push_shown, push_shown_option};
-use crate::names::name;
+use crate::names::name_on;
 use vt_syntax::EventKind;
+use vt_term::ROWS;
 
 /// The most bytes of the line of an event.
 pub const LINE_LIMIT: usize = 160;
 
-/// Appends the line of an event that begins at a place, in existing capacity. `values` are those of a control sequence.
+/// Appends the line of an event on a screen of so many rows that begins at a place, in existing capacity. `values` are those of a
+/// control sequence.
+pub fn push_line_on(rows: usize, place: u64, kind: EventKind, values: &[u16], out: &mut Vec<u8>)
+    requires few { length values.now ≤ 16 }
+    requires room { vec_len out.old + LINE_LIMIT ≤ vec_capacity out.old }
+    ensures items { out.new.items ≡ out.old.items ++ event_line_on rows place (event_of kind values.now) }
+    ensures bounded { vec_len out.new ≤ vec_len out.old + LINE_LIMIT }
+    ensures capacity { vec_capacity out.old ≤ vec_capacity out.new }
+{
+    let mut buffer = [0; BUFFER];
+    let end = put_line(rows, place, kind, values, 0, &mut buffer);
+    push_bytes(&buffer[..end], out);
+}
+
+/// Appends the line of an event on a VT220 that begins at a place, in existing capacity. `values` are those of a control sequence.
 pub fn push_line(place: u64, kind: EventKind, values: &[u16], out: &mut Vec<u8>)
     requires few { length values.now ≤ 16 }
     requires room { vec_len out.old + LINE_LIMIT ≤ vec_capacity out.old }
@@ -21,15 +36,14 @@ pub fn push_line(place: u64, kind: EventKind, values: &[u16], out: &mut Vec<u8>)
     ensures bounded { vec_len out.new ≤ vec_len out.old + LINE_LIMIT }
     ensures capacity { vec_capacity out.old ≤ vec_capacity out.new }
 {
-    let mut buffer = [0; BUFFER];
-    let end = put_line(place, kind, values, 0, &mut buffer);
-    push_bytes(&buffer[..end], out);
+    push_line_on(ROWS, place, kind, values, out);
 }
 
-/// Writes the line of an event that begins at a place.
-#[tactic(auto, unfolding(crate::specs::Lines::event_line))]
+/// Writes the line of an event on a screen of so many rows that begins at a place.
+#[tactic(auto, unfolding(crate::specs::Lines::event_line_on))]
 #[inline(always)]
 pub(crate) fn put_line(
+    rows: usize,
     place: u64,
     kind: EventKind,
     values: &[u16],
@@ -38,12 +52,12 @@ pub(crate) fn put_line(
 ) -> usize
     requires few { length values.now ≤ 16 }
     requires room { at + 200 ≤ BUFFER }
-    ensures items { take result buffer.new ≡ take at buffer.old ++ event_line place (event_of kind values.now) }
+    ensures items { take result buffer.new ≡ take at buffer.old ++ event_line_on rows place (event_of kind values.now) }
     ensures bounded { result ≤ at + LINE_LIMIT }
 {
     let at = put_number(place, at, buffer);
     let at = put(b'\t', at, buffer);
-    let at = match name(kind, values) {
+    let at = match name_on(rows, kind, values) {
         Some(word) => {
             let at = put_bytes(word.as_bytes(), at, buffer);
             let at = put(b'\t', at, buffer);

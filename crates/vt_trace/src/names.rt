@@ -3,7 +3,7 @@ ghost use Rattle.std.specs.Prelude.{◌≡◌, ◌≤◌, ◌<◌, ℕ, [], leng
 ghost use Rattle.vt_syntax.specs.Event.{event_of};
 ghost use Rattle.vt_screen.specs.Grid.{last_row};
 ghost use Rattle.vt_term.specs.Functions.{designation};
-ghost use Rattle.vt_term.specs.Names.{name_of, name_with, control_name, plain_escape_name, escape_with_name, print_name};
+ghost use Rattle.vt_term.specs.Names.{name_of, name_on, name_with, control_name, plain_escape_name, escape_with_name, print_name};
 ghost use Rattle.vt_trace.specs.Ignored.{is_ignored};
 ghost use Rattle.vt_trace.specs.Names.{numbered, word_of, basic_word, sequence_word, slot_begins};
 
@@ -13,30 +13,40 @@ use crate::functions::{ControlFunction, FUNCTIONS, Sequence, word_at};
 use crate::sequences::sequence;
 use vt_glyph::Set;
 use vt_syntax::EventKind;
+use vt_term::ROWS;
 
-/// Returns the name of an event, and `None` if it is ignored. `values` are those of a control sequence.
+/// Returns the name of an event on a screen of so many rows, and `None` if it is ignored. `values` are those of a control sequence.
 #[inline(always)]
-pub fn name(kind: EventKind, values: &[u16]) -> Option<&'static str>
-    ensures word { option_copied result ≡ name_of (event_of kind values.now) }
+pub fn name_on(rows: usize, kind: EventKind, values: &[u16]) -> Option<&'static str>
+    ensures word { option_copied result ≡ name_on rows (event_of kind values.now) }
     ensures short { IfSome result (λ word. length word.now ≤ 23) }
 {
-    match index(kind, values) {
+    match index(rows, kind, values) {
         Some(index) => Some(word_at(index)),
         None => None,
     }
 }
 
-/// Returns whether an event is ignored: it leaves every state as it is, and reports nothing.
+/// Returns the name of an event on a VT220, and `None` if it is ignored. `values` are those of a control sequence.
+#[inline(always)]
+pub fn name(kind: EventKind, values: &[u16]) -> Option<&'static str>
+    ensures word { option_copied result ≡ name_of (event_of kind values.now) }
+    ensures short { IfSome result (λ word. length word.now ≤ 23) }
+{
+    name_on(ROWS, kind, values)
+}
+
+/// Returns whether an event is ignored on a VT220: it leaves every state as it is, and reports nothing.
 pub fn is_ignored(kind: EventKind, values: &[u16]) -> bool
     ensures { result ≡ is_ignored (event_of kind values.now) }
 {
     name(kind, values).is_none()
 }
 
-/// Returns the index of an event's control function, and `None` if the event is ignored.
+/// Returns the index of an event's control function on a screen of so many rows, and `None` if the event is ignored.
 #[inline(always)]
-pub(crate) fn index(kind: EventKind, values: &[u16]) -> Option<usize>
-    ensures word { option_map numbered result ≡ name_of (event_of kind values.now) }
+pub(crate) fn index(rows: usize, kind: EventKind, values: &[u16]) -> Option<usize>
+    ensures word { option_map numbered result ≡ name_on rows (event_of kind values.now) }
     ensures within { IfSome result (λ index. index < FUNCTIONS) }
 {
     match kind {
@@ -51,7 +61,7 @@ pub(crate) fn index(kind: EventKind, values: &[u16]) -> Option<usize>
             marker,
             inter,
             last,
-        } => index_of(of_sequence(sequence(marker, values, inter, last))),
+        } => index_of(of_sequence(sequence(rows, marker, values, inter, last))),
     }
 }
 

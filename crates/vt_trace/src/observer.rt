@@ -13,13 +13,13 @@ use crate::skipped::skip_all;
 use crate::tracing::{TRACE_LIMIT, Tracer, is_text, place_of, push_event, push_text_begin};
 use vt_syntax::laws::{one_split, spelled};
 use vt_syntax::{EventKind, Parser, Values};
-use vt_term::laws::happened;
-use vt_term::{Observer, SizedTerminal, Terminal};
+use vt_term::laws::sized_happened;
+use vt_term::{Observer, SizedTerminal};
 
 /// Plays the front of a chunk that isn't empty, and appends its reports and its trace: as many bytes as `out` has capacity
 /// for. Returns how many bytes it played.
 pub(crate) fn trace_front(
-    terminal: &mut Terminal,
+    terminal: &mut SizedTerminal,
     tracer: &mut Tracer,
     piece: &[u8],
     reports: &mut Vec<u8>,
@@ -40,7 +40,7 @@ pub(crate) fn trace_front(
     ensures reports_capacity { vec_capacity reports.old ≤ vec_capacity reports.new }
     ensures capacity { vec_capacity out.old ≤ vec_capacity out.new }
 {
-    happened();
+    sized_happened();
     let count = piece.len().min((out.capacity() - out.len()) / TRACE_LIMIT);
     let mut observer = Tracing {
         tracer,

@@ -2,7 +2,6 @@
 ghost use Rattle.std.specs.Prelude.{◌≡◌, ℕ, List, [], ◌∷◌, Some, None, option_map, if◌then◌else◌};
 ghost use Rattle.std.specs.List.{list_any};
 ghost use Rattle.vt_glyph.specs.LookUp.{contains};
-ghost use Rattle.vt_screen.specs.Grid.{last_row};
 ghost use Rattle.vt_term.specs.Parameters.{first, second};
 ghost use Rattle.vt_term.specs.Moving.{are_margins};
 ghost use Rattle.vt_term.specs.Modes.{ansi_modes, private_modes};
@@ -11,23 +10,24 @@ ghost use Rattle.vt_term.specs.Resets.{is_level};
 ghost use Rattle.vt_term.specs.Answers.{status_reports, private_reports};
 ghost use Rattle.vt_term.specs.Functions.{numbers_of, function_in, plain_sequences, private_sequences, greater_sequences};
 ghost use Rattle.vt_term.specs.Functions.{quote_sequences, exclamation_sequences};
-ghost use Rattle.vt_term.specs.Names.{sequence_name, name_with};
+ghost use Rattle.vt_term.specs.Names.{sequence_name_on, name_with};
 ghost use Rattle.vt_trace.specs.Names.{sequence_word};
 
 use crate::functions::Sequence::{self, *};
 
-/// Returns the name of a control sequence, if it has a function.
+/// Returns the name of a control sequence, if it has a function on a screen of so many rows.
 #[tactic(auto, unfolding(vt_term::specs::Functions::sequences_of, vt_term::specs::Names::sequence_name_on))]
 pub(crate) fn sequence(
+    rows: usize,
     marker: Option<u8>,
     values: &[u16],
     inter: Option<u8>,
     last: u8,
 ) -> Option<Sequence>
-    ensures { option_map sequence_word result ≡ sequence_name marker inter last values.now }
+    ensures { option_map sequence_word result ≡ sequence_name_on rows marker inter last values.now }
 {
     match (marker, inter) {
-        (None, None) => plain(last, values),
+        (None, None) => plain(rows, last, values),
         (Some(b'?'), None) => private(last, values),
         (Some(b'>'), None) => greater(last, values),
         (None, Some(b'"')) => quote(last, values),
@@ -58,8 +58,8 @@ fn second(values: &[u16]) -> u16
 }
 
 /// Returns the sequence without a marker and an intermediate.
-fn plain(last: u8, values: &[u16]) -> Option<Sequence>
-    ensures { option_map sequence_word result ≡ name_with last_row values.now (function_in plain_sequences last) }
+fn plain(rows: usize, last: u8, values: &[u16]) -> Option<Sequence>
+    ensures { option_map sequence_word result ≡ name_with rows values.now (function_in plain_sequences last) }
 {
     match last {
         b'@' => Some(ICH),
@@ -81,14 +81,14 @@ fn plain(last: u8, values: &[u16]) -> Option<Sequence>
         b'l' => if_takes(has_ansi_mode(values), RM),
         b'm' => if_takes(has_attribute(values), SGR),
         b'n' => if_takes(asks_for_status(first(values)), DSR),
-        b'r' => if_takes(are_margins(values), DECSTBM),
+        b'r' => if_takes(are_margins(rows, values), DECSTBM),
         _ => None,
     }
 }
 
 /// Returns the sequence after `?`.
 fn private(last: u8, values: &[u16]) -> Option<Sequence>
-    ensures { option_map sequence_word result ≡ name_with last_row values.now (function_in private_sequences last) }
+    ensures { (rows : ℕ) → option_map sequence_word result ≡ name_with rows values.now (function_in private_sequences last) }
 {
     match last {
         b'J' => if_takes(first(values) <= 2, DECSED),
@@ -102,7 +102,7 @@ fn private(last: u8, values: &[u16]) -> Option<Sequence>
 
 /// Returns the sequence after `>`.
 fn greater(last: u8, values: &[u16]) -> Option<Sequence>
-    ensures { option_map sequence_word result ≡ name_with last_row values.now (function_in greater_sequences last) }
+    ensures { (rows : ℕ) → option_map sequence_word result ≡ name_with rows values.now (function_in greater_sequences last) }
 {
     match last {
         b'c' => if_takes(first(values) == 0, DA),
@@ -112,7 +112,7 @@ fn greater(last: u8, values: &[u16]) -> Option<Sequence>
 
 /// Returns the sequence after `"`.
 fn quote(last: u8, values: &[u16]) -> Option<Sequence>
-    ensures { option_map sequence_word result ≡ name_with last_row values.now (function_in quote_sequences last) }
+    ensures { (rows : ℕ) → option_map sequence_word result ≡ name_with rows values.now (function_in quote_sequences last) }
 {
     match last {
         b'p' => if_takes(is_level(values), DECSCL),
@@ -123,7 +123,7 @@ fn quote(last: u8, values: &[u16]) -> Option<Sequence>
 
 /// Returns the sequence after `!`.
 fn exclamation(last: u8) -> Option<Sequence>
-    ensures { (values : List ℕ) → option_map sequence_word result ≡ name_with last_row values (function_in exclamation_sequences last) }
+    ensures { (rows : ℕ) (values : List ℕ) → option_map sequence_word result ≡ name_with rows values (function_in exclamation_sequences last) }
 {
     match last {
         b'p' => Some(DECSTR),
@@ -152,14 +152,14 @@ fn asks_for_private_status(p: u16) -> bool
     p == 15 || p == 26
 }
 
-/// Returns whether the top margin is above the bottom one.
-fn are_margins(values: &[u16]) -> bool
-    ensures { result ≡ are_margins last_row (first values.now) (second values.now) }
+/// Returns whether the top margin is above the bottom one, on a screen of so many rows.
+fn are_margins(rows: usize, values: &[u16]) -> bool
+    ensures { result ≡ are_margins rows (first values.now) (second values.now) }
 {
-    let top = first(values).max(1);
-    let bottom = match second(values) {
-        0 => 24,
-        row => row.min(24),
+    let top = usize::from(first(values)).max(1);
+    let bottom = match usize::from(second(values)) {
+        0 => rows,
+        row => row.min(rows),
     };
     top < bottom
 }

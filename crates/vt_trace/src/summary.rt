@@ -7,13 +7,13 @@ ghost use Rattle.std.specs.Option.{option_to_list};
 ghost use Rattle.vt_syntax.specs.declared.event.Event.{Event};
 ghost use Rattle.vt_syntax.specs.Event.{event_in, event_of};
 ghost use Rattle.vt_trace.specs.Names.{numbered};
-ghost use Rattle.vt_trace.specs.Summary.{kind_number, inter_number, marker_number, summary, count_line, ignored_line, single_line};
+ghost use Rattle.vt_trace.specs.Summary.{kind_number, inter_number, marker_number, summary_on, count_line, ignored_line, single_line};
 ghost use Rattle.vt_trace.specs.Summary.{optionally, intermediates, markers, ignored_bytes, ignored_escapes, ignored_sequences};
 ghost use Rattle.vt_trace.specs.Summary.{ignored_lines, named_lines};
 ghost use Rattle.vt_syntax.specs.Spelling.{IsEvent};
 ghost use Rattle.vt_trace.specs.Trace.{is_nothing, open_kind};
 ghost use Rattle.vt_trace.specs.Runs.{times_at};
-ghost use Rattle.vt_trace.specs.Counted.{AreCounts, HasCounted};
+ghost use Rattle.vt_trace.specs.Counted.{AreCounts, HasCounted, HasCountedOn};
 
 use crate::bytes::{push_bytes, push_number, push_shown};
 use crate::functions::{FUNCTIONS, word_at};
@@ -24,6 +24,7 @@ use crate::skipped::{kind_name, open_kind, read};
 use std::alloc::{AllocError, Global};
 use vt_syntax::laws::{one_split, spelled};
 use vt_syntax::{EventKind, Parser, Values};
+use vt_term::ROWS;
 
 /// How many kinds there are.
 const KINDS: usize = 13312;
@@ -31,6 +32,8 @@ const KINDS: usize = 13312;
 /// The counts of events by name, and of what is ignored by kind.
 #[derive(Drop)]
 pub struct Summary {
+    /// The rows of the screen.
+    rows: usize,
     parser: Parser,
     /// The C1 control that opened the string that is held, and 0 if none is.
     code: u8,
@@ -39,13 +42,21 @@ pub struct Summary {
 }
 
 impl Summary {
-    /// Returns the summary of no bytes. Allocates its memory. Returns `Err` if that fails.
+    /// Returns the summary of no bytes, for a VT220. Allocates its memory. Returns `Err` if that fails.
     pub fn new(alloc: Global) -> Result<Summary, AllocError>
         ensures { IfOk result (HasCounted []) }
+    {
+        Summary::new_on(alloc, ROWS)
+    }
+
+    /// Returns the summary of no bytes, for a screen of so many rows. Allocates its memory. Returns `Err` if that fails.
+    pub fn new_on(alloc: Global, rows: usize) -> Result<Summary, AllocError>
+        ensures { IfOk result (HasCountedOn rows []) }
     {
         one_split();
         let ignored = vec![in alloc; 0u64; KINDS]?;
         Ok(Summary {
+            rows,
             parser: Parser::new(),
             code: 0,
             ignored,
@@ -56,7 +67,7 @@ impl Summary {
     /// Counts the events of a chunk of the host's bytes, and its items without a function. It never fails, and it allocates
     /// nothing.
     pub fn count(&mut self, chunk: &[u8])
-        ensures { (bytes : List ℕ) → HasCounted bytes self.old → HasCounted (bytes ++ chunk.now) self.new }
+        ensures { (rows : ℕ) (bytes : List ℕ) → HasCountedOn rows bytes self.old → HasCountedOn rows (bytes ++ chunk.now) self.new }
     {
         one_split();
         let mut values = Values::new();
@@ -71,7 +82,8 @@ impl Summary {
         requires { 1 ≤ length piece.now }
         ensures some { 1 ≤ result }
         ensures within { result ≤ length piece.now }
-        ensures counted { (bytes : List ℕ) → HasCounted bytes self.old → HasCounted (bytes ++ take result piece.now) self.new }
+        ensures counted { (rows : ℕ) (bytes : List ℕ) → HasCountedOn rows bytes self.old
+            → HasCountedOn rows (bytes ++ take result piece.now) self.new }
     {
         let bytes = self.count_item(piece, values);
         if bytes > 0 {
@@ -88,8 +100,8 @@ impl Summary {
         requires { 1 ≤ length piece.now }
         ensures within { result ≤ length piece.now }
         ensures none { result ≡ 0 → self.new ≡ self.old }
-        ensures counted { 1 ≤ result → (bytes : List ℕ) → HasCounted bytes self.old
-            → HasCounted (bytes ++ take result piece.now) self.new }
+        ensures counted { 1 ≤ result → (rows : ℕ) (bytes : List ℕ) → HasCountedOn rows bytes self.old
+            → HasCountedOn rows (bytes ++ take result piece.now) self.new }
     {
         one_split();
         spelled();
@@ -100,7 +112,13 @@ impl Summary {
         let taken = parser.next(piece, values);
         if let Some(kind) = taken.event {
             if parser.is_between() && is_item(kind, &piece[..taken.bytes]) {
-                count_kind(kind, values.as_slice(), &mut self.ignored, &mut self.named);
+                count_kind(
+                    self.rows,
+                    kind,
+                    values.as_slice(),
+                    &mut self.ignored,
+                    &mut self.named,
+                );
                 return taken.bytes;
             }
         }
@@ -109,12 +127,13 @@ impl Summary {
 
     /// Counts the event that a byte completes, and the item without a function that it cuts off or ends.
     fn count_byte(&mut self, b: u8, values: &mut Values)
-        ensures { (bytes : List ℕ) → HasCounted bytes self.old → HasCounted (bytes ++ b ∷ []) self.new }
+        ensures { (rows : ℕ) (bytes : List ℕ) → HasCountedOn rows bytes self.old → HasCountedOn rows (bytes ++ b ∷ []) self.new }
     {
         one_split();
         let step = read(self.code, &mut self.parser, b, values);
         count_skipped(step.skipped(self.code), &mut self.ignored);
         count_event(
+            self.rows,
             step.event,
             values.as_slice(),
             &mut self.ignored,
@@ -132,7 +151,8 @@ impl Summary {
     /// never fails, and it allocates nothing.
     pub fn push_summary(&self, out: &mut Vec<u8>)
         requires { vec_len out.old + SUMMARY_LIMIT ≤ vec_capacity out.old }
-        ensures items { (bytes : List ℕ) → HasCounted bytes self.now → out.new.items ≡ out.old.items ++ summary bytes }
+        ensures items { (rows : ℕ) (bytes : List ℕ) → HasCountedOn rows bytes self.now
+            → out.new.items ≡ out.old.items ++ summary_on rows bytes }
         ensures bounded { vec_len out.new ≤ vec_len out.old + SUMMARY_LIMIT }
         ensures capacity { vec_capacity out.old ≤ vec_capacity out.new }
     {
@@ -154,8 +174,8 @@ impl Summary {
 
 /// Counts an item without a function, if there is one.
 fn count_skipped(kind: Option<u8>, ignored: &mut Vec<u64>)
-    ensures { (events : List Event) (kinds named : List ℕ) → AreCounts events kinds ignored.old.items named
-        → AreCounts events (kinds ++ option_to_list kind) ignored.new.items named }
+    ensures { (rows : ℕ) (events : List Event) (kinds named : List ℕ) → AreCounts rows events kinds ignored.old.items named
+        → AreCounts rows events (kinds ++ option_to_list kind) ignored.new.items named }
 {
     if let Some(kind) = kind {
         count_ignored(ignored, as_number(kind));
@@ -170,29 +190,36 @@ fn as_number(kind: u8) -> usize
     kind as usize
 }
 
-/// Counts an event, if there is one.
+/// Counts an event on a screen of so many rows, if there is one.
 fn count_event(
+    rows: usize,
     event: Option<EventKind>,
     values: &[u16],
     ignored: &mut Vec<u64>,
     named: &mut [u64; FUNCTIONS],
 )
     requires { IfSome event (λ kind. IsEvent (event_of kind values.now)) }
-    ensures { (events : List Event) (kinds : List ℕ) → AreCounts events kinds ignored.old.items named.old
-        → AreCounts (events ++ event_in event values.now) kinds ignored.new.items named.new }
+    ensures { (events : List Event) (kinds : List ℕ) → AreCounts rows events kinds ignored.old.items named.old
+        → AreCounts rows (events ++ event_in event values.now) kinds ignored.new.items named.new }
 {
     if let Some(kind) = event {
-        count_kind(kind, values, ignored, named);
+        count_kind(rows, kind, values, ignored, named);
     }
 }
 
-/// Counts an event.
-fn count_kind(kind: EventKind, values: &[u16], ignored: &mut Vec<u64>, named: &mut [u64; FUNCTIONS])
+/// Counts an event on a screen of so many rows.
+fn count_kind(
+    rows: usize,
+    kind: EventKind,
+    values: &[u16],
+    ignored: &mut Vec<u64>,
+    named: &mut [u64; FUNCTIONS],
+)
     requires { IsEvent (event_of kind values.now) }
-    ensures { (events : List Event) (kinds : List ℕ) → AreCounts events kinds ignored.old.items named.old
-        → AreCounts (events ++ event_of kind values.now ∷ []) kinds ignored.new.items named.new }
+    ensures { (events : List Event) (kinds : List ℕ) → AreCounts rows events kinds ignored.old.items named.old
+        → AreCounts rows (events ++ event_of kind values.now ∷ []) kinds ignored.new.items named.new }
 {
-    match index(kind, values) {
+    match index(rows, kind, values) {
         Some(index) => count_named(named, index),
         None => count_ignored(ignored, kind_number(kind)),
     }

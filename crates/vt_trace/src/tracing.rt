@@ -9,17 +9,17 @@ ghost use Rattle.vt_term.specs.Play.{play};
 ghost use Rattle.vt_term.specs.Reports.{report};
 ghost use Rattle.vt_trace.specs.Trace.{begins, place_of, is_text, text_begin, text_end, text_of, report_line, written};
 ghost use Rattle.vt_trace.specs.Trace.{tracer_at_start, between, trace, tracer_all, end_lines};
-ghost use Rattle.vt_trace.specs.Lines.{shown, event_line};
+ghost use Rattle.vt_trace.specs.Lines.{shown, event_line_on};
 
 use crate::bytes::{push_all_shown, push_bytes, push_number, push_shown};
-use crate::laws::cuts;
-use crate::lines::push_line;
+use crate::laws::sized_cuts;
+use crate::lines::{push_line, push_line_on};
 use crate::observer::trace_front;
 use crate::skipped::{First, SKIPPED_LIMIT, Step, push_open};
 use arrayvec::ArrayVec;
 use vt_syntax::{EventKind, Held};
-use vt_term::laws::cuts as play_cuts;
-use vt_term::{SizedTerminal, Terminal};
+use vt_term::SizedTerminal;
+use vt_term::laws::sized_cuts as play_cuts;
 
 /// The position of a trace between two bytes.
 #[derive(Drop)]
@@ -170,7 +170,7 @@ const _: () = prove!(TRACE_LIMIT == 420);
 /// It plays while `out` has capacity for `TRACE_LIMIT` bytes more. With so much for each byte, that is the whole chunk.
 /// `reports` has capacity for ten bytes for each byte of the chunk. It never fails, and it allocates nothing.
 pub fn trace_reserved(
-    terminal: &mut Terminal,
+    terminal: &mut SizedTerminal,
     tracer: &mut Tracer,
     chunk: &[u8],
     reports: &mut Vec<u8>,
@@ -191,7 +191,7 @@ pub fn trace_reserved(
 {
     let _ = terminal.width();
     play_cuts();
-    cuts();
+    sized_cuts();
     let mut at = 0;
     while at < chunk.len() && out.capacity() - out.len() >= TRACE_LIMIT {
         at += trace_front(terminal, tracer, &chunk[at..], reports, out);
@@ -247,7 +247,7 @@ pub(crate) fn push_event(
     requires event { IsEvent (event_of kind values.now) }
     requires room { vec_len out.old + EVENT_LIMIT ≤ vec_capacity out.old }
     ensures items { out.new.items ≡ out.old.items
-        ++ written in_text place (event_of kind values.now) (report (event_of kind values.now) terminal.now.display) }
+        ++ written terminal.now.display.grid.size.rows in_text place (event_of kind values.now) (report (event_of kind values.now) terminal.now.display) }
     ensures bounded { vec_len out.new ≤ vec_len out.old + EVENT_LIMIT }
     ensures capacity { vec_capacity out.old ≤ vec_capacity out.new }
 {
@@ -260,10 +260,11 @@ pub(crate) fn push_event(
 }
 
 /// Appends what is to be written of a graphic byte.
+#[tactic(auto, unfolding(crate::specs::Lines::event_line_on))]
 fn push_print(in_text: bool, place: u64, b: u8, out: &mut Vec<u8>)
     requires room { vec_len out.old + EVENT_LIMIT ≤ vec_capacity out.old }
-    ensures items { (reports : List ℕ)
-        → out.new.items ≡ out.old.items ++ written in_text place (Print b) reports }
+    ensures items { (rows : ℕ) (reports : List ℕ)
+        → out.new.items ≡ out.old.items ++ written rows in_text place (Print b) reports }
     ensures bounded { vec_len out.new ≤ vec_len out.old + EVENT_LIMIT }
     ensures capacity { vec_capacity out.old ≤ vec_capacity out.new }
 {
@@ -288,13 +289,13 @@ fn push_other(
     requires few { length values.now ≤ 16 }
     requires room { vec_len out.old + EVENT_LIMIT ≤ vec_capacity out.old }
     ensures items { out.new.items ≡ out.old.items ++ (text_end in_text
-        ++ (event_line place (event_of kind values.now)
+        ++ (event_line_on terminal.now.display.grid.size.rows place (event_of kind values.now)
         ++ report_line place (report (event_of kind values.now) terminal.now.display))) }
     ensures bounded { vec_len out.new ≤ vec_len out.old + EVENT_LIMIT }
     ensures capacity { vec_capacity out.old ≤ vec_capacity out.new }
 {
     push_end(in_text, out);
-    push_line(place, kind, values, out);
+    push_line_on(terminal.size().rows, place, kind, values, out);
     push_report(terminal, place, kind, values, out);
 }
 

@@ -14,10 +14,11 @@ ghost use Rattle.vt_trace.specs.Private.Traces.{TracesUtf8, beyond_lines, beyond
 use crate::bytes::push_all_shown;
 use crate::skipped::push_open;
 use crate::tracing::{TRACE_LIMIT, Tracer, push_text_begin, trace_reserved};
-use vt_term::Terminal;
-use vt_term::laws::{cuts as played_cuts, soundness as played_soundness};
-use vt_utf8::laws::{ascii, cuts as utf8_cuts, soundness};
-use vt_utf8::{Decoder, ascii_run, feed_beyond_ascii, whole_character};
+use vt_term::SizedTerminal;
+use vt_term::laws::{sized_cuts as played_cuts, sized_soundness as played_soundness};
+use vt_utf8::laws::{ascii, sized_cuts as utf8_cuts, sized_soundness};
+use vt_utf8::sized::feed_beyond_ascii;
+use vt_utf8::{Decoder, ascii_run, whole_character};
 
 /// Plays the front of a chunk of a host's UTF-8, and appends the reports to `reports` and the trace to `out`. `decoder` keeps
 /// what is pending between chunks. Returns how many bytes it played.
@@ -26,7 +27,7 @@ use vt_utf8::{Decoder, ascii_run, feed_beyond_ascii, whole_character};
 /// With so much for each byte, that is the whole chunk. `reports` has capacity for ten bytes for each byte of the chunk. It
 /// never fails, and it allocates nothing.
 pub fn trace_utf8_reserved(
-    terminal: &mut Terminal,
+    terminal: &mut SizedTerminal,
     tracer: &mut Tracer,
     decoder: &mut Decoder,
     chunk: &[u8],
@@ -51,7 +52,7 @@ pub fn trace_utf8_reserved(
 {
     let _ = terminal.width();
     utf8_cuts();
-    soundness();
+    sized_soundness();
     let mut at = 0;
     while at < chunk.len() && out.capacity() - out.len() >= TRACE_LIMIT {
         at += trace_next(terminal, tracer, decoder, &chunk[at..], reports, out);
@@ -62,7 +63,7 @@ pub fn trace_utf8_reserved(
 /// Traces the front of a chunk that isn't empty: the ASCII bytes or the character there if nothing is pending, otherwise a
 /// byte. Returns how many bytes it played.
 fn trace_next(
-    terminal: &mut Terminal,
+    terminal: &mut SizedTerminal,
     tracer: &mut Tracer,
     decoder: &mut Decoder,
     piece: &[u8],
@@ -98,7 +99,7 @@ fn trace_next(
 /// Traces the ASCII bytes at the front of a chunk that begins with one, with nothing pending. Returns how many it played.
 #[inline(always)]
 fn trace_ascii(
-    terminal: &mut Terminal,
+    terminal: &mut SizedTerminal,
     tracer: &mut Tracer,
     decoder: &Decoder,
     piece: &[u8],
@@ -129,7 +130,7 @@ fn trace_ascii(
 /// Traces a whole character beyond ASCII, of these bytes, with nothing pending.
 #[inline(always)]
 fn trace_whole(
-    terminal: &mut Terminal,
+    terminal: &mut SizedTerminal,
     tracer: &mut Tracer,
     c: char,
     bytes: &[u8],
@@ -155,7 +156,7 @@ fn trace_whole(
 
 /// Traces a byte.
 fn trace_byte(
-    terminal: &mut Terminal,
+    terminal: &mut SizedTerminal,
     tracer: &mut Tracer,
     decoder: &mut Decoder,
     b: u8,
@@ -182,7 +183,7 @@ fn trace_byte(
 
 /// Plays U+FFFD if what was pending is ill-formed.
 #[inline(always)]
-fn play_lost(terminal: &mut Terminal, lost: Option<char>, reports: &mut Vec<u8>)
+fn play_lost(terminal: &mut SizedTerminal, lost: Option<char>, reports: &mut Vec<u8>)
     requires lost { IfSome lost (λ c. c ≡ replacement) }
     requires room { vec_len reports.old + 10 ≤ vec_capacity reports.old }
     ensures state { terminal.new ≡ (play terminal.old (translated_all terminal.old (option_to_list lost))).state }
@@ -200,7 +201,7 @@ fn play_lost(terminal: &mut Terminal, lost: Option<char>, reports: &mut Vec<u8>)
 /// Plays the character that a byte completes, if it completes one, and appends what is written of the byte.
 #[inline(always)]
 fn trace_last(
-    terminal: &mut Terminal,
+    terminal: &mut SizedTerminal,
     tracer: &mut Tracer,
     b: u8,
     last: Option<char>,
@@ -232,7 +233,7 @@ fn trace_last(
 /// Plays the character that a byte completes, and appends what is written of the byte.
 #[inline(always)]
 fn trace_character(
-    terminal: &mut Terminal,
+    terminal: &mut SizedTerminal,
     tracer: &mut Tracer,
     b: u8,
     c: char,

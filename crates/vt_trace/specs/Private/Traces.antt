@@ -5,7 +5,7 @@ use Rattle.vt_utf8.specs.Private.Feeds.{FeedsUtf8}
 use Rattle.vt_trace.specs.declared.tracing.Tracer.{Tracer}
 use Rattle.vt_utf8.specs.Decoding.{pending_after}
 use Rattle.vt_trace.specs.declared.summary.Summary.{Summary}
-use Rattle.vt_trace.specs.Counted.{HasCounted}
+use Rattle.vt_trace.specs.Counted.{HasCountedOn}
 use Rattle.vt_trace.specs.Utf8.{traced_beyond, tracer_beyond, trace_utf8, tracer_utf8, counted_bytes}
 
 pub record TracesUtf8 (s : State) (t : Tracer) (pending bytes : List ℕ) (z : State) (u : Tracer) (after before out old new : List ℕ) : Type 0 where
@@ -26,4 +26,5 @@ beyond_tracer t (b ∷ bytes) = beyond_tracer (tracer_beyond t b) bytes
 -- bytes of UTF-8 were counted
 pub record CountsUtf8 (pending bytes after : List ℕ) (s u : Summary) : Type 0 where
   pub left : after ≡ pending_after pending bytes
-  pub counted : (front : List ℕ) → HasCounted front s → HasCounted (front ++ counted_bytes pending bytes) u
+  pub counted : (rows : ℕ) (front : List ℕ) → HasCountedOn rows front s
+      → HasCountedOn rows (front ++ counted_bytes pending bytes) u

@@ -1,8 +1,5 @@
-use Rattle.vt_trace.proofs.Traces.{trace-append, tracer-append}
+use Rattle.vt_screen.specs.Sizes.{vt220_size}
 use Rattle.vt_trace.proofs.laws.cuts.Goals as goal
 
-pub returns-clause-lines : goal.returns-clause-lines
-returns-clause-lines c = trace-append c.cuts.ensures.two c.cuts.ensures.none c.soundness.ensures.play
-
-pub returns-clause-tracer : goal.returns-clause-tracer
-returns-clause-tracer c = tracer-append c.cuts.ensures.two c.cuts.ensures.none c.soundness.ensures.play
+pub returns : goal.returns
+returns c = record { lines = c.sized_cuts.ensures.lines vt220_size; tracer = c.sized_cuts.ensures.tracer vt220_size }

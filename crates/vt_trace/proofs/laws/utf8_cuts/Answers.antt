@@ -1,8 +1,5 @@
-use Rattle.vt_trace.proofs.Beyond.{trace_append, tracer_append}
+use Rattle.vt_screen.specs.Sizes.{vt220_size}
 use Rattle.vt_trace.proofs.laws.utf8_cuts.Goals as goal
 
-pub returns-clause-lines : goal.returns-clause-lines
-returns-clause-lines c = trace_append c.cuts.ensures.none c.cuts.ensures.two c.cuts.ensures.pending c.soundness.ensures
-
-pub returns-clause-tracer : goal.returns-clause-tracer
-returns-clause-tracer c = tracer_append c.cuts.ensures.none c.cuts.ensures.two c.cuts.ensures.pending c.soundness.ensures
+pub returns : goal.returns
+returns c = record { lines = c.sized_utf8_cuts.ensures.lines vt220_size; tracer = c.sized_utf8_cuts.ensures.tracer vt220_size }

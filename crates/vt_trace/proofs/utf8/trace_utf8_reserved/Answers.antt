@@ -8,10 +8,11 @@ use Rattle.vt_trace.proofs.utf8.trace_utf8_reserved.Goals as goal
 
 pub loop-at-init : goal.loop-at-init
 loop-at-init c =
-    let cuts = c.cuts.ensures in
+    let size = c.args.terminal.now.display.grid.size in
+    let cuts = c.sized_cuts.ensures in
     record {
       within = omega arith;
-      traced = traces_nothing cuts.none cuts.two cuts.pending c.soundness.ensures c.args.terminal.now c.args.tracer.now
+      traced = traces_nothing (cuts.none size) (cuts.two size) cuts.pending (c.sized_soundness.ensures size) c.args.terminal.now c.args.tracer.now
           c.args.decoder.now c.args.reports.now.items c.args.out.now.items c.width.ensures.sound;
       place = omega arith;
       reports_bounded = omega arith;
@@ -23,7 +24,8 @@ loop-at-init c =
 -- one more front
 pub loop-at-preserved : goal.loop-at-preserved
 loop-at-preserved c =
-    let cuts = c.cuts.ensures in
+    let size = c.args.terminal.now.display.grid.size in
+    let cuts = c.sized_cuts.ensures in
     let was = c.loop-at.invariant in
     let made = c.trace_next-at.ensures in
     let n = c.trace_next-at.result in
@@ -34,7 +36,7 @@ loop-at-preserved c =
     let inside = simp length-drop at fits in
     let traced : TracesUtf8 c.args.terminal.now c.args.tracer.now c.args.decoder.now (take (c.loop-at.at + n) chunk) new.terminal
     new.tracer new.decoder c.args.reports.now.items new.reports.items c.args.out.now.items new.out.items =
-    rw (take-add c.loop-at.at n chunk) (traces_both cuts.none cuts.two cuts.pending c.soundness.ensures
+    rw (take-add c.loop-at.at n chunk) (traces_both (cuts.none size) (cuts.two size) cuts.pending (c.sized_soundness.ensures size)
     c.args.terminal.now c.loop-at.terminal new.terminal c.args.tracer.now c.loop-at.tracer new.tracer c.args.decoder.now
     c.loop-at.decoder new.decoder (take c.loop-at.at chunk) (take n (drop c.loop-at.at chunk)) c.args.reports.now.items
     c.loop-at.reports.items new.reports.items c.args.out.now.items c.loop-at.out.items new.out.items c.width.ensures.sound

@@ -27,7 +27,7 @@ returns c = λ s sound same events silent.
     let last = slice_index bytes (length bytes - 1) in
     let count = length-happenings s bytes in
     let lines : c.push_event.new.out.items ≡ mid ++ told_at s.display u last e =
-    told.items ∙ ap (λ n. mid ++ written u.in_text n e (report e d)) (c.place_of-place.ensures a.values.now)
+    told.items ∙ ap (λ n. mid ++ written d.grid.size.rows u.in_text n e (report e d)) (c.place_of-place.ensures a.values.now)
     ∙ ap (λ (d : Display). mid ++ told_at d u last e) (sym same) in (
       refl,
       refl,

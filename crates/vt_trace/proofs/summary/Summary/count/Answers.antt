@@ -1,5 +1,7 @@
 -- One more event is counted.
-use Rattle.std.proofs.Common.{◌++◌, take, arith, length-drop}
+use Rattle.std.proofs.Common.{◌++◌, ℕ, List, take, arith, length-drop, subst}
+use Rattle.std.proofs.lemmas.List.{take_all}
+use Rattle.vt_trace.specs.Counted.{HasCountedOn}
 use Rattle.vt_trace.proofs.Counts.{counted_more}
 use Rattle.vt_trace.proofs.Traces.{rest-of}
 use Rattle.vt_trace.proofs.summary.Summary.count.Goals as goal
@@ -10,7 +12,13 @@ loop-at-preserved c =
     let fits = rw rest at c.count_front-at.ensures.within in
     let inside = simp length-drop at fits in record {
       within = omega (arith, inside);
-      counted = λ bytes was. counted_more c.count_front-at.new.self bytes c.args.chunk.now c.loop-at.at c.count_front-at.result
-          (rw rest at (c.count_front-at.ensures.counted (bytes ++ take c.loop-at.at c.args.chunk.now)
-          (c.loop-at.invariant.counted bytes was)));
+      counted = λ rows bytes was. counted_more c.count_front-at.new.self bytes c.args.chunk.now c.loop-at.at c.count_front-at.result
+          (rw rest at (c.count_front-at.ensures.counted rows (bytes ++ take c.loop-at.at c.args.chunk.now)
+          (c.loop-at.invariant.counted rows bytes was)));
     }
+
+pub returns : goal.returns
+returns c = λ rows bytes was.
+    subst (λ (front : List ℕ). HasCountedOn rows (bytes ++ front) c.loop-at.self)
+    (take_all c.loop-at.at c.args.chunk.now (omega (arith, c.loop-at-test.false)))
+    (c.loop-at.invariant.counted rows bytes was)

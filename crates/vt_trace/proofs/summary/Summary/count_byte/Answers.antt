@@ -1,4 +1,4 @@
-use Rattle.std.proofs.Common.{List, ◌++◌, [], ◌∷◌, ◌≡◌, ℕ, Bool, sym, ap, ◌∙◌}
+use Rattle.std.proofs.Common.{List, ◌++◌, [], ◌∷◌, ◌≡◌, ℕ, Bool, sym, ap, subst, ◌∙◌}
 use Rattle.vt_syntax.specs.declared.event.Event.{Event}
 use Rattle.vt_syntax.specs.declared.held.Held.{Held}
 use Rattle.vt_syntax.specs.Split.{split_of}
@@ -9,6 +9,7 @@ use Rattle.std.specs.Option.{option_to_list}
 use Rattle.vt_trace.specs.Skipped.{code_of, item_kinds}
 use Rattle.vt_trace.specs.Trace.{is_string, cuts_off, ends_silent, code_after}
 use Rattle.vt_trace.specs.Runs.{step_kind, byte_kind}
+use Rattle.vt_trace.specs.Counted.{AreCounts}
 use Rattle.vt_trace.proofs.Counts.{events_more, held_more}
 use Rattle.vt_trace.proofs.ItemKinds.{kinds_of_byte, code_of_byte}
 use Rattle.vt_trace.proofs.summary.Summary.count_byte.Goals as goal
@@ -17,7 +18,7 @@ pub count_event-requires : goal.count_event-requires
 count_event-requires c = rw c.as_slice.ensures.value c.read-step.ensures.in_range
 
 pub returns : goal.returns
-returns c = λ bytes was.
+returns c = λ rows bytes was.
     let s = c.args.self.now in
     let held = s.parser in
     let b = c.args.b in
@@ -37,11 +38,16 @@ returns c = λ bytes was.
     let kinds : item_kinds bytes ++ option_to_list c.skipped.result ≡ item_kinds (bytes ++ byte) =
     ap (λ (l : List ℕ). item_kinds bytes ++ l) kind ∙ sym (kinds_of_byte bytes b) in
     record {
+      rows_are = was.rows_are;
       held = made.held ∙ sym (held_more held bytes byte law was.held);
       code =
           made.code ∙ ap (λ n. code_after n (is_string held) (held_from held byte) b) was.code
           ∙ ap (λ (h : Held). code_after (code_of (split_of bytes).rest) (is_string h) (held_from h byte) b) was.held
           ∙ sym (code_of_byte bytes b);
-      counts = rw (sym events, sym kinds) (c.count_event.ensures (events_of bytes) (item_kinds bytes ++ option_to_list c.skipped.result)
-          (c.count_skipped.ensures (events_of bytes) (item_kinds bytes) s.named was.counts));
+      counts = subst (λ (r : ℕ). AreCounts r (events_of (bytes ++ byte)) (item_kinds (bytes ++ byte))
+          c.count_event.new.ignored.items c.count_event.new.named) was.rows_are
+          (rw (sym events, sym kinds) (c.count_event.ensures (events_of bytes) (item_kinds bytes ++ option_to_list c.skipped.result)
+          (c.count_skipped.ensures s.rows (events_of bytes) (item_kinds bytes) s.named
+          (subst (λ (r : ℕ). AreCounts r (events_of bytes) (item_kinds bytes) s.ignored.items s.named) (sym was.rows_are)
+          was.counts))));
     }

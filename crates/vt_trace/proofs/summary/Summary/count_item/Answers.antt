@@ -1,4 +1,4 @@
-use Rattle.std.proofs.Common.{List, ◌++◌, ◌-◌, ℕ, [], ◌∷◌, ◌≡◌, take, length, sym, ap, ◌∙◌, arith, length-take, refl}
+use Rattle.std.proofs.Common.{List, ◌++◌, ◌-◌, ℕ, [], ◌∷◌, ◌≡◌, take, length, sym, ap, subst, ◌∙◌, arith, length-take, refl}
 use Rattle.vt_syntax.specs.declared.event.Event.{Event}
 use Rattle.vt_syntax.specs.declared.held.Held.{Held}
 use Rattle.vt_syntax.specs.declared.held.Held.TheVariants.{Nothing}
@@ -6,13 +6,14 @@ use Rattle.vt_syntax.specs.Event.{event_of}
 use Rattle.vt_syntax.specs.Reading.{events_of}
 use Rattle.vt_syntax.specs.Held.{held_after, held_from, events_from}
 use Rattle.vt_trace.specs.Skipped.{item_kinds}
+use Rattle.vt_trace.specs.Counted.{AreCounts}
 use Rattle.vt_trace.proofs.Counts.{events_more, held_more}
 use Rattle.vt_term.proofs.Bytes.{but-last}
 use Rattle.vt_trace.proofs.ItemKinds.{kinds_of_item, code_of_item}
 use Rattle.vt_trace.proofs.summary.Summary.count_item.Goals as goal
 
 pub returns-then-is_item-clause-counted : goal.returns-then-is_item-clause-counted
-returns-then-is_item-clause-counted c = λ some bytes was.
+returns-then-is_item-clause-counted c = λ some rows bytes was.
     let s = c.args.self.now in
     let piece = c.args.piece.now in
     let n = c.next-taken.result.bytes in
@@ -39,8 +40,13 @@ returns-then-is_item-clause-counted c = λ some bytes was.
     let kinds : item_kinds (bytes ++ item) ≡ item_kinds bytes =
     kinds_of_item spell split item e bytes (omega (arith, long, some)) between (c.if-is_item.ensures values) silent asked in
     record {
+      rows_are = was.rows_are;
       held =
           idle ∙ sym (held_more s.parser bytes item split was.held ∙ ap (λ (h : Held). held_from h item) idle ∙ ends);
       code = was.code ∙ code_of_item spell split item bytes between ends;
-      counts = rw (events, kinds) (c.count_kind.ensures (events_of bytes) (item_kinds bytes) was.counts);
+      counts = subst (λ (r : ℕ). AreCounts r (events_of (bytes ++ item)) (item_kinds (bytes ++ item)) c.count_kind.new.ignored.items
+          c.count_kind.new.named) was.rows_are
+          (rw (events, kinds) (c.count_kind.ensures (events_of bytes) (item_kinds bytes)
+          (subst (λ (r : ℕ). AreCounts r (events_of bytes) (item_kinds bytes) s.ignored.items s.named) (sym was.rows_are)
+          was.counts)));
     }

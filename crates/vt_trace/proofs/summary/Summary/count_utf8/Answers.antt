@@ -1,4 +1,7 @@
-use Rattle.std.proofs.Common.{take, drop, arith, length-drop}
+use Rattle.std.proofs.Common.{◌++◌, ℕ, List, take, drop, arith, length-drop, subst}
+use Rattle.std.proofs.lemmas.List.{take_all}
+use Rattle.vt_trace.specs.Counted.{HasCountedOn}
+use Rattle.vt_trace.specs.Utf8.{counted_bytes}
 use Rattle.std.proofs.Math.Seq.{take-add}
 use Rattle.vt_trace.proofs.Traces.{rest-of}
 use Rattle.vt_trace.proofs.CountedUtf8.{counts_none, counts_both}
@@ -23,3 +26,9 @@ loop-at-preserved c =
           (take at chunk) (take made.result (drop at chunk)) c.args.self.now c.loop-at.self made.new.self
           c.loop-at.invariant.counts (rw rest at made.ensures.counts));
     }
+
+pub returns-clause-counted : goal.returns-clause-counted
+returns-clause-counted c = λ rows bytes was.
+    subst (λ (front : List ℕ). HasCountedOn rows (bytes ++ counted_bytes c.args.decoder.now front) c.loop-at.self)
+    (take_all c.loop-at.at c.args.chunk.now (omega (arith, c.loop-at-test.false)))
+    (c.loop-at.invariant.counts.counted rows bytes was)

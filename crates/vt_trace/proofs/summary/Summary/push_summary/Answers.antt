@@ -11,7 +11,7 @@ use Rattle.vt_trace.proofs.ItemKinds.{open_rest}
 use Rattle.vt_trace.proofs.summary.Summary.push_summary.Goals as goal
 
 pub returns-clause-items : goal.returns-clause-items
-returns-clause-items c = λ bytes was.
+returns-clause-items c = λ rows bytes was.
     let s = c.args.self.now in
     summed s bytes c.args.out.now.items c.push_ignored_lines.new.out.items c.push_named_lines.new.out.items c.last.result was
     (c.last.ensures ∙ ap (λ (h : Held). cond (is_nothing h) [] (open_kind s.code ∷ [])) was.held

@@ -157,12 +157,12 @@ left_out shape before s row paper same =
     ∙ ap (λ col. cells_shown s row ++ marked shape row col)
     (eqb-true (cursor_column shape row before) (cursor_column shape row s) parts.1)
 
-seen-within : (row : ℕ) → nat_le row 24 ≡ true → row ≤ 24
-seen-within row seen = grind (arith, nat_tests, seen)
+seen-within : (row rows : ℕ) → nat_le row rows ≡ true → row ≤ rows
+seen-within row rows seen = grind (arith, nat_tests, seen)
 
 pub used_again : (before s : Display) (row : ℕ) → same_paper before s ≡ true → is_seen before s row ≡ true
     → cells_shown before (seen_at before s row) ≡ cells_shown s row
 used_again before s row paper seen =
-    let within : seen_at before s row ≤ 24 = seen-within (seen_at before s row) seen in
+    let within : seen_at before s row ≤ before.grid.size.rows = seen-within (seen_at before s row) before.grid.size.rows seen in
     shown-alike before s (seen_at before s row) row paper
-    (first_like-is (row_of s.grid row) before.grid 24 1 (omega (arith, within)))
+    (first_like-is (row_of s.grid row) before.grid before.grid.size.rows 1 (omega (arith, within)))

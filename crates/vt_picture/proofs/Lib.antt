@@ -1,3 +1,5 @@
+mod Ratios
+mod RowLimits
 mod Trimming
 mod Ranges
 mod Cutting

@@ -1,4 +1,5 @@
 pub mod Looks
+pub mod Limits
 pub mod Show
 pub mod Picture
 pub mod Animation

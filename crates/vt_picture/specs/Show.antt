@@ -4,7 +4,7 @@ use Rattle.std.specs.List.{range_with_len}
 use Rattle.vt_screen.specs.declared.cell.Rendition.{Rendition}
 use Rattle.vt_screen.specs.declared.cell.Cell.{Cell}
 use Rattle.vt_screen.specs.Cells.{plain}
-use Rattle.vt_screen.specs.Grid.{Grid, row_of, last_row}
+use Rattle.vt_screen.specs.Grid.{Grid, row_of}
 use Rattle.vt_term.specs.State.{State}
 use Rattle.vt_screen.specs.Same.{when, same_rendition}
 use Rattle.vt_picture.specs.Looks.{trimmed}
@@ -35,4 +35,4 @@ unfoldable pub shown_lines : ℕ → Grid → List ℕ
 shown_lines count g = flat_map (λ r. shown_line (row_of g r)) (range_with_len 1 count)
 
 abbrev pub show : State → List ℕ
-show s = shown_lines last_row s.display.grid
+show s = shown_lines s.display.grid.size.rows s.display.grid

@@ -1,35 +1,37 @@
 //! The screen as a picture that moves: an SVG document without a script.
-ghost use Rattle.std.specs.Prelude.{◌≡◌, ◌+◌, ◌*◌, ◌≤◌, ◌++◌, ◌∷◌, [], if◌then◌else◌, nat_lt, ℕ, ◌<◌, List, length, flat_map, vec_len, vec_capacity, OnOk, OnErr, IfOk, IsOk, slice_index_or};
-ghost use Rattle.vt_screen.specs.Grid.{last_row};
-ghost use Rattle.vt_picture.specs.Animation.{rows_drawn, screen_drawn, rows_changed, same_paper, changes_drawn, AreNumbered};
-ghost use Rattle.vt_picture.specs.Animation.{whole_paper, squeezed, frame_start, frame, number_on_screen, number_after};
-ghost use Rattle.vt_picture.specs.Animation.{title_byte, animation_start, moving_style};
+ghost use Rattle.std.specs.Prelude.{◌≡◌, ◌+◌, ◌*◌, ◌≤◌, ◌++◌, ◌∷◌, [], if◌then◌else◌, nat_lt, ℕ, ◌<◌, List, length, flat_map, vec_len, vec_capacity, OnOk, OnErr, IsOk, slice_index_or};
+ghost use Rattle.vt_screen.specs.Sizes.{IsSize};
+ghost use Rattle.vt_picture.specs.Animation.{rows_drawn, screen_drawn, rows_changed, same_paper, changes_drawn, number_then, AreNumbered};
+ghost use Rattle.vt_picture.specs.Animation.{narrow_screens, whole_paper, frame_start, frame, number_on_screen, number_after};
+ghost use Rattle.vt_picture.specs.Animation.{title_byte, moving_style};
 ghost use Rattle.vt_picture.specs.Animation.{light_colour, dark_colour, moving_start, first_start, first_screen};
 ghost use Rattle.vt_picture.specs.Animation.{animation_head, animation_end};
+ghost use Rattle.vt_picture.specs.Limits.{animation_limit, drawn_row_limit, frame_limit};
 
-use crate::document::{push_alternative, push_style};
+use crate::document::{push_alternative, push_document_start, push_style, push_title_end};
+use crate::limits::{animation_limit, frame_limit};
 use crate::looks::{CursorShape, Theme};
 use crate::rows::{
-    number_after, number_on_screen, push_changed_row, push_drawn_row, push_row_definition,
+    first_number, number_after, number_on_screen, push_changed_row, push_drawn_row,
+    push_row_definition,
 };
-use crate::runs::{fill, width_of};
+use crate::runs::fill;
+use crate::squeezing::push_squeezed;
 use std::alloc::AllocError;
 use vt_controls::{push_bytes, push_number};
-use vt_term::{ROWS, STOPS, Terminal};
+use vt_screen::{MOST, Size};
+use vt_term::{ROWS, STOPS, SizedTerminal};
 
-/// The limit of a frame in bytes: for each row 203 for each of 132 cells and 360 more, and 500 for everything else.
+/// The limit of a frame of a VT220's screen in bytes: for each row 203 for each of 132 cells and 360 more, and 500 for everything else.
 pub const FRAME_LIMIT: usize = ROWS * (203 * STOPS + 360) + 500;
 
-/// The limit in bytes of what is before the frames, without the title: the text alternative, the first screen, and 2000
+/// The limit in bytes of what is before the frames of a VT220's screen, without the title: the text alternative, the first screen, and 2000
 /// for everything else.
 pub const ANIMATION_LIMIT: usize = ROWS * (5 * STOPS + 1) + FRAME_LIMIT + 2000;
 
 const _: () = prove!(FRAME_LIMIT == 652244);
 
 const _: () = prove!(ANIMATION_LIMIT == 670108);
-
-/// The width of the narrow screen.
-const NARROW: usize = 80;
 
 /// What all frames of a picture that moves have in common.
 #[derive(Clone, Copy, Debug, PartialEq, Eq)]
@@ -47,36 +49,64 @@ fn push_rows(
     shape: CursorShape,
     duration: u64,
     frame: u32,
-    t: &Terminal,
+    t: &SizedTerminal,
     out: &mut Vec<u8>,
-) -> [u64; ROWS]
-    requires { vec_len out.old + ROWS * (203 * STOPS + 360) ≤ vec_capacity out.old }
-    ensures items { out.new.items ≡ out.old.items ++ rows_drawn shape duration frame last_row t.now.display }
-    ensures numbers { (i : ℕ) → i < last_row → slice_index_or result i 0 ≡ number_on_screen frame t.now.display (i + 1) }
-    ensures bounded { vec_len out.new ≤ vec_len out.old + ROWS * (203 * STOPS + 360) }
+) -> [u64; MOST]
+    requires { vec_len out.old + t.now.display.grid.size.rows * drawn_row_limit t.now.display.grid.size ≤ vec_capacity out.old }
+    ensures items { out.new.items ≡ out.old.items ++ rows_drawn shape duration frame t.now.display.grid.size.rows t.now.display }
+    ensures numbers { (i : ℕ) → i < t.now.display.grid.size.rows → slice_index_or result i 0 ≡ number_on_screen frame t.now.display (i + 1) }
+    ensures bounded { vec_len out.new ≤ vec_len out.old + t.now.display.grid.size.rows * drawn_row_limit t.now.display.grid.size }
     ensures capacity { vec_capacity out.old ≤ vec_capacity out.new }
 {
-    let mut numbers = [0; ROWS];
-    for row in 1..ROWS + 1 {
+    let mut numbers = [0; MOST];
+    for row in 1..t.size().rows + 1 {
         push_drawn_row(shape, duration, frame, t, row, out);
         numbers[row - 1] = number_on_screen(frame, t, row);
     }
     numbers
 }
 
+/// Returns how many narrow screens side by side are as wide as a wide one.
+fn narrow_screens(size: Size) -> usize
+    requires { IsSize size }
+    ensures value { result ≡ narrow_screens size }
+    ensures few { result ≤ 4 }
+{
+    size.wide.div_ceil(size.narrow)
+}
+
 /// Appends the paper under a whole screen, and the definition of a blank row.
 #[tactic(auto, unfolding(crate::specs::Animation::whole_paper))]
-fn push_whole_paper(duration: u64, frame: u32, reversed: bool, width: usize, out: &mut Vec<u8>)
-    requires width { width ≤ STOPS }
+fn push_whole_paper(
+    duration: u64,
+    frame: u32,
+    reversed: bool,
+    size: Size,
+    width: usize,
+    out: &mut Vec<u8>,
+)
+    requires size { IsSize size }
+    requires width { width ≤ MOST }
     requires room { vec_len out.old + 300 ≤ vec_capacity out.old }
-    ensures items { out.new.items ≡ out.old.items ++ whole_paper duration frame reversed width }
+    ensures items { out.new.items ≡ out.old.items ++ whole_paper duration frame reversed size width }
     ensures bounded { vec_len out.new ≤ vec_len out.old + 300 }
     ensures capacity { vec_capacity out.old ≤ vec_capacity out.new }
 {
     push_bytes(b"<rect", out);
     push_bytes(fill(reversed), out);
-    push_bytes(b" x='-20' y='-10' width='200%' height='100%'/>\n", out);
-    push_row_definition(duration, 32 * frame as u64, reversed, width, &[], out);
+    push_bytes(b" x='-", out);
+    push_number(10 * narrow_screens(size), out);
+    push_bytes(b"' y='-10' width='", out);
+    push_number(100 * narrow_screens(size), out);
+    push_bytes(b"%' height='100%'/>\n", out);
+    push_row_definition(
+        duration,
+        first_number(size, frame),
+        reversed,
+        width,
+        &[],
+        out,
+    );
 }
 
 /// Appends a whole screen with its paper, and returns the numbers of its rows.
@@ -85,16 +115,16 @@ fn push_screen(
     shape: CursorShape,
     duration: u64,
     frame: u32,
-    t: &Terminal,
+    t: &SizedTerminal,
     out: &mut Vec<u8>,
-) -> [u64; ROWS]
-    requires { vec_len out.old + (ROWS * (203 * STOPS + 360) + 300) ≤ vec_capacity out.old }
+) -> [u64; MOST]
+    requires { vec_len out.old + (t.now.display.grid.size.rows * drawn_row_limit t.now.display.grid.size + 300) ≤ vec_capacity out.old }
     ensures items { out.new.items ≡ out.old.items ++ screen_drawn shape duration frame t.now.display }
-    ensures numbers { (i : ℕ) → i < last_row → slice_index_or result i 0 ≡ number_on_screen frame t.now.display (i + 1) }
-    ensures bounded { vec_len out.new ≤ vec_len out.old + (ROWS * (203 * STOPS + 360) + 300) }
+    ensures numbers { (i : ℕ) → i < t.now.display.grid.size.rows → slice_index_or result i 0 ≡ number_on_screen frame t.now.display (i + 1) }
+    ensures bounded { vec_len out.new ≤ vec_len out.old + (t.now.display.grid.size.rows * drawn_row_limit t.now.display.grid.size + 300) }
     ensures capacity { vec_capacity out.old ≤ vec_capacity out.new }
 {
-    push_whole_paper(duration, frame, t.modes().decscnm, t.row(1).len(), out);
+    push_whole_paper(duration, frame, t.modes().decscnm, t.size(), t.width(), out);
     push_rows(shape, duration, frame, t, out)
 }
 
@@ -103,20 +133,22 @@ fn push_changed_rows(
     shape: CursorShape,
     duration: u64,
     frame: u32,
-    numbers: &[u64; ROWS],
-    before: &Terminal,
-    t: &Terminal,
+    numbers: &[u64],
+    before: &SizedTerminal,
+    t: &SizedTerminal,
     out: &mut Vec<u8>,
-) -> [u64; ROWS]
-    requires { vec_len out.old + ROWS * (203 * STOPS + 360) ≤ vec_capacity out.old }
-    ensures items { out.new.items ≡ out.old.items ++ rows_changed shape duration frame last_row numbers.now before.now.display t.now.display }
-    ensures numbers { (i : ℕ) → i < last_row
+) -> [u64; MOST]
+    requires size { before.now.display.grid.size ≡ t.now.display.grid.size }
+    requires numbers { length numbers.now ≡ t.now.display.grid.size.rows }
+    requires room { vec_len out.old + t.now.display.grid.size.rows * drawn_row_limit t.now.display.grid.size ≤ vec_capacity out.old }
+    ensures items { out.new.items ≡ out.old.items ++ rows_changed shape duration frame t.now.display.grid.size.rows numbers.now before.now.display t.now.display }
+    ensures numbers { (i : ℕ) → i < t.now.display.grid.size.rows
         → slice_index_or result i 0 ≡ number_after frame numbers.now before.now.display t.now.display (i + 1) }
-    ensures bounded { vec_len out.new ≤ vec_len out.old + ROWS * (203 * STOPS + 360) }
+    ensures bounded { vec_len out.new ≤ vec_len out.old + t.now.display.grid.size.rows * drawn_row_limit t.now.display.grid.size }
     ensures capacity { vec_capacity out.old ≤ vec_capacity out.new }
 {
-    let mut after = [0; ROWS];
-    for row in 1..ROWS + 1 {
+    let mut after = [0; MOST];
+    for row in 1..t.size().rows + 1 {
         let number = number_after(frame, numbers, before, t, row);
         push_changed_row(shape, duration, number, before, t, row, out);
         after[row - 1] = number;
@@ -125,7 +157,7 @@ fn push_changed_rows(
 }
 
 /// Returns whether two screens have the same width and the same paper.
-fn same_paper(before: &Terminal, t: &Terminal) -> bool
+fn same_paper(before: &SizedTerminal, t: &SizedTerminal) -> bool
     ensures { result ≡ same_paper before.now.display t.now.display }
 {
     before.modes().decscnm == t.modes().decscnm && before.width() == t.width()
@@ -136,15 +168,18 @@ fn push_changes(
     shape: CursorShape,
     duration: u64,
     frame: u32,
-    numbers: &[u64; ROWS],
-    before: &Terminal,
-    t: &Terminal,
+    numbers: &[u64],
+    before: &SizedTerminal,
+    t: &SizedTerminal,
     out: &mut Vec<u8>,
-) -> [u64; ROWS]
-    requires { vec_len out.old + (ROWS * (203 * STOPS + 360) + 300) ≤ vec_capacity out.old }
+) -> [u64; MOST]
+    requires size { before.now.display.grid.size ≡ t.now.display.grid.size }
+    requires numbers { length numbers.now ≡ t.now.display.grid.size.rows }
+    requires room { vec_len out.old + (t.now.display.grid.size.rows * drawn_row_limit t.now.display.grid.size + 300) ≤ vec_capacity out.old }
     ensures items { out.new.items ≡ out.old.items ++ changes_drawn shape duration frame numbers.now before.now.display t.now.display }
-    ensures numbers { AreNumbered frame numbers.now before.now.display t.now.display result }
-    ensures bounded { vec_len out.new ≤ vec_len out.old + (ROWS * (203 * STOPS + 360) + 300) }
+    ensures numbers { (i : ℕ) → i < t.now.display.grid.size.rows
+        → slice_index_or result i 0 ≡ number_then frame numbers.now before.now.display t.now.display (i + 1) }
+    ensures bounded { vec_len out.new ≤ vec_len out.old + (t.now.display.grid.size.rows * drawn_row_limit t.now.display.grid.size + 300) }
     ensures capacity { vec_capacity out.old ≤ vec_capacity out.new }
 {
     if same_paper(before, t) {
@@ -154,65 +189,62 @@ fn push_changes(
     }
 }
 
-/// Returns the attribute of a group that draws a screen as wide as a picture of `columns` columns.
-fn squeezed(columns: usize, width: usize) -> &'static [u8]
-    ensures value { result.now ≡ squeezed columns width }
-    ensures short { length result.now ≤ 30 }
-{
-    if width == columns {
-        b""
-    } else if width == NARROW {
-        b" transform='scale(1.65 1)'"
-    } else {
-        b" transform='scale(.60606 1)'"
-    }
-}
-
 /// Appends the start of a frame's group.
 #[tactic(auto, unfolding(crate::specs::Animation::frame_start))]
-fn push_frame_start(columns: usize, micros: u64, reversed: bool, width: usize, out: &mut Vec<u8>)
-    requires { vec_len out.old + 120 ≤ vec_capacity out.old }
-    ensures items { out.new.items ≡ out.old.items ++ frame_start columns micros reversed width }
-    ensures bounded { vec_len out.new ≤ vec_len out.old + 120 }
+fn push_frame_start(
+    size: Size,
+    columns: usize,
+    micros: u64,
+    reversed: bool,
+    width: usize,
+    out: &mut Vec<u8>,
+)
+    requires size { IsSize size }
+    requires room { vec_len out.old + 130 ≤ vec_capacity out.old }
+    ensures items { out.new.items ≡ out.old.items ++ frame_start size columns micros reversed width }
+    ensures bounded { vec_len out.new ≤ vec_len out.old + 130 }
     ensures capacity { vec_capacity out.old ≤ vec_capacity out.new }
 {
     push_bytes(b"<g class='vt220-f' style='--vt220-t:", out);
     push_number(micros, out);
     push_bytes(b"'", out);
     push_bytes(fill(!reversed), out);
-    push_bytes(squeezed(columns, width), out);
+    push_squeezed(size, columns, width, out);
     push_bytes(b">\n", out);
 }
 
 /// Appends a frame of a picture that moves: what a screen looks like after so many microseconds, drawn over the screen
-/// before. It has the rows that look different. The frames are numbered from 1. `numbers` has a number for each row, as
-/// `animation_start` or the frame before left it.
+/// before. It has the rows that look different. Both screens have the same size. The frames are numbered from 1. `numbers` has a
+/// number for each row, as `animation_start` or the frame before left it.
 ///
-/// It first reserves `FRAME_LIMIT` bytes of capacity. Returns `Err` if that fails. Then the contents of `out` and the
+/// It first reserves `frame_limit` bytes of capacity. Returns `Err` if that fails. Then the contents of `out` and the
 /// numbers are unchanged.
 #[tactic(auto, unfolding(crate::specs::Animation::frame))]
 pub fn frame(
     moving: Moving,
     number: u32,
     micros: u64,
-    numbers: &mut [u64; ROWS],
-    before: &Terminal,
-    t: &Terminal,
+    numbers: &mut [u64],
+    before: &SizedTerminal,
+    t: &SizedTerminal,
     out: &mut Vec<u8>,
 ) -> Result<(), AllocError>
+    requires size { before.now.display.grid.size ≡ t.now.display.grid.size }
+    requires numbers { length numbers.old ≡ t.now.display.grid.size.rows }
     ensures ok { OnOk result (out.new.items ≡ out.old.items
         ++ frame moving.cursor moving.duration moving.columns number micros numbers.old before.now.display t.now.display) }
     ensures numbers { OnOk result (AreNumbered number numbers.old before.now.display t.now.display numbers.new) }
     ensures err { OnErr result (out.new.items ≡ out.old.items) }
     ensures kept { OnErr result (numbers.new ≡ numbers.old) }
-    ensures has_room { vec_len out.old + FRAME_LIMIT ≤ vec_capacity out.old → IsOk result }
-    ensures bounded { vec_len out.new ≤ vec_len out.old + FRAME_LIMIT }
+    ensures has_room { vec_len out.old + frame_limit t.now.display.grid.size ≤ vec_capacity out.old → IsOk result }
+    ensures bounded { vec_len out.new ≤ vec_len out.old + frame_limit t.now.display.grid.size }
     ensures capacity { vec_capacity out.old ≤ vec_capacity out.new }
 {
-    out.reserve(FRAME_LIMIT)?;
-    let (reversed, width) = (t.modes().decscnm, t.row(1).len());
-    push_frame_start(moving.columns, micros, reversed, width, out);
-    *numbers = push_changes(
+    let size = t.size();
+    out.reserve(frame_limit(size))?;
+    let (reversed, width) = (t.modes().decscnm, t.width());
+    push_frame_start(size, moving.columns, micros, reversed, width, out);
+    let after = push_changes(
         moving.cursor,
         moving.duration,
         number,
@@ -221,31 +253,9 @@ pub fn frame(
         t,
         out,
     );
+    numbers.copy_from_slice(&after[..size.rows]);
     push_bytes(b"</g>\n", out);
     Ok(())
-}
-
-/// Appends the start of the document, up to the title.
-#[tactic(auto, unfolding(crate::specs::Animation::animation_start))]
-fn push_document_start(columns: usize, out: &mut Vec<u8>)
-    requires columns { columns ≤ STOPS }
-    requires room { vec_len out.old + 200 ≤ vec_capacity out.old }
-    ensures items { out.new.items ≡ out.old.items ++ animation_start columns }
-    ensures bounded { vec_len out.new ≤ vec_len out.old + 200 }
-    ensures capacity { vec_capacity out.old ≤ vec_capacity out.new }
-{
-    let width = width_of(columns + 2);
-    push_bytes(
-        b"<svg xmlns='http://www.w3.org/2000/svg' viewBox='-10 -10 ",
-        out,
-    );
-    push_number(width, out);
-    push_bytes(b" 452' width='", out);
-    push_number(width, out);
-    push_bytes(
-        b"' height='452' role='img' xml:space='preserve'>\n<title>",
-        out,
-    );
 }
 
 /// Appends a byte of the title that isn't &, < or >. A control character is a space.
@@ -364,15 +374,16 @@ fn push_moving_start(theme: Theme, duration: u64, out: &mut Vec<u8>)
 
 /// Appends the start of the screen at the beginning.
 #[tactic(auto, unfolding(crate::specs::Animation::first_start))]
-fn push_first_start(columns: usize, reversed: bool, width: usize, out: &mut Vec<u8>)
-    requires { vec_len out.old + 60 ≤ vec_capacity out.old }
-    ensures items { out.new.items ≡ out.old.items ++ first_start columns reversed width }
-    ensures bounded { vec_len out.new ≤ vec_len out.old + 60 }
+fn push_first_start(size: Size, columns: usize, reversed: bool, width: usize, out: &mut Vec<u8>)
+    requires size { IsSize size }
+    requires room { vec_len out.old + 80 ≤ vec_capacity out.old }
+    ensures items { out.new.items ≡ out.old.items ++ first_start size columns reversed width }
+    ensures bounded { vec_len out.new ≤ vec_len out.old + 80 }
     ensures capacity { vec_capacity out.old ≤ vec_capacity out.new }
 {
     push_bytes(b"<g", out);
     push_bytes(fill(!reversed), out);
-    push_bytes(squeezed(columns, width), out);
+    push_squeezed(size, columns, width, out);
     push_bytes(b">\n", out);
 }
 
@@ -382,61 +393,68 @@ fn push_first_screen(
     shape: CursorShape,
     duration: u64,
     columns: usize,
-    t: &Terminal,
+    t: &SizedTerminal,
     out: &mut Vec<u8>,
-) -> [u64; ROWS]
-    requires { vec_len out.old + FRAME_LIMIT ≤ vec_capacity out.old }
+) -> [u64; MOST]
+    requires { vec_len out.old + frame_limit t.now.display.grid.size ≤ vec_capacity out.old }
     ensures items { out.new.items ≡ out.old.items ++ first_screen shape duration columns t.now.display }
-    ensures numbers { (i : ℕ) → i < last_row → slice_index_or result i 0 ≡ number_on_screen 0 t.now.display (i + 1) }
-    ensures bounded { vec_len out.new ≤ vec_len out.old + FRAME_LIMIT }
+    ensures numbers { (i : ℕ) → i < t.now.display.grid.size.rows → slice_index_or result i 0 ≡ number_on_screen 0 t.now.display (i + 1) }
+    ensures bounded { vec_len out.new ≤ vec_len out.old + frame_limit t.now.display.grid.size }
     ensures capacity { vec_capacity out.old ≤ vec_capacity out.new }
 {
-    push_first_start(columns, t.modes().decscnm, t.row(1).len(), out);
+    push_first_start(t.size(), columns, t.modes().decscnm, t.width(), out);
     let numbers = push_screen(shape, duration, 0, t, out);
     push_bytes(b"</g>\n", out);
     numbers
 }
 
 /// Appends everything of a picture that moves up to its first frame: the screen at the beginning, `first`. The title is
-/// UTF-8. The text of `last`, the screen at the end, is the text alternative. `moving.columns` is its width. Returns the numbers
-/// of the rows, for the first frame.
+/// UTF-8. The text of `last`, the screen at the end, is the text alternative. Both screens have the same size. `moving.columns` is
+/// the width of `last`. `numbers` gets the numbers of the rows, for the first frame.
 ///
-/// It first reserves `ANIMATION_LIMIT` bytes of capacity, and 5 for each byte of the title. Returns `Err` if that fails. Then
-/// the contents of `out` are unchanged.
+/// It first reserves `animation_limit` bytes of capacity, and 5 for each byte of the title. Returns `Err` if that fails. Then
+/// the contents of `out` and the numbers are unchanged.
 #[tactic(auto, unfolding(crate::specs::Animation::animation_head))]
 pub fn animation_start(
     theme: Theme,
     moving: Moving,
     title: &[u8],
-    first: &Terminal,
-    last: &Terminal,
+    first: &SizedTerminal,
+    last: &SizedTerminal,
+    numbers: &mut [u64],
     out: &mut Vec<u8>,
-) -> Result<[u64; ROWS], AllocError>
-    requires { moving.columns ≤ STOPS }
+) -> Result<(), AllocError>
+    requires size { first.now.display.grid.size ≡ last.now.display.grid.size }
+    requires numbers { length numbers.old ≡ first.now.display.grid.size.rows }
+    requires columns { moving.columns ≤ MOST }
     ensures ok { OnOk result (out.new.items ≡ out.old.items
         ++ animation_head theme moving.cursor title.now moving.duration moving.columns first.now.display last.now.display) }
-    ensures numbers { IfOk result (λ numbers. (i : ℕ) → i < last_row
-        → slice_index_or numbers i 0 ≡ number_on_screen 0 first.now.display (i + 1)) }
+    ensures numbers { OnOk result ((i : ℕ) → i < first.now.display.grid.size.rows
+        → slice_index_or numbers.new i 0 ≡ number_on_screen 0 first.now.display (i + 1)) }
     ensures err { OnErr result (out.new.items ≡ out.old.items) }
-    ensures has_room { vec_len out.old + (5 * length title.now + ANIMATION_LIMIT) ≤ vec_capacity out.old → IsOk result }
-    ensures bounded { vec_len out.new ≤ vec_len out.old + (5 * length title.now + ANIMATION_LIMIT) }
+    ensures kept { OnErr result (numbers.new ≡ numbers.old) }
+    ensures has_room { vec_len out.old + (5 * length title.now + animation_limit first.now.display.grid.size) ≤ vec_capacity out.old
+        → IsOk result }
+    ensures bounded { vec_len out.new ≤ vec_len out.old + (5 * length title.now + animation_limit first.now.display.grid.size) }
     ensures capacity { vec_capacity out.old ≤ vec_capacity out.new }
 {
+    let size = first.size();
     out.reserve(
         title
             .len()
             .saturating_mul(5)
-            .saturating_add(ANIMATION_LIMIT),
+            .saturating_add(animation_limit(size)),
     )?;
-    push_document_start(moving.columns, out);
+    push_document_start(size.rows, moving.columns, out);
     push_title(title, out);
-    push_bytes(b"</title>\n<desc>", out);
+    push_title_end(out);
     push_alternative(last, out);
     push_style(out);
     push_moving_style(out);
     push_moving_start(theme, moving.duration, out);
-    let numbers = push_first_screen(moving.cursor, moving.duration, moving.columns, first, out);
-    Ok(numbers)
+    let drawn = push_first_screen(moving.cursor, moving.duration, moving.columns, first, out);
+    numbers.copy_from_slice(&drawn[..size.rows]);
+    Ok(())
 }
 
 /// Appends the end of a picture that moves. Returns `Err` if allocation fails. Then the contents of `out` are unchanged.

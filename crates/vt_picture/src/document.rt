@@ -2,17 +2,19 @@
 ghost use Rattle.std.specs.Prelude.{◌≡◌, ◌+◌, ◌*◌, ◌≤◌, ◌++◌, length, vec_len, vec_capacity, OnOk, OnErr, IsOk};
 ghost use Rattle.vt_term.specs.State.{Display};
 ghost use Rattle.vt_picture.specs.Picture.{alternative, alternative_line, cursor_picture, document_start};
-ghost use Rattle.vt_picture.specs.Picture.{group, group_start, picture, rows_picture, style};
+ghost use Rattle.vt_picture.specs.Picture.{group, group_start, picture, rows_picture, style, title_end};
+ghost use Rattle.vt_picture.specs.Limits.{alternative_limit, picture_limit, rows_limit};
 
 use crate::bytes::push_escaped;
+use crate::limits::picture_limit;
 use crate::looks::without_blank_end;
-use crate::runs::{fill, push_rectangle, push_row, width_of};
+use crate::runs::{fill, height_of, push_rectangle, push_row, width_of};
 use std::alloc::AllocError;
 use vt_controls::{push_bytes, push_number};
-use vt_screen::Cell;
-use vt_term::{ROWS, STOPS, Terminal};
+use vt_screen::{Cell, MOST};
+use vt_term::{ROWS, STOPS, SizedTerminal};
 
-/// The limit of a picture in bytes: for each row 208 for each of 132 cells and one more, and 1000 for everything else.
+/// The limit of a picture of a VT220's screen in bytes: for each row 208 for each of 132 cells and one more, and 1000 for everything else.
 pub const PICTURE_LIMIT: usize = ROWS * (208 * STOPS + 1) + 1000;
 
 const _: () = prove!(PICTURE_LIMIT == 659968);
@@ -20,27 +22,40 @@ const _: () = prove!(PICTURE_LIMIT == 659968);
 /// The attributes of the cursor's outline.
 const OUTLINE: &[u8] = b" fill='none' stroke='#e80' stroke-width='2'";
 
-/// Appends the start of the document, up to the text alternative.
+/// Appends the start of the document, up to the title.
 #[tactic(auto, unfolding(crate::specs::Picture::document_start))]
-fn push_start(columns: usize, out: &mut Vec<u8>)
-    requires columns { columns ≤ STOPS }
+pub(crate) fn push_document_start(rows: usize, columns: usize, out: &mut Vec<u8>)
+    requires rows { rows ≤ MOST }
+    requires columns { columns ≤ MOST }
     requires room { vec_len out.old + 200 ≤ vec_capacity out.old }
-    ensures items { out.new.items ≡ out.old.items ++ document_start columns }
+    ensures items { out.new.items ≡ out.old.items ++ document_start rows columns }
     ensures bounded { vec_len out.new ≤ vec_len out.old + 200 }
     ensures capacity { vec_capacity out.old ≤ vec_capacity out.new }
 {
     let width = width_of(columns + 2);
+    let height = height_of(rows);
     push_bytes(
         b"<svg xmlns='http://www.w3.org/2000/svg' viewBox='-10 -10 ",
         out,
     );
     push_number(width, out);
-    push_bytes(b" 452' width='", out);
+    push_bytes(b" ", out);
+    push_number(height, out);
+    push_bytes(b"' width='", out);
     push_number(width, out);
-    push_bytes(
-        b"' height='452' role='img' xml:space='preserve'>\n<title>VT220 screen</title>\n<desc>",
-        out,
-    );
+    push_bytes(b"' height='", out);
+    push_number(height, out);
+    push_bytes(b"' role='img' xml:space='preserve'>\n<title>", out);
+}
+
+/// Appends the end of the title, and the start of the text alternative.
+pub(crate) fn push_title_end(out: &mut Vec<u8>)
+    requires { vec_len out.old + 20 ≤ vec_capacity out.old }
+    ensures items { out.new.items ≡ out.old.items ++ title_end }
+    ensures bounded { vec_len out.new ≤ vec_len out.old + 20 }
+    ensures capacity { vec_capacity out.old ≤ vec_capacity out.new }
+{
+    push_bytes(b"</title>\n<desc>", out);
 }
 
 /// Appends the text of a row, escaped for XML, without the blank cells at its end, and LF.
@@ -57,13 +72,13 @@ fn push_alternative_line(cells: &[Cell], out: &mut Vec<u8>)
 }
 
 /// Appends the text alternative.
-pub(crate) fn push_alternative(t: &Terminal, out: &mut Vec<u8>)
-    requires { vec_len out.old + ROWS * (5 * STOPS + 1) ≤ vec_capacity out.old }
-    ensures items { out.new.items ≡ out.old.items ++ alternative ROWS t.now.display.grid }
-    ensures bounded { vec_len out.new ≤ vec_len out.old + ROWS * (5 * STOPS + 1) }
+pub(crate) fn push_alternative(t: &SizedTerminal, out: &mut Vec<u8>)
+    requires { vec_len out.old + alternative_limit t.now.display.grid.size ≤ vec_capacity out.old }
+    ensures items { out.new.items ≡ out.old.items ++ alternative t.now.display.grid.size.rows t.now.display.grid }
+    ensures bounded { vec_len out.new ≤ vec_len out.old + alternative_limit t.now.display.grid.size }
     ensures capacity { vec_capacity out.old ≤ vec_capacity out.new }
 {
-    for row in 1..ROWS + 1 {
+    for row in 1..t.size().rows + 1 {
         push_alternative_line(t.row(row), out);
     }
 }
@@ -111,26 +126,26 @@ fn push_group_start(reversed: bool, out: &mut Vec<u8>)
 }
 
 /// Appends the rows.
-fn push_rows(reversed: bool, t: &Terminal, out: &mut Vec<u8>)
-    requires { vec_len out.old + ROWS * (203 * STOPS) ≤ vec_capacity out.old }
-    ensures items { out.new.items ≡ out.old.items ++ rows_picture reversed ROWS t.now.display.grid }
-    ensures bounded { vec_len out.new ≤ vec_len out.old + ROWS * (203 * STOPS) }
+fn push_rows(reversed: bool, t: &SizedTerminal, out: &mut Vec<u8>)
+    requires { vec_len out.old + rows_limit t.now.display.grid.size ≤ vec_capacity out.old }
+    ensures items { out.new.items ≡ out.old.items ++ rows_picture reversed t.now.display.grid.size.rows t.now.display.grid }
+    ensures bounded { vec_len out.new ≤ vec_len out.old + rows_limit t.now.display.grid.size }
     ensures capacity { vec_capacity out.old ≤ vec_capacity out.new }
 {
-    for row in 1..ROWS + 1 {
+    for row in 1..t.size().rows + 1 {
         push_row(reversed, row, t.row(row), out);
     }
 }
 
 /// Appends the cursor's outline, if the cursor is shown.
-fn push_cursor(t: &Terminal, out: &mut Vec<u8>)
+fn push_cursor(t: &SizedTerminal, out: &mut Vec<u8>)
     requires { vec_len out.old + 100 ≤ vec_capacity out.old }
     ensures items { out.new.items ≡ out.old.items ++ cursor_picture t.now.display }
     ensures bounded { vec_len out.new ≤ vec_len out.old + 100 }
     ensures capacity { vec_capacity out.old ≤ vec_capacity out.new }
 {
     let cursor = t.cursor();
-    let _ = t.width();
+    let _ = t.size();
     if t.modes().dectcem {
         push_rectangle(OUTLINE, cursor.row, cursor.col, 1, out);
     }
@@ -138,10 +153,10 @@ fn push_cursor(t: &Terminal, out: &mut Vec<u8>)
 
 /// Appends the group of all that is drawn.
 #[tactic(auto, unfolding(crate::specs::Picture::group))]
-fn push_group(t: &Terminal, out: &mut Vec<u8>)
-    requires { vec_len out.old + (ROWS * (203 * STOPS) + 400) ≤ vec_capacity out.old }
+fn push_group(t: &SizedTerminal, out: &mut Vec<u8>)
+    requires { vec_len out.old + (rows_limit t.now.display.grid.size + 400) ≤ vec_capacity out.old }
     ensures items { out.new.items ≡ out.old.items ++ group t.now.display }
-    ensures bounded { vec_len out.new ≤ vec_len out.old + (ROWS * (203 * STOPS) + 400) }
+    ensures bounded { vec_len out.new ≤ vec_len out.old + (rows_limit t.now.display.grid.size + 400) }
     ensures capacity { vec_capacity out.old ≤ vec_capacity out.new }
 {
     let reversed = t.modes().decscnm;
@@ -155,30 +170,32 @@ fn push_group(t: &Terminal, out: &mut Vec<u8>)
 /// cells at its end. A column is 10 units wide and a row 18 high, and each run of cells has its position and its length. An
 /// HTML page may hold several pictures.
 ///
-/// It first reserves `PICTURE_LIMIT` bytes of capacity. Returns `Err` if that fails. Then the contents of `out` are
+/// It first reserves `picture_limit` bytes of capacity. Returns `Err` if that fails. Then the contents of `out` are
 /// unchanged.
-pub fn picture(t: &Terminal, out: &mut Vec<u8>) -> Result<(), AllocError>
+pub fn picture(t: &SizedTerminal, out: &mut Vec<u8>) -> Result<(), AllocError>
     ensures ok { OnOk result (out.new.items ≡ out.old.items ++ picture t.now) }
     ensures err { OnErr result (out.new.items ≡ out.old.items) }
-    ensures has_room { vec_len out.old + PICTURE_LIMIT ≤ vec_capacity out.old → IsOk result }
-    ensures bounded { vec_len out.new ≤ vec_len out.old + PICTURE_LIMIT }
+    ensures has_room { vec_len out.old + picture_limit t.now.display.grid.size ≤ vec_capacity out.old → IsOk result }
+    ensures bounded { vec_len out.new ≤ vec_len out.old + picture_limit t.now.display.grid.size }
     ensures capacity { vec_capacity out.old ≤ vec_capacity out.new }
 {
-    out.reserve(PICTURE_LIMIT)?;
+    out.reserve(picture_limit(t.size()))?;
     picture_reserved(t, out);
     Ok(())
 }
 
-/// Appends the screen to `out` as a picture, as [`picture`] does. `out` has capacity for `PICTURE_LIMIT` more bytes. It
+/// Appends the screen to `out` as a picture, as [`picture`] does. `out` has capacity for `picture_limit` more bytes. It
 /// never fails and allocates nothing.
 #[tactic(auto, unfolding(crate::specs::Picture::picture_of))]
-pub fn picture_reserved(t: &Terminal, out: &mut Vec<u8>)
-    requires { vec_len out.old + PICTURE_LIMIT ≤ vec_capacity out.old }
+pub fn picture_reserved(t: &SizedTerminal, out: &mut Vec<u8>)
+    requires { vec_len out.old + picture_limit t.now.display.grid.size ≤ vec_capacity out.old }
     ensures items { out.new.items ≡ out.old.items ++ picture t.now }
-    ensures bounded { vec_len out.new ≤ vec_len out.old + PICTURE_LIMIT }
+    ensures bounded { vec_len out.new ≤ vec_len out.old + picture_limit t.now.display.grid.size }
     ensures capacity { vec_capacity out.old ≤ vec_capacity out.new }
 {
-    push_start(t.row(1).len(), out);
+    push_document_start(t.size().rows, t.width(), out);
+    push_bytes(b"VT220 screen", out);
+    push_title_end(out);
     push_alternative(t, out);
     push_style(out);
     push_group(t, out);

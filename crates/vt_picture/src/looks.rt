@@ -1,5 +1,7 @@
 //! What cells look like, and what a picture does with it: its colours and its cursor.
 ghost use Rattle.std.specs.Prelude.{◌≡◌, ◌≤◌, length};
+ghost use Rattle.vt_screen.specs.Cells.{plain};
+ghost use Rattle.vt_screen.specs.Same.{same_rendition};
 ghost use Rattle.vt_picture.specs.Looks.{is_blank as is_blank_cell, trimmed};
 ghost use Rattle.vt_picture.specs.Looks.{same_look as same_look_of, same_looks as same_looks_of, is_empty as is_empty_of};
 
@@ -32,11 +34,20 @@ pub enum CursorShape {
     Hidden,
 }
 
+/// Returns whether there are no attributes.
+///
+/// Speed: without branches the compiler tests all of them as one word.
+fn is_plain(look: Rendition) -> bool
+    ensures { result ≡ same_rendition look plain }
+{
+    !(look.bold | look.underline | look.blink | look.reverse)
+}
+
 /// Returns whether a cell shows a space without attributes.
-pub(crate) fn is_blank(cell: &Cell) -> bool
+fn is_blank(cell: &Cell) -> bool
     ensures { result ≡ is_blank_cell cell.now }
 {
-    cell.glyph == Glyph::blank() && cell.rendition == Rendition::plain()
+    cell.glyph == Glyph::blank() && is_plain(cell.rendition)
 }
 
 /// Returns the row without the blank cells at its end.

@@ -1,19 +1,20 @@
 //! The rows of a picture that moves. A run is adjacent cells with the same attributes.
 ghost use Rattle.std.specs.Prelude.{◌≡◌, ◌+◌, ◌*◌, ◌≤◌, ◌++◌, ℕ, List, true, length, vec_len, vec_capacity};
-ghost use Rattle.vt_screen.specs.Grid.{last_row, row_of};
+ghost use Rattle.vt_screen.specs.Sizes.{IsSize};
+ghost use Rattle.vt_screen.specs.Grid.{row_of};
 ghost use Rattle.vt_screen.specs.Same.{when, same_rendition};
 ghost use Rattle.vt_picture.specs.Animation.{span_length, is_ended, span_attributes, span_start, span_cell, spans};
 ghost use Rattle.vt_picture.specs.Animation.{row_paper, definition_start, row_definition, row_use};
 ghost use Rattle.vt_picture.specs.Animation.{mark_attributes, is_hidden, mark_left, mark_top, mark, marked, cursor_column};
-ghost use Rattle.vt_picture.specs.Animation.{is_reversed, first_like as first_like_of, first_of_look, row_is_blank, number_on_screen};
+ghost use Rattle.vt_picture.specs.Animation.{is_reversed, first_like as first_like_of, first_of_look, row_is_blank, first_number, number_on_screen};
 ghost use Rattle.vt_picture.specs.Animation.{row_drawn, same_row, seen_at, number_after, row_changed};
 
 use crate::bytes::push_escaped;
 use crate::looks::{CursorShape, is_empty, same_looks, without_blank_end};
 use crate::runs::{fill, left_of, push_ground, push_run_attributes, top_of, width_of};
 use vt_controls::{push_bytes, push_number, push_when};
-use vt_screen::{COLUMNS, Cell, Rendition};
-use vt_term::{ROWS, Terminal};
+use vt_screen::{Cell, MOST, Rendition, Size};
+use vt_term::SizedTerminal;
 
 /// Returns whether a cell has these attributes.
 fn has_look(look: Rendition, cell: &Cell) -> bool
@@ -61,8 +62,8 @@ fn push_span_attributes(reversed: bool, look: Rendition, out: &mut Vec<u8>)
 /// Appends what comes before the characters of a run.
 #[tactic(auto, unfolding(crate::specs::Animation::span_start))]
 fn push_span_start(reversed: bool, look: Rendition, col: usize, count: usize, out: &mut Vec<u8>)
-    requires col { (1 ≤ col) × (col ≤ COLUMNS) }
-    requires count { count ≤ COLUMNS }
+    requires col { (1 ≤ col) × (col ≤ MOST) }
+    requires count { count ≤ MOST }
     requires room { vec_len out.old + 190 ≤ vec_capacity out.old }
     ensures items { out.new.items ≡ out.old.items ++ span_start reversed look col count }
     ensures bounded { vec_len out.new ≤ vec_len out.old + 190 }
@@ -89,7 +90,7 @@ fn push_span_cell(
     out: &mut Vec<u8>,
 )
     requires col { 1 ≤ col }
-    requires rest { col + length rest.now ≤ COLUMNS }
+    requires rest { col + length rest.now ≤ MOST }
     requires room { vec_len out.old + 203 ≤ vec_capacity out.old }
     ensures items { out.new.items ≡ out.old.items ++ span_cell reversed col starts cell.now rest.now }
     ensures bounded { vec_len out.new ≤ vec_len out.old + 203 }
@@ -107,7 +108,7 @@ fn push_span_cell(
 
 /// Appends the cells of a row.
 fn push_spans(reversed: bool, cells: &[Cell], out: &mut Vec<u8>)
-    requires len { length cells.now ≤ COLUMNS }
+    requires len { length cells.now ≤ MOST }
     requires room { vec_len out.old + 203 * length cells.now ≤ vec_capacity out.old }
     ensures items { out.new.items ≡ out.old.items ++ spans reversed 1 true cells.now }
     ensures bounded { vec_len out.new ≤ vec_len out.old + 203 * length cells.now }
@@ -126,7 +127,7 @@ fn push_spans(reversed: bool, cells: &[Cell], out: &mut Vec<u8>)
 /// Appends the paper under a row.
 #[tactic(auto, unfolding(crate::specs::Animation::row_paper))]
 fn push_row_paper(reversed: bool, width: usize, out: &mut Vec<u8>)
-    requires width { width ≤ COLUMNS }
+    requires width { width ≤ MOST }
     requires room { vec_len out.old + 50 ≤ vec_capacity out.old }
     ensures items { out.new.items ≡ out.old.items ++ row_paper reversed width }
     ensures bounded { vec_len out.new ≤ vec_len out.old + 50 }
@@ -164,8 +165,8 @@ pub(crate) fn push_row_definition(
     cells: &[Cell],
     out: &mut Vec<u8>,
 )
-    requires width { width ≤ COLUMNS }
-    requires len { length cells.now ≤ COLUMNS }
+    requires width { width ≤ MOST }
+    requires len { length cells.now ≤ MOST }
     requires room { vec_len out.old + (203 * length cells.now + 160) ≤ vec_capacity out.old }
     ensures items { out.new.items ≡ out.old.items ++ row_definition duration number reversed width cells.now }
     ensures bounded { vec_len out.new ≤ vec_len out.old + (203 * length cells.now + 160) }
@@ -180,7 +181,7 @@ pub(crate) fn push_row_definition(
 /// Appends the use of a row of this number in another place.
 #[tactic(auto, unfolding(crate::specs::Animation::row_use))]
 fn push_row_use(duration: u64, number: u64, row: usize, out: &mut Vec<u8>)
-    requires row { (1 ≤ row) × (row ≤ last_row) }
+    requires row { (1 ≤ row) × (row ≤ MOST) }
     requires room { vec_len out.old + 80 ≤ vec_capacity out.old }
     ensures items { out.new.items ≡ out.old.items ++ row_use duration number row }
     ensures bounded { vec_len out.new ≤ vec_len out.old + 80 }
@@ -246,8 +247,8 @@ fn mark_top(shape: CursorShape) -> u16
 /// Appends the cursor's mark.
 #[tactic(auto, unfolding(crate::specs::Animation::mark))]
 fn push_mark(shape: CursorShape, row: usize, col: usize, out: &mut Vec<u8>)
-    requires row { (1 ≤ row) × (row ≤ last_row) }
-    requires col { (1 ≤ col) × (col ≤ COLUMNS) }
+    requires row { (1 ≤ row) × (row ≤ MOST) }
+    requires col { (1 ≤ col) × (col ≤ MOST) }
     requires room { vec_len out.old + 120 ≤ vec_capacity out.old }
     ensures items { out.new.items ≡ out.old.items ++ mark shape row col }
     ensures bounded { vec_len out.new ≤ vec_len out.old + 120 }
@@ -263,12 +264,12 @@ fn push_mark(shape: CursorShape, row: usize, col: usize, out: &mut Vec<u8>)
 }
 
 /// Returns the column of the cursor, if it is shown in the row. Otherwise it returns 0.
-fn cursor_column(shape: CursorShape, row: usize, t: &Terminal) -> usize
+fn cursor_column(shape: CursorShape, row: usize, t: &SizedTerminal) -> usize
     ensures column { result ≡ cursor_column shape row t.now.display }
-    ensures within { result ≤ COLUMNS }
+    ensures within { result ≤ MOST }
 {
     let cursor = t.cursor();
-    let _ = t.width();
+    let _ = t.size();
     if !is_hidden(shape) && t.modes().dectcem && cursor.row == row {
         cursor.col
     } else {
@@ -278,8 +279,8 @@ fn cursor_column(shape: CursorShape, row: usize, t: &Terminal) -> usize
 
 /// Appends the cursor's mark in a column, unless that is 0.
 fn push_marked(shape: CursorShape, row: usize, col: usize, out: &mut Vec<u8>)
-    requires row { (1 ≤ row) × (row ≤ last_row) }
-    requires col { col ≤ COLUMNS }
+    requires row { (1 ≤ row) × (row ≤ MOST) }
+    requires col { col ≤ MOST }
     requires room { vec_len out.old + 120 ≤ vec_capacity out.old }
     ensures items { out.new.items ≡ out.old.items ++ marked shape row col }
     ensures bounded { vec_len out.new ≤ vec_len out.old + 120 }
@@ -291,11 +292,12 @@ fn push_marked(shape: CursorShape, row: usize, col: usize, out: &mut Vec<u8>)
 }
 
 /// Returns the first of the rows up to `count` that looks like these cells, and otherwise the row after them.
-fn first_like(cells: &[Cell], t: &Terminal, count: usize) -> usize
-    requires { count ≤ last_row }
+fn first_like(cells: &[Cell], t: &SizedTerminal, count: usize) -> usize
+    requires { count ≤ t.now.display.grid.size.rows }
     ensures first { result ≡ first_like_of cells.now t.now.display.grid count 1 }
     ensures within { (1 ≤ result) × (result ≤ count + 1) }
 {
+    let _ = t.size();
     let mut row = 1;
     while row <= count && !same_looks(t.row(row), cells) {
         row += 1;
@@ -304,8 +306,8 @@ fn first_like(cells: &[Cell], t: &Terminal, count: usize) -> usize
 }
 
 /// Returns the first row of a screen that looks like a row of it.
-fn first_of_look(t: &Terminal, row: usize) -> usize
-    requires { (1 ≤ row) × (row ≤ last_row) }
+fn first_of_look(t: &SizedTerminal, row: usize) -> usize
+    requires { (1 ≤ row) × (row ≤ t.now.display.grid.size.rows) }
     ensures first { result ≡ first_of_look t.now.display row }
     ensures within { (1 ≤ result) × (result ≤ row) }
 {
@@ -313,24 +315,34 @@ fn first_of_look(t: &Terminal, row: usize) -> usize
 }
 
 /// Returns whether a row is blank.
-fn row_is_blank(t: &Terminal, row: usize) -> bool
-    requires { (1 ≤ row) × (row ≤ last_row) }
+fn row_is_blank(t: &SizedTerminal, row: usize) -> bool
+    requires { (1 ≤ row) × (row ≤ t.now.display.grid.size.rows) }
     ensures { result ≡ row_is_blank t.now.display row }
 {
     is_empty(without_blank_end(t.row(row)))
 }
 
+/// Returns the first number of a frame. Each frame has more numbers than a screen has rows, so that no two have one in common.
+pub(crate) fn first_number(size: Size, frame: u32) -> u64
+    requires { IsSize size }
+    ensures number { result ≡ first_number size frame }
+    ensures small { result ≤ 263 * frame }
+{
+    (size.rows as u64 + 8) * frame as u64
+}
+
 /// Returns the number of a row of a whole screen, in a frame of this number.
-pub(crate) fn number_on_screen(frame: u32, t: &Terminal, row: usize) -> u64
-    requires { (1 ≤ row) × (row ≤ last_row) }
+pub(crate) fn number_on_screen(frame: u32, t: &SizedTerminal, row: usize) -> u64
+    requires { (1 ≤ row) × (row ≤ t.now.display.grid.size.rows) }
     ensures number { result ≡ number_on_screen frame t.now.display row }
 {
+    let first = first_number(t.size(), frame);
     let within = if row_is_blank(t, row) {
         0
     } else {
         first_of_look(t, row)
     };
-    32 * frame as u64 + within as u64
+    first + within as u64
 }
 
 /// Appends a row of a whole screen, unless it is blank, and the cursor.
@@ -339,16 +351,17 @@ pub(crate) fn push_drawn_row(
     shape: CursorShape,
     duration: u64,
     frame: u32,
-    t: &Terminal,
+    t: &SizedTerminal,
     row: usize,
     out: &mut Vec<u8>,
 )
-    requires row { (1 ≤ row) × (row ≤ last_row) }
-    requires room { vec_len out.old + (203 * COLUMNS + 360) ≤ vec_capacity out.old }
+    requires row { (1 ≤ row) × (row ≤ t.now.display.grid.size.rows) }
+    requires room { vec_len out.old + (203 * t.now.display.grid.size.wide + 360) ≤ vec_capacity out.old }
     ensures items { out.new.items ≡ out.old.items ++ row_drawn shape duration frame t.now.display row }
-    ensures bounded { vec_len out.new ≤ vec_len out.old + (203 * COLUMNS + 360) }
+    ensures bounded { vec_len out.new ≤ vec_len out.old + (203 * t.now.display.grid.size.wide + 360) }
     ensures capacity { vec_capacity out.old ≤ vec_capacity out.new }
 {
+    let _ = t.size();
     let is_blank = row_is_blank(t, row);
     let number = number_on_screen(frame, t, row);
     let is_first = !is_blank && first_of_look(t, row) == row;
@@ -362,17 +375,18 @@ fn push_if_new(
     is_new: bool,
     duration: u64,
     number: u64,
-    t: &Terminal,
+    t: &SizedTerminal,
     row: usize,
     out: &mut Vec<u8>,
 )
-    requires row { (1 ≤ row) × (row ≤ last_row) }
-    requires room { vec_len out.old + (203 * COLUMNS + 160) ≤ vec_capacity out.old }
+    requires row { (1 ≤ row) × (row ≤ t.now.display.grid.size.rows) }
+    requires room { vec_len out.old + (203 * t.now.display.grid.size.wide + 160) ≤ vec_capacity out.old }
     ensures items { out.new.items ≡ out.old.items ++ when is_new (row_definition duration number (is_reversed t.now.display)
         t.now.display.grid.width (row_of t.now.display.grid row)) }
-    ensures bounded { vec_len out.new ≤ vec_len out.old + (203 * COLUMNS + 160) }
+    ensures bounded { vec_len out.new ≤ vec_len out.old + (203 * t.now.display.grid.size.wide + 160) }
     ensures capacity { vec_capacity out.old ≤ vec_capacity out.new }
 {
+    let _ = t.size();
     if is_new {
         let cells = t.row(row);
         push_row_definition(duration, number, t.modes().decscnm, cells.len(), cells, out);
@@ -381,7 +395,7 @@ fn push_if_new(
 
 /// Appends the use of a row if it is used.
 fn push_if_used(is_used: bool, duration: u64, number: u64, row: usize, out: &mut Vec<u8>)
-    requires row { (1 ≤ row) × (row ≤ last_row) }
+    requires row { (1 ≤ row) × (row ≤ MOST) }
     requires room { vec_len out.old + 80 ≤ vec_capacity out.old }
     ensures items { out.new.items ≡ out.old.items ++ when is_used (row_use duration number row) }
     ensures bounded { vec_len out.new ≤ vec_len out.old + 80 }
@@ -393,39 +407,41 @@ fn push_if_used(is_used: bool, duration: u64, number: u64, row: usize, out: &mut
 }
 
 /// Returns whether a row looks the same on two screens.
-fn same_row(shape: CursorShape, before: &Terminal, t: &Terminal, row: usize) -> bool
-    requires { (1 ≤ row) × (row ≤ last_row) }
+fn same_row(shape: CursorShape, before: &SizedTerminal, t: &SizedTerminal, row: usize) -> bool
+    requires size { before.now.display.grid.size ≡ t.now.display.grid.size }
+    requires row { (1 ≤ row) × (row ≤ t.now.display.grid.size.rows) }
     ensures { result ≡ same_row shape before.now.display t.now.display row }
 {
     same_looks(before.row(row), t.row(row))
         && cursor_column(shape, row, before) == cursor_column(shape, row, t)
 }
 
-/// Returns the first row of the screen before that looks like a row, and otherwise 25.
-fn seen_at(before: &Terminal, t: &Terminal, row: usize) -> usize
-    requires { (1 ≤ row) × (row ≤ last_row) }
+/// Returns the first row of the screen before that looks like a row, and otherwise the row after its last.
+fn seen_at(before: &SizedTerminal, t: &SizedTerminal, row: usize) -> usize
+    requires { (1 ≤ row) × (row ≤ t.now.display.grid.size.rows) }
     ensures seen { result ≡ seen_at before.now.display t.now.display row }
-    ensures within { (1 ≤ result) × (result ≤ last_row + 1) }
+    ensures within { (1 ≤ result) × (result ≤ before.now.display.grid.size.rows + 1) }
 {
-    first_like(t.row(row), before, ROWS)
+    first_like(t.row(row), before, before.size().rows)
 }
 
 /// Returns the number of a row of a frame: that of a row of the screen before that looks like it, and otherwise a new one.
 pub(crate) fn number_after(
     frame: u32,
-    numbers: &[u64; ROWS],
-    before: &Terminal,
-    t: &Terminal,
+    numbers: &[u64],
+    before: &SizedTerminal,
+    t: &SizedTerminal,
     row: usize,
 ) -> u64
-    requires { (1 ≤ row) × (row ≤ last_row) }
+    requires numbers { length numbers.now ≡ before.now.display.grid.size.rows }
+    requires row { (1 ≤ row) × (row ≤ t.now.display.grid.size.rows) }
     ensures number { result ≡ number_after frame numbers.now before.now.display t.now.display row }
 {
     let seen = seen_at(before, t, row);
-    if seen <= ROWS {
+    if seen <= before.size().rows {
         numbers[seen - 1]
     } else {
-        32 * frame as u64 + first_of_look(t, row) as u64
+        first_number(t.size(), frame) + first_of_look(t, row) as u64
     }
 }
 
@@ -435,20 +451,21 @@ pub(crate) fn push_changed_row(
     shape: CursorShape,
     duration: u64,
     number: u64,
-    before: &Terminal,
-    t: &Terminal,
+    before: &SizedTerminal,
+    t: &SizedTerminal,
     row: usize,
     out: &mut Vec<u8>,
 )
-    requires row { (1 ≤ row) × (row ≤ last_row) }
-    requires room { vec_len out.old + (203 * COLUMNS + 360) ≤ vec_capacity out.old }
+    requires size { before.now.display.grid.size ≡ t.now.display.grid.size }
+    requires row { (1 ≤ row) × (row ≤ t.now.display.grid.size.rows) }
+    requires room { vec_len out.old + (203 * t.now.display.grid.size.wide + 360) ≤ vec_capacity out.old }
     ensures items { (frame : ℕ) → (numbers : List ℕ) → number ≡ number_after frame numbers before.now.display t.now.display row
         → out.new.items ≡ out.old.items ++ row_changed shape duration frame numbers before.now.display t.now.display row }
-    ensures bounded { vec_len out.new ≤ vec_len out.old + (203 * COLUMNS + 360) }
+    ensures bounded { vec_len out.new ≤ vec_len out.old + (203 * t.now.display.grid.size.wide + 360) }
     ensures capacity { vec_capacity out.old ≤ vec_capacity out.new }
 {
     if !same_row(shape, before, t, row) {
-        let is_new = seen_at(before, t, row) > ROWS && first_of_look(t, row) == row;
+        let is_new = seen_at(before, t, row) > before.size().rows && first_of_look(t, row) == row;
         push_if_new(is_new, duration, number, t, row, out);
         push_row_use(duration, number, row, out);
         push_marked(shape, row, cursor_column(shape, row, t), out);

@@ -1,19 +1,19 @@
 //! The cells of a picture by runs. A run is adjacent cells that aren't blank and have the same attributes.
-ghost use Rattle.std.specs.Prelude.{◌≡◌, ◌+◌, ◌*◌, ◌≤◌, ◌<◌, ◌++◌, [], length, vec_len, vec_capacity};
-ghost use Rattle.vt_screen.specs.Grid.{last_row};
+ghost use Rattle.std.specs.Prelude.{◌≡◌, ◌+◌, ◌*◌, ◌≤◌, ◌<◌, ◌++◌, [], not, length, vec_len, vec_capacity};
 ghost use Rattle.vt_screen.specs.Same.{when};
-ghost use Rattle.vt_picture.specs.Picture.{left_of, width_of, top_of, baseline_of, rectangle, goes_on as goes_on_with};
+ghost use Rattle.vt_picture.specs.Looks.{is_blank as is_blank_cell};
+ghost use Rattle.vt_picture.specs.Picture.{left_of, width_of, height_of, top_of, baseline_of, rectangle, goes_on as goes_on_with};
 ghost use Rattle.vt_picture.specs.Picture.{run_length as run_length_of, is_followed as is_followed_by, fill};
 ghost use Rattle.vt_picture.specs.Picture.{run_attributes, run_start, shown_cell, cells_picture, row_picture};
 
 use crate::bytes::push_escaped;
-use crate::looks::is_blank;
 use vt_controls::{push_bytes, push_number, push_when};
-use vt_screen::{COLUMNS, Cell, Rendition};
+use vt_glyph::Glyph;
+use vt_screen::{Cell, MOST, Rendition};
 
 /// Returns the left edge of a column, in units.
 pub(crate) fn left_of(col: usize) -> u16
-    requires { (1 ≤ col) × (col ≤ COLUMNS) }
+    requires { (1 ≤ col) × (col ≤ MOST) }
     ensures { result ≡ left_of col }
 {
     10 * (col as u16 - 1)
@@ -21,15 +21,23 @@ pub(crate) fn left_of(col: usize) -> u16
 
 /// Returns the width of `columns` columns, in units. They may have a margin of a column on each side.
 pub(crate) fn width_of(columns: usize) -> u16
-    requires { columns ≤ COLUMNS + 2 }
+    requires { columns ≤ MOST + 2 }
     ensures { result ≡ width_of columns }
 {
     10 * columns as u16
 }
 
+/// Returns the height of `rows` rows, in units, with a margin above and below them.
+pub(crate) fn height_of(rows: usize) -> u16
+    requires { rows ≤ MOST }
+    ensures { result ≡ height_of rows }
+{
+    18 * rows as u16 + 20
+}
+
 /// Returns the top edge of a row, in units.
 pub(crate) fn top_of(row: usize) -> u16
-    requires { (1 ≤ row) × (row ≤ last_row) }
+    requires { (1 ≤ row) × (row ≤ MOST) }
     ensures { result ≡ top_of row }
 {
     18 * (row as u16 - 1)
@@ -37,7 +45,7 @@ pub(crate) fn top_of(row: usize) -> u16
 
 /// Returns the baseline of a row's characters, in units.
 fn baseline_of(row: usize) -> u16
-    requires { (1 ≤ row) × (row ≤ last_row) }
+    requires { (1 ≤ row) × (row ≤ MOST) }
     ensures { result ≡ baseline_of row }
 {
     top_of(row) + 13
@@ -52,9 +60,9 @@ pub(crate) fn push_rectangle(
     count: usize,
     out: &mut Vec<u8>,
 )
-    requires row { (1 ≤ row) × (row ≤ last_row) }
-    requires col { (1 ≤ col) × (col ≤ COLUMNS) }
-    requires count { count ≤ COLUMNS }
+    requires row { (1 ≤ row) × (row ≤ MOST) }
+    requires col { (1 ≤ col) × (col ≤ MOST) }
+    requires count { count ≤ MOST }
     requires room { vec_len out.old + (54 + length attributes.now) ≤ vec_capacity out.old }
     ensures items { out.new.items ≡ out.old.items ++ rectangle attributes.now row col count }
     ensures bounded { vec_len out.new ≤ vec_len out.old + (54 + length attributes.now) }
@@ -71,11 +79,20 @@ pub(crate) fn push_rectangle(
     push_bytes(b"' height='18'/>\n", out);
 }
 
+/// Returns whether a cell shows anything but a space without attributes.
+///
+/// Speed: `is_blank` is faster where most cells are blank, and this where most cells have another glyph.
+fn is_shown(cell: &Cell) -> bool
+    ensures { result ≡ not (is_blank_cell cell.now) }
+{
+    !(cell.glyph == Glyph::blank() && cell.rendition == Rendition::plain())
+}
+
 /// Returns whether a cell continues a run of these attributes.
 fn goes_on(look: Rendition, cell: &Cell) -> bool
     ensures { result ≡ goes_on_with look cell.now }
 {
-    !is_blank(cell) && look == cell.rendition
+    is_shown(cell) && look == cell.rendition
 }
 
 /// Returns how many of these cells continue a run of these attributes.
@@ -129,9 +146,9 @@ pub(crate) fn push_run_attributes(reversed: bool, look: Rendition, out: &mut Vec
 
 /// Appends the rectangle under a run that is reversed.
 pub(crate) fn push_ground(reverse: bool, row: usize, col: usize, count: usize, out: &mut Vec<u8>)
-    requires row { (1 ≤ row) × (row ≤ last_row) }
-    requires col { (1 ≤ col) × (col ≤ COLUMNS) }
-    requires count { count ≤ COLUMNS }
+    requires row { (1 ≤ row) × (row ≤ MOST) }
+    requires col { (1 ≤ col) × (col ≤ MOST) }
+    requires count { count ≤ MOST }
     requires room { vec_len out.old + 54 ≤ vec_capacity out.old }
     ensures items { out.new.items ≡ out.old.items ++ when reverse (rectangle [] row col count) }
     ensures bounded { vec_len out.new ≤ vec_len out.old + 54 }
@@ -152,9 +169,9 @@ fn push_run_start(
     count: usize,
     out: &mut Vec<u8>,
 )
-    requires row { (1 ≤ row) × (row ≤ last_row) }
-    requires col { (1 ≤ col) × (col ≤ COLUMNS) }
-    requires count { count ≤ COLUMNS }
+    requires row { (1 ≤ row) × (row ≤ MOST) }
+    requires col { (1 ≤ col) × (col ≤ MOST) }
+    requires count { count ≤ MOST }
     requires room { vec_len out.old + 190 ≤ vec_capacity out.old }
     ensures items { out.new.items ≡ out.old.items ++ run_start reversed look row col count }
     ensures bounded { vec_len out.new ≤ vec_len out.old + 190 }
@@ -183,9 +200,9 @@ fn push_shown_cell(
     rest: &[Cell],
     out: &mut Vec<u8>,
 )
-    requires row { (1 ≤ row) × (row ≤ last_row) }
+    requires row { (1 ≤ row) × (row ≤ MOST) }
     requires col { 1 ≤ col }
-    requires rest { col + length rest.now ≤ COLUMNS }
+    requires rest { col + length rest.now ≤ MOST }
     requires room { vec_len out.old + 203 ≤ vec_capacity out.old }
     ensures items { out.new.items ≡ out.old.items ++ shown_cell reversed row col left.now cell.now rest.now }
     ensures bounded { vec_len out.new ≤ vec_len out.old + 203 }
@@ -202,9 +219,12 @@ fn push_shown_cell(
 }
 
 /// Appends the cells of a row.
+///
+/// Speed: a function of its own, so that the compiler keeps the loop's values in registers.
+#[inline(never)]
 pub(crate) fn push_row(reversed: bool, row: usize, cells: &[Cell], out: &mut Vec<u8>)
-    requires row { (1 ≤ row) × (row ≤ last_row) }
-    requires len { length cells.now ≤ COLUMNS }
+    requires row { (1 ≤ row) × (row ≤ MOST) }
+    requires len { length cells.now ≤ MOST }
     requires room { vec_len out.old + 203 * length cells.now ≤ vec_capacity out.old }
     ensures items { out.new.items ≡ out.old.items ++ row_picture reversed row cells.now }
     ensures bounded { vec_len out.new ≤ vec_len out.old + 203 * length cells.now }
@@ -216,7 +236,7 @@ pub(crate) fn push_row(reversed: bool, row: usize, cells: &[Cell], out: &mut Vec
         let left = if i == 0 { &blank } else { &cells[i - 1] };
         let cell = &cells[i];
         i += 1;
-        if !is_blank(cell) {
+        if is_shown(cell) {
             push_shown_cell(reversed, row, i, left, cell, &cells[i..], out);
         }
     }

@@ -1,15 +1,17 @@
 //! The screen as text with its attributes.
 ghost use Rattle.std.specs.Prelude.{◌≡◌, ◌+◌, ◌*◌, ◌≤◌, ◌++◌, length, vec_len, vec_capacity, OnOk, OnErr, IsOk};
 ghost use Rattle.vt_picture.specs.Show.{change, rendition_sequence, shown_line, show};
+ghost use Rattle.vt_picture.specs.Limits.{show_limit};
 
 use crate::bytes::push_glyph;
+use crate::limits::show_limit;
 use crate::looks::without_blank_end;
 use std::alloc::AllocError;
 use vt_controls::{push_bytes, push_when};
 use vt_screen::{Cell, Rendition};
-use vt_term::{ROWS, STOPS, Terminal};
+use vt_term::{ROWS, STOPS, SizedTerminal};
 
-/// The limit of a screen with its attributes in bytes. Each row has twelve for attributes and four for a character for
+/// The limit of a VT220's screen with its attributes in bytes. Each row has twelve for attributes and four for a character for
 /// each of 132 cells, twelve for the attributes at its end, and LF.
 pub const SHOW_LIMIT: usize = ROWS * (16 * STOPS + 13);
 
@@ -63,29 +65,29 @@ fn push_shown_line(cells: &[Cell], out: &mut Vec<u8>)
 /// blank cells at its end, and ends in LF. SGR comes before each change of attributes, and resets them at the end of a
 /// row.
 ///
-/// It first reserves `SHOW_LIMIT` bytes of capacity. Returns `Err` if that fails. Then the contents of `out` are
+/// It first reserves `show_limit` bytes of capacity. Returns `Err` if that fails. Then the contents of `out` are
 /// unchanged.
-pub fn show(t: &Terminal, out: &mut Vec<u8>) -> Result<(), AllocError>
+pub fn show(t: &SizedTerminal, out: &mut Vec<u8>) -> Result<(), AllocError>
     ensures ok { OnOk result (out.new.items ≡ out.old.items ++ show t.now) }
     ensures err { OnErr result (out.new.items ≡ out.old.items) }
-    ensures has_room { vec_len out.old + SHOW_LIMIT ≤ vec_capacity out.old → IsOk result }
-    ensures bounded { vec_len out.new ≤ vec_len out.old + SHOW_LIMIT }
+    ensures has_room { vec_len out.old + show_limit t.now.display.grid.size ≤ vec_capacity out.old → IsOk result }
+    ensures bounded { vec_len out.new ≤ vec_len out.old + show_limit t.now.display.grid.size }
     ensures capacity { vec_capacity out.old ≤ vec_capacity out.new }
 {
-    out.reserve(SHOW_LIMIT)?;
+    out.reserve(show_limit(t.size()))?;
     show_reserved(t, out);
     Ok(())
 }
 
-/// Appends the screen to `out` as text with its attributes, as [`show`] does. `out` has capacity for `SHOW_LIMIT` more
+/// Appends the screen to `out` as text with its attributes, as [`show`] does. `out` has capacity for `show_limit` more
 /// bytes. It never fails and allocates nothing.
-pub fn show_reserved(t: &Terminal, out: &mut Vec<u8>)
-    requires { vec_len out.old + SHOW_LIMIT ≤ vec_capacity out.old }
+pub fn show_reserved(t: &SizedTerminal, out: &mut Vec<u8>)
+    requires { vec_len out.old + show_limit t.now.display.grid.size ≤ vec_capacity out.old }
     ensures items { out.new.items ≡ out.old.items ++ show t.now }
-    ensures bounded { vec_len out.new ≤ vec_len out.old + SHOW_LIMIT }
+    ensures bounded { vec_len out.new ≤ vec_len out.old + show_limit t.now.display.grid.size }
     ensures capacity { vec_capacity out.old ≤ vec_capacity out.new }
 {
-    for row in 1..ROWS + 1 {
+    for row in 1..t.size().rows + 1 {
         push_shown_line(t.row(row), out);
     }
 }

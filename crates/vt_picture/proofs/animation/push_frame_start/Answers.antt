@@ -6,9 +6,8 @@ pub returns-clause-items : goal.returns-clause-items
 unfolding frame_start
 returns-clause-items c =
     rw (
-      c.push_bytes-5.ensures.items,
       c.push_bytes-4.ensures.items,
-      c.squeezed.ensures.value,
+      c.push_squeezed.ensures.items,
       c.push_bytes-3.ensures.items,
       c.fill.ensures.fill,
       c.push_bytes-2.ensures.items,

@@ -5,6 +5,6 @@ use Rattle.vt_picture.proofs.document.push_rows.Given as goal
 abbrev pub invariant-loop-row : goal.invariant-loop-row
 invariant-loop-row l = record {
   items : l.out.items ≡ l.fn.out.items ++ rows_picture l.reversed (l.row - 1) l.t.display.grid;
-  bounded : vec_len l.out ≤ vec_len l.fn.out + 26796 * (l.row - 1);
+  bounded : vec_len l.out ≤ vec_len l.fn.out + (l.row - 1) * (203 * l.t.display.grid.size.wide);
   capacity : vec_capacity l.fn.out ≤ vec_capacity l.out;
 }

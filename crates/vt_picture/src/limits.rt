@@ -1,0 +1,51 @@
+//! The most bytes of what is made of a screen of a size.
+ghost use Rattle.std.specs.Prelude.{◌≡◌};
+ghost use Rattle.vt_screen.specs.Sizes.{IsSize};
+ghost use Rattle.vt_picture.specs.Limits.{alternative_limit, animation_limit, drawn_row_limit, frame_limit};
+ghost use Rattle.vt_picture.specs.Limits.{picture_limit, show_limit};
+
+use vt_screen::Size;
+
+/// Returns the limit of a screen with its attributes in bytes. Each row has twelve for attributes and four for a character for
+/// each cell of the wide screen, twelve for the attributes at its end, and LF.
+pub fn show_limit(size: Size) -> usize
+    requires { IsSize size }
+    ensures { result ≡ show_limit size }
+{
+    size.rows * (16 * size.wide + 13)
+}
+
+/// Returns the limit of a text alternative in bytes: for each row five for each cell of the wide screen, and LF.
+fn alternative_limit(size: Size) -> usize
+    requires { IsSize size }
+    ensures { result ≡ alternative_limit size }
+{
+    size.rows * (5 * size.wide + 1)
+}
+
+/// Returns the limit of a picture in bytes: for each row 208 for each cell of the wide screen and one more, and 1000 for
+/// everything else.
+pub fn picture_limit(size: Size) -> usize
+    requires { IsSize size }
+    ensures { result ≡ picture_limit size }
+{
+    alternative_limit(size) + size.rows * (203 * size.wide) + 1000
+}
+
+/// Returns the limit of a frame in bytes: for each row 203 for each cell of the wide screen and 360 more, and 500 for everything
+/// else.
+pub fn frame_limit(size: Size) -> usize
+    requires { IsSize size }
+    ensures { result ≡ frame_limit size }
+{
+    size.rows * (203 * size.wide + 360) + 500
+}
+
+/// Returns the limit in bytes of what is before the frames, without the title: the text alternative, the first screen, and 2000
+/// for everything else.
+pub fn animation_limit(size: Size) -> usize
+    requires { IsSize size }
+    ensures { result ≡ animation_limit size }
+{
+    alternative_limit(size) + frame_limit(size) + 2000
+}

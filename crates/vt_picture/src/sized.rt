@@ -1,0 +1,5 @@
+//! The calls for a terminal of any size.
+pub use crate::animation::{animation_start, frame};
+pub use crate::document::{picture, picture_reserved};
+pub use crate::limits::{animation_limit, frame_limit, picture_limit, show_limit};
+pub use crate::showing::{show, show_reserved};

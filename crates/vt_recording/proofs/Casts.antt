@@ -12,7 +12,8 @@ use Rattle.vt_recording.specs.Characters.{AreWritten}
 use Rattle.vt_recording.specs.declared.format.Break.{Break}
 use Rattle.vt_recording.specs.Taken.{IsOfCast, in_recording}
 use Rattle.vt_recording.specs.Lines.{lines_of, put_before, front_by, front_line}
-use Rattle.vt_recording.specs.Asciicast.{Cast, after, and_then, time_behind, heard_in, is_silent, event_in, cast_of, cast_by, cast_from, asciicast, version_in, trimmed, json_text, start_of, Event}
+use Rattle.json.specs.Json.{Items}
+use Rattle.vt_recording.specs.Asciicast.{Cast, after, and_then, time_behind, heard_in, is_silent, event_in, cast_of, cast_by, cast_by_frames, cast_from, asciicast, frames_in, version_in, trimmed, json_text, start_of, Event}
 
 -- the place of the first LF, or the length
 abbrev pub feed_at : List ℕ → ℕ
@@ -82,19 +83,24 @@ module _ (version : ℕ) (until : Option ℕ) where
       ap (cast_of version until clock at) (lines_cut xs) ∙ cut_front clock at xs (feed_at xs) _ refl
 
 -- a line that breaks the format has no characters
-nothing_heard : (silent : Bool) (event : Option Event) (version : ℕ) (until : Option ℕ) (clock : ℕ)
+pub nothing_heard : (silent : Bool) (event : Option Event) (version : ℕ) (until : Option ℕ) (clock : ℕ)
     → None ≡ time_behind silent event version clock → heard_in silent event version until clock ≡ []
 nothing_heard true event version until clock t = refl
 nothing_heard false None version until clock t = refl
 nothing_heard false (Some e) version until clock t = grind (arith, t)
 
-pub record Played (version : ℕ) (encoding : Encoding) (until : Option Moment) (text : List ℕ) (clock at : ℕ) (whole : Cast) (bytes : List ℕ)
-    (replaced : ℕ) : Type 0 where
+-- these are the bytes before the rest
+pub record IsPlayed (encoding : Encoding) (until : Option Moment) (whole rest : Cast) (bytes : List ℕ) (replaced : ℕ) : Type 0 where
   pub front : List ℕ
-  pub ahead : whole ≡ after front (cast_of version (micros_of until) clock at (lines_of (drop at text)))
+  pub ahead : whole ≡ after front rest
   pub written : AreWritten encoding until front bytes replaced
 
-after_both : (p q : List ℕ) (cast : Cast) → after p (after q cast) ≡ after (p ++ q) cast
+abbrev pub Played : (version : ℕ) (encoding : Encoding) (until : Option Moment) (text : List ℕ) (clock at : ℕ) (whole : Cast) (bytes : List ℕ)
+    (replaced : ℕ) → Type 0
+Played version encoding until text clock at whole bytes replaced =
+    IsPlayed encoding until whole (cast_of version (micros_of until) clock at (lines_of (drop at text))) bytes replaced
+
+pub after_both : (p q : List ℕ) (cast : Cast) → after p (after q cast) ≡ after (p ++ q) cast
 after_both p q cast =
     ap (λ (l : List ℕ). record { characters = l; broken = cast.broken }) (sym (append_assoc p q cast.characters))
 
@@ -105,7 +111,7 @@ cut_nothing (Some (moment.Event n)) = refl
 cut_nothing (Some (moment.Marker n)) = refl
 cut_nothing (Some (moment.Bytes n)) = take_all n [] (omega arith)
 
-nothing_written : (encoding : Encoding) (until : Option Moment) → AreWritten encoding until [] [] 0
+pub nothing_written : (encoding : Encoding) (until : Option Moment) → AreWritten encoding until [] [] 0
 nothing_written Dec until = rw (cut_nothing until) (record { bytes_are = refl; replaced_are = refl })
 nothing_written Utf8 until = (sym (cut_nothing until), refl)
 
@@ -173,29 +179,31 @@ module _ (version : ℕ) (encoding : Encoding) (until : Option Moment) (text : L
       (ap (λ (l : List ℕ). cast_of version (micros_of until) clock at (lines_of l)) (drop_all at text h)) p.written
 
 -- the header and the lines after it
-by_version : (version : Option ℕ) (until : Option ℕ) (at : ℕ)
-    → cast_by version until at [] ≡ cast_by version until at (lines_of [])
+by_version : (version : Option ℕ) (frames : Option Items) (until : Option ℕ) (at : ℕ)
+    → cast_by version frames until at [] ≡ cast_by version frames until at (lines_of [])
 unfolding cast_of lines_of
-by_version None until at = refl
-by_version (Some version) until at = refl
+by_version None frames until at = refl
+by_version (Some version) frames until at = refl
 
-cut_header : (until : Option ℕ) (start : ℕ) (xs : List ℕ) (n : ℕ) (is : Bool) → nat_lt n (length xs) ≡ is
-    → cast_from until start (cut_at (place n (length xs)) xs)
-    ≡ cast_by (version_in (front_by (place n (length xs)) xs)) until (start + (length (front_by (place n (length xs)) xs) + 1))
-    (lines_of (drop (length (front_by (place n (length xs)) xs) + 1) xs))
-cut_header until start xs n false is =
-    let all : drop (length xs + 1) xs ≡ [] = drop_all (length xs + 1) xs (omega arith) in
-    rw is (by_version (version_in xs) until (start + (length xs + 1))
-    ∙ ap (λ (l : List ℕ). cast_by (version_in xs) until (start + (length xs + 1)) (lines_of l)) (sym all))
-cut_header until start xs n true is =
-    let small : n ≤ length xs = grind (arith, nat_tests, is) in
-    rw (is, length-take-le n xs small) refl
+module _ (frames : Option Items) (until : Option ℕ) where
+  cut_header : (start : ℕ) (xs : List ℕ) (n : ℕ) (is : Bool) → nat_lt n (length xs) ≡ is
+      → cast_from frames until start (cut_at (place n (length xs)) xs)
+      ≡ cast_by (version_in (front_by (place n (length xs)) xs)) frames until
+      (start + (length (front_by (place n (length xs)) xs) + 1))
+      (lines_of (drop (length (front_by (place n (length xs)) xs) + 1) xs))
+  cut_header start xs n false is =
+      let all : drop (length xs + 1) xs ≡ [] = drop_all (length xs + 1) xs (omega arith) in
+      rw is (by_version (version_in xs) frames until (start + (length xs + 1))
+      ∙ ap (λ (l : List ℕ). cast_by (version_in xs) frames until (start + (length xs + 1)) (lines_of l)) (sym all))
+  cut_header start xs n true is =
+      let small : n ≤ length xs = grind (arith, nat_tests, is) in
+      rw (is, length-take-le n xs small) refl
 
-of_header : (until : Option ℕ) (start : ℕ) (xs : List ℕ)
-    → cast_from until start (lines_of xs)
-    ≡ cast_by (version_in (front_line xs)) until (start + (length (front_line xs) + 1))
-    (lines_of (drop (length (front_line xs) + 1) xs))
-of_header until start xs = ap (cast_from until start) (lines_cut xs) ∙ cut_header until start xs (feed_at xs) _ refl
+  of_header : (start : ℕ) (xs : List ℕ)
+      → cast_from frames until start (lines_of xs)
+      ≡ cast_by (version_in (front_line xs)) frames until (start + (length (front_line xs) + 1))
+      (lines_of (drop (length (front_line xs) + 1) xs))
+  of_header start xs = ap (cast_from frames until start) (lines_cut xs) ∙ cut_header start xs (feed_at xs) _ refl
 
 -- an end of a list, by its length
 end_at : (count : ℕ) (xs : List ℕ) (is : Bool) → nat_le count (length xs) ≡ is
@@ -229,14 +237,20 @@ module _ (encoding : Encoding) (until : Option Moment) (bytes header content : L
       ∙ ap (λ n. drop n bytes) (sym follows)
 
   by_header : (version : Option ℕ) → version ≡ version_in header
-      → asciicast (micros_of until) bytes ≡ cast_by version (micros_of until) from (lines_of (drop from bytes))
-  by_header version v = rw (v, ← behind_header, follows, is) (of_header (micros_of until) (start_of bytes) (json_text bytes))
+      → asciicast (micros_of until) bytes
+      ≡ cast_by version (frames_in (json_text bytes)) (micros_of until) from (lines_of (drop from bytes))
+  by_header version v =
+      rw (v, ← behind_header, follows, is)
+      (of_header (frames_in (json_text bytes)) (micros_of until) (start_of bytes) (json_text bytes))
 
-  pub taken_none : None ≡ version_in header → content ≡ [] → replaced ≡ 0 → broken ≡ in_recording (Some 0)
+  pub taken_none : (at : Option ℕ) → None ≡ version_in header
+      → at ≡ (cast_by_frames (micros_of until) (frames_in (json_text bytes))).broken
+      → AreWritten encoding until (cast_by_frames (micros_of until) (frames_in (json_text bytes))).characters content replaced
+      → broken ≡ in_recording at
       → IsOfCast (asciicast (micros_of until) bytes) encoding until content broken replaced
-  taken_none v c r b = rw (by_header None v) (record {
-    wanted = rw (c, r) (nothing_written encoding until);
-    breaks = b;
+  taken_none at v b w is_at = rw (by_header None v) (record {
+    wanted = w;
+    breaks = is_at ∙ ap in_recording b;
   })
 
   pub taken_some : (version : ℕ) (at : Option ℕ) → Some version ≡ version_in header

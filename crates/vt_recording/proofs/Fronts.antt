@@ -4,6 +4,7 @@ use Rattle.std.proofs.lemmas.List.{length-take-le, drop_all, drop-drop}
 use Rattle.std.specs.List.{flat_map}
 use Rattle.std.proofs.Math.Seq.{take-append_seam, drop-append_seam}
 use Rattle.std.proofs.lemmas.Bool.Decides.{nat_tests}
+use Rattle.json.specs.Json.{Items}
 use Rattle.vt_recording.specs.declared.format.Break.{Break}
 use Rattle.vt_recording.specs.declared.timeline.Event as declared
 use Rattle.vt_recording.specs.Lines.{lines_of, front_by, front_line}
@@ -11,7 +12,7 @@ use Rattle.vt_recording.specs.Timeline.{Event, Timeline, after, ends_at, and_the
 use Rattle.vt_recording.specs.Timing.{Spot, break_in, spot_after, is_empty, step_in}
 use Rattle.vt_recording.specs.declared.timeline.Timeline as read
 use Rattle.vt_recording.specs.Gathered.{AreGathered, IsRead, mark_of, events_of, timeline_view}
-use Rattle.vt_recording.specs.Asciicast.{is_silent, event_in, time_behind, json_text, start_of, version_in}
+use Rattle.vt_recording.specs.Asciicast.{is_silent, event_in, time_behind, frames_in, json_text, start_of, version_in}
 use Rattle.vt_recording.specs.Asciicast as cast
 use Rattle.vt_recording.specs.Taken.{in_recording}
 use Rattle.vt_recording.proofs.Casts.{feed_at, cut_at, place, lines_cut, text_at}
@@ -111,7 +112,7 @@ unfolding cast_events
 cast_step version clock at xs line time e t = rw (t, e) (cast_first version clock at xs)
 
 -- a line that breaks the format has no event
-nothing_told : (silent : Bool) (event : Option cast.Event) (version clock : ℕ)
+pub nothing_told : (silent : Bool) (event : Option cast.Event) (version clock : ℕ)
     → None ≡ time_behind silent event version clock → told_in silent event version clock ≡ []
 nothing_told true event version clock t = refl
 nothing_told false None version clock t = refl
@@ -154,10 +155,10 @@ module _ (version : ℕ) (text : List ℕ) (clock at : ℕ) (whole : Timeline) (
 
 -- ---- the header of a recording by asciinema
 
-by_version : (version : Option ℕ) (at : ℕ) → cast_by version at [] ≡ cast_by version at (lines_of [])
+by_version : (version : Option ℕ) (frames : Option Items) (at : ℕ) → cast_by version frames at [] ≡ cast_by version frames at (lines_of [])
 unfolding cast_events lines_of
-by_version None at = refl
-by_version (Some version) at = refl
+by_version None frames at = refl
+by_version (Some version) frames at = refl
 
 module _ (bytes header : List ℕ) (from : ℕ) (is : header ≡ front_line (json_text bytes))
     (follows : from ≡ start_of bytes + (length header + 1)) where
@@ -167,11 +168,11 @@ module _ (bytes header : List ℕ) (from : ℕ) (is : header ≡ front_line (jso
       ∙ ap (λ n. drop n bytes) (sym follows)
 
   pub by_header : (version : Option ℕ) → version ≡ version_in header
-      → asciicast bytes ≡ cast_by version from (lines_of (drop from bytes))
+      → asciicast bytes ≡ cast_by version (frames_in (json_text bytes)) from (lines_of (drop from bytes))
   by_header version v =
       rw (v, ← behind_header, follows, is)
-      (lines_first Timeline (cast_from (start_of bytes))
-      (λ line. by_version (version_in line) (start_of bytes + (length line + 1))) (json_text bytes))
+      (lines_first Timeline (cast_from (frames_in (json_text bytes)) (start_of bytes))
+      (λ line. by_version (version_in line) (frames_in (json_text bytes)) (start_of bytes + (length line + 1))) (json_text bytes))
 
 -- ---- the lines of a timing file
 

@@ -3,6 +3,7 @@ use Rattle.std.proofs.Common.{◌≡◌, ◌+◌, ◌-◌, ◌&&◌, ◌++◌, �
 use Rattle.std.proofs.lemmas.List.Elements.{filter-append}
 use Rattle.std.proofs.lemmas.Grind.{flat_map-append}
 use Rattle.std.proofs.lemmas.Bool.Decides.{nat_tests}
+use Rattle.json.specs.Json.{Items, no_items, item}
 use Rattle.vt_recording.specs.declared.format.Format.{Format}
 use Rattle.vt_recording.specs.declared.format.Format.TheVariants as format
 use Rattle.vt_recording.specs.declared.format.Encoding.{Encoding}
@@ -18,7 +19,7 @@ use Rattle.vt_recording.specs.Ttyrec.{Piece, time_of, is_due, due}
 use Rattle.vt_recording.specs.Asciicast as cast
 use Rattle.vt_recording.specs.Asciicast.{in_time}
 use Rattle.vt_recording.specs.Taken.{IsTaken, in_recording}
-use Rattle.vt_recording.specs.Timeline.{Event, Timeline, IsTimelineOf, IsContentOf, IsTimedBy, IsOfScriptBy, event_if, bytes_by, characters_by, told_in, and_then, cast_events, cast_by, cast_from, noted, unheard_in, told_by, unless, timed, timed_events, frame, at_once}
+use Rattle.vt_recording.specs.Timeline.{Event, Timeline, IsTimelineOf, IsContentOf, IsTimedBy, IsOfScriptBy, event_if, bytes_by, characters_by, told_in, and_then, cast_events, frame_events, events_by_frames, cast_by, cast_from, noted, unheard_in, told_by, unless, timed, timed_events, frame, at_once}
 use Rattle.vt_recording.proofs.Casts.{cut_nothing}
 
 in_time_by : (until : Option ℕ) (start time : ℕ) → is_due until start time ≡ in_time until (time - start)
@@ -162,19 +163,43 @@ module _ (until : Option ℕ) where
       and_then_broken _ (told_in (cast.is_silent version line) (cast.event_in line) version clock) _ at _ _
       (λ now. cast_broken version now (at + (length line + 1)) lines)
 
+  -- ---- the frames of asciinema
+
+  frames_heard : (clock : ℕ) (frames : Items)
+      → (cast.cast_of_frames until clock frames).characters ≡ characters_by until (frame_events clock frames).events
+  unfolding cast.cast_of_frames frame_events
+  frames_heard clock no_items = refl
+  frames_heard clock (item frame frames) =
+      and_then_heard _ (told_in false (cast.frame_of frame) 1 clock) _ 0 _ _ (told_heard false (cast.frame_of frame) 1 clock)
+      (λ now. frames_heard now frames)
+
+  frames_broken : (clock : ℕ) (frames : Items)
+      → in_recording (cast.cast_of_frames until clock frames).broken ≡ (frame_events clock frames).broken
+  unfolding cast.cast_of_frames frame_events
+  frames_broken clock no_items = refl
+  frames_broken clock (item frame frames) =
+      and_then_broken _ (told_in false (cast.frame_of frame) 1 clock) _ 0 _ _ (λ now. frames_broken now frames)
+
 -- ---- a recording
 
-by_version : (version : Option ℕ) (until : Option ℕ) (at : ℕ) (lines : List (List ℕ))
-    → ((cast.cast_by version until at lines).characters ≡ characters_by until (cast_by version at lines).events)
-    × (in_recording (cast.cast_by version until at lines).broken ≡ (cast_by version at lines).broken)
-by_version None until at lines = (refl, refl)
-by_version (Some version) until at lines = (cast_heard until version 0 at lines, cast_broken until version 0 at lines)
+module _ (until : Option ℕ) where
+  by_frames : (frames : Option Items)
+      → ((cast.cast_by_frames until frames).characters ≡ characters_by until (events_by_frames frames).events)
+      × (in_recording (cast.cast_by_frames until frames).broken ≡ (events_by_frames frames).broken)
+  by_frames None = (refl, refl)
+  by_frames (Some frames) = (frames_heard until 0 frames, frames_broken until 0 frames)
 
-from_lines : (until : Option ℕ) (start : ℕ) (lines : List (List ℕ))
-    → ((cast.cast_from until start lines).characters ≡ characters_by until (cast_from start lines).events)
-    × (in_recording (cast.cast_from until start lines).broken ≡ (cast_from start lines).broken)
-from_lines until start [] = (refl, refl)
-from_lines until start (header ∷ lines) = by_version (cast.version_in header) until (start + (length header + 1)) lines
+  by_version : (version : Option ℕ) (frames : Option Items) (at : ℕ) (lines : List (List ℕ))
+      → ((cast.cast_by version frames until at lines).characters ≡ characters_by until (cast_by version frames at lines).events)
+      × (in_recording (cast.cast_by version frames until at lines).broken ≡ (cast_by version frames at lines).broken)
+  by_version None frames at lines = by_frames frames
+  by_version (Some version) frames at lines = (cast_heard until version 0 at lines, cast_broken until version 0 at lines)
+
+  from_lines : (frames : Option Items) (start : ℕ) (lines : List (List ℕ))
+      → ((cast.cast_from frames until start lines).characters ≡ characters_by until (cast_from frames start lines).events)
+      × (in_recording (cast.cast_from frames until start lines).broken ≡ (cast_from frames start lines).broken)
+  from_lines frames start [] = by_frames frames
+  from_lines frames start (header ∷ lines) = by_version (cast.version_in header) frames (start + (length header + 1)) lines
 
 timed_taken : (line : Option ℕ) (until : Option Moment) (bytes text content : List ℕ) (t : Timeline) → IsTimedBy line bytes text t
     → content ≡ cut until (bytes_by (micros_of until) t.events)
@@ -243,7 +268,7 @@ content_taken format.Ttyrec encoding until timing bytes content t replaced is (c
   none_replaced = r;
 }
 content_taken format.Asciicast encoding until timing bytes content t replaced is w =
-    let same = from_lines (micros_of until) (cast.start_of bytes) (lines_of (cast.json_text bytes)) in
+    let same = from_lines (micros_of until) (cast.frames_in (cast.json_text bytes)) (cast.start_of bytes) (lines_of (cast.json_text bytes)) in
     record {
       wanted =
           subst (λ (l : List ℕ). AreWritten encoding until l content replaced)

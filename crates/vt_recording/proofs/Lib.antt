@@ -9,6 +9,7 @@ pub mod Marks
 mod Passing
 mod Casts
 mod Fronts
+mod Frames
 mod Heard
 mod Replays
 mod Values

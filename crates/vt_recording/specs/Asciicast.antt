@@ -1,14 +1,15 @@
--- A recording by asciinema: a line with an object, and events, one a line. (the formats asciicast 2 and 3)
+-- A recording by asciinema: a line with an object, and events, one a line, or one object with all of it. (the formats asciicast 2 and 3,
+-- and asciicast 1)
 use Rattle.std.specs.Prelude.{ℕ, ◌+◌, ◌∷◌, [], ◌++◌, ◌^◌, ◌-◌, ◌||◌, ◌&&◌, min, List, length, drop, Bool, true, false, cond, codes, chars}
-use Rattle.std.specs.Prelude.{Option, Some, None, option_map, option_and_then, nat_eq, nat_le, bytes_eq}
+use Rattle.std.specs.Prelude.{Option, Some, None, is_some, option_map, option_and_then, nat_eq, nat_le, bytes_eq}
 use Rattle.std.specs.List.{starts_with, prefix_len}
 use Rattle.std.specs.Str.Lossy.{utf8_valid_len}
 use Rattle.std.specs.Char.{is_ascii_whitespace}
 use Rattle.json.specs.Token.{Token}
 use Rattle.json.specs.Token as token
 use Rattle.json.specs.Lex.{tokens}
-use Rattle.json.specs.Json.{Json, document}
-use Rattle.json.specs.Find.{get, as_number}
+use Rattle.json.specs.Json.{Json, array, Items, no_items, item, document}
+use Rattle.json.specs.Find.{get, at as nth, as_number, as_str}
 use Rattle.vt_recording.specs.Lines.{lines_of}
 use Rattle.vt_recording.specs.Script.{begins_with}
 use Rattle.vt_recording.specs.Seconds.{micros_of_number}
@@ -93,9 +94,9 @@ is_silent version line = nat_eq (length line) 0 || (nat_eq version 3 && starts_w
 
 -- ---- the lines after the first
 
--- the time of an event: in version 3 its number counts from the event before. It stops at 2^64 - 1
+-- the time of an event: in versions 1 and 3 its number counts from the event before. It stops at 2^64 - 1
 abbrev pub clock_after : (version clock micros : ℕ) → ℕ
-clock_after version clock micros = cond (nat_eq version 3) (min (clock + micros) (2 ^ 64 - 1)) micros
+clock_after version clock micros = cond (nat_eq version 2) micros (min (clock + micros) (2 ^ 64 - 1))
 
 abbrev pub in_time : (until : Option ℕ) → (time : ℕ) → Bool
 in_time None time = true
@@ -141,16 +142,54 @@ cast_of version until clock at (line ∷ lines) =
     (heard_in (is_silent version line) (event_in line) version until clock) at
     (λ now. cast_of version until now (at + (length line + 1)) lines)
 
--- the lines after the first one, by its version
-abbrev pub cast_by : (version : Option ℕ) → (until : Option ℕ) → (at : ℕ) → List (List ℕ) → Cast
-cast_by None until at lines = record { characters = []; broken = Some 0 }
-cast_by (Some version) until at lines = cast_of version until 0 at lines
+-- ---- version 1: one object, whose `stdout` is an array of frames
+
+-- a frame is an array of a number and a string, and is output
+abbrev pub frame_of : Json → Option Event
+frame_of value =
+    cond (is_some (nth 2 value)) None
+    (event_from (option_and_then as_number (nth 0 value)) (Some (codes "o")) (option_and_then as_str (nth 1 value)))
+
+abbrev pub is_one : Option (List ℕ) → Bool
+is_one None = false
+is_one (Some number) = bytes_eq number (codes "1")
+
+abbrev pub names_one : Json → Bool
+names_one value = is_one (option_and_then as_number (get (codes "version") value))
+
+abbrev pub items_in : Json → Option Items
+items_in (array items) = Some items
+items_in _ = None
+
+abbrev pub frames_of : Json → Option Items
+frames_of value = cond (names_one value) (option_and_then items_in (get (codes "stdout") value)) None
+
+-- the frames of a text
+abbrev pub frames_in : List ℕ → Option Items
+frames_in text = option_and_then frames_of (document_in text)
+
+unfoldable pub cast_of_frames : (until : Option ℕ) (clock : ℕ) → Items → Cast
+cast_of_frames until clock no_items = record { characters = []; broken = None }
+cast_of_frames until clock (item frame frames) =
+    and_then (time_behind false (frame_of frame) 1 clock) (heard_in false (frame_of frame) 1 until clock) 0
+    (λ now. cast_of_frames until now frames)
+
+-- a recording of no version is broken at its first byte
+abbrev pub cast_by_frames : (until : Option ℕ) → Option Items → Cast
+cast_by_frames until None = record { characters = []; broken = Some 0 }
+cast_by_frames until (Some frames) = cast_of_frames until 0 frames
+
+-- ---- all: the version is in the first line, or it is 1
+
+abbrev pub cast_by : (version : Option ℕ) → (frames : Option Items) → (until : Option ℕ) → (at : ℕ) → List (List ℕ) → Cast
+cast_by None frames until at lines = cast_by_frames until frames
+cast_by (Some version) frames until at lines = cast_of version until 0 at lines
 
 -- the lines starting at a byte
-abbrev pub cast_from : (until : Option ℕ) → (start : ℕ) → List (List ℕ) → Cast
-cast_from until start [] = record { characters = []; broken = Some 0 }
-cast_from until start (header ∷ lines) = cast_by (version_in header) until (start + (length header + 1)) lines
+abbrev pub cast_from : (frames : Option Items) → (until : Option ℕ) → (start : ℕ) → List (List ℕ) → Cast
+cast_from frames until start [] = cast_by_frames until frames
+cast_from frames until start (header ∷ lines) = cast_by (version_in header) frames until (start + (length header + 1)) lines
 
 -- a recording
 abbrev pub asciicast : (until : Option ℕ) → (bytes : List ℕ) → Cast
-asciicast until bytes = cast_from until (start_of bytes) (lines_of (json_text bytes))
+asciicast until bytes = cast_from (frames_in (json_text bytes)) until (start_of bytes) (lines_of (json_text bytes))

@@ -1,4 +1,4 @@
--- What the first line of a recording names of the terminal that it was made on. (asciicast 2 and 3 of asciinema;
+-- What the beginning of a recording names of the terminal that it was made on. (asciicast 1, 2 and 3 of asciinema;
 -- script(1) of util-linux)
 use Rattle.std.specs.Prelude.{ℕ, ◌∷◌, ◌&&◌, List, [], length, take, drop, codes, Bool, false, cond, nat_eq}
 use Rattle.std.specs.Prelude.{Option, Some, None, option_and_then, option_map}
@@ -15,7 +15,7 @@ use Rattle.vt_recording.specs.declared.heading.Heading.{Heading}
 use Rattle.vt_recording.specs.Lines.{front_line}
 use Rattle.vt_recording.specs.Script.{begins_with, first_words, stripped}
 use Rattle.vt_recording.specs.Seconds.{number}
-use Rattle.vt_recording.specs.Asciicast.{json_text, document_in, version_of}
+use Rattle.vt_recording.specs.Asciicast.{json_text, document_in, version_of, names_one}
 
 abbrev pub nothing : Heading
 nothing = record { terminal = None; columns = None; rows = None }
@@ -70,12 +70,17 @@ abbrev pub by_version : Option ℕ → Json → Heading
 by_version None header = nothing
 by_version (Some version) header = cond (nat_eq version 3) (by_term header) (by_env header)
 
+-- that of version 1 has the members of version 2
 abbrev pub in_header : Json → Heading
-in_header header = by_version (version_of header) header
+in_header header = cond (names_one header) (by_env header) (by_version (version_of header) header)
 
 abbrev pub in_document : Option Json → Heading
 in_document None = nothing
 in_document (Some header) = in_header header
+
+-- the object on the first line, or that of all lines, as in version 1
+abbrev pub header_in : List ℕ → Option Json
+header_in text = option_or (document_in (front_line text)) (document_in text)
 
 -- ---- script: facts at the end of the line, as TERM="xterm" COLUMNS="80", after the command, which may have the same words
 
@@ -110,4 +115,4 @@ abbrev pub heading_of : Format → List ℕ → Heading
 heading_of format.Raw bytes = nothing
 heading_of format.Script bytes = in_line (front_line bytes)
 heading_of format.Ttyrec bytes = nothing
-heading_of format.Asciicast bytes = in_document (document_in (front_line (json_text bytes)))
+heading_of format.Asciicast bytes = in_document (header_in (json_text bytes))

@@ -1,5 +1,5 @@
 -- A recording as its events in turn, and the place at which it breaks its format. (asciicast 2 and 3 of asciinema: a line
--- of a time, a code and a text; ttyrec: the frame after a header; script(1) and scriptreplay(1) of util-linux: a line of the
+-- of a time, a code and a text; asciicast 1: a frame; ttyrec: the frame after a header; script(1) and scriptreplay(1) of util-linux: a line of the
 -- timing file)
 use Rattle.std.specs.Prelude.{◌≡◌, ℕ, ◌+◌, ◌-◌, ◌&&◌, List, [], ◌∷◌, ◌++◌, length, take, drop, map, chars, codes, bytes_eq, Bool, true, false, cond}
 use Rattle.std.specs.Prelude.{Option, Some, None}
@@ -18,6 +18,7 @@ use Rattle.vt_recording.specs.Script.{begins_with, first_line, EndsAt, IsOfScrip
 use Rattle.vt_recording.specs.Timing as timing
 use Rattle.vt_recording.specs.Timing.{Step, Spot}
 use Rattle.vt_recording.specs.Ttyrec.{Piece, IsWhole, EndsBefore, spelled, time_of}
+use Rattle.json.specs.Json.{Items, no_items, item}
 use Rattle.vt_recording.specs.Asciicast as cast
 use Rattle.vt_recording.specs.Asciicast.{in_time}
 use Rattle.vt_recording.specs.Taken.{in_recording}
@@ -104,17 +105,29 @@ cast_events version clock at (line ∷ lines) =
     (told_in (cast.is_silent version line) (cast.event_in line) version clock) at
     (λ now. cast_events version now (at + (length line + 1)) lines)
 
--- the lines after the first one, by its version
-abbrev pub cast_by : (version : Option ℕ) → (at : ℕ) → List (List ℕ) → Timeline
-cast_by None at lines = ends_at (in_recording (Some 0))
-cast_by (Some version) at lines = cast_events version 0 at lines
+-- the frames of version 1
+unfoldable pub frame_events : (clock : ℕ) → Items → Timeline
+frame_events clock no_items = ends_at None
+frame_events clock (item frame frames) =
+    and_then (cast.time_behind false (cast.frame_of frame) 1 clock) (told_in false (cast.frame_of frame) 1 clock) 0
+    (λ now. frame_events now frames)
 
-abbrev pub cast_from : (start : ℕ) → List (List ℕ) → Timeline
-cast_from start [] = ends_at (in_recording (Some 0))
-cast_from start (header ∷ lines) = cast_by (cast.version_in header) (start + (length header + 1)) lines
+abbrev pub events_by_frames : Option Items → Timeline
+events_by_frames None = ends_at (in_recording (Some 0))
+events_by_frames (Some frames) = frame_events 0 frames
+
+-- the version is in the first line, or it is 1
+abbrev pub cast_by : (version : Option ℕ) → (frames : Option Items) → (at : ℕ) → List (List ℕ) → Timeline
+cast_by None frames at lines = events_by_frames frames
+cast_by (Some version) frames at lines = cast_events version 0 at lines
+
+abbrev pub cast_from : (frames : Option Items) → (start : ℕ) → List (List ℕ) → Timeline
+cast_from frames start [] = events_by_frames frames
+cast_from frames start (header ∷ lines) = cast_by (cast.version_in header) frames (start + (length header + 1)) lines
 
 abbrev pub asciicast : (bytes : List ℕ) → Timeline
-asciicast bytes = cast_from (cast.start_of bytes) (lines_of (cast.json_text bytes))
+asciicast bytes =
+    cast_from (cast.frames_in (cast.json_text bytes)) (cast.start_of bytes) (lines_of (cast.json_text bytes))
 
 -- ---- script with its timing file
 

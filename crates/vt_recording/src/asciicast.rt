@@ -1,11 +1,11 @@
 //! A recording by asciinema.
 ghost use Rattle.std.specs.Prelude.{◌≡◌, ◌≤◌, ◌++◌, [], ℕ, List, length, IfOk, IfErr, option_map, OnOk, IfSome, IfNone, MatchOption};
 ghost use Rattle.json.specs.Lex.{tokens};
-ghost use Rattle.json.specs.Value.{value_view};
+ghost use Rattle.json.specs.Value.{value_view, items_view};
 ghost use Rattle.json.specs.Json.{document};
 ghost use Rattle.json.specs.Reads.{token_of};
 ghost use Rattle.vt_recording.specs.Asciicast.{trimmed, without_mark, json_text, version_of, document_in, version_in, event_of, event_in, is_silent, clock_after, in_time};
-ghost use Rattle.vt_recording.specs.Asciicast.{begins_array, ends_array, number_in, string_in, event_from, is_text, is_output};
+ghost use Rattle.vt_recording.specs.Asciicast.{begins_array, ends_array, number_in, string_in, event_from, is_text, is_output, frame_of, names_one, items_in, frames_of};
 ghost use Rattle.vt_recording.specs.Events.{event_view};
 
 use crate::seconds::micros_of_number;
@@ -172,6 +172,53 @@ pub(crate) fn event_in<'a>(
     }
 }
 
+/// Returns the event of a frame of version 1, which is output.
+pub(crate) fn frame_of<'a>(value: &Value<'a>) -> Option<Event<'a>>
+    ensures { option_map event_view result ≡ frame_of (value_view value.now) }
+{
+    if value.at(2).is_some() {
+        return None;
+    }
+    let micros = micros_of_number(value.at(0)?.as_number()?.as_bytes())?;
+    let text = value.at(1)?.as_str()?;
+    Some(Event {
+        micros,
+        code: "o",
+        text,
+    })
+}
+
+/// Returns whether an object names version 1.
+pub(crate) fn names_one(object: &Value<'_>) -> bool
+    ensures { result ≡ names_one (value_view object.now) }
+{
+    match object.get("version") {
+        Some(version) => version.as_number() == Some("1"),
+        None => false,
+    }
+}
+
+/// Returns the items of an array.
+fn items_in<'v, 'a>(value: &'v Value<'a>) -> Option<&'v [Value<'a>]>
+    ensures { option_map (λ v. items_view v.now) result ≡ items_in (value_view value.now) }
+{
+    match value {
+        Value::Array(items) => Some(items),
+        _ => None,
+    }
+}
+
+/// Returns the frames of an object of version 1.
+pub(crate) fn frames_of<'v, 'a>(object: &'v Value<'a>) -> Option<&'v [Value<'a>]>
+    ensures { option_map (λ v. items_view v.now) result ≡ frames_of (value_view object.now) }
+{
+    if names_one(object) {
+        items_in(object.get("stdout")?)
+    } else {
+        None
+    }
+}
+
 /// Returns whether a line has no event: it is empty, or a comment of version 3.
 pub(crate) fn is_silent(version: u64, line: &[u8]) -> bool
     ensures { result ≡ is_silent version line.now }
@@ -179,14 +226,14 @@ pub(crate) fn is_silent(version: u64, line: &[u8]) -> bool
     line.is_empty() || (version == 3 && line.starts_with(b"#"))
 }
 
-/// Returns the time of an event, whose number counts from the event before in version 3.
+/// Returns the time of an event, whose number counts from the event before in versions 1 and 3.
 pub(crate) fn clock_after(version: u64, clock: u64, micros: u64) -> u64
     ensures { result ≡ clock_after version clock micros }
 {
-    if version == 3 {
-        clock.saturating_add(micros)
-    } else {
+    if version == 2 {
         micros
+    } else {
+        clock.saturating_add(micros)
     }
 }
 

@@ -1,16 +1,19 @@
 //! The content of a recording by asciinema.
-ghost use Rattle.std.specs.Prelude.{◌≡◌, ◌≤◌, ◌+◌, ◌++◌, [], ℕ, List, length, drop, IfOk, OnOk};
+ghost use Rattle.std.specs.Prelude.{◌≡◌, ◌≤◌, ◌+◌, ◌++◌, [], ℕ, List, length, drop, false, option_map, IfOk, OnOk};
 ghost use Rattle.vt_recording.specs.Moment.{micros_of};
 ghost use Rattle.vt_recording.specs.Characters.{AreWritten};
 ghost use Rattle.vt_recording.specs.Lines.{lines_of};
-ghost use Rattle.vt_recording.specs.Asciicast.{is_silent, event_in, time_behind, heard_in, cast_of, asciicast};
+ghost use Rattle.json.specs.Value.{items_view};
+ghost use Rattle.vt_recording.specs.Asciicast.{is_silent, event_in, time_behind, heard_in, cast_of, cast_of_frames, cast_by_frames, frames_in, asciicast};
+ghost use Rattle.vt_recording.specs.Events.{event_view};
 ghost use Rattle.vt_recording.specs.Taken.{IsOfCast, in_recording};
 ghost use Rattle.vt_recording.specs.Timeline as timeline;
-ghost use Rattle.vt_recording.specs.Timeline.{kind_of, told_in, cast_events};
+ghost use Rattle.vt_recording.specs.Timeline.{kind_of, told_in, cast_events, frame_events, events_by_frames};
 ghost use Rattle.vt_recording.specs.Gathered.{AreGathered, IsRead};
 
 use crate::asciicast::{
-    clock_after, event_in, in_time, is_output, is_silent, json_text, version_in,
+    Event, clock_after, document_in, event_in, frame_of, frames_of, in_time, is_output, is_silent,
+    json_text, version_in,
 };
 use crate::characters::Written;
 use crate::format::{Encoding, Moment, Taken};
@@ -18,8 +21,35 @@ use crate::lines::front_line;
 use crate::moment::micros_of;
 use crate::taking::in_recording;
 use crate::timeline::{EventKind, Gathered, Timeline};
-use json::Scratch;
+use json::{Scratch, Value};
 use std::alloc::{AllocError, Global};
+
+/// Writes the characters of an event that are wanted, and returns the time after it. Returns `None` if there is no event.
+fn play_event(
+    event: Option<Event<'_>>,
+    version: u64,
+    encoding: Encoding,
+    until: Option<Moment>,
+    clock: u64,
+    written: &mut Written,
+) -> Result<Option<u64>, AllocError>
+    requires { written.old.replaced ≤ length written.old.bytes.items }
+    ensures bound { OnOk result (written.new.replaced ≤ length written.new.bytes.items) }
+    ensures time { IfOk result (λ time. time ≡ time_behind false (option_map event_view event.entry) version clock) }
+    ensures written { OnOk result ((front : List ℕ)
+        → AreWritten encoding until front written.old.bytes.items written.old.replaced
+        → AreWritten encoding until (front ++ heard_in false (option_map event_view event.entry) version (micros_of until) clock)
+        written.new.bytes.items written.new.replaced) }
+{
+    let Some(event) = event else {
+        return Ok(None);
+    };
+    let now = clock_after(version, clock, event.micros);
+    if is_output(event.code) && in_time(micros_of(until), now) {
+        written.push_text(event.text, encoding, until)?;
+    }
+    Ok(Some(now))
+}
 
 /// Writes the characters of a line that are wanted, and returns the time after it. Returns `None` if it isn't an event.
 fn play_line(
@@ -43,17 +73,8 @@ fn play_line(
     if is_silent(version, line) {
         return Ok(Some(clock));
     }
-    match event_in(line, scratch) {
-        Ok(Some(event)) => {
-            let now = clock_after(version, clock, event.micros);
-            if is_output(event.code) && in_time(micros_of(until), now) {
-                written.push_text(event.text, encoding, until)?;
-            }
-            Ok(Some(now))
-        }
-        Ok(None) => Ok(None),
-        Err(AllocError) => Err(AllocError),
-    }
+    let event = event_in(line, scratch)?;
+    play_event(event, version, encoding, until, clock, written)
 }
 
 /// Writes the characters of the lines starting at an offset, and returns the offset of a line that isn't an event.
@@ -88,6 +109,55 @@ fn play_lines(
     Ok(None)
 }
 
+/// Writes the characters of frames of version 1, and returns 0 if there is one that isn't an event.
+fn play_frames(
+    frames: &[Value<'_>],
+    encoding: Encoding,
+    until: Option<Moment>,
+    written: &mut Written,
+) -> Result<Option<usize>, AllocError>
+    requires no_bytes { written.old.bytes.items ≡ [] }
+    requires none_replaced { written.old.replaced ≡ 0 }
+    ensures broken { IfOk result (λ broken. broken ≡ (cast_of_frames (micros_of until) 0 (items_view frames.now)).broken) }
+    ensures written { OnOk result (AreWritten encoding until (cast_of_frames (micros_of until) 0 (items_view frames.now)).characters
+        written.new.bytes.items written.new.replaced) }
+{
+    let mut clock = 0;
+    let mut i = 0;
+    while i < frames.len() {
+        match play_event(frame_of(&frames[i]), 1, encoding, until, clock, written)? {
+            Some(now) => clock = now,
+            None => return Ok(Some(0)),
+        }
+        i += 1;
+    }
+    Ok(None)
+}
+
+/// Writes the characters of a recording of version 1. Returns 0 if it isn't one, or has a frame that isn't an event.
+fn play_object(
+    alloc: Global,
+    text: &[u8],
+    encoding: Encoding,
+    until: Option<Moment>,
+    scratch: &mut Scratch,
+    written: &mut Written,
+) -> Result<Option<usize>, AllocError>
+    requires no_bytes { written.old.bytes.items ≡ [] }
+    requires none_replaced { written.old.replaced ≡ 0 }
+    ensures broken { IfOk result (λ broken. broken ≡ (cast_by_frames (micros_of until) (frames_in text.now)).broken) }
+    ensures written { OnOk result (AreWritten encoding until (cast_by_frames (micros_of until) (frames_in text.now)).characters
+        written.new.bytes.items written.new.replaced) }
+{
+    let Some(object) = document_in(alloc, text, scratch)? else {
+        return Ok(Some(0));
+    };
+    match frames_of(&object) {
+        Some(frames) => play_frames(frames, encoding, until, written),
+        None => Ok(Some(0)),
+    }
+}
+
 /// Returns the content of the events up to `until`, in an encoding.
 pub(crate) fn asciicast_content(
     alloc: Global,
@@ -102,7 +172,8 @@ pub(crate) fn asciicast_content(
     let text = json_text(bytes);
     let header = front_line(text);
     let Some(version) = version_in(alloc, header, &mut scratch)? else {
-        return Ok(taken_of(written, Some(0)));
+        let broken = play_object(alloc, text, encoding, until, &mut scratch, &mut written)?;
+        return Ok(taken_of(written, broken));
     };
     let from = bytes.len() - text.len() + header.len() + 1;
     let broken = play_lines(
@@ -131,6 +202,27 @@ fn kind_of(code: &str) -> Option<EventKind>
     }
 }
 
+/// Gathers an event, and returns the time after it. Returns `None` if there is none.
+fn gather_event(
+    event: Option<Event<'_>>,
+    version: u64,
+    clock: u64,
+    gathered: &mut Gathered,
+) -> Result<Option<u64>, AllocError>
+    ensures time { IfOk result (λ time. time ≡ time_behind false (option_map event_view event.entry) version clock) }
+    ensures gathered { OnOk result ((front : List timeline.Event)
+        → AreGathered front gathered.old.events.items gathered.old.text.items
+        → AreGathered (front ++ told_in false (option_map event_view event.entry) version clock)
+        gathered.new.events.items gathered.new.text.items) }
+{
+    let Some(event) = event else {
+        return Ok(None);
+    };
+    let now = clock_after(version, clock, event.micros);
+    gathered.push_if(now, kind_of(event.code), event.text.as_bytes())?;
+    Ok(Some(now))
+}
+
 /// Gathers the event of a line, and returns the time after it. Returns `None` if it isn't an event.
 fn gather_line(
     line: &[u8],
@@ -149,15 +241,8 @@ fn gather_line(
     if is_silent(version, line) {
         return Ok(Some(clock));
     }
-    match event_in(line, scratch) {
-        Ok(Some(event)) => {
-            let now = clock_after(version, clock, event.micros);
-            gathered.push_if(now, kind_of(event.code), event.text.as_bytes())?;
-            Ok(Some(now))
-        }
-        Ok(None) => Ok(None),
-        Err(AllocError) => Err(AllocError),
-    }
+    let event = event_in(line, scratch)?;
+    gather_event(event, version, clock, gathered)
 }
 
 /// Gathers the events of the lines starting at an offset, and returns the offset of a line that isn't an event.
@@ -188,6 +273,46 @@ fn gather_lines(
     Ok(None)
 }
 
+/// Gathers the events of frames of version 1, and returns 0 if there is one that isn't an event.
+fn gather_frames(frames: &[Value<'_>], gathered: &mut Gathered) -> Result<Option<usize>, AllocError>
+    requires no_events { AreGathered [] gathered.old.events.items gathered.old.text.items }
+    ensures broken { IfOk result (λ broken. in_recording broken ≡ (frame_events 0 (items_view frames.now)).broken) }
+    ensures gathered { OnOk result (AreGathered (frame_events 0 (items_view frames.now)).events
+        gathered.new.events.items gathered.new.text.items) }
+{
+    let mut clock = 0;
+    let mut i = 0;
+    while i < frames.len() {
+        match gather_event(frame_of(&frames[i]), 1, clock, gathered)? {
+            Some(now) => clock = now,
+            None => return Ok(Some(0)),
+        }
+        i += 1;
+    }
+    Ok(None)
+}
+
+/// Gathers the events of a recording of version 1. Returns 0 if it isn't one, or has a frame that isn't an event.
+fn gather_object(
+    alloc: Global,
+    text: &[u8],
+    scratch: &mut Scratch,
+    gathered: &mut Gathered,
+) -> Result<Option<usize>, AllocError>
+    requires no_events { AreGathered [] gathered.old.events.items gathered.old.text.items }
+    ensures broken { IfOk result (λ broken. in_recording broken ≡ (events_by_frames (frames_in text.now)).broken) }
+    ensures gathered { OnOk result (AreGathered (events_by_frames (frames_in text.now)).events
+        gathered.new.events.items gathered.new.text.items) }
+{
+    let Some(object) = document_in(alloc, text, scratch)? else {
+        return Ok(Some(0));
+    };
+    match frames_of(&object) {
+        Some(frames) => gather_frames(frames, gathered),
+        None => Ok(Some(0)),
+    }
+}
+
 /// Returns the events of a recording by asciinema.
 pub(crate) fn asciicast_timeline(alloc: Global, bytes: &[u8]) -> Result<Timeline, AllocError>
     ensures { IfOk result (λ t. IsRead (λ x. x ≡ timeline.asciicast bytes.now) t) }
@@ -197,7 +322,8 @@ pub(crate) fn asciicast_timeline(alloc: Global, bytes: &[u8]) -> Result<Timeline
     let text = json_text(bytes);
     let header = front_line(text);
     let Some(version) = version_in(alloc, header, &mut scratch)? else {
-        return Ok(gathered.timeline(in_recording(Some(0))));
+        let broken = gather_object(alloc, text, &mut scratch, &mut gathered)?;
+        return Ok(gathered.timeline(in_recording(broken)));
     };
     let from = bytes.len() - text.len() + header.len() + 1;
     let broken = gather_lines(bytes, from, version, &mut scratch, &mut gathered)?;

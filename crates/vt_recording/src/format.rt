@@ -9,7 +9,7 @@ pub enum Format {
     Script,
     /// The format of ttyrec: frames, each after a header with its time and its length.
     Ttyrec,
-    /// The format of asciinema, version 2 or 3: a line with an object, and events, one a line.
+    /// The format of asciinema. In versions 2 and 3 a line with an object, and events, one a line; in version 1 one object.
     Asciicast,
 }
 

@@ -3,9 +3,9 @@ ghost use Rattle.std.specs.Prelude.{◌≡◌, ◌<◌, IfOk, IfSome, length, op
 ghost use Rattle.json.specs.Value.{value_view};
 ghost use Rattle.vt_recording.specs.Asciicast.{document_in};
 ghost use Rattle.vt_recording.specs.Heading.{begins_with_digit, is_vt, terminal_of, count_of, inner, text_of, number_of, by_term};
-ghost use Rattle.vt_recording.specs.Heading.{by_env, in_header, in_document, after_last, quote_in, up_to_quote, fact, in_line, heading_of};
+ghost use Rattle.vt_recording.specs.Heading.{by_env, in_header, in_document, header_in, after_last, quote_in, up_to_quote, fact, in_line, heading_of};
 
-use crate::asciicast::{document_in, json_text, version_of};
+use crate::asciicast::{document_in, json_text, names_one, version_of};
 use crate::format::{Format, TerminalType};
 use crate::lines::{front_line, stripped};
 use crate::script::FIRST_WORDS;
@@ -104,7 +104,7 @@ fn by_term(header: &Value<'_>) -> Heading
     }
 }
 
-/// Returns the heading in a header of version 2.
+/// Returns the heading in a header of version 1 or 2.
 fn by_env(header: &Value<'_>) -> Heading
     ensures { result ≡ by_env (value_view header.now) }
 {
@@ -115,10 +115,13 @@ fn by_env(header: &Value<'_>) -> Heading
     }
 }
 
-/// Returns the heading in a header of version 2 or 3.
+/// Returns the heading in a header of any version.
 fn in_header(header: &Value<'_>) -> Heading
     ensures { result ≡ in_header (value_view header.now) }
 {
+    if names_one(header) {
+        return by_env(header);
+    }
     match version_of(header) {
         Some(3) => by_term(header),
         Some(_) => by_env(header),
@@ -126,15 +129,28 @@ fn in_header(header: &Value<'_>) -> Heading
     }
 }
 
-/// Returns the heading in the first line of a recording by asciinema.
-fn in_cast(alloc: Global, line: &[u8]) -> Result<Heading, AllocError>
-    ensures { IfOk result (λ heading. heading ≡ in_document (document_in line.now)) }
+/// Returns the heading in a text, if that is an object.
+fn in_object(alloc: Global, text: &[u8]) -> Result<Option<Heading>, AllocError>
+    ensures { IfOk result (λ heading. heading ≡ option_map in_header (document_in text.now)) }
 {
     let mut scratch = Scratch::new(alloc);
-    match document_in(alloc, line, &mut scratch) {
-        Ok(Some(header)) => Ok(in_header(&header)),
-        Ok(None) => Ok(NOTHING),
+    match document_in(alloc, text, &mut scratch) {
+        Ok(Some(header)) => Ok(Some(in_header(&header))),
+        Ok(None) => Ok(None),
         Err(AllocError) => Err(AllocError),
+    }
+}
+
+/// Returns the heading in a recording by asciinema: in its first line, or in all lines if these are one object.
+fn in_cast(alloc: Global, text: &[u8]) -> Result<Heading, AllocError>
+    ensures { IfOk result (λ heading. heading ≡ in_document (header_in text.now)) }
+{
+    if let Some(heading) = in_object(alloc, front_line(text))? {
+        return Ok(heading);
+    }
+    match in_object(alloc, text)? {
+        Some(heading) => Ok(heading),
+        None => Ok(NOTHING),
     }
 }
 
@@ -189,9 +205,9 @@ fn in_line(line: &[u8]) -> Heading
 }
 
 /// Returns what the first line of a recording names of the terminal that it was made on: its TERM and its size. Only the
-/// first line is read.
+/// first line is read, but an asciicast of version 1 may be an object of several lines.
 ///
-/// - asciicast, version 2: `width`, `height`, and TERM in `env`
+/// - asciicast, versions 1 and 2: `width`, `height`, and TERM in `env`
 /// - asciicast, version 3: `cols`, `rows` and `type` in `term`
 /// - script: TERM, COLUMNS and LINES at the end of the line. A session without a terminal has none
 /// - ttyrec and raw: nothing
@@ -206,6 +222,6 @@ pub fn heading_of(alloc: Global, bytes: &[u8], format: Format) -> Result<Heading
         Format::Raw => Ok(NOTHING),
         Format::Script => Ok(in_line(front_line(bytes))),
         Format::Ttyrec => Ok(NOTHING),
-        Format::Asciicast => in_cast(alloc, front_line(json_text(bytes))),
+        Format::Asciicast => in_cast(alloc, json_text(bytes)),
     }
 }

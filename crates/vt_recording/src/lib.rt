@@ -28,7 +28,7 @@ pub use detection::{Compression, DETECTION_LENGTH, Detected, detect};
 pub use fault::Fault;
 pub use format::{Break, Encoding, Format, Moment, Part, Taken, TerminalType};
 pub use heading::{Heading, heading_of};
-pub use reached::{Passed, passed_before, steps_of, take_between};
+pub use reached::{Passed, count_characters, passed_before, steps_of, take_between};
 pub use reading::read_recording;
 pub use seconds::{number, scale};
 pub use taking::{take_apart, timeline_of};

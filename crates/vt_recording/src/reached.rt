@@ -59,7 +59,7 @@ fn length_of(characters: bool, text: &[u8]) -> u64
 }
 
 /// Returns the number of bytes that don't continue a character.
-fn count_characters(text: &[u8]) -> u64
+pub fn count_characters(text: &[u8]) -> u64
     ensures value { result ≡ length_of true text.now }
     ensures small { result ≤ length text.now }
 {

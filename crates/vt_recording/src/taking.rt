@@ -26,8 +26,8 @@ use std::alloc::{AllocError, Global};
 /// - of script, at a line of the timing file that isn't one
 /// - of script, at the end of its first session if the timing file has more bytes
 /// - of ttyrec, at the first frame that is cut short
-/// - of asciinema, at byte 0 if the first line after a byte order mark and white space has no version, and at a line that is no
-///   event
+/// - of asciinema, at byte 0 if the first line after a byte order mark and white space has no version and the whole isn't of version 1,
+///   at byte 0 at a frame of version 1 that is no event, and at a line that is no event
 ///
 /// Returns `Err` if allocation fails.
 pub fn take_apart(

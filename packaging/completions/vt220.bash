@@ -1,7 +1,7 @@
 # Completions of vt220 for bash.
 _vt220() {
-  local commands='text reports repaint status show picture log pages trace summary events content help'
-  local options='--piece --limit --format --timing --from --until --encoding --terminal --columns --animate --theme --cursor --title --full --partial --quiet -h --help'
+  local commands='text reports repaint status show picture log pages trace summary events content search help'
+  local options='--piece --limit --format --timing --from --until --encoding --terminal --columns --size --animate --theme --cursor --title --full --partial --quiet -h --help'
   local formats='raw script ttyrec asciicast auto'
   local word=${COMP_WORDS[COMP_CWORD]} before=${COMP_WORDS[COMP_CWORD - 1]} words=
   # Readline cuts --format=raw into three words. Without = in COMP_WORDBREAKS it is one word.
@@ -18,6 +18,7 @@ _vt220() {
       --encoding) words='dec utf-8 auto' ;;
       --terminal) words='vt220 xterm auto' ;;
       --columns) words='80 132 auto' ;;
+      --size) words='auto' ;;
       --theme) words='dark light green amber' ;;
       --cursor) words='outline block underline hidden' ;;
       help) words=${commands% help} ;;

@@ -1,5 +1,5 @@
 # Completions of vt220 for fish.
-set -l commands text reports repaint status show picture log pages trace summary events content
+set -l commands text reports repaint status show picture log pages trace summary events content search
 complete -c vt220 -n "not __fish_seen_subcommand_from $commands help" -f
 complete -c vt220 -n "not __fish_seen_subcommand_from $commands help" -a text -d 'The screen as text'
 complete -c vt220 -n "not __fish_seen_subcommand_from $commands help" -a reports -d 'What the terminal answers to the host'
@@ -13,6 +13,7 @@ complete -c vt220 -n "not __fish_seen_subcommand_from $commands help" -a trace -
 complete -c vt220 -n "not __fish_seen_subcommand_from $commands help" -a summary -d 'How often each event occurs'
 complete -c vt220 -n "not __fish_seen_subcommand_from $commands help" -a events -d 'A line for each event of a recording'
 complete -c vt220 -n "not __fish_seen_subcommand_from $commands help" -a content -d 'The bytes of the host'
+complete -c vt220 -n "not __fish_seen_subcommand_from $commands help" -a search -d 'When a text was on the screen'
 complete -c vt220 -n "not __fish_seen_subcommand_from $commands help" -a help -d 'Help on a command'
 complete -c vt220 -n "not __fish_seen_subcommand_from $commands help" -s V -l version -d 'Print the version'
 complete -c vt220 -n "__fish_seen_subcommand_from $commands" -l piece -x -d 'The most bytes of one read'
@@ -24,6 +25,7 @@ complete -c vt220 -n "__fish_seen_subcommand_from $commands" -l until -x -d 'Onl
 complete -c vt220 -n "__fish_seen_subcommand_from $commands" -l encoding -x -a 'dec utf-8 auto' -d 'How the bytes are read'
 complete -c vt220 -n "__fish_seen_subcommand_from $commands" -l terminal -x -a 'vt220 xterm auto' -d 'The terminal for which the host sends'
 complete -c vt220 -n "__fish_seen_subcommand_from $commands" -l columns -x -a '80 132 auto' -d 'The columns of the screen'
+complete -c vt220 -n "__fish_seen_subcommand_from $commands" -l size -x -a 'auto' -d 'Its columns and rows'
 complete -c vt220 -n "__fish_seen_subcommand_from $commands" -l animate -d 'A picture that moves'
 complete -c vt220 -n "__fish_seen_subcommand_from $commands" -l theme -x -a 'dark light green amber' -d 'Its colours'
 complete -c vt220 -n "__fish_seen_subcommand_from $commands" -l cursor -x -a 'outline block underline hidden' -d 'Its cursor'

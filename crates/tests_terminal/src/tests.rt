@@ -15,3 +15,4 @@ mod sizes;
 mod status;
 mod vectors;
 mod views;
+mod views_of_sizes;

@@ -154,7 +154,7 @@ fn carry_out_on<R: Print + AllocGlobal, D: Read + Drop>(
 }
 
 /// Returns why an input that begins so isn't played, if it isn't: its beginning was to decide on its format, and it is
-/// compressed, or it has no times, and a moment is one or the picture moves.
+/// compressed, or it has no times, and a moment or the word needs them.
 fn refusal_of(request: &Request, format: Format, timed: bool, beginning: &[u8]) -> Option<Fault> {
     if request.format.is_none() && matches!(detect(beginning), Detected::Compressed(_)) {
         let part = Part::Recording;
@@ -163,15 +163,15 @@ fn refusal_of(request: &Request, format: Format, timed: bool, beginning: &[u8]) 
     if lacks_times(format, timed, request.from) || lacks_times(format, timed, request.until) {
         return Some(Fault::NoTimes);
     }
-    if is_moving(request.word) && lacks_times(format, timed, Some(BEGINNING)) {
+    if is_timed(request.word) && lacks_times(format, timed, Some(BEGINNING)) {
         return Some(Fault::NoTimes);
     }
     None
 }
 
-/// Returns whether a word writes a picture that moves.
-fn is_moving(word: Word) -> bool {
-    matches!(word, Word::Animation(_))
+/// Returns whether a word needs the times of a recording: a picture that moves, or a search.
+fn is_timed(word: Word) -> bool {
+    matches!(word, Word::Animation(_) | Word::Search)
 }
 
 /// Carries out a request on an input in a format, to standard output, and flushes that, after a fault too.

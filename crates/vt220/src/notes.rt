@@ -7,9 +7,6 @@ use vt_replay::{
     detect, heading_of, host_for,
 };
 
-/// The number of rows of the terminal.
-const ROWS: u32 = 24;
-
 /// The number of first bytes that are looked at for what a host sends. More would cost as much as to play them.
 const LOOKED_AT: usize = 4096;
 
@@ -43,17 +40,17 @@ pub(crate) fn print_notes<R: Eprint + AllocGlobal>(
     if let Some(hint) = hint.or(language_hint(request, heading, host, beginning)) {
         let _ = eprintln!(rt; "vt220: {name}: {hint}");
     }
-    let width = if host.wide { 132 } else { 80 };
+    let (width, height) = host.screen();
     if let (Some(columns), Some(rows)) = (heading.columns, heading.rows) {
-        if columns != width || rows != ROWS {
+        if columns as usize != width || rows as usize != height {
             let _ = eprintln!(rt;
-                "vt220: {name}: recorded at {columns}x{rows}, played on {width}x{ROWS}"
+                "vt220: {name}: recorded at {columns}x{rows}, played on {width}x{height}"
             );
         }
     }
     if format == Format::Asciicast && has_any(beginning, b'"', &[RESIZE_CODE]) {
         let _ = eprintln!(rt;
-            "vt220: {name}: the window changes its size, and the screen stays at {width}x{ROWS}"
+            "vt220: {name}: the window changes its size, and the screen stays at {width}x{height}"
         );
     }
 }
@@ -70,7 +67,12 @@ fn language_hint(
             Word::Pages | Word::Trace | Word::Summary => {
                 Some("recorded for an xterm, and this command plays a VT220")
             }
-            Word::Replay(_) | Word::Animation(_) | Word::Log | Word::Events | Word::Content => None,
+            Word::Replay(_)
+            | Word::Animation(_)
+            | Word::Log
+            | Word::Events
+            | Word::Content
+            | Word::Search => None,
         };
     }
     let front = beginning.get(..LOOKED_AT).unwrap_or(beginning);

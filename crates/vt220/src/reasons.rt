@@ -152,7 +152,7 @@ fn expected(format: Format, place: Break) -> &'static str {
                 "--format ttyrec has frames: a header of 12 bytes, and as many bytes as it says"
             }
             Format::Asciicast if place.at == 0 => {
-                "--format asciicast begins with a line '{\"version\": 2, ..}', or 3"
+                "--format asciicast begins with a line '{\"version\": 2, ..}', or 3, or is an object of version 1"
             }
             Format::Asciicast => "--format asciicast has lines such as '[0.25, \"o\", \"text\"]'",
         },

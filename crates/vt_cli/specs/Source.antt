@@ -1,6 +1,6 @@
 -- How the input was recorded, as options. (this profile)
-use Rattle.std.specs.Prelude.{ℕ, List, [], ◌∷◌, ◌++◌, codes, Bool, true, false, not, ◌&&◌, ◌||◌, cond, Option, Some, None, Result, Ok, Err}
-use Rattle.std.specs.Prelude.{bytes_eq, is_some}
+use Rattle.std.specs.Prelude.{List, [], ◌∷◌, ◌++◌, codes, Bool, true, false, not, ◌&&◌, ◌||◌, cond, Option, Some, None, Result, Ok, Err}
+use Rattle.std.specs.Prelude.{bytes_eq, is_some, nat_eq, nat_lt, ℕ, ◌+◌, take, drop, option_map, option_and_then}
 use Rattle.clap.specs.Words.{Row, Text, first_of}
 use Rattle.vt_recording.specs.declared.format.Format.{Format}
 use Rattle.vt_recording.specs.declared.format.Format.TheVariants.{Raw, Script, Ttyrec, Asciicast}
@@ -10,18 +10,21 @@ use Rattle.vt_recording.specs.declared.format.Moment.{Moment}
 use Rattle.vt_recording.specs.declared.format.Moment.TheVariants.{Micros, Bytes, Event, Marker}
 use Rattle.vt_recording.specs.declared.format.TerminalType.{TerminalType}
 use Rattle.vt_recording.specs.declared.format.TerminalType.TheVariants.{Vt220, Xterm}
+use Rattle.vt_recording.specs.Seconds.{number}
+use Rattle.vt_screen.specs.declared.size.Size.{Size}
 use Rattle.vt_picture.specs.declared.looks.Theme.{Theme}
 use Rattle.vt_picture.specs.declared.looks.Theme.TheVariants.{Dark, Light, Green, Amber}
 use Rattle.vt_picture.specs.declared.looks.CursorShape.{CursorShape}
 use Rattle.vt_picture.specs.declared.looks.CursorShape.TheVariants.{Outline, Block, Underline, Hidden}
 use Rattle.vt_cli.specs.declared.what.Looks.{Looks}
 use Rattle.vt_cli.specs.declared.source.Source.{Source}
+use Rattle.vt_cli.specs.declared.source.Screen.{Screen}
 use Rattle.vt_cli.specs.declared.source.Complaint.{Complaint}
 use Rattle.vt_cli.specs.declared.source.Complaint.TheVariants.{NoFormat, NoTimingFile, NoMoment, NoTimes, NoStart, NoEncoding}
-use Rattle.vt_cli.specs.declared.source.Complaint.TheVariants.{NoTerminal, NoColumns, OnlyUtf8, OnlyVt220}
+use Rattle.vt_cli.specs.declared.source.Complaint.TheVariants.{NoTerminal, NoColumns, OnlyUtf8, OnlyVt220, NoSize, TwoSizes, OneSize}
 use Rattle.vt_cli.specs.declared.source.Complaint.TheVariants.{OnlyPicture, OnlyMoving, NoSteps, NoTheme, NoShape}
 use Rattle.vt_cli.specs.CommandLine.{is_set}
-use Rattle.vt_cli.specs.Moment.{moment}
+use Rattle.vt_cli.specs.Moment.{place, moment}
 
 -- the format of a name, or none for the name that lets the beginning of the input decide
 abbrev pub format_named : Text → Result (Option Format) Complaint
@@ -125,12 +128,71 @@ abbrev pub wide_of : Option Text → Result (Option Bool) Complaint
 wide_of None = Ok None
 wide_of (Some name) = wide_named name
 
--- ---- a picture that moves
-
 -- what follows if there is no complaint
 abbrev pub and_then : {A B : Type 0} → (A → Result B Complaint) → Result A Complaint → Result B Complaint
 and_then next (Ok value) = next value
 and_then next (Err complaint) = Err complaint
+
+-- ---- the size
+
+-- the size of so many rows of so many columns, if a screen may have it. Its narrow and its wide screen are of one width
+abbrev pub size_of : (columns rows : ℕ) → Option Size
+size_of columns rows =
+    cond (nat_lt 79 columns && (nat_lt columns 256 && (nat_lt 1 rows && nat_lt rows 256)))
+    (Some (record { rows = rows; narrow = columns; wide = columns })) None
+
+-- a VT220's screen is asked for by its width, any other one by its size
+abbrev pub screen_at : (columns rows : ℕ) → Option Screen
+screen_at columns rows =
+    cond (nat_eq rows 24 && nat_eq columns 80) (Some (record { wide = Some false; size = None }))
+    (cond (nat_eq rows 24 && nat_eq columns 132) (Some (record { wide = Some true; size = None }))
+    (option_map (λ size. record { wide = None; size = Some size }) (size_of columns rows)))
+
+-- by the place of the first `x`: up to three digits before it and after it
+abbrev pub screen_parts : Option ℕ → List ℕ → Option Screen
+screen_parts None text = None
+screen_parts (Some at) text =
+    option_and_then (λ columns. option_and_then (λ rows. screen_at columns rows) (number 3 (drop (at + 1) text)))
+    (number 3 (take at text))
+
+abbrev pub screen_in : List ℕ → Option Screen
+screen_in text = screen_parts (place 0x78 text) text
+
+abbrev pub screen_found : Option Screen → Result Screen Complaint
+screen_found (Some screen) = Ok screen
+screen_found None = Err NoSize
+
+-- the screen of a size's text, or of the name that lets the recording decide
+abbrev pub screen_named : (text : Text) → Result Screen Complaint
+screen_named text =
+    cond (bytes_eq text (codes "auto")) (Ok (record { wide = None; size = None }))
+    (screen_found (screen_in text))
+
+-- by the width that `--columns` asks for, and the text of `--size`: one of the two asks for a screen
+abbrev pub screen_with : (wide : Option Bool) → (size : Option Text) → Result Screen Complaint
+screen_with wide None = Ok (record { wide = wide; size = None })
+screen_with None (Some text) = screen_named text
+screen_with (Some wide) (Some text) = Err TwoSizes
+
+-- the command of this name plays a screen of any size
+abbrev pub plays_sizes : Text → Bool
+plays_sizes command =
+    bytes_eq command (codes "text") || (bytes_eq command (codes "reports") || (bytes_eq command (codes "status")
+    || (bytes_eq command (codes "show") || bytes_eq command (codes "picture"))))
+
+-- a picture that moves has a VT220's size
+abbrev pub has_one_size : (command : Text) → Option Looks → Bool
+has_one_size command looks = is_some looks || not (plays_sizes command)
+
+-- a size that isn't a VT220's is for a command that plays it
+abbrev pub screen_for : (command : Text) → Option Looks → Screen → Result Screen Complaint
+screen_for command looks screen = cond (is_some screen.size && has_one_size command looks) (Err OneSize) (Ok screen)
+
+abbrev pub screen_of : (command : Text) → Option Looks → (columns size : Option Text) → Result Screen Complaint
+screen_of command looks columns size =
+    and_then (λ wide. and_then (λ screen. screen_for command looks screen) (screen_with wide size)) (wide_of columns)
+
+-- ---- a picture that moves
 
 abbrev pub theme_named : (name : Text) → Result Theme Complaint
 theme_named name =
@@ -173,9 +235,12 @@ looks_in command matches =
     looks_of command (is_set (codes "animate") matches) (first_of (codes "theme") matches) (first_of (codes "cursor") matches)
     (is_some (first_of (codes "title") matches))
 
--- a picture that moves has a step for each time
-abbrev pub lacks_steps : Option Format → (timed : Bool) → Option Looks → Bool
-lacks_steps format timed looks = is_some looks && not (has_times format timed)
+-- a picture that moves has a step for each time, and so has a search
+abbrev pub is_timed : (command : Text) → Option Looks → Bool
+is_timed command looks = is_some looks || bytes_eq command (codes "search")
+
+abbrev pub lacks_steps : (command : Text) → Option Format → (timed : Bool) → Option Looks → Bool
+lacks_steps command format timed looks = is_timed command looks && not (has_times format timed)
 
 -- ---- all of them
 
@@ -185,20 +250,21 @@ named None = Ok (Some Raw)
 named (Some name) = format_named name
 
 -- by the name of the command, the looks of a picture that moves, whether there is a timing file, and the texts of the other options
-abbrev pub source_of : (command : Text) → Option Looks → (format : Option Text) → (timed : Bool) → (from until encoding terminal columns : Option Text)
+abbrev pub source_of : (command : Text) → Option Looks → (format : Option Text) → (timed : Bool) → (from until encoding terminal columns size : Option Text)
     → Result Source Complaint
-source_of command looks format timed from until encoding terminal columns =
+source_of command looks format timed from until encoding terminal columns size =
     and_then (λ format. cond (timed && not (takes_timing format)) (Err NoTimingFile)
-    (cond (lacks_steps format timed looks) (Err NoSteps)
-    (and_then (λ from. and_then (λ until. and_then (λ encoding. and_then (λ terminal. and_then (λ wide. Ok (record {
+    (cond (lacks_steps command format timed looks) (Err NoSteps)
+    (and_then (λ from. and_then (λ until. and_then (λ encoding. and_then (λ terminal. and_then (λ screen. Ok (record {
       format = format;
       from = from;
       until = until;
       encoding = encoding;
       terminal = terminal;
-      wide = wide;
+      wide = screen.wide;
+      size = screen.size;
       looks = looks;
-    })) (wide_of columns)) (terminal_of command encoding terminal)) (encoding_of encoding)) (moment_of format timed until))
+    })) (screen_of command looks columns size)) (terminal_of command encoding terminal)) (encoding_of encoding)) (moment_of format timed until))
     (from_of command format timed from))))
     (named format)
 
@@ -207,7 +273,7 @@ abbrev pub source_in : (command : Text) → List Row → Result Source Complaint
 source_in command matches =
     and_then (λ looks. source_of command looks (first_of (codes "format") matches) (is_some (first_of (codes "timing") matches))
     (first_of (codes "from") matches) (first_of (codes "until") matches) (first_of (codes "encoding") matches) (first_of (codes "terminal") matches)
-    (first_of (codes "columns") matches))
+    (first_of (codes "columns") matches) (first_of (codes "size") matches))
     (looks_in command matches)
 
 -- what is said of options that don't fit: the fault, and after some of them a line with a way out
@@ -222,12 +288,16 @@ line_of NoTimes =
 line_of NoEncoding = codes "vt220: --encoding is dec, utf-8 or auto" ++ 0x0A ∷ []
 line_of NoTerminal = codes "vt220: --terminal is vt220, xterm or auto" ++ 0x0A ∷ []
 line_of NoColumns = codes "vt220: --columns is 80, 132 or auto" ++ 0x0A ∷ []
+line_of NoSize = codes "vt220: --size is columns and rows, as 120x40: 80 to 255 columns and 2 to 255 rows; or it is auto" ++ 0x0A ∷ []
+line_of TwoSizes = codes "vt220: --size and --columns are given: one of the two is enough" ++ 0x0A ∷ []
+line_of OneSize =
+    codes "vt220: this command plays 80x24 and 132x24 alone" ++ 0x0A ∷ codes "vt220: text, show, status, reports and picture without --animate play any size" ++ 0x0A ∷ []
 line_of OnlyUtf8 = codes "vt220: --terminal xterm reads UTF-8, and not --encoding dec" ++ 0x0A ∷ []
 line_of OnlyPicture = codes "vt220: --animate goes with picture alone" ++ 0x0A ∷ []
 line_of OnlyMoving = codes "vt220: --theme, --cursor and --title go with picture --animate alone" ++ 0x0A ∷ []
 line_of NoSteps =
-    codes "vt220: the input has no times, and --animate needs them; give script its --timing FILE" ++ 0x0A ∷ codes "vt220: a recording by ttyrec or asciinema has times: add --format ttyrec, asciicast or auto" ++ 0x0A ∷ []
+    codes "vt220: the input has no times, and search and --animate need them; give script its --timing FILE" ++ 0x0A ∷ codes "vt220: a recording by ttyrec or asciinema has times: add --format ttyrec, asciicast or auto" ++ 0x0A ∷ []
 line_of NoTheme = codes "vt220: --theme is dark, light, green or amber" ++ 0x0A ∷ []
 line_of NoShape = codes "vt220: --cursor is outline, block, underline or hidden" ++ 0x0A ∷ []
 line_of OnlyVt220 =
-    codes "vt220: pages, trace and summary play no xterm" ++ 0x0A ∷ codes "vt220: text, show, picture, status, reports, repaint, log and content do" ++ 0x0A ∷ []
+    codes "vt220: pages, trace and summary play no xterm" ++ 0x0A ∷ codes "vt220: text, show, picture, status, reports, repaint, log, search and content do" ++ 0x0A ∷ []

@@ -1,9 +1,12 @@
 //! Has the types for what the arguments of a command line ask for.
 
-ghost use Rattle.std.specs.Prelude.{◌≤◌};
+ghost use Rattle.std.specs.Prelude.{◌≤◌, IfSome};
+ghost use Rattle.std.proofs.Props.{props};
+ghost use Rattle.vt_screen.specs.Sizes.{IsSize};
 
 use crate::what::{What, Word};
 use vt_recording::{Encoding, Format, Moment, TerminalType};
+use vt_screen::Size;
 
 /// The request for a replay. The two numbers are in their ranges, in every value of this type.
 #[derive(Debug, PartialEq, Eq, Drop)]
@@ -33,7 +36,7 @@ pub(crate) struct Options {
     pub(crate) ghost limit_in_range: { limit ≤ 1099511627776 },
 }
 
-/// The request that the arguments make. The two numbers are in their ranges, in every value of this type.
+/// The request that the arguments make. The two numbers are in their ranges, and so is a size, in every value of this type.
 #[derive(Debug, PartialEq, Eq, Drop)]
 pub struct Request {
     /// The work that is to be done with the input.
@@ -52,6 +55,8 @@ pub struct Request {
     pub terminal: Option<TerminalType>,
     /// Whether the screen has 132 columns, or none if the recording decides.
     pub wide: Option<bool>,
+    /// The size of the screen, or none if it is a VT220's or the recording decides.
+    pub size: Option<Size>,
     /// The file with the times of a recording by script(1), if there is one.
     pub timing: Option<String>,
     /// The moment from which on the input is wanted, or none for all of it.
@@ -62,12 +67,15 @@ pub struct Request {
     pub full: bool,
     /// The title of a picture that moves, or none for that of every picture.
     pub title: Option<String>,
+    /// The text that a search is for.
+    pub pattern: Option<String>,
     /// Whether a recording may break its format: what came before is enough.
     pub partial: bool,
     /// Whether the notes on standard error are left out.
     pub quiet: bool,
     pub ghost piece_in_range: { (1 ≤ piece) × (piece ≤ 65536) },
     pub ghost limit_in_range: { limit ≤ 1099511627776 },
+    pub ghost size_in_range: { IfSome size (λ s. IsSize s) } by { Prim.hlevel props },
 }
 
 /// Why the arguments are refused, and what to print.

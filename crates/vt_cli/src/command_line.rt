@@ -1,11 +1,11 @@
 //! The command line: its command in clap's terms, and the settings of a replay.
 ghost use Rattle.std.specs.Prelude.{◌≡◌, ◌≢◌, ◌⊎◌, ℕ, [], IfOk, IfErr, IfSome, IfNone, Some, is_some, option_map, string_bytes};
-ghost use Rattle.std.specs.Prelude.{codes, false, fold};
+ghost use Rattle.std.specs.Prelude.{◌∷◌, codes, false, fold};
 ghost use Rattle.clap.specs.Words.{FailsBy, app_of, first_of, first_value, found_of, kind_of, new_app, rows_of, rule_of};
 ghost use Rattle.clap.specs.Words.{subcommand_rows_of, with_rule};
 ghost use Rattle.clap.specs.declared.builder.command.Command.TheViews.{out-Command};
 ghost use Rattle.vt_cli.specs.declared.what.What.{What};
-ghost use Rattle.vt_cli.specs.CommandLine.{rule_for, subcommand, with_name, as_program};
+ghost use Rattle.vt_cli.specs.CommandLine.{rule_for, required_argument, arguments, subcommand, subcommand_with, with_name, as_program};
 ghost use Rattle.vt_cli.specs.CommandLine.{vt220, faults_in, found_in, name_of, status_for, is_true, is_set, is_plain};
 ghost use Rattle.vt_cli.specs.CommandLine.{IsNumberOf, AreSettings, IsMemory, IsFault, IsStray, IsRefusal};
 ghost use Rattle.vt_cli.specs.CommandLine.{HasNoSettings};
@@ -75,7 +75,10 @@ const EVENTS: &str =
 /// Says what `content` is for.
 const CONTENT: &str = "The host's bytes of a recording, or with --terminal xterm bytes for a VT220";
 
-/// The subcommands, each by its name and what it is for.
+/// Says what `search` is for.
+const SEARCH: &str = "When a text was on the screen: a line for each span of time, and its place";
+
+/// The subcommands but `search`, each by its name and what it is for.
 const SUBCOMMANDS: &[(&str, &str)] = &[
     ("text", TEXT),
     ("reports", REPORTS),
@@ -100,9 +103,18 @@ enum Takes<'a> {
     Number(u64, u64, &'a str),
     /// A text, by the name of its value.
     Text(&'a str),
+    /// A text that has to be there, without an option.
+    Required(&'a str),
     /// Nothing.
     Nothing,
 }
+
+/// The argument of `search` that comes before the file.
+const PATTERN: &[(&str, Takes, &str)] = &[(
+    "pattern",
+    Takes::Required("PATTERN"),
+    "The text to find, letter by letter",
+)];
 
 /// The arguments of each subcommand, each by its name, what it takes, and its help.
 const ARGUMENTS: &[(&str, Takes, &str)] = &[
@@ -157,6 +169,11 @@ const ARGUMENTS: &[(&str, Takes, &str)] = &[
         "The columns of the screen: 80, 132 or auto [default: auto]",
     ),
     (
+        "size",
+        Takes::Text("COLUMNSxROWS"),
+        "The size of the screen, for commands that play any: as 120x40, or auto [default: auto]",
+    ),
+    (
         "animate",
         Takes::Nothing,
         "For picture: one that moves, with a step for each event of output; the recording has times",
@@ -195,7 +212,8 @@ const ARGUMENTS: &[(&str, Takes, &str)] = &[
 
 /// The text below the help.
 const AFTER_HELP: &str = "\
-Each command but help takes FILE, or standard input if no file is named, and these options:
+Each command but help takes FILE, or standard input if no file is named, and these options. search
+takes the text to find before FILE.
   --piece N        the most bytes of one read, 1 to 65536 [default: 4096]
   --limit N        the most bytes of the input, 0 to 1099511627776 [default: 268435456]
   --format FORMAT  how FILE was recorded: raw, script, ttyrec, asciicast or auto [default: raw]
@@ -205,6 +223,7 @@ Each command but help takes FILE, or standard input if no file is named, and the
   --encoding NAME  how the host's bytes are read: dec, utf-8 or auto [default: auto]
   --terminal NAME  the terminal for which the host sends: vt220, xterm or auto [default: auto]
   --columns N      the columns of the screen: 80, 132 or auto [default: auto]
+  --size CxR       its columns and rows, for commands that play any size: 80x2 to 255x255, or auto
   --animate        for picture: one that moves, with a step for each event of output
   --theme NAME     the colours of a picture that moves: dark, light, green or amber [default: dark]
   --cursor SHAPE   its cursor: outline, block, underline or hidden [default: outline]
@@ -225,6 +244,9 @@ Example, with a recording made by script(1):
 
 Example, a picture that moves, of a recording with times:
   vt220 picture --animate --format ttyrec demo.tty > demo.svg
+
+Example, when a text was on the screen: from and until, the row and the column:
+  vt220 search --format ttyrec 'No space left' demo.tty
 
 Example, the screen as it stood twelve and a half seconds after the start:
   vt220 text --format ttyrec --until 12.5 demo.tty
@@ -253,21 +275,22 @@ fn argument<'a>(alloc: Global, name: &'a str, takes: Takes<'a>, help: &'a str) -
             .value_parser(ValueParser::unsigned(low, high))
             .default_value(default),
         Takes::Text(value) => arg.long(name).value_name(value),
+        Takes::Required(value) => arg.value_name(value).required(true),
         Takes::Nothing => arg.long(name).action(ArgAction::SetTrue),
     }
 }
 
-/// Returns a subcommand with arguments, each by its name, what it takes, and its help.
+/// Adds arguments to a subcommand, each by its name, what it takes, and its help.
 fn with_arguments<'a>(
     alloc: Global,
-    name: &'a str,
-    about: &'a str,
+    command: Command<'a>,
     rows: &[(&'a str, Takes<'a>, &'a str)],
 ) -> Result<Command<'a>, AllocError>
-    ensures app { IfOk result (λ c. app_of c ≡ fold (λ a row. with_rule a (rule_for row.0.now row.1)) (new_app name.entry.now) rows.now) }
+    requires { (out-Command command).has_globals ≡ false }
+    ensures app { IfOk result (λ c. app_of c ≡ fold (λ a row. with_rule a (rule_for row.0.now row.1)) (app_of command.entry) rows.now) }
     ensures local { IfOk result (λ c. (out-Command c).has_globals ≡ false) }
 {
-    let mut command = Command::new(alloc, name).about(about);
+    let mut command = command;
     for (name, takes, help) in rows {
         command = command.arg(argument(alloc, name, *takes, help))?;
     }
@@ -279,7 +302,17 @@ fn subcommand<'a>(alloc: Global, name: &'a str, about: &'a str) -> Result<Comman
     ensures app { IfOk result (λ c. app_of c ≡ subcommand name.entry.now) }
     ensures local { IfOk result (λ c. (out-Command c).has_globals ≡ false) }
 {
-    with_arguments(alloc, name, about, ARGUMENTS)
+    with_arguments(alloc, Command::new(alloc, name).about(about), ARGUMENTS)
+}
+
+/// Returns the subcommand `search`.
+fn search<'a>(alloc: Global) -> Result<Command<'a>, AllocError>
+    ensures app { IfOk result (λ c. app_of c ≡ subcommand_with (codes "search") (required_argument (codes "pattern") ∷ arguments)) }
+    ensures local { IfOk result (λ c. (out-Command c).has_globals ≡ false) }
+{
+    let command = Command::new(alloc, "search").about(SEARCH);
+    let command = with_arguments(alloc, command, PATTERN)?;
+    with_arguments(alloc, command, ARGUMENTS)
 }
 
 /// Adds subcommands, each by its name and what it is for.
@@ -312,7 +345,7 @@ fn program<'a>(alloc: Global) -> Command<'a>
 fn command<'a>(alloc: Global) -> Result<Command<'a>, AllocError>
     ensures { IfOk result (λ c. app_of c ≡ vt220) }
 {
-    with_names(alloc, program(alloc), SUBCOMMANDS)
+    with_names(alloc, program(alloc), SUBCOMMANDS)?.subcommand(search(alloc)?)
 }
 
 /// Returns what clap matches in the arguments.
@@ -461,6 +494,7 @@ fn is_plain(matches: &ArgMatches<'_>) -> bool
         && !is_given(matches, "encoding")
         && !is_given(matches, "terminal")
         && !is_given(matches, "columns")
+        && !is_given(matches, "size")
         && !is_set(matches, "animate")
         && !is_given(matches, "theme")
         && !is_given(matches, "cursor")

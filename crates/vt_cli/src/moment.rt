@@ -5,7 +5,7 @@ ghost use Rattle.vt_cli.specs.Moment.{place, sixtieth, with_sixtieth, seconds, m
 use vt_recording::{Moment, number, scale};
 
 /// Returns the index of the first byte that is this.
-fn place(byte: u8, text: &[u8]) -> Option<usize>
+pub(crate) fn place(byte: u8, text: &[u8]) -> Option<usize>
     ensures value { result ≡ place byte text.now }
     ensures within { IfSome result (λ at. at < length text.now) }
 {

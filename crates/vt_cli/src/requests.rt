@@ -1,6 +1,7 @@
 //! Reads what the arguments ask for: a word, its input, and how that was recorded.
 ghost use Rattle.std.specs.Prelude.{◌≡◌, ◌≢◌, [], IfOk, IfErr, IfSome, IfNone, Some, None, Ok};
 ghost use Rattle.clap.specs.Words.{found_of, rows_of, subcommand_rows_of};
+ghost use Rattle.vt_screen.specs.Sizes.{IsSize};
 ghost use Rattle.vt_cli.specs.declared.what.Word.{Word};
 ghost use Rattle.vt_cli.specs.CommandLine.{word_name};
 ghost use Rattle.vt_cli.specs.Source.{source_in};
@@ -42,6 +43,7 @@ fn still_word_of(name: &str) -> Option<Word>
         "summary" => Some(Word::Summary),
         "events" => Some(Word::Events),
         "content" => Some(Word::Content),
+        "search" => Some(Word::Search),
         _ => Some(Word::Replay(what_of(name)?)),
     }
 }
@@ -53,7 +55,8 @@ fn request_of(
     matches: &ArgMatches<'_>,
     source: Source,
 ) -> Result<Option<Request>, AllocError>
-    requires { source_in name.now (rows_of (found_of matches.now)) ≡ Ok source }
+    requires source { source_in name.now (rows_of (found_of matches.now)) ≡ Ok source }
+    requires in_range { IfSome source.size (λ s. IsSize s) }
     ensures some { IfOk result (λ o. IfSome o (IsFound (Some (name.now, rows_of (found_of matches.now))))) }
     ensures none { IfOk result (λ o. IfNone o (HasNoRequest (Some (name.now, rows_of (found_of matches.now))))) }
 {
@@ -64,6 +67,7 @@ fn request_of(
         return Ok(None);
     };
     let timing = file_of(alloc, matches, "timing")?;
+    let pattern = file_of(alloc, matches, "pattern")?;
     Ok(Some(Request {
         word,
         piece: options.piece,
@@ -76,7 +80,9 @@ fn request_of(
         encoding: source.encoding,
         terminal: source.terminal,
         wide: source.wide,
+        size: source.size,
         title: file_of(alloc, matches, "title")?,
+        pattern,
         full: is_set(matches, "full"),
         partial: is_set(matches, "partial"),
         quiet: is_set(matches, "quiet"),
@@ -104,11 +110,11 @@ fn request_among(alloc: Global, matches: &ArgMatches<'_>) -> Result<Request, Ref
 
 /// Returns what the arguments ask for; the first argument is the program's name.
 ///
-/// The arguments are those of clap's command `vt220`: one of the twelve subcommands, those of `settings` and `log`, `pages`,
-/// `trace`, `summary`, `events` and `content`. Each takes `--piece N`, `--limit N` and at most one FILE, and the options of a
+/// The arguments are those of clap's command `vt220`: one of the thirteen subcommands, those of `settings` and `log`, `pages`,
+/// `trace`, `summary`, `events`, `content` and `search PATTERN`. Each takes `--piece N`, `--limit N` and at most one FILE, and the options of a
 /// recording: `--format FORMAT` (raw, script, ttyrec, asciicast or auto, otherwise raw), `--timing FILE`, `--from MOMENT`,
 /// `--until MOMENT`, `--encoding NAME` (dec, utf-8 or auto), `--terminal NAME` (vt220, xterm or auto), `--columns N` (80, 132 or
-/// auto), `--animate`, `--theme NAME`, `--cursor SHAPE`, `--title TEXT`, `--full`, `--partial` and `--quiet`. With auto the beginning of the input decides on the format. Of encoding, terminal and columns auto is the default:
+/// auto), `--size COLUMNSxROWS` (80 to 255 columns and 2 to 255 rows, or auto), `--animate`, `--theme NAME`, `--cursor SHAPE`, `--title TEXT`, `--full`, `--partial` and `--quiet`. With auto the beginning of the input decides on the format. Of encoding, terminal, columns and size auto is the default:
 /// then the request leaves the decision to the recording. A moment is seconds (`12.5`), minutes and seconds (`12:31`), hours,
 /// minutes and seconds (`1:02:03`), a number of bytes (`4096b`), or the number of an event (`event:12`) or a marker (`marker:2`),
 /// counted from 1. Seconds have up to six decimals.
@@ -116,7 +122,7 @@ fn request_among(alloc: Global, matches: &ArgMatches<'_>) -> Result<Request, Ref
 /// `Err` is what to end with if there is no request: the help or the version that was asked for (status 0), a failed
 /// allocation (1), or what is wrong with the arguments (2). Such are also `--timing` with a format other than script, a
 /// moment in seconds with raw, or with script without `--timing`, `--from` with another subcommand than `events` and `content`, and
-/// xterm with dec, or with `pages`, `trace` or `summary`. `--animate` is for `picture` and a format with times. The theme is dark, light,
+/// xterm with dec, or with `pages`, `trace` or `summary`. `--animate` is for `picture`. It and `search` are for a format with times. `--size` doesn't go with `--columns`. A size that isn't a VT220's is for `text`, `show`, `status`, `reports` and a `picture` that doesn't move. The theme is dark, light,
 /// green or amber, and the shape outline, block, underline or hidden. Both and the title need `--animate`.
 /// (this profile)
 pub fn request(alloc: Global, words: Vec<String>) -> Result<Request, Refused>

@@ -1,19 +1,22 @@
-//! How the input was recorded: its format, the moments between which it is wanted, the encoding, the terminal, and its columns.
-ghost use Rattle.std.specs.Prelude.{◌≡◌, option_map};
+//! How the input was recorded: its format, the moments between which it is wanted, the encoding, the terminal, and its size.
+ghost use Rattle.std.specs.Prelude.{◌≡◌, ◌<◌, option_map, IfOk, IfSome};
+ghost use Rattle.vt_screen.specs.Sizes.{IsSize};
 ghost use Rattle.clap.specs.Words.{found_of, rows_of};
 ghost use Rattle.vt_cli.specs.Source.{format_named, named, takes_timing, has_times, has_moment, moment_of, takes_start, from_of, source_of, source_in, line_of};
 ghost use Rattle.vt_cli.specs.Source.{encoding_named, encoding_of};
-ghost use Rattle.vt_cli.specs.Source.{theme_named, theme_of, cursor_named, cursor_of, looks_with, may_move, looks_of, looks_in, lacks_steps};
+ghost use Rattle.vt_cli.specs.Source.{theme_named, theme_of, cursor_named, cursor_of, looks_with, may_move, looks_of, looks_in, is_timed, lacks_steps};
 ghost use Rattle.vt_cli.specs.Source.{plays_xterm, xterm_for, terminal_named, terminal_of, wide_named, wide_of};
+ghost use Rattle.vt_cli.specs.Source.{size_of, screen_at, screen_in, screen_named, screen_with, plays_sizes, has_one_size, screen_for, screen_of};
 
 use crate::command_line::is_set;
-use crate::moment::moment;
+use crate::moment::{moment, place};
 use crate::what::Looks;
 use clap::ArgMatches;
 use vt_picture::{CursorShape, Theme};
-use vt_recording::{Encoding, Format, Moment, TerminalType};
+use vt_recording::{Encoding, Format, Moment, TerminalType, number};
+use vt_screen::{ROWS, Size};
 
-/// How the input was recorded, the moments between which it is wanted, the encoding, the terminal, and its columns.
+/// How the input was recorded, the moments between which it is wanted, the encoding, the terminal, and its size.
 #[derive(Clone, Copy)]
 pub(crate) struct Source {
     /// The format, or none if the beginning of the input decides.
@@ -28,8 +31,19 @@ pub(crate) struct Source {
     pub(crate) terminal: Option<TerminalType>,
     /// Whether the screen has 132 columns, or none if the recording decides.
     pub(crate) wide: Option<bool>,
+    /// The size of the screen, or none if it is a VT220's or the recording decides.
+    pub(crate) size: Option<Size>,
     /// The looks of a picture that moves, if one is asked for.
     pub(crate) looks: Option<Looks>,
+}
+
+/// The screen that was asked for.
+#[derive(Clone, Copy)]
+pub(crate) struct Screen {
+    /// Whether it has 132 columns, or none if no VT220's screen was asked for.
+    pub(crate) wide: Option<bool>,
+    /// Its size, or none if no other screen was asked for.
+    pub(crate) size: Option<Size>,
 }
 
 /// Why the options of a recording are refused.
@@ -51,6 +65,12 @@ pub(crate) enum Complaint {
     NoTerminal,
     /// `--columns` gives no number of columns that the terminal has.
     NoColumns,
+    /// `--size` gives no size that a screen may have.
+    NoSize,
+    /// `--size` and `--columns` both ask for a screen.
+    TwoSizes,
+    /// `--size` isn't a VT220's, and the command plays a VT220's screen alone.
+    OneSize,
     /// `--terminal xterm` is given with `--encoding dec`.
     OnlyUtf8,
     /// `--terminal xterm` is given for a command that plays a VT220 alone.
@@ -59,7 +79,7 @@ pub(crate) enum Complaint {
     OnlyPicture,
     /// `--theme`, `--cursor` or `--title` is given without `--animate`.
     OnlyMoving,
-    /// `--animate` is given, and the recording has no times.
+    /// `--animate` is given or a text is searched for, and the recording has no times.
     NoSteps,
     /// `--theme` names no theme.
     NoTheme,
@@ -89,20 +109,30 @@ impl Complaint {
             Complaint::NoEncoding => "vt220: --encoding is dec, utf-8 or auto\n",
             Complaint::NoTerminal => "vt220: --terminal is vt220, xterm or auto\n",
             Complaint::NoColumns => "vt220: --columns is 80, 132 or auto\n",
+            Complaint::NoSize => {
+                "vt220: --size is columns and rows, as 120x40: 80 to 255 columns and 2 to 255 rows; or it is auto\n"
+            }
+            Complaint::TwoSizes => {
+                "vt220: --size and --columns are given: one of the two is enough\n"
+            }
+            Complaint::OneSize => {
+                "vt220: this command plays 80x24 and 132x24 alone\n\
+                 vt220: text, show, status, reports and picture without --animate play any size\n"
+            }
             Complaint::OnlyUtf8 => "vt220: --terminal xterm reads UTF-8, and not --encoding dec\n",
             Complaint::OnlyPicture => "vt220: --animate goes with picture alone\n",
             Complaint::OnlyMoving => {
                 "vt220: --theme, --cursor and --title go with picture --animate alone\n"
             }
             Complaint::NoSteps => {
-                "vt220: the input has no times, and --animate needs them; give script its --timing FILE\n\
+                "vt220: the input has no times, and search and --animate need them; give script its --timing FILE\n\
                  vt220: a recording by ttyrec or asciinema has times: add --format ttyrec, asciicast or auto\n"
             }
             Complaint::NoTheme => "vt220: --theme is dark, light, green or amber\n",
             Complaint::NoShape => "vt220: --cursor is outline, block, underline or hidden\n",
             Complaint::OnlyVt220 => {
                 "vt220: pages, trace and summary play no xterm\n\
-                 vt220: text, show, picture, status, reports, repaint, log and content do\n"
+                 vt220: text, show, picture, status, reports, repaint, log, search and content do\n"
             }
         }
     }
@@ -299,6 +329,133 @@ fn wide_of(name: Option<&str>) -> Result<Option<bool>, Complaint>
     }
 }
 
+/// Returns the size of so many rows of so many columns, if a screen may have it. DECCOLM leaves its width.
+pub fn size_of(columns: u64, rows: u64) -> Option<Size>
+    ensures value { result ≡ size_of columns rows }
+    ensures in_range { IfSome result (λ size. IsSize size) }
+{
+    if 79 < columns && columns < 256 && 1 < rows && rows < 256 {
+        let columns = columns as usize;
+        return Some(Size {
+            rows: rows as usize,
+            narrow: columns,
+            wide: columns,
+        });
+    }
+    None
+}
+
+/// Returns the screen of so many columns and rows: a VT220's by its width, any other one by its size.
+fn screen_at(columns: u64, rows: u64) -> Option<Screen>
+    ensures value { result ≡ screen_at columns rows }
+    ensures in_range { IfSome result (λ screen. IfSome screen.size (λ size. IsSize size)) }
+{
+    if rows == ROWS as u64 && columns == 80 {
+        return Some(Screen {
+            wide: Some(false),
+            size: None,
+        });
+    }
+    if rows == ROWS as u64 && columns == 132 {
+        return Some(Screen {
+            wide: Some(true),
+            size: None,
+        });
+    }
+    let size = size_of(columns, rows)?;
+    Some(Screen {
+        wide: None,
+        size: Some(size),
+    })
+}
+
+/// Returns the screen that a text gives, as `120x40`.
+fn screen_in(text: &[u8]) -> Option<Screen>
+    ensures value { result ≡ screen_in text.now }
+    ensures in_range { IfSome result (λ screen. IfSome screen.size (λ size. IsSize size)) }
+{
+    let at = place(b'x', text)?;
+    let columns = number(3, &text[..at])?;
+    let rows = number(3, &text[at + 1..])?;
+    screen_at(columns, rows)
+}
+
+/// Returns the screen of a size's text, or of the name that lets the recording decide.
+fn screen_named(text: &str) -> Result<Screen, Complaint>
+    ensures value { result ≡ screen_named text.now }
+    ensures in_range { IfOk result (λ screen. IfSome screen.size (λ size. IsSize size)) }
+{
+    match text {
+        "auto" => Ok(Screen {
+            wide: None,
+            size: None,
+        }),
+        _ => match screen_in(text.as_bytes()) {
+            Some(screen) => Ok(screen),
+            None => Err(Complaint::NoSize),
+        },
+    }
+}
+
+/// Returns the screen of a width that was asked for, or of a size's text: one of the two asks for a screen.
+fn screen_with(wide: Option<bool>, size: Option<&str>) -> Result<Screen, Complaint>
+    ensures value { result ≡ screen_with wide (option_map (λ s. s.now) size.entry) }
+    ensures in_range { IfOk result (λ screen. IfSome screen.size (λ size. IsSize size)) }
+{
+    match size {
+        None => Ok(Screen { wide, size: None }),
+        Some(text) => match wide {
+            None => screen_named(text),
+            Some(_) => Err(Complaint::TwoSizes),
+        },
+    }
+}
+
+/// Returns whether the command of this name plays a screen of any size.
+fn plays_sizes(command: &str) -> bool
+    ensures { result ≡ plays_sizes command.now }
+{
+    matches!(command, "text" | "reports" | "status" | "show" | "picture")
+}
+
+/// Returns whether a command plays a VT220's screen alone. A picture that moves is such.
+fn has_one_size(command: &str, looks: Option<Looks>) -> bool
+    ensures { result ≡ has_one_size command.now looks }
+{
+    looks.is_some() || !plays_sizes(command)
+}
+
+/// Returns the screen, if the command of this name plays it.
+fn screen_for(command: &str, looks: Option<Looks>, screen: Screen) -> Result<Screen, Complaint>
+    ensures value { result ≡ screen_for command.now looks screen }
+    ensures same { IfOk result (λ s. s ≡ screen) }
+{
+    if screen.size.is_some() && has_one_size(command, looks) {
+        return Err(Complaint::OneSize);
+    }
+    Ok(screen)
+}
+
+/// Returns the screen that a number of columns or a size's text asks for. Without both the recording decides.
+fn screen_of(
+    command: &str,
+    looks: Option<Looks>,
+    columns: Option<&str>,
+    size: Option<&str>,
+) -> Result<Screen, Complaint>
+    ensures value { result ≡ screen_of command.now looks (option_map (λ n. n.now) columns.entry) (option_map (λ s. s.now) size.entry) }
+    ensures in_range { IfOk result (λ screen. IfSome screen.size (λ size. IsSize size)) }
+{
+    let wide = match wide_of(columns) {
+        Ok(wide) => wide,
+        Err(complaint) => return Err(complaint),
+    };
+    match screen_with(wide, size) {
+        Ok(screen) => screen_for(command, looks, screen),
+        Err(complaint) => Err(complaint),
+    }
+}
+
 /// Returns the theme of a name.
 fn theme_named(name: &str) -> Result<Theme, Complaint>
     ensures { result ≡ theme_named name.now }
@@ -404,15 +561,22 @@ fn looks_in(command: &str, matches: &ArgMatches<'_>) -> Result<Option<Looks>, Co
     )
 }
 
-/// Returns whether a picture that moves is asked for, of a recording without times.
-fn lacks_steps(format: Option<Format>, timed: bool, looks: Option<Looks>) -> bool
-    ensures { result ≡ lacks_steps format timed looks }
+/// Returns whether a command needs the times of a recording: a picture that moves, or a search.
+fn is_timed(command: &str, looks: Option<Looks>) -> bool
+    ensures { result ≡ is_timed command.now looks }
 {
-    looks.is_some() && !has_times(format, timed)
+    looks.is_some() || matches!(command, "search")
+}
+
+/// Returns whether a command needs the times of a recording that has none.
+fn lacks_steps(command: &str, format: Option<Format>, timed: bool, looks: Option<Looks>) -> bool
+    ensures { result ≡ lacks_steps command.now format timed looks }
+{
+    is_timed(command, looks) && !has_times(format, timed)
 }
 
 /// Returns the source that options give for a command: the name of a format, whether there is a timing file, the texts of two
-/// moments, the names of an encoding and of a terminal, a number of columns, and the looks of a picture that moves.
+/// moments, the names of an encoding and of a terminal, a number of columns, a size, and the looks of a picture that moves.
 fn source_of(
     command: &str,
     looks: Option<Looks>,
@@ -423,10 +587,12 @@ fn source_of(
     encoding: Option<&str>,
     terminal: Option<&str>,
     columns: Option<&str>,
+    size: Option<&str>,
 ) -> Result<Source, Complaint>
-    ensures { result ≡ source_of command.now looks (option_map (λ f. f.now) format.entry) timed
+    ensures value { result ≡ source_of command.now looks (option_map (λ f. f.now) format.entry) timed
         (option_map (λ f. f.now) from.entry) (option_map (λ u. u.now) until.entry) (option_map (λ e. e.now) encoding.entry)
-        (option_map (λ t. t.now) terminal.entry) (option_map (λ n. n.now) columns.entry) }
+        (option_map (λ t. t.now) terminal.entry) (option_map (λ n. n.now) columns.entry) (option_map (λ s. s.now) size.entry) }
+    ensures in_range { IfOk result (λ source. IfSome source.size (λ size. IsSize size)) }
 {
     let format = match named(format) {
         Ok(format) => format,
@@ -435,7 +601,7 @@ fn source_of(
     if timed && !takes_timing(format) {
         return Err(Complaint::NoTimingFile);
     }
-    if lacks_steps(format, timed, looks) {
+    if lacks_steps(command, format, timed, looks) {
         return Err(Complaint::NoSteps);
     }
     let from = match from_of(command, format, timed, from) {
@@ -454,14 +620,15 @@ fn source_of(
         Ok(terminal) => terminal,
         Err(complaint) => return Err(complaint),
     };
-    match wide_of(columns) {
-        Ok(wide) => Ok(Source {
+    match screen_of(command, looks, columns, size) {
+        Ok(screen) => Ok(Source {
             format,
             from,
             until,
             encoding,
             terminal,
-            wide,
+            wide: screen.wide,
+            size: screen.size,
             looks,
         }),
         Err(complaint) => Err(complaint),
@@ -470,7 +637,8 @@ fn source_of(
 
 /// Returns the source that the options of the subcommand of this name give.
 pub(crate) fn source_in(command: &str, matches: &ArgMatches<'_>) -> Result<Source, Complaint>
-    ensures { result ≡ source_in command.now (rows_of (found_of matches.now)) }
+    ensures value { result ≡ source_in command.now (rows_of (found_of matches.now)) }
+    ensures in_range { IfOk result (λ source. IfSome source.size (λ size. IsSize size)) }
 {
     let looks = match looks_in(command, matches) {
         Ok(looks) => looks,
@@ -486,5 +654,6 @@ pub(crate) fn source_in(command: &str, matches: &ArgMatches<'_>) -> Result<Sourc
         matches.get_str("encoding"),
         matches.get_str("terminal"),
         matches.get_str("columns"),
+        matches.get_str("size"),
     )
 }

@@ -48,4 +48,6 @@ pub enum Word {
     Events,
     /// The host's bytes. For xterm, bytes with which a VT220 shows the same.
     Content,
+    /// A line for each span of time in which a text was on the screen.
+    Search,
 }

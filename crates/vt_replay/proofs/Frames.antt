@@ -97,7 +97,8 @@ pub numbered_then : (number : ℕ) (numbers bytes after : List ℕ) (before s : 
     → AreNumbered number numbers before s after → after ≡ numbers_after number numbers bytes before s
 unfolding numbers_then
 numbered_then number numbers bytes after before s some long are =
-    numbered (λ i. if same_paper before s then number_after number numbers before s (i + 1) else number_on_screen number s (i + 1)) after long are
+    numbered (λ i. if same_paper before s then number_after number numbers before s (i + 1) else number_on_screen number s (i + 1)) after long
+    (λ i below. are i (omega (arith, long, below)))
     ∙ sym (ap (λ (empty : Bool). cond empty numbers (numbers_then number numbers before s)) some)
 
 -- the numbers of all rows of the screen at the beginning

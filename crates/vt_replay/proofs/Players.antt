@@ -1,7 +1,8 @@
 -- The state and the reports that a player leaves of more bytes.
 use Rattle.std.proofs.Common.{◌≡◌, ◌∙◌, ℕ, List, [], ◌++◌, ap, refl}
 use Rattle.vt_term.specs.State.{State, power_up}
-use Rattle.vt_term.specs.Sound.{IsSound}
+use Rattle.vt_screen.specs.declared.size.Size.{Size}
+use Rattle.vt_term.specs.Sound.{IsSound, IsSoundAt, IsSoundSized}
 use Rattle.vt_term.specs.Play.{Played, play, both}
 use Rattle.vt_term.specs.Scrolling.{log}
 use Rattle.vt_utf8.specs.Decoding.{pending_after}
@@ -17,13 +18,29 @@ use Rattle.vt_xterm_paint.specs.Repaint.{xterm_repaint}
 use Rattle.vt_replay.specs.Session.{is_between}
 use Rattle.vt_replay.specs.Playing.{language_of, on_terminal, played_as}
 
+pub plain_on : (s t : State) (chunk more : List ℕ)
+    → ((s : State) (a b : List ℕ) → play s (a ++ b) ≡ both (play s a) (play (play s a).state b))
+    → t ≡ (play s chunk).state → play s (chunk ++ more) ≡ both (play s chunk) (play t more)
+plain_on s t chunk more two state = rw state (two s chunk more)
+
 pub utf8_on : (s t : State) (pending after chunk more : List ℕ)
-    → ((s : State) (pending a b : List ℕ) → IsSound s → play_utf8 s pending (a ++ b)
+    → ((size : Size) (s : State) (pending a b : List ℕ) → IsSoundAt size s → play_utf8 s pending (a ++ b)
     ≡ both (play_utf8 s pending a) (play_utf8 (play_utf8 s pending a).state (pending_after pending a) b))
-    → IsSound s → t ≡ (play_utf8 s pending chunk).state → after ≡ pending_after pending chunk
+    → IsSoundSized s → t ≡ (play_utf8 s pending chunk).state → after ≡ pending_after pending chunk
     → play_utf8 s pending (chunk ++ more) ≡ both (play_utf8 s pending chunk) (play_utf8 t after more)
 utf8_on s t pending after chunk more two sound state left =
-    rw (state, left) (two s pending chunk more sound)
+    rw (state, left) (two s.display.grid.size s pending chunk more sound)
+
+-- the size stays
+pub plain_stays : (s t : State) (chunk : List ℕ)
+    → ((size : Size) (s : State) (bytes : List ℕ) → IsSoundAt size s → IsSoundAt size (play s bytes).state)
+    → IsSoundSized s → t ≡ (play s chunk).state → t.display.grid.size ≡ s.display.grid.size
+plain_stays s t chunk keeps sound state = rw state (keeps s.display.grid.size s chunk sound).display.of_size
+
+pub utf8_stays : (s t : State) (pending chunk : List ℕ)
+    → ((size : Size) (s : State) (pending bytes : List ℕ) → IsSoundAt size s → IsSoundAt size (play_utf8 s pending bytes).state)
+    → IsSoundSized s → t ≡ (play_utf8 s pending chunk).state → t.display.grid.size ≡ s.display.grid.size
+utf8_stays s t pending chunk keeps sound state = rw state (keeps s.display.grid.size s pending chunk sound).display.of_size
 
 pub xterm_on : (s t : State) (front after : FrontState) (chunk more : List ℕ)
     → ((w : Whole) (pending a b : List ℕ) → play_xterm w pending (a ++ b)

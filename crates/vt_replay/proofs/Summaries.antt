@@ -6,7 +6,7 @@ use Rattle.vt_syntax.specs.Laws.{SplitLaw}
 use Rattle.vt_trace.specs.declared.summary.Summary.{Summary}
 use Rattle.vt_trace.specs.Counted.{HasCounted, HasCountedSome, AreSome, summary_after}
 use Rattle.vt_trace.specs.Summary.{summary}
-use Rattle.vt_trace.specs.Utf8.{counted_bytes, summary_utf8}
+use Rattle.vt_trace.specs.Utf8.{counted_bytes, summary_utf8, summary_utf8_on}
 use Rattle.vt_utf8.specs.Decoding.{pending_after}
 use Rattle.vt_trace.proofs.CountedUtf8.{counted-append}
 use Rattle.vt_trace.proofs.Coming.{goes_on}
@@ -45,7 +45,7 @@ counts_after : Summary → (pending bytes : List ℕ) → List ℕ
 counts_after s pending bytes = summary_after s (counted_bytes pending bytes)
 
 begins_at : (s : Summary) → SplitLaw → HasCounted [] s → counts_after s [] ≡ summary_utf8
-unfolding summary_utf8 counts_after
+unfolding summary_utf8_on counts_after
 begins_at s law was i bytes = goes_on s [] (counted_bytes [] bytes) law was i
 
 -- of a summary that has counted nothing, with nothing pending

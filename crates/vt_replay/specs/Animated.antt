@@ -1,5 +1,5 @@
 -- A recording as a picture that moves: the screen after each event of output. (this profile)
-use Rattle.std.specs.Prelude.{◌≡◌, ℕ, ◌+◌, ◌-◌, ◌^◌, ◌++◌, [], ◌∷◌, List, min, max, map, codes, cond, if◌then◌else◌, Option, Some, None, fold}
+use Rattle.std.specs.Prelude.{ℕ, ◌+◌, ◌-◌, ◌^◌, ◌++◌, [], ◌∷◌, List, min, max, map, codes, cond, if◌then◌else◌, Option, Some, None, fold}
 use Rattle.std.specs.Prelude.{string_bytes}
 use Rattle.std.specs.List.{range_with_len}
 use Rattle.std.specs.declared.alloc.Global.{Global}
@@ -12,19 +12,13 @@ use Rattle.vt_recording.specs.declared.format.Format.{Format}
 use Rattle.vt_recording.specs.declared.format.Encoding.{Encoding}
 use Rattle.vt_recording.specs.declared.format.Moment.{Moment}
 use Rattle.vt_recording.specs.declared.format.Break.{Break}
-use Rattle.vt_recording.specs.Moment.{micros_of}
-use Rattle.vt_recording.specs.declared.timeline.Event as mark
-use Rattle.vt_recording.specs.Timeline.{Event, Timeline, IsTimelineOf}
+use Rattle.vt_recording.specs.Timeline.{Event}
 use Rattle.vt_recording.specs.Gathered.{events_of}
-use Rattle.vt_recording.specs.Reached.{IsTakenBetween, has_characters, steps_in}
 use Rattle.vt_cli.specs.declared.what.Looks.{Looks}
 use Rattle.vt_replay.specs.declared.language.Language.{Language}
 use Rattle.vt_replay.specs.Playing.{played_as}
 use Rattle.vt_replay.specs.Session.{is_empty}
-
--- an event without its bytes
-abbrev pub Step : Type 0
-Step = mark.Event
+use Rattle.vt_replay.specs.Steps.{Step, IsStepped}
 
 -- ---- the numbers of rows
 
@@ -89,13 +83,9 @@ animation shows looks title opening content steps =
 abbrev pub shown_after : Language → List ℕ → Display
 shown_after language bytes = (played_as language bytes).state.display
 
--- the picture of a recording up to a moment, and where that breaks its format. Its events are those of its content
-pub record IsAnimation (looks : Looks) (title opening : List ℕ) (language : Language) (format : Format) (encoding : Encoding)
-    (until : Option Moment) (timing : Option (List ℕ)) (bytes picture : List ℕ) (broken : Option Break) (replaced : ℕ) : Type 0 where
-  pub content : List ℕ
-  pub taken : IsTakenBetween format encoding None until timing bytes content broken replaced
-  pub timeline : Timeline
-  pub is_of : IsTimelineOf format timing bytes timeline
-  pub picture_is : picture
-      ≡ animation (shown_after language) looks title opening content
-      (steps_in (has_characters format encoding) (micros_of until) timeline.events)
+-- the picture of a recording up to a moment, and where that breaks its format
+abbrev pub IsAnimation : Looks → (title opening : List ℕ) → Language → Format → Encoding → (until : Option Moment) → (timing : Option (List ℕ))
+    → (bytes picture : List ℕ) → (broken : Option Break) → (replaced : ℕ) → Type 0
+IsAnimation looks title opening language format encoding until timing bytes picture broken replaced =
+    IsStepped (λ content steps. animation (shown_after language) looks title opening content steps) format encoding until timing bytes picture broken
+    replaced

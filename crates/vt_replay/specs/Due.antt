@@ -5,20 +5,15 @@ use Rattle.vt_syntax.specs.declared.held.Held.TheVariants.{Nothing}
 use Rattle.vt_term.specs.State.{State}
 use Rattle.vt_term.specs.Play.{Played}
 use Rattle.vt_term.specs.Text.{text}
-use Rattle.vt_term.specs.declared.terminal.TheConstants.{TEXT_LIMIT}
 use Rattle.vt_paint.specs.Repaint.{paint}
-use Rattle.vt_paint.specs.declared.paint.TheConstants.{PAINT_LIMIT}
 use Rattle.vt_picture.specs.Show.{show}
 use Rattle.vt_picture.specs.Picture.{picture}
-use Rattle.vt_picture.specs.declared.showing.TheConstants.{SHOW_LIMIT}
-use Rattle.vt_picture.specs.declared.document.TheConstants.{PICTURE_LIMIT}
 use Rattle.vt_cli.specs.declared.what.What.{What}
 use Rattle.vt_cli.specs.declared.what.What.TheVariants.{Text, Reports, Repaint, Status, Show, Picture}
 use Rattle.vt_device.specs.Runs.{Flags}
 use Rattle.vt_recording.specs.declared.fault.Fault.{Fault}
 use Rattle.vt_output.specs.Output.{OutputTable}
 use Rattle.vt_replay.specs.Status.{status}
-use Rattle.vt_replay.specs.declared.status.TheConstants.{STATUS_LIMIT}
 
 -- what of reports goes out while the input is read
 abbrev pub sent : What → List ℕ → List ℕ
@@ -33,15 +28,6 @@ due_at_end Repaint s reported = paint s
 due_at_end Status s reported = status s reported
 due_at_end Show s reported = show s
 due_at_end Picture s reported = picture s
-
--- the most bytes of that; private contracts alone speak of this
-abbrev pub room_for : What → ℕ
-room_for Text = TEXT_LIMIT
-room_for Reports = 0
-room_for Repaint = PAINT_LIMIT
-room_for Status = STATUS_LIMIT
-room_for Show = SHOW_LIMIT
-room_for Picture = PICTURE_LIMIT
 
 -- ---- a replay as an output, by what bytes leave and report
 

@@ -8,7 +8,10 @@ pub mod PageCuts
 pub mod Pages
 pub mod Playing
 pub mod Request
+pub mod Search
 pub mod Session
 pub mod Showing
+pub mod Sized
 pub mod Status
+pub mod Steps
 pub mod Words

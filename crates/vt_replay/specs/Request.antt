@@ -21,9 +21,10 @@ use Rattle.vt_replay.specs.Words.{WordTable}
 use Rattle.vt_replay.specs.EventTable.{IsTableTaken}
 use Rattle.vt_replay.specs.Playing.{language_of}
 use Rattle.vt_replay.specs.Animated.{title_of, IsAnimation}
+use Rattle.vt_replay.specs.Search.{text_of, IsSearched}
 use Rattle.vt_cli.specs.declared.what.What.TheVariants.{Picture}
 use Rattle.vt_cli.specs.declared.what.Word.{Word}
-use Rattle.vt_cli.specs.declared.what.Word.TheVariants.{Replay, Animation, Log, Pages, Trace, Summary, Events, Content}
+use Rattle.vt_cli.specs.declared.what.Word.TheVariants.{Replay, Animation, Log, Pages, Trace, Summary, Events, Content, Search}
 
 -- 132 columns were asked for
 abbrev pub asks_wide : Option Bool → Bool
@@ -39,7 +40,7 @@ is_streamed format.Script until wide whole = false
 is_streamed format.Ttyrec until wide whole = false
 is_streamed format.Asciicast until wide whole = false
 
--- the word writes what is made of a whole recording: the table of its events, or a picture that moves
+-- the word writes what is made of a whole recording: the table of its events, a picture that moves, or the spans of a search
 abbrev pub takes_whole : Word → Bool
 takes_whole (Replay what) = false
 takes_whole (Animation looks) = true
@@ -49,6 +50,7 @@ takes_whole Trace = false
 takes_whole Summary = false
 takes_whole Events = true
 takes_whole Content = false
+takes_whole Search = true
 
 -- the word needs the whole input: it writes what is made of it, or begins in the middle
 abbrev pub needs_whole : Request → Bool
@@ -62,7 +64,7 @@ ended_of broken (Err fault) = Err fault
 
 -- the word was carried out on the input as it came
 pub record IsStreamed (o : Outcome) (r : Request) (b w : List ℕ) (f : Flags) : Type 0 where
-  pub table : WordTable o.ended r.word (plain_host r).terminal (plain_host r).encoding r.piece b w f r.limit
+  pub table : WordTable o.ended r.word (plain_host r).size (plain_host r).terminal (plain_host r).encoding r.piece b w f r.limit
   pub none_replaced : o.replaced ≡ 0
 
 -- the word was carried out on the content of a recording, of which c was played, from memory: no read fails. At the end
@@ -75,17 +77,20 @@ pub record IsPlayed (o : Outcome) (r : Request) (host : Host) (content : List �
   pub at_end : Bool
   pub none_left : at_end ≡ true → rest ≡ []
   pub played : Result (Unit {0}) Fault
-  pub table : WordTable played r.word host.terminal host.encoding r.piece c w (record { reader_failed = false; reader_ended = at_end; writer_failed = writer_failed }) r.limit
+  pub table : WordTable played r.word host.size host.terminal host.encoding r.piece c w (record { reader_failed = false; reader_ended = at_end; writer_failed = writer_failed }) r.limit
   pub ended : o.ended ≡ ended_of broken played
   pub replaces : o.replaced ≡ replaced
 
--- what is taken out of a recording for a word: the table of its events, a picture that moves, or its content
+-- what is taken out of a recording for a word: the table of its events, a picture that moves, the spans of a search, or its content
 abbrev pub IsTakenBy : Word → Request → Format → Host → (timing : Option (List ℕ)) → (bytes content : List ℕ)
     → (broken : Option Break) → (replaced : ℕ) → Type 0
 IsTakenBy Events r format host timing bytes content broken replaced =
     IsTableTaken format r.full r.from r.until timing bytes content broken replaced
 IsTakenBy (Animation looks) r format host timing bytes content broken replaced =
     IsAnimation looks (title_of r.title) (opening (Replay Picture) host) (language_of host.terminal host.encoding) format host.encoding r.until
+    timing bytes content broken replaced
+IsTakenBy Search r format host timing bytes content broken replaced =
+    IsSearched (text_of r.pattern) (opening (Replay Picture) host) (language_of host.terminal host.encoding) format host.encoding r.until
     timing bytes content broken replaced
 IsTakenBy word r format host timing bytes content broken replaced =
     IsTakenBetween format host.encoding r.from r.until timing bytes content broken replaced

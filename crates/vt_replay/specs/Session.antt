@@ -1,18 +1,20 @@
 -- What a replay writes of a session under TERM=xterm: of the terminal and the page that isn't shown. (this profile)
 use Rattle.std.specs.Prelude.{ℕ, List, [], ◌∷◌, Bool, true, false, ◌&&◌}
-use Rattle.vt_term.specs.State.{power_up}
+use Rattle.vt_screen.specs.declared.size.Size.{Size}
+use Rattle.vt_screen.specs.Sizes.{vt220_size}
+use Rattle.vt_term.specs.State.{state_of}
 use Rattle.vt_utf8.specs.Decoding.{pending_after}
-use Rattle.vt_xterm.specs.Play.{Whole, WholePlayed, play_xterm, behind, front_at_power_up}
+use Rattle.vt_xterm.specs.Play.{Whole, WholePlayed, play_xterm, behind, front_of}
 use Rattle.vt_xterm_paint.specs.Repaint.{xterm_repaint}
-use Rattle.vt_cli.specs.declared.what.What.{What}
-use Rattle.vt_cli.specs.declared.what.What.TheVariants.{Repaint}
-use Rattle.vt_replay.specs.declared.language.Language.{Language}
-use Rattle.vt_replay.specs.declared.language.Language.TheVariants.{Xterm}
 use Rattle.vt_replay.specs.Due.{is_nothing}
 
--- what all the bytes of a host leave, from power-up
+-- what all the bytes of a host leave, from power-up of a terminal of a size
+abbrev pub session_at : Size → List ℕ → WholePlayed
+session_at size bytes = play_xterm (behind (state_of size) (front_of size)) [] bytes
+
+-- of a VT220's size
 abbrev pub session : List ℕ → WholePlayed
-session bytes = play_xterm (behind power_up front_at_power_up) [] bytes
+session bytes = session_at vt220_size bytes
 
 abbrev pub is_empty : List ℕ → Bool
 is_empty [] = true
@@ -29,8 +31,3 @@ session_repaint bytes = xterm_repaint (session bytes).whole
 -- it is there between sequences and between characters only
 abbrev pub session_is_there : List ℕ → Bool
 session_is_there bytes = is_between (session bytes).whole (pending_after [] bytes)
-
--- what is asked for is of the whole session: under TERM=xterm a repaint
-abbrev pub is_of_session : Language → What → Bool
-is_of_session Xterm Repaint = true
-is_of_session language what = false

@@ -9,15 +9,16 @@ ghost use Rattle.vt_picture.specs.Animation.{animation_head, animation_end};
 use crate::events::event_at;
 use crate::host::Host;
 use crate::language::Language;
-use crate::player::{PlainPlayer, Player, Utf8Player, XtermPlayer};
+use crate::player::{PlainPlayer, Utf8Player, Vt220Player, XtermPlayer};
+use crate::steps::steps_taken;
 use std::alloc::{AllocError, Global};
 use vt_cli::{Format, Looks, Moment, Theme};
 use vt_picture::{Moving, animation_end, animation_start, frame};
-use vt_recording::{Event, Taken, steps_of, take_between, timeline_of};
+use vt_recording::{Event, Taken};
 use vt_term::{REPORT_LIMIT, ROWS, Terminal};
 
 /// The most bytes that are played at once.
-const PIECE: usize = 4096;
+pub(crate) const PIECE: usize = 4096;
 
 /// The microseconds for which the last frame is shown.
 const LAST_FRAME: u64 = 1_000_000;
@@ -44,7 +45,7 @@ fn duration_of(steps: &[Event]) -> u64
 }
 
 /// Returns whether there are no bytes.
-fn is_empty(bytes: &[u8]) -> bool
+pub(crate) fn is_empty(bytes: &[u8]) -> bool
     ensures { result ≡ is_empty bytes.now }
 {
     match bytes.first() {
@@ -54,7 +55,7 @@ fn is_empty(bytes: &[u8]) -> bool
 }
 
 /// Plays bytes, and drops their reports.
-fn play<P: Player>(player: &mut P, bytes: &[u8], reports: &mut Vec<u8>)
+pub(crate) fn play<P: Vt220Player>(player: &mut P, bytes: &[u8], reports: &mut Vec<u8>)
     requires { 10 ≤ vec_capacity reports.old }
     ensures on { (more : List ℕ) → (P.played player.old (bytes.now ++ more)).state ≡ (P.played player.new more).state }
     ensures capacity { vec_capacity reports.old ≤ vec_capacity reports.new }
@@ -79,7 +80,11 @@ fn copy_of(alloc: Global, t: &Terminal) -> Result<Terminal, AllocError>
 }
 
 /// Returns a player after the bytes of an opening.
-fn opened<P: Player>(alloc: Global, opening: &[u8], reports: &mut Vec<u8>) -> Result<P, AllocError>
+pub(crate) fn opened<P: Vt220Player>(
+    alloc: Global,
+    opening: &[u8],
+    reports: &mut Vec<u8>,
+) -> Result<P, AllocError>
     requires { 10 ≤ vec_capacity reports.old }
     ensures on { IfOk result (λ p. (more : List ℕ) → (P.plays (opening.now ++ more)).state ≡ (P.played p more).state) }
     ensures capacity { vec_capacity reports.old ≤ vec_capacity reports.new }
@@ -90,7 +95,7 @@ fn opened<P: Player>(alloc: Global, opening: &[u8], reports: &mut Vec<u8>) -> Re
 }
 
 /// Returns the terminal at the end of all bytes.
-fn terminal_after<P: Player>(
+fn terminal_after<P: Vt220Player>(
     alloc: Global,
     opening: &[u8],
     content: &[u8],
@@ -106,7 +111,7 @@ fn terminal_after<P: Player>(
 }
 
 /// Plays the bytes of a step and appends its frame, unless it has none.
-fn push_step<P: Player>(
+fn push_step<P: Vt220Player>(
     moving: Moving,
     number: u32,
     micros: u64,
@@ -139,7 +144,7 @@ fn push_step<P: Player>(
 }
 
 /// Plays the steps, and appends a frame for each that has bytes.
-fn push_frames<P: Player>(
+fn push_frames<P: Vt220Player>(
     moving: Moving,
     numbers: &mut [u64; ROWS],
     steps: &[Event],
@@ -175,7 +180,7 @@ fn push_frames<P: Player>(
 }
 
 /// Appends the picture of steps, of which `last` is the terminal at the end.
-fn push_animation<P: Player>(
+fn push_animation<P: Vt220Player>(
     moving: Moving,
     theme: Theme,
     title: &[u8],
@@ -210,7 +215,7 @@ fn push_animation<P: Player>(
 }
 
 /// Returns the picture of steps, which have the bytes of a content, as a player plays them after an opening.
-fn animation_by<P: Player>(
+fn animation_by<P: Vt220Player>(
     alloc: Global,
     looks: Looks,
     title: &[u8],
@@ -261,13 +266,13 @@ fn animation_in(
 {
     match language {
         Language::Dec => {
-            animation_by::<PlainPlayer>(alloc, looks, title, opening, content, steps)
+            animation_by::<PlainPlayer<Terminal>>(alloc, looks, title, opening, content, steps)
         }
         Language::Utf8 => {
-            animation_by::<Utf8Player>(alloc, looks, title, opening, content, steps)
+            animation_by::<Utf8Player<Terminal>>(alloc, looks, title, opening, content, steps)
         }
         Language::Xterm => {
-            animation_by::<XtermPlayer>(alloc, looks, title, opening, content, steps)
+            animation_by::<XtermPlayer<Terminal>>(alloc, looks, title, opening, content, steps)
         }
     }
 }
@@ -287,12 +292,10 @@ pub(crate) fn animation_taken(
 ) -> Result<Taken, AllocError>
     ensures { IfOk result (λ t. IsAnimation looks title.now opening.now (language_of host.terminal host.encoding) format host.encoding until (option_map (λ b. b.now) timing.entry) bytes.now t.content.items t.broken t.replaced) }
 {
-    let taken = take_between(alloc, bytes, timing, format, host.encoding, None, until)?;
-    let timeline = timeline_of(alloc, bytes, timing, format)?;
-    let steps = steps_of(alloc, &timeline, format, host.encoding, until)?;
+    let stepped = steps_taken(alloc, bytes, timing, format, host.encoding, until)?;
     let language = Language::of(host.terminal, host.encoding);
-    let broken = taken.broken;
-    let replaced = taken.replaced;
+    let broken = stepped.taken.broken;
+    let replaced = stepped.taken.replaced;
     Ok(Taken {
         content: animation_in(
             alloc,
@@ -300,8 +303,8 @@ pub(crate) fn animation_taken(
             looks,
             title,
             opening,
-            &taken.content,
-            &steps,
+            &stepped.taken.content,
+            &stepped.steps,
         )?,
         broken,
         replaced,

@@ -8,7 +8,7 @@ ghost use Rattle.vt_replay.specs.Playing.{on_terminal};
 ghost use Rattle.vt_replay.specs.Showing.{between, Shows, AreShown};
 
 use crate::decoding::play_silently;
-use crate::player::{Player, XtermPlayer};
+use crate::player::{Player, Vt220Player, XtermPlayer};
 use std::alloc::{AllocError, Global};
 use vt_output::Decoding;
 use vt_syntax::laws::spelled;
@@ -25,7 +25,7 @@ const CANCEL: &[u8] = b"\x1b\x18";
 /// to what the chunk leaves.
 #[derive(Drop)]
 pub(crate) struct Converter {
-    player: XtermPlayer,
+    player: XtermPlayer<Terminal>,
     /// The VT220 that gets the updates.
     shown: Terminal,
     /// The state to which the next update leads.
@@ -75,7 +75,7 @@ impl Decoding for Converter {
         Ok(Converter {
             reports: Vec::with_capacity(alloc, REPORT_LIMIT * piece)?,
             update: Vec::with_capacity(alloc, UPDATE_LIMIT)?,
-            player: XtermPlayer::new(alloc)?,
+            player: XtermPlayer::<Terminal>::new(alloc)?,
             shown: Terminal::new(alloc)?,
             target: Terminal::new(alloc)?,
         })

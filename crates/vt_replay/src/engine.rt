@@ -1,27 +1,28 @@
 //! The replay of an input: what is due of a terminal is an output.
-ghost use Rattle.std.specs.Prelude.{◌≡◌, ⊤, ◌+◌, ◌*◌, ◌≤◌, ◌++◌, [], ℕ, true, false, length, max, vec_len, vec_capacity};
+ghost use Rattle.std.specs.Prelude.{◌≡◌, ◌≤◌, true, false};
 ghost use Rattle.std.specs.Io.KnownBytes.{IsAtEnd};
 ghost use Rattle.vt_term.specs.State.{power_up};
 ghost use Rattle.vt_term.specs.Play.{play};
-ghost use Rattle.vt_replay.specs.Due.{due_at_end, room_for, is_there, is_sent, sent_by, there_by, PlayedTable};
+ghost use Rattle.vt_replay.specs.Due.{PlayedTable};
+ghost use Rattle.vt_cli.specs.declared.what.What.TheVariants.{Repaint};
 ghost use Rattle.vt_device.specs.Runs.{Moves};
-ghost use Rattle.vt_replay.specs.Playing.{ReplayTable};
+ghost use Rattle.vt_replay.specs.Playing.{ReplayTable, SizedReplayTable, played_at};
+ghost use Rattle.vt_replay.specs.Sized.{plays_sizes};
+ghost use Rattle.vt_screen.specs.Sizes.{IsSize};
 
 use crate::language::Language;
-use crate::output::{front_for, write_output_from};
+use crate::output::write_output_from;
 use crate::outputs::write_word;
-use crate::player::{PlainPlayer, Player, Utf8Player, XtermPlayer};
-use crate::session::{SessionOutput, is_of_session};
-use crate::status::{STATUS_LIMIT, push_status};
+use crate::player::{PlainPlayer, SizedPlayer, Utf8Player, Vt220Player, XtermPlayer};
+use crate::repainting::RepaintOutput;
+use crate::session::SessionOutput;
+use crate::sized::SizedOutput;
 use std::alloc::Global;
 use std::io::{Read, Write};
 use vt_cli::{Encoding, Settings, What};
 use vt_device::{Source, Watched};
-use vt_output::Output;
-use vt_paint::{PAINT_LIMIT, repaint_reserved};
-use vt_picture::{PICTURE_LIMIT, SHOW_LIMIT, picture_reserved, show_reserved};
 use vt_recording::Fault;
-use vt_term::{REPORT_LIMIT, TEXT_LIMIT, Terminal};
+use vt_term::{Size, SizedTerminal, Terminal};
 
 /// Plays the reader's bytes on a new terminal, and writes what is due. Neither device has failed before, and the reader
 /// hasn't ended.
@@ -86,23 +87,16 @@ pub fn run_from<S: Source, W: Write>(
         (λ b w. ReplayTable language what result piece b w (record { reader_failed = S.failed reader.new; reader_ended = S.ended reader.new; writer_failed = writer.new.failed }) limit) }
     ensures whole { S.ended reader.new ≡ true → IsAtEnd (S.remaining reader.new) }
 {
-    if is_of_session(language, what) {
-        let dec = Encoding::Dec;
-        return write_word::<SessionOutput, S, W>(alloc, reader, writer, dec, piece, limit);
-    }
-    match language {
-        Language::Dec => run_by::<PlainPlayer, S, W>(alloc, reader, writer, what, piece, limit),
-        Language::Utf8 => run_by::<Utf8Player, S, W>(alloc, reader, writer, what, piece, limit),
-        Language::Xterm => run_by::<XtermPlayer, S, W>(alloc, reader, writer, what, piece, limit),
-    }
+    let size = Size::vt220();
+    run_at(alloc, reader, writer, what, language, size, piece, limit)
 }
 
-/// Plays a source's bytes by a new player, and writes what is due.
-fn run_by<P: Player, S: Source, W: Write>(
+/// Plays a source's bytes in a language on a new terminal, and writes the repaint, as `run_from` does.
+fn run_repaint<S: Source, W: Write>(
     alloc: Global,
     reader: &mut S,
     writer: &mut Watched<W>,
-    what: What,
+    language: Language,
     piece: usize,
     limit: u64,
 ) -> Result<(), Fault>
@@ -113,10 +107,140 @@ fn run_by<P: Player, S: Source, W: Write>(
     requires limit_in_range { limit ≤ 1099511627776 }
     ensures answer { Moves (S.remaining reader.old) (S.remaining reader.new) (W.contents writer.old.device)
         (W.contents writer.new.device)
-        (λ b w. PlayedTable P.plays what result piece b w (record { reader_failed = S.failed reader.new; reader_ended = S.ended reader.new; writer_failed = writer.new.failed }) limit) }
+        (λ b w. ReplayTable language Repaint result piece b w (record { reader_failed = S.failed reader.new; reader_ended = S.ended reader.new; writer_failed = writer.new.failed }) limit) }
     ensures whole { S.ended reader.new ≡ true → IsAtEnd (S.remaining reader.new) }
 {
-    let mut output = DueOutput::new(P::new(alloc)?, what, piece);
+    match language {
+        Language::Dec => run_repaint_by::<PlainPlayer<Terminal>, S, W>(
+            alloc, reader, writer, piece, limit,
+        ),
+        Language::Utf8 => run_repaint_by::<Utf8Player<Terminal>, S, W>(
+            alloc, reader, writer, piece, limit,
+        ),
+        Language::Xterm => {
+            let dec = Encoding::Dec;
+            write_word::<SessionOutput, S, W>(alloc, reader, writer, dec, piece, limit)
+        }
+    }
+}
+
+/// Plays a source's bytes by a new player, and writes the repaint.
+fn run_repaint_by<P: Vt220Player, S: Source, W: Write>(
+    alloc: Global,
+    reader: &mut S,
+    writer: &mut Watched<W>,
+    piece: usize,
+    limit: u64,
+) -> Result<(), Fault>
+    requires reader_works { S.failed reader.old ≡ false }
+    requires reader_goes_on { S.ended reader.old ≡ false }
+    requires writer_works { writer.old.failed ≡ false }
+    requires piece_in_range { (1 ≤ piece) × (piece ≤ 65536) }
+    requires limit_in_range { limit ≤ 1099511627776 }
+    ensures answer { Moves (S.remaining reader.old) (S.remaining reader.new) (W.contents writer.old.device)
+        (W.contents writer.new.device)
+        (λ b w. PlayedTable P.plays Repaint result piece b w (record { reader_failed = S.failed reader.new; reader_ended = S.ended reader.new; writer_failed = writer.new.failed }) limit) }
+    ensures whole { S.ended reader.new ≡ true → IsAtEnd (S.remaining reader.new) }
+{
+    let mut output = RepaintOutput::new(P::new(alloc)?, piece);
+    let dec = Encoding::Dec;
+    write_output_from(alloc, &mut output, dec, reader, writer, piece, limit)
+}
+
+/// Plays a source's bytes in a language on a new terminal of a size, and writes what is due, as `run_from` does on a VT220's. A
+/// repaint is of a VT220's size.
+///
+/// `Err` is what `run_from` returns.
+pub(crate) fn run_at<S: Source, W: Write>(
+    alloc: Global,
+    reader: &mut S,
+    writer: &mut Watched<W>,
+    what: What,
+    language: Language,
+    size: Size,
+    piece: usize,
+    limit: u64,
+) -> Result<(), Fault>
+    requires reader_works { S.failed reader.old ≡ false }
+    requires reader_goes_on { S.ended reader.old ≡ false }
+    requires writer_works { writer.old.failed ≡ false }
+    requires piece_in_range { (1 ≤ piece) × (piece ≤ 65536) }
+    requires limit_in_range { limit ≤ 1099511627776 }
+    requires size_in_range { IsSize size }
+    ensures answer { Moves (S.remaining reader.old) (S.remaining reader.new) (W.contents writer.old.device)
+        (W.contents writer.new.device)
+        (λ b w. SizedReplayTable size language what result piece b w (record { reader_failed = S.failed reader.new; reader_ended = S.ended reader.new; writer_failed = writer.new.failed }) limit) }
+    ensures whole { S.ended reader.new ≡ true → IsAtEnd (S.remaining reader.new) }
+{
+    match what {
+        What::Text => run_sized(alloc, reader, writer, what, language, size, piece, limit),
+        What::Reports => run_sized(alloc, reader, writer, what, language, size, piece, limit),
+        What::Status => run_sized(alloc, reader, writer, what, language, size, piece, limit),
+        What::Show => run_sized(alloc, reader, writer, what, language, size, piece, limit),
+        What::Picture => run_sized(alloc, reader, writer, what, language, size, piece, limit),
+        What::Repaint => run_repaint(alloc, reader, writer, language, piece, limit),
+    }
+}
+
+/// Plays a source's bytes in a language on a new terminal of a size, and writes what is due: all but a repaint.
+fn run_sized<S: Source, W: Write>(
+    alloc: Global,
+    reader: &mut S,
+    writer: &mut Watched<W>,
+    what: What,
+    language: Language,
+    size: Size,
+    piece: usize,
+    limit: u64,
+) -> Result<(), Fault>
+    requires reader_works { S.failed reader.old ≡ false }
+    requires reader_goes_on { S.ended reader.old ≡ false }
+    requires writer_works { writer.old.failed ≡ false }
+    requires piece_in_range { (1 ≤ piece) × (piece ≤ 65536) }
+    requires limit_in_range { limit ≤ 1099511627776 }
+    requires size_in_range { IsSize size }
+    requires plays { plays_sizes what ≡ true }
+    ensures answer { Moves (S.remaining reader.old) (S.remaining reader.new) (W.contents writer.old.device)
+        (W.contents writer.new.device)
+        (λ b w. PlayedTable (played_at size language) what result piece b w (record { reader_failed = S.failed reader.new; reader_ended = S.ended reader.new; writer_failed = writer.new.failed }) limit) }
+    ensures whole { S.ended reader.new ≡ true → IsAtEnd (S.remaining reader.new) }
+{
+    match language {
+        Language::Dec => run_by::<PlainPlayer<SizedTerminal>, S, W>(
+            alloc, reader, writer, what, size, piece, limit,
+        ),
+        Language::Utf8 => run_by::<Utf8Player<SizedTerminal>, S, W>(
+            alloc, reader, writer, what, size, piece, limit,
+        ),
+        Language::Xterm => run_by::<XtermPlayer<SizedTerminal>, S, W>(
+            alloc, reader, writer, what, size, piece, limit,
+        ),
+    }
+}
+
+/// Plays a source's bytes by a new player of a size, and writes what is due: all but a repaint.
+fn run_by<P: SizedPlayer, S: Source, W: Write>(
+    alloc: Global,
+    reader: &mut S,
+    writer: &mut Watched<W>,
+    what: What,
+    size: Size,
+    piece: usize,
+    limit: u64,
+) -> Result<(), Fault>
+    requires reader_works { S.failed reader.old ≡ false }
+    requires reader_goes_on { S.ended reader.old ≡ false }
+    requires writer_works { writer.old.failed ≡ false }
+    requires piece_in_range { (1 ≤ piece) × (piece ≤ 65536) }
+    requires limit_in_range { limit ≤ 1099511627776 }
+    requires size_in_range { IsSize size }
+    requires plays { plays_sizes what ≡ true }
+    ensures answer { Moves (S.remaining reader.old) (S.remaining reader.new) (W.contents writer.old.device)
+        (W.contents writer.new.device)
+        (λ b w. PlayedTable (P.plays size) what result piece b w (record { reader_failed = S.failed reader.new; reader_ended = S.ended reader.new; writer_failed = writer.new.failed }) limit) }
+    ensures whole { S.ended reader.new ≡ true → IsAtEnd (S.remaining reader.new) }
+{
+    let mut output = SizedOutput::new(P::new(alloc, size)?, what, piece);
     let dec = Encoding::Dec;
     write_output_from(alloc, &mut output, dec, reader, writer, piece, limit)
 }
@@ -148,122 +272,4 @@ pub fn replay<R: Read, W: Write>(
         settings.piece,
         settings.limit,
     )
-}
-
-/// The output that is due of a player: its reports as they come, or everything else at the end.
-#[derive(Drop)]
-struct DueOutput<P: Drop> {
-    what: What,
-    player: P,
-    /// The number of report bytes.
-    reported: u64,
-    /// The capacity for the reports of one chunk.
-    room: usize,
-}
-
-impl<P: Player> DueOutput<P> {
-    /// Returns the output of a player, with capacity for the reports of chunks of so many bytes.
-    fn new(player: P, what: What, piece: usize) -> DueOutput<P>
-        requires { piece ≤ 65536 }
-        ensures what { result.what ≡ what }
-        ensures player { result.player ≡ player }
-        ensures reported { result.reported ≡ 0 }
-        ensures none { (P.played player []).reports ≡ [] }
-    {
-        let _ = player.terminal();
-        DueOutput {
-            what,
-            player,
-            reported: 0,
-            room: REPORT_LIMIT * piece,
-        }
-    }
-}
-
-impl<P: Player> Output for DueOutput<P> {
-    ghost written = { λ o bytes. sent_by (P.played o.player) o.what bytes };
-
-    ghost ending = { λ o bytes. due_at_end o.what (P.played o.player bytes).state
-        (o.reported + length (P.played o.player bytes).reports) };
-
-    ghost there = { λ o bytes. there_by (P.played o.player) o.what bytes };
-
-    ghost most = { λ o. 65536 };
-
-    ghost counted = { λ o. o.reported };
-
-    ghost reserve = { λ o. max o.room (room_for o.what + 10) };
-
-    fn capacity(&self) -> usize {
-        self.room.max(room_for(self.what) + REPORT_LIMIT)
-    }
-
-    fn feed(&mut self, chunk: &[u8], out: &mut Vec<u8>) -> usize {
-        let count = front_for(chunk, out);
-        self.player.feed(&chunk[..count], out);
-        self.reported += out.len() as u64;
-        if !is_sent(self.what) {
-            out.clear();
-        }
-        count
-    }
-
-    fn is_there(&self) -> bool {
-        due_is_there(self.player.terminal(), self.what)
-    }
-
-    fn end(&mut self, out: &mut Vec<u8>) {
-        push_due_at_end(self.player.terminal(), self.what, self.reported, out);
-    }
-}
-
-/// Returns whether the reports go out.
-fn is_sent(what: What) -> bool
-    ensures { result ≡ is_sent what }
-{
-    match what {
-        What::Reports => true,
-        What::Text | What::Repaint | What::Status | What::Show | What::Picture => false,
-    }
-}
-
-/// Returns whether what is asked for is there: a repaint between sequences only, everything else always.
-fn due_is_there(terminal: &Terminal, what: What) -> bool
-    ensures { result ≡ is_there what terminal.now }
-{
-    match what {
-        What::Repaint => terminal.is_between(),
-        What::Text | What::Reports | What::Status | What::Show | What::Picture => true,
-    }
-}
-
-/// Returns the most bytes that are due after the whole input.
-fn room_for(what: What) -> usize
-    ensures { result ≡ room_for what }
-{
-    match what {
-        What::Text => TEXT_LIMIT,
-        What::Reports => 0,
-        What::Repaint => PAINT_LIMIT,
-        What::Status => STATUS_LIMIT,
-        What::Show => SHOW_LIMIT,
-        What::Picture => PICTURE_LIMIT,
-    }
-}
-
-/// Appends what is due after the whole input: the text, plain or with its attributes, the picture, the repaint, the
-/// status, or nothing.
-fn push_due_at_end(terminal: &Terminal, what: What, reported: u64, out: &mut Vec<u8>)
-    requires room { vec_len out.old + room_for what ≤ vec_capacity out.old }
-    requires there { is_there what terminal.now ≡ true }
-    ensures { out.new.items ≡ out.old.items ++ due_at_end what terminal.now reported }
-{
-    match what {
-        What::Text => terminal.text_reserved(out),
-        What::Reports => {}
-        What::Repaint => repaint_reserved(terminal, out),
-        What::Status => push_status(terminal, reported, out),
-        What::Show => show_reserved(terminal, out),
-        What::Picture => picture_reserved(terminal, out),
-    }
 }

@@ -1,10 +1,14 @@
 //! For what a host sends: the terminal, the encoding and the width, as a request and the first line of a recording give them.
-ghost use Rattle.std.specs.Prelude.{◌≡◌};
+ghost use Rattle.std.specs.Prelude.{◌≡◌, IfSome};
+ghost use Rattle.vt_screen.specs.Sizes.{IsSize, width_of};
+ghost use Rattle.vt_replay.specs.Host.{takes_size, is_vt220, size_named, size_for};
 ghost use Rattle.vt_replay.specs.Host.{terminal_for, encoding_of, encoding_for, wide_for, named_for, host_for, plain_host};
 ghost use Rattle.vt_replay.specs.Host.{widening, widening_shown, opening};
 
-use vt_cli::{Encoding, Format, Request, TerminalType, Word};
+use crate::sized::plays_sizes;
+use vt_cli::{Encoding, Format, Request, TerminalType, Word, size_of};
 use vt_recording::Heading;
+use vt_term::Size;
 
 /// For what a host sends.
 #[derive(Clone, Copy, Debug, PartialEq, Eq)]
@@ -13,8 +17,19 @@ pub struct Host {
     pub terminal: TerminalType,
     /// The encoding.
     pub encoding: Encoding,
-    /// Whether the screen has 132 columns, and not 80.
+    /// Whether a VT220's screen has 132 columns, and not 80.
     pub wide: bool,
+    /// The size of the screen.
+    pub size: Size,
+}
+
+impl Host {
+    /// Returns the numbers of columns and rows of the screen on which the host's bytes begin.
+    pub fn screen(self) -> (usize, usize)
+        ensures { result ≡ (width_of self.size self.wide, self.size.rows) }
+    {
+        (self.size.columns(self.wide), self.size.rows)
+    }
 }
 
 /// Returns the terminal that was asked for, otherwise the one that the recording names, otherwise a VT220.
@@ -84,25 +99,88 @@ fn named_for(word: Word, named: Option<TerminalType>) -> Option<TerminalType>
         Word::Summary => named,
         Word::Events => None,
         Word::Content => None,
+        Word::Search => named,
+    }
+}
+
+/// Returns whether a word plays a screen of any size.
+fn takes_size(word: Word) -> bool
+    ensures { result ≡ takes_size word }
+{
+    let Word::Replay(what) = word else {
+        return false;
+    };
+    plays_sizes(what)
+}
+
+/// Returns whether so many columns and rows are a VT220's screen.
+fn is_vt220(columns: u32, rows: u32) -> bool
+    ensures { result ≡ is_vt220 columns rows }
+{
+    rows == 24 && (columns == 80 || columns == 132)
+}
+
+/// Returns the size that a recording names, if it isn't a VT220's and a screen may have it.
+fn size_named(columns: Option<u32>, rows: Option<u32>) -> Option<Size>
+    ensures value { result ≡ size_named columns rows }
+    ensures in_range { IfSome result (λ size. IsSize size) }
+{
+    let Some(columns) = columns else {
+        return None;
+    };
+    let Some(rows) = rows else {
+        return None;
+    };
+    if is_vt220(columns, rows) {
+        return None;
+    }
+    size_of(columns as u64, rows as u64)
+}
+
+/// Returns the size that is played, if it isn't a VT220's: the one that was asked for, otherwise the one that the recording names,
+/// if no width was asked for and the word plays it.
+fn size_for(request: &Request, heading: Heading) -> Option<Size>
+    ensures value { result ≡ size_for request.now.word request.now.size request.now.wide heading.columns heading.rows }
+    ensures in_range { IfSome result (λ size. IsSize size) }
+{
+    match request.size {
+        Some(size) => Some(size),
+        None => match request.wide {
+            Some(_) => None,
+            None if takes_size(request.word) => size_named(heading.columns, heading.rows),
+            None => None,
+        },
     }
 }
 
 /// Returns for what the host of a recording in a format sent, as a request and the recording's heading give it.
 pub fn host_for(request: &Request, format: Format, heading: Heading) -> Host
-    ensures { result ≡ host_for request.now format heading }
+    ensures host { result ≡ host_for request.now format heading }
+    ensures sized { IsSize result.size }
 {
     let named = named_for(request.word, heading.terminal);
     let terminal = terminal_for(request.terminal, request.encoding, named);
-    Host {
-        terminal,
-        encoding: encoding_for(terminal, request.encoding, format),
-        wide: wide_for(request.wide, heading.columns),
+    let encoding = encoding_for(terminal, request.encoding, format);
+    match size_for(request, heading) {
+        Some(size) => Host {
+            terminal,
+            encoding,
+            wide: false,
+            size,
+        },
+        None => Host {
+            terminal,
+            encoding,
+            wide: wide_for(request.wide, heading.columns),
+            size: Size::vt220(),
+        },
     }
 }
 
 /// Returns for what the host of bytes sends that no recorder wrote.
 pub(crate) fn plain_host(request: &Request) -> Host
-    ensures { result ≡ plain_host request.now }
+    ensures host { result ≡ plain_host request.now }
+    ensures sized { IsSize result.size }
 {
     let heading = Heading {
         terminal: None,
@@ -148,5 +226,6 @@ pub(crate) fn opening(word: Word, host: Host) -> &'static [u8]
         Word::Summary => b"",
         Word::Events => b"",
         Word::Content => widening_shown(host.terminal),
+        Word::Search => b"",
     }
 }

@@ -17,9 +17,13 @@ mod output;
 mod outputs;
 mod pages;
 mod player;
+mod repainting;
 mod requests;
+mod search;
 mod session;
+mod sized;
 mod status;
+mod steps;
 
 pub use engine::{replay, run, run_from};
 pub use host::{Host, host_for};

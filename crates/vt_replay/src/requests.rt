@@ -3,6 +3,7 @@ ghost use Rattle.std.specs.Prelude.{◌≡◌, ◌≤◌, ◌++◌, true, false,
 ghost use Rattle.std.specs.Io.KnownBytes.{IsAtEnd};
 ghost use Rattle.vt_device.specs.Runs.{Moves};
 ghost use Rattle.vt_device.specs.Writing.{Gives};
+ghost use Rattle.vt_screen.specs.Sizes.{IsSize};
 ghost use Rattle.vt_replay.specs.Words.{WordTable};
 ghost use Rattle.vt_replay.specs.Request.{asks_wide, is_streamed, takes_whole, needs_whole, format_of, lacks_times, ended_of, IsStreamed, IsTakenBy, IsPrepared, IsPlayed, OutcomeTable};
 ghost use Rattle.vt_replay.specs.Host.{host_of, opening};
@@ -10,12 +11,13 @@ ghost use Rattle.vt_replay.specs.Host.{host_of, opening};
 use crate::animated::{animation_taken, title_of};
 use crate::characters::{write_summary, write_trace};
 use crate::converting::Converter;
-use crate::engine::run_from;
+use crate::engine::run_at;
 use crate::events::events_taken;
 use crate::host::{Host, host_for, opening, plain_host};
 use crate::language::Language;
 use crate::logging::write_log_from;
 use crate::outputs::{ContentOutput, PageOutput, write_word};
+use crate::search::{search_taken, text_of};
 use std::alloc::{AllocError, Global};
 use std::io::{Read, Write};
 use vt_cli::{Encoding, Format, Moment, Request, TerminalType, What, Word};
@@ -37,22 +39,27 @@ fn carry_out_word<S: Source, W: Write>(
     requires reader_works { S.failed reader.old ≡ false }
     requires reader_goes_on { S.ended reader.old ≡ false }
     requires writer_works { writer.old.failed ≡ false }
+    requires sized { IsSize host.size }
     ensures answer { Moves (S.remaining reader.old) (S.remaining reader.new) (W.contents writer.old.device)
         (W.contents writer.new.device)
-        (λ b w. WordTable result request.now.word host.terminal host.encoding request.now.piece b w (record { reader_failed = S.failed reader.new; reader_ended = S.ended reader.new; writer_failed = writer.new.failed }) request.now.limit) }
+        (λ b w. WordTable result request.now.word host.size host.terminal host.encoding request.now.piece b w (record { reader_failed = S.failed reader.new; reader_ended = S.ended reader.new; writer_failed = writer.new.failed }) request.now.limit) }
     ensures whole { S.ended reader.new ≡ true → IsAtEnd (S.remaining reader.new) }
 {
     let (piece, limit, encoding) = (request.piece, request.limit, host.encoding);
     let language = Language::of(host.terminal, encoding);
     match request.word {
-        Word::Replay(what) => run_from(alloc, reader, writer, what, language, piece, limit),
+        Word::Replay(what) => {
+            run_at(
+                alloc, reader, writer, what, language, host.size, piece, limit,
+            )
+        }
         Word::Log => write_log_from(alloc, reader, writer, language, piece, limit),
         Word::Pages => {
             write_word::<PageOutput, S, W>(alloc, reader, writer, encoding, piece, limit)
         }
         Word::Trace => write_trace(alloc, reader, writer, encoding, piece, limit),
         Word::Summary => write_summary(alloc, reader, writer, encoding, piece, limit),
-        Word::Events | Word::Animation(_) => {
+        Word::Events | Word::Animation(_) | Word::Search => {
             write_word::<ContentOutput, S, W>(alloc, reader, writer, Encoding::Dec, piece, limit)
         }
         Word::Content => match host.terminal {
@@ -101,7 +108,7 @@ fn is_streamed(format: Format, until: Option<Moment>, wide: Option<bool>, whole:
 fn takes_whole(word: Word) -> bool
     ensures { result ≡ takes_whole word }
 {
-    matches!(word, Word::Events | Word::Animation(_))
+    matches!(word, Word::Events | Word::Animation(_) | Word::Search)
 }
 
 /// Returns whether a request needs the whole input, since its word writes what is made of it or begins in the middle.
@@ -176,8 +183,11 @@ pub fn lacks_times(format: Format, timed: bool, until: Option<Moment>) -> bool
 /// The screen has 132 columns if the request asks for them, or if it leaves the width to a recording whose first line names
 /// 132. Then bytes that set DECCOLM are played first, except for trace and summary.
 ///
+/// All replays but a repaint are of a screen of the size that the request asks for. If it leaves the size to a recording, they are
+/// of the size that its first line names, if a screen may have that. DECCOLM leaves the width of such a screen, unless it is a VT220's.
+///
 /// If the format is raw, all of the input is wanted, and 132 columns weren't asked for, the word is carried out on the bytes as they come. Events
-/// are a table of the whole recording, and a picture that moves has a frame for each event of output. Both are written in the place of its content. Otherwise the
+/// are a table of the whole recording, a picture that moves has a frame for each event of output, and a search has a line for each span of time. They are written in the place of its content. Otherwise the
 /// input is read whole, and the word is carried out on its content between the moments. If the recording is broken, that is
 /// the fault, after what came before was played and written.
 pub fn carry_out<R: Read, W: Write>(
@@ -241,9 +251,11 @@ struct Prepared {
     broken: Option<Break>,
     /// The number of characters that have no byte.
     replaced: u64,
+    ghost sized: { IsSize host.size },
 }
 
-/// Takes out of a recording what a request's word is for: the table of its events, a picture that moves, or its content.
+/// Takes out of a recording what a request's word is for: the table of its events, a picture that moves, the spans of a search, or its
+/// content.
 fn taken_for(
     alloc: Global,
     bytes: &[u8],
@@ -263,6 +275,11 @@ fn taken_for(
             animation_taken(
                 alloc, bytes, timing, format, host, first, looks, title, until,
             )
+        }
+        Word::Search => {
+            let first = opening(Word::Replay(What::Picture), host);
+            let text = text_of(&request.pattern);
+            search_taken(alloc, bytes, timing, format, host, first, text, until)
         }
         Word::Replay(_) | Word::Log | Word::Pages | Word::Trace | Word::Summary | Word::Content => {
             take_between(alloc, bytes, timing, format, host.encoding, from, until)

@@ -4,13 +4,11 @@ ghost use Rattle.vt_utf8.specs.Decoding.{pending_after};
 ghost use Rattle.vt_xterm.specs.Play.{play_xterm, behind};
 ghost use Rattle.vt_xterm_paint.specs.Repaint.{xterm_repaint};
 ghost use Rattle.vt_output.specs.Output.{nothing};
-ghost use Rattle.vt_replay.specs.Session.{is_between, session_repaint, session_is_there, is_of_session};
+ghost use Rattle.vt_replay.specs.Session.{is_between, session_repaint, session_is_there};
 
-use crate::language::Language;
 use crate::output::front_for;
 use crate::outputs::WordOutput;
 use std::alloc::{AllocError, Global};
-use vt_cli::What;
 use vt_output::Output;
 use vt_term::{REPORT_LIMIT, Terminal};
 use vt_utf8::laws::cuts as utf8_cuts;
@@ -86,19 +84,5 @@ impl WordOutput for SessionOutput {
             front: Front::new(alloc)?,
             terminal: Terminal::new(alloc)?,
         })
-    }
-}
-
-/// Returns whether what is asked for is of the whole session: under TERM=xterm a repaint.
-pub(crate) fn is_of_session(language: Language, what: What) -> bool
-    ensures { result ≡ is_of_session language what }
-{
-    match language {
-        Language::Dec => false,
-        Language::Utf8 => false,
-        Language::Xterm => match what {
-            What::Repaint => true,
-            What::Text | What::Reports | What::Status | What::Show | What::Picture => false,
-        },
     }
 }

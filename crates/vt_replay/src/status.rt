@@ -5,7 +5,7 @@ ghost use Rattle.vt_replay.specs.Status.{line, two_numbers, kind_of_held, status
 
 use itoa::Buffer;
 use vt_syntax::Held;
-use vt_term::Terminal;
+use vt_term::SizedTerminal;
 
 /// The most bytes of a status.
 pub(crate) const STATUS_LIMIT: usize = 1000;
@@ -84,7 +84,7 @@ fn push_line(name: &[u8], text: &[u8], out: &mut Vec<u8>)
 }
 
 /// Appends the five lines of the status, at most `STATUS_LIMIT` bytes, in existing capacity.
-pub(crate) fn push_status(terminal: &Terminal, reported: u64, out: &mut Vec<u8>)
+pub(crate) fn push_status(terminal: &SizedTerminal, reported: u64, out: &mut Vec<u8>)
     requires { vec_len out.old + STATUS_LIMIT ≤ vec_capacity out.old }
     ensures items { out.new.items ≡ out.old.items ++ status terminal.now reported }
     ensures capacity { vec_capacity out.old ≤ vec_capacity out.new }

@@ -162,7 +162,7 @@ fn words_ask_for_a_log(rt: HostRuntime) {
 }
 
 /// The request that the options of a line make: the format (none for auto), the timing file, the moments, the encoding, the terminal,
-/// the title, whether a table is full, whether what came before a break is enough, and whether the notes are left out.
+/// the title, the text of a search, whether a table is full, whether what came before a break is enough, and whether the notes are left out.
 #[derive(Clone, Copy)]
 struct Options {
     format: Option<Format>,
@@ -173,6 +173,7 @@ struct Options {
     terminal: Option<TerminalType>,
     wide: Option<bool>,
     title: Option<&'static str>,
+    pattern: Option<&'static str>,
     full: bool,
     partial: bool,
     quiet: bool,
@@ -188,6 +189,7 @@ const NONE: Options = Options {
     terminal: None,
     wide: None,
     title: None,
+    pattern: None,
     full: false,
     partial: false,
     quiet: false,
@@ -502,6 +504,34 @@ const MOVING: &[Asked] = &[
     ),
 ];
 
+/// Lines that search for a text.
+const SEARCHES: &[Asked] = &[
+    (
+        "vt220 search two --format ttyrec a",
+        Word::Search,
+        Options {
+            pattern: Some("two"),
+            ..TTYREC
+        },
+    ),
+    (
+        "vt220 search --format auto two a",
+        Word::Search,
+        Options {
+            pattern: Some("two"),
+            ..AUTO
+        },
+    ),
+    (
+        "vt220 search --format ttyrec -- -x",
+        Word::Search,
+        Options {
+            pattern: Some("-x"),
+            ..TTYREC
+        },
+    ),
+];
+
 /// Returns whether a request asks for a recording as these options do.
 fn is_recorded(found: &Request, options: &Options) -> bool {
     found.format == options.format
@@ -516,6 +546,7 @@ fn is_played(found: &Request, options: &Options) -> bool {
         && found.terminal == options.terminal
         && found.wide == options.wide
         && is_name(&found.title, &options.title)
+        && is_name(&found.pattern, &options.pattern)
         && found.full == options.full
         && found.partial == options.partial
         && found.quiet == options.quiet
@@ -551,6 +582,13 @@ fn words_ask_for_recordings(rt: HostRuntime) {
 fn words_ask_for_pictures_that_move(rt: HostRuntime) {
     all_have_options(&rt, rt.alloc(), MOVING);
     let line = "vt220 picture --animate --format auto";
+    holds(&rt, line, is_refused(rt.alloc(), line, 2, NO_SETTINGS));
+}
+
+#[test]
+fn words_search_for_a_text(rt: HostRuntime) {
+    all_have_options(&rt, rt.alloc(), SEARCHES);
+    let line = "vt220 search two --format auto";
     holds(&rt, line, is_refused(rt.alloc(), line, 2, NO_SETTINGS));
 }
 
@@ -643,6 +681,8 @@ const STILL: &[(&str, &str)] = &[
     ("vt220 picture --animate", NO_STEPS),
     ("vt220 picture --animate --format script a", NO_STEPS),
     ("vt220 picture --animate --format raw", NO_STEPS),
+    ("vt220 search two a", NO_STEPS),
+    ("vt220 search two --format script a", NO_STEPS),
     (
         "vt220 picture --animate --format ttyrec --theme blue",
         NO_THEME,
@@ -658,7 +698,7 @@ const ONLY_PICTURE: &str = "vt220: --animate goes with picture alone\n";
 const ONLY_MOVING: &str = "vt220: --theme, --cursor and --title go with picture --animate alone\n";
 
 const NO_STEPS: &str =
-    "vt220: the input has no times, and --animate needs them; give script its --timing FILE\n\
+    "vt220: the input has no times, and search and --animate need them; give script its --timing FILE\n\
      vt220: a recording by ttyrec or asciinema has times: add --format ttyrec, asciicast or auto\n";
 
 const NO_THEME: &str = "vt220: --theme is dark, light, green or amber\n";
@@ -670,7 +710,7 @@ const NO_TERMINAL: &str = "vt220: --terminal is vt220, xterm or auto\n";
 const NO_COLUMNS: &str = "vt220: --columns is 80, 132 or auto\n";
 
 const NO_XTERM: &str = "vt220: pages, trace and summary play no xterm\n\
-     vt220: text, show, picture, status, reports, repaint, log and content do\n";
+     vt220: text, show, picture, status, reports, repaint, log, search and content do\n";
 
 const NO_ENCODING: &str = "vt220: --encoding is dec, utf-8 or auto\n";
 
@@ -694,7 +734,7 @@ fn options_that_do_not_fit_are_refused(rt: HostRuntime) {
 }
 
 /// A line that asks for nothing, the status, and how the text begins.
-const REFUSED: [(&str, u8, &str); 23] = [
+const REFUSED: [(&str, u8, &str); 25] = [
     (
         "vt220 text --piece 0",
         2,
@@ -728,6 +768,12 @@ const REFUSED: [(&str, u8, &str); 23] = [
         "error: unexpected argument '--piece' found",
     ),
     ("vt220 help frob", 2, "error: "),
+    (
+        "vt220 search",
+        2,
+        "error: the following required arguments were not provided:\n  <PATTERN>",
+    ),
+    ("vt220 search --help", 0, "When a text was on the screen"),
     (
         "vt220 --help",
         0,

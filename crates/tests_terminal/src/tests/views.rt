@@ -104,11 +104,11 @@ const WIDE: &str =
     "<svg xmlns='http://www.w3.org/2000/svg' viewBox='-10 -10 1340 452' width='1340' height='452' role='img' xml:space='preserve'>\n<title>VT220 screen</title>\n<desc>";
 
 /// Follows the text alternative.
-const STYLE: &str =
+pub(super) const STYLE: &str =
     "</desc>\n<style>.vt220-text{font-family:'DejaVu Sans Mono','Liberation Mono',Menlo,Consolas,monospace;font-size:16.6px;white-space:pre}\n.vt220-b{font-weight:bold}.vt220-u{text-decoration:underline}\n@media (prefers-reduced-motion:no-preference){.vt220-k{animation:vt220-k 1s steps(1) infinite}}\n@keyframes vt220-k{50%{opacity:0}}</style>\n";
 
 /// The ink, and the paper.
-const LIGHT_ON_DARK: &str =
+pub(super) const LIGHT_ON_DARK: &str =
     "<g fill='#d0d0d0' direction='ltr' font-style='normal' font-weight='normal' letter-spacing='0' word-spacing='0'>\n<rect fill='#101010' x='-10' y='-10' width='100%' height='100%'/>\n";
 
 /// The same under DECSCNM.
@@ -228,7 +228,7 @@ const MOVING: &str =
     "<svg xmlns='http://www.w3.org/2000/svg' viewBox='-10 -10 820 452' width='820' height='452' role='img' xml:space='preserve'>\n<title>a &lt; b</title>\n<desc>y\nx\n\n\n\n\n\n\n\n\n\n\n\n\n\n\n\n\n\n\n\n\n\n\n";
 
 /// What hides a frame until its time, and gives the theme's colours.
-const TIMES: &str =
+pub(super) const TIMES: &str =
     "<style>@media (prefers-reduced-motion:no-preference){.vt220-f{animation:vt220-f infinite;\nanimation-duration:calc(var(--vt220-d)*.001ms);animation-timing-function:linear(0,0 calc(100%*var(--vt220-t)/var(--vt220-d)),\n1 calc(100%*var(--vt220-t)/var(--vt220-d)),1)}}\n@keyframes vt220-f{from{visibility:hidden}to{visibility:visible}}.vt220-r text{white-space:pre}\n.vt220-r [fill='#d0d0d0']{fill:var(--vt220-light)}.vt220-r [fill='#101010']{fill:var(--vt220-dark)}</style>\n";
 
 /// The group of all with its theme, and the blank screen with its cursor.

@@ -4,11 +4,11 @@ use Rattle.clap.proofs.WalkLemmas.{first_value-rows}
 use Rattle.vt_cli.proofs.Words.{some_taken}
 use Rattle.vt_cli.proofs.source.source_in.Goals as goal
 
-pub returns-in-Err : goal.returns-in-Err
-returns-in-Err c = rw (← c.looks_in.ensures, c.in-Err.is) refl
+pub returns-in-Err-clause-value : goal.returns-in-Err-clause-value
+returns-in-Err-clause-value c = rw (← c.looks_in.ensures, c.in-Err.is) refl
 
-pub returns : goal.returns
-returns c =
+pub returns-clause-value : goal.returns-clause-value
+returns-clause-value c =
     let rows = rows_of (found_of c.args.matches.now) in
     let format = c.get_str.ensures ∙ first_value-rows (found_of c.args.matches.now) (codes "format") in
     let timing = c.get_str-2.ensures ∙ first_value-rows (found_of c.args.matches.now) (codes "timing") in
@@ -17,7 +17,8 @@ returns c =
     let encoding = c.get_str-5.ensures ∙ first_value-rows (found_of c.args.matches.now) (codes "encoding") in
     let terminal = c.get_str-6.ensures ∙ first_value-rows (found_of c.args.matches.now) (codes "terminal") in
     let columns = c.get_str-7.ensures ∙ first_value-rows (found_of c.args.matches.now) (codes "columns") in
+    let size = c.get_str-8.ensures ∙ first_value-rows (found_of c.args.matches.now) (codes "size") in
     let timed : c.is_some.result ≡ is_some (first_of (codes "timing") rows) =
     c.is_some.ensures ∙ some_taken (λ (s : Bor (List ℕ)). s.now) c.get_str-2.result
     ∙ ap (λ (o : Option (List ℕ)). is_some o) timing in
-    rw (← c.looks_in.ensures, c.in-Ok.is, ← format, ← timed, ← from, ← until, ← encoding, ← terminal, ← columns) c.source_of.ensures
+    rw (← c.looks_in.ensures, c.in-Ok.is, ← format, ← timed, ← from, ← until, ← encoding, ← terminal, ← columns, ← size) c.source_of.ensures.value

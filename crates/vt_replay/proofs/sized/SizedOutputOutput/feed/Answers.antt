@@ -1,6 +1,6 @@
 use Rattle.std.proofs.Common.{arith}
 use Rattle.std.proofs.lemmas.Grind.{common_steps}
-use Rattle.vt_replay.proofs.engine.DueOutputOutput.feed.Goals as goal
+use Rattle.vt_replay.proofs.sized.SizedOutputOutput.feed.Goals as goal
 
 pub slice_bounds-feed-end : goal.slice_bounds-feed-end
 slice_bounds-feed-end g c = grind (arith, common_steps)

@@ -1,0 +1,409 @@
+//! A search for a text in a recording: the spans of time in which it was on the screen.
+ghost use Rattle.std.specs.Prelude.{◌≡◌, ◌≤◌, ◌++◌, [], List, ℕ, length, take, encode_utf8_all, option_map, string_bytes, vec_capacity, IfOk, OnOk};
+ghost use Rattle.std.specs.List.{range_with_len};
+ghost use Rattle.vt_screen.specs.Grid.{row_of, last_row};
+ghost use Rattle.vt_term.specs.Text.{glyphs_of, trimmed};
+ghost use Rattle.vt_recording.specs.Gathered.{events_of};
+ghost use Rattle.vt_replay.specs.Playing.{language_of};
+ghost use Rattle.vt_replay.specs.Animated.{shown_after};
+ghost use Rattle.vt_replay.specs.Search.{text_of, in_cells, shown_for, is_utf8, wanted, goes_on, line_end, line_of, lines, column_of, place_of, first_at, first_place};
+ghost use Rattle.vt_replay.specs.Search.{found_then, until_column, span_line, ended, left_open, spans, searched, IsSearched};
+
+use crate::animated::{PIECE, is_empty, opened, play};
+use crate::events::{event_at, push_decimal, push_time};
+use crate::host::Host;
+use crate::language::Language;
+use crate::player::{PlainPlayer, Utf8Player, Vt220Player, XtermPlayer};
+use crate::steps::steps_taken;
+use memchr::memmem;
+use std::alloc::{AllocError, Global};
+use vt_cli::{Format, Moment};
+use vt_recording::{Event, Taken, count_characters};
+use vt_screen::Cell;
+use vt_term::{REPORT_LIMIT, ROW_TEXT_LIMIT, ROWS, Terminal};
+use vt_utf8::{cells, shown_as};
+
+/// A place on the screen, from 1.
+#[derive(Clone, Copy)]
+pub(crate) struct Place {
+    row: usize,
+    column: usize,
+}
+
+/// A text that is on the screen from a time on, first at a place.
+#[derive(Clone, Copy)]
+struct Found {
+    micros: u64,
+    row: usize,
+    column: usize,
+}
+
+/// Returns the text that is asked for.
+pub(crate) fn text_of(text: &Option<String>) -> &str
+    ensures { result.now ≡ text_of text.now }
+{
+    match text {
+        Some(text) => text.as_str(),
+        None => "",
+    }
+}
+
+/// Appends a glyph that has one cell, or two, of which the second is a space.
+fn push_glyph(glyph: char, is_wide: bool, shown: &mut String) -> Result<(), AllocError>
+    ensures { OnOk result (string_bytes shown.new ≡ string_bytes shown.old ++ encode_utf8_all (in_cells is_wide glyph)) }
+{
+    shown.push(glyph)?;
+    if is_wide {
+        shown.push(' ')?;
+    }
+    Ok(())
+}
+
+/// Appends what is shown for a character in UTF-8.
+fn push_shown_for(c: char, shown: &mut String) -> Result<(), AllocError>
+    ensures { OnOk result (string_bytes shown.new ≡ string_bytes shown.old ++ encode_utf8_all (shown_for c)) }
+{
+    if (c as u32) < 0x80 {
+        return push_glyph(c, false, shown);
+    }
+    match shown_as(c) {
+        Some(glyph) => push_glyph(glyph.to_char(), cells(c) > 1, shown),
+        None => Ok(()),
+    }
+}
+
+/// Returns a text as the screen shows it in a language.
+fn as_shown(alloc: Global, language: Language, text: &str) -> Result<String, AllocError>
+    ensures { IfOk result (λ shown. string_bytes shown ≡ wanted language text.now) }
+{
+    if !is_utf8(language) {
+        return String::from_str(alloc, text);
+    }
+    let mut shown = String::new(alloc);
+    for c in text.chars() {
+        push_shown_for(c, &mut shown)?;
+    }
+    Ok(shown)
+}
+
+/// Returns whether a host sends UTF-8.
+fn is_utf8(language: Language) -> bool
+    ensures { result ≡ is_utf8 language }
+{
+    match language {
+        Language::Dec => false,
+        Language::Utf8 => true,
+        Language::Xterm => true,
+    }
+}
+
+/// Returns whether a row has a character in its last column, and so goes on in the next one.
+fn goes_on(cells: &[Cell]) -> bool
+    ensures { result ≡ goes_on cells.now }
+{
+    match cells.last() {
+        Some(cell) => cell.glyph.to_char() != ' ',
+        None => false,
+    }
+}
+
+/// Appends a row, 1 to 24, without the spaces at its end.
+fn push_row(t: &Terminal, row: usize, out: &mut Vec<u8>) -> Result<(), AllocError>
+    requires { (1 ≤ row) × (row ≤ last_row) }
+    ensures { OnOk result (out.new.items ≡ out.old.items ++ encode_utf8_all (trimmed (glyphs_of (row_of t.now.display.grid row)))) }
+{
+    out.reserve(ROW_TEXT_LIMIT)?;
+    t.row_text_reserved(row, out);
+    let _ = out.pop();
+    Ok(())
+}
+
+/// Appends the end of a row, unless it goes on in the next one.
+fn push_line_end(utf8: bool, cells: &[Cell], out: &mut Vec<u8>) -> Result<(), AllocError>
+    ensures { OnOk result (out.new.items ≡ out.old.items ++ line_end utf8 cells.now) }
+{
+    if goes_on(cells) {
+        return Ok(());
+    }
+    if utf8 {
+        return out.extend_from_slice(b" \n");
+    }
+    out.extend_from_slice(b"\n")
+}
+
+/// Appends the line of a row, 1 to 24.
+fn push_line(t: &Terminal, utf8: bool, row: usize, out: &mut Vec<u8>) -> Result<(), AllocError>
+    requires { (1 ≤ row) × (row ≤ last_row) }
+    ensures { OnOk result (out.new.items ≡ out.old.items ++ line_of utf8 t.now.display row) }
+{
+    push_row(t, row, out)?;
+    push_line_end(utf8, t.row(row), out)
+}
+
+/// Appends the lines of the screen.
+fn push_lines(t: &Terminal, utf8: bool, out: &mut Vec<u8>) -> Result<(), AllocError>
+    ensures { OnOk result (out.new.items ≡ out.old.items ++ lines utf8 t.now.display) }
+{
+    for row in 1..ROWS + 1 {
+        push_line(t, utf8, row, out)?;
+    }
+    Ok(())
+}
+
+/// Returns the column that comes after these bytes of a row.
+fn column_of(before: &[u8]) -> usize
+    ensures { result ≡ column_of before.now }
+{
+    count_characters(before) as usize + 1
+}
+
+/// Returns the place of a byte of the lines. `line` is overwritten.
+fn place_of(t: &Terminal, utf8: bool, at: usize, line: &mut Vec<u8>) -> Result<Place, AllocError>
+    ensures { IfOk result (λ place. place ≡ place_of (line_of utf8 t.now.display) 1 last_row at) }
+{
+    let mut left = at;
+    let mut row = 1;
+    while row <= ROWS {
+        line.clear();
+        push_line(t, utf8, row, line)?;
+        if left < line.len() {
+            return Ok(Place {
+                row,
+                column: column_of(&line[..left]),
+            });
+        }
+        left -= line.len();
+        row += 1;
+    }
+    Ok(Place { row, column: 1 })
+}
+
+/// Returns the first place of a text on the screen. `scratch` is overwritten.
+fn first_place(
+    t: &Terminal,
+    utf8: bool,
+    wanted: &[u8],
+    scratch: &mut Vec<u8>,
+) -> Result<Option<Place>, AllocError>
+    ensures { IfOk result (λ place. place ≡ first_place utf8 wanted.now t.now.display) }
+{
+    if is_empty(wanted) {
+        return Ok(None);
+    }
+    scratch.clear();
+    push_lines(t, utf8, scratch)?;
+    match memmem::find(scratch, wanted) {
+        Some(at) => Ok(Some(place_of(t, utf8, at, scratch)?)),
+        None => Ok(None),
+    }
+}
+
+/// Returns what is found at a time, by what was found before and the first place then.
+fn found_then(found: Option<Found>, clock: u64, place: Option<Place>) -> Option<Found>
+    ensures { result ≡ found_then found clock place }
+{
+    let Some(place) = place else {
+        return None;
+    };
+    match found {
+        Some(found) => Some(found),
+        None => Some(Found {
+            micros: clock,
+            row: place.row,
+            column: place.column,
+        }),
+    }
+}
+
+/// Appends the time at which a span ends, or `-` if it has no end.
+fn push_until(until: Option<u64>, out: &mut Vec<u8>) -> Result<(), AllocError>
+    ensures { OnOk result (out.new.items ≡ out.old.items ++ until_column until) }
+{
+    match until {
+        Some(clock) => push_time(true, clock, out),
+        None => out.extend_from_slice(b"-"),
+    }
+}
+
+/// Appends the line of a span up to a time, or to the end.
+fn push_span(found: Found, until: Option<u64>, out: &mut Vec<u8>) -> Result<(), AllocError>
+    ensures { OnOk result (out.new.items ≡ out.old.items ++ span_line found until) }
+{
+    push_time(true, found.micros, out)?;
+    out.push(b'\t')?;
+    push_until(until, out)?;
+    out.push(b'\t')?;
+    push_decimal(found.row as u64, out)?;
+    out.push(b'\t')?;
+    push_decimal(found.column as u64, out)?;
+    out.push(b'\n')?;
+    Ok(())
+}
+
+/// Appends the line of the span that ends at a time, if one does.
+fn push_ended(
+    found: Option<Found>,
+    clock: u64,
+    place: Option<Place>,
+    out: &mut Vec<u8>,
+) -> Result<(), AllocError>
+    ensures { OnOk result (out.new.items ≡ out.old.items ++ ended found clock place) }
+{
+    let Some(found) = found else {
+        return Ok(());
+    };
+    match place {
+        Some(_) => Ok(()),
+        None => push_span(found, Some(clock), out),
+    }
+}
+
+/// Appends the line of the span that has no end, if there is one.
+fn push_left_open(found: Option<Found>, out: &mut Vec<u8>) -> Result<(), AllocError>
+    ensures { OnOk result (out.new.items ≡ out.old.items ++ left_open found) }
+{
+    match found {
+        Some(found) => push_span(found, None, out),
+        None => Ok(()),
+    }
+}
+
+/// Plays the bytes of a step, and returns the first place of a text on the screen after it.
+fn place_after<P: Vt220Player>(
+    utf8: bool,
+    wanted: &[u8],
+    bytes: &[u8],
+    player: &mut P,
+    reports: &mut Vec<u8>,
+    scratch: &mut Vec<u8>,
+) -> Result<Option<Place>, AllocError>
+    requires { 10 ≤ vec_capacity reports.old }
+    ensures place { IfOk result (λ place. place ≡ first_place utf8 wanted.now (P.played player.old bytes.now).state.display) }
+    ensures on { OnOk result ((more : List ℕ) → (P.played player.old (bytes.now ++ more)).state ≡ (P.played player.new more).state) }
+    ensures capacity { vec_capacity reports.old ≤ vec_capacity reports.new }
+{
+    play(player, bytes, reports);
+    first_place(player.terminal(), utf8, wanted, scratch)
+}
+
+/// Plays the steps, and appends the lines of the spans.
+fn push_spans<P: Vt220Player>(
+    utf8: bool,
+    wanted: &[u8],
+    steps: &[Event],
+    content: &[u8],
+    player: &mut P,
+    reports: &mut Vec<u8>,
+    scratch: &mut Vec<u8>,
+    out: &mut Vec<u8>,
+) -> Result<(), AllocError>
+    requires { 10 ≤ vec_capacity reports.old }
+    ensures { OnOk result (out.new.items ≡ out.old.items
+        ++ spans (λ bytes. first_place utf8 wanted.now (P.played player.old bytes).state.display) 0 None
+        (events_of steps.now content.now)) }
+{
+    let mut found = None;
+    let mut clock = 0u64;
+    let mut at = 0;
+    let mut i = 0;
+    while i < steps.len() {
+        let step = event_at(steps, i);
+        let end = at + step.length.min(content.len() - at);
+        clock = clock.max(step.micros);
+        let place = place_after(utf8, wanted, &content[at..end], player, reports, scratch)?;
+        push_ended(found, clock, place, out)?;
+        found = found_then(found, clock, place);
+        at = end;
+        i += 1;
+    }
+    push_left_open(found, out)
+}
+
+/// Returns the lines of the spans of steps, which have the bytes of a content, as a player plays them after an opening.
+fn spans_by<P: Vt220Player>(
+    alloc: Global,
+    utf8: bool,
+    wanted: &[u8],
+    opening: &[u8],
+    content: &[u8],
+    steps: &[Event],
+) -> Result<Vec<u8>, AllocError>
+    ensures { IfOk result (λ lines. lines.items
+        ≡ spans (λ bytes. first_place utf8 wanted.now (P.plays (opening.now ++ bytes)).state.display) 0 None
+        (events_of steps.now content.now)) }
+{
+    let mut reports = Vec::with_capacity(alloc, PIECE * REPORT_LIMIT)?;
+    let mut player = opened::<P>(alloc, opening, &mut reports)?;
+    let mut scratch = Vec::new(alloc);
+    let mut lines = Vec::new(alloc);
+    push_spans(
+        utf8,
+        wanted,
+        steps,
+        content,
+        &mut player,
+        &mut reports,
+        &mut scratch,
+        &mut lines,
+    )?;
+    Ok(lines)
+}
+
+/// Returns the lines of the spans of steps, as a terminal shows them on which a language is played.
+fn spans_in(
+    alloc: Global,
+    language: Language,
+    text: &str,
+    opening: &[u8],
+    content: &[u8],
+    steps: &[Event],
+) -> Result<Vec<u8>, AllocError>
+    ensures { IfOk result (λ lines. lines.items ≡ searched language text.now opening.now content.now steps.now) }
+{
+    let shown = as_shown(alloc, language, text)?;
+    let utf8 = is_utf8(language);
+    let wanted = shown.as_bytes();
+    match language {
+        Language::Dec => {
+            spans_by::<PlainPlayer<Terminal>>(alloc, utf8, wanted, opening, content, steps)
+        }
+        Language::Utf8 => {
+            spans_by::<Utf8Player<Terminal>>(alloc, utf8, wanted, opening, content, steps)
+        }
+        Language::Xterm => {
+            spans_by::<XtermPlayer<Terminal>>(alloc, utf8, wanted, opening, content, steps)
+        }
+    }
+}
+
+/// Returns the spans of time in which a text was on the screen of a recording up to a moment, in the place of its content: a line for
+/// each. The opening is played before it.
+pub(crate) fn search_taken(
+    alloc: Global,
+    bytes: &[u8],
+    timing: Option<&[u8]>,
+    format: Format,
+    host: Host,
+    opening: &[u8],
+    text: &str,
+    until: Option<Moment>,
+) -> Result<Taken, AllocError>
+    ensures { IfOk result (λ t. IsSearched text.now opening.now (language_of host.terminal host.encoding) format host.encoding until (option_map (λ b. b.now) timing.entry) bytes.now t.content.items t.broken t.replaced) }
+{
+    let stepped = steps_taken(alloc, bytes, timing, format, host.encoding, until)?;
+    let language = Language::of(host.terminal, host.encoding);
+    let broken = stepped.taken.broken;
+    let replaced = stepped.taken.replaced;
+    Ok(Taken {
+        content: spans_in(
+            alloc,
+            language,
+            text,
+            opening,
+            &stepped.taken.content,
+            &stepped.steps,
+        )?,
+        broken,
+        replaced,
+    })
+}

@@ -1,0 +1,133 @@
+//! What is due of a screen of any size: all but the repaint.
+ghost use Rattle.std.specs.Prelude.{◌≡◌, ⊤, ◌+◌, ◌*◌, ◌≤◌, ◌++◌, [], true, false, length, max, vec_len, vec_capacity};
+ghost use Rattle.vt_replay.specs.Due.{due_at_end, is_sent, sent_by, there_by};
+ghost use Rattle.vt_replay.specs.Sized.{plays_sizes, room_at};
+
+use crate::output::front_for;
+use crate::player::SizedPlayer;
+use crate::status::{STATUS_LIMIT, push_status};
+use vt_cli::What;
+use vt_output::Output;
+use vt_picture::sized::{picture_limit, picture_reserved, show_limit, show_reserved};
+use vt_term::{REPORT_LIMIT, SizedTerminal};
+
+/// The output that is due of a player on a terminal of any size: its reports as they come, or its text, its status, its text with
+/// attributes or its picture at the end.
+#[derive(Drop)]
+pub(crate) struct SizedOutput<P: Drop> {
+    what: What,
+    player: P,
+    /// The number of report bytes.
+    reported: u64,
+    /// The capacity for the reports of one chunk.
+    room: usize,
+    ghost plays: { plays_sizes what ≡ true },
+}
+
+impl<P: SizedPlayer> SizedOutput<P> {
+    /// Returns the output of a player, with capacity for the reports of chunks of so many bytes.
+    pub(crate) fn new(player: P, what: What, piece: usize) -> SizedOutput<P>
+        requires piece { piece ≤ 65536 }
+        requires plays { plays_sizes what ≡ true }
+        ensures what { result.what ≡ what }
+        ensures player { result.player ≡ player }
+        ensures reported { result.reported ≡ 0 }
+        ensures none { (P.played player []).reports ≡ [] }
+    {
+        let _ = player.sized();
+        SizedOutput {
+            what,
+            player,
+            reported: 0,
+            room: REPORT_LIMIT * piece,
+        }
+    }
+}
+
+impl<P: SizedPlayer> Output for SizedOutput<P> {
+    ghost written = { λ o bytes. sent_by (P.played o.player) o.what bytes };
+
+    ghost ending = { λ o bytes. due_at_end o.what (P.played o.player bytes).state
+        (o.reported + length (P.played o.player bytes).reports) };
+
+    ghost there = { λ o bytes. there_by (P.played o.player) o.what bytes };
+
+    ghost most = { λ o. 65536 };
+
+    ghost counted = { λ o. o.reported };
+
+    ghost reserve = { λ o. max (max o.room 10) (room_at o.what (P.screen o.player)) };
+
+    fn capacity(&self) -> usize {
+        let most = room_at(self.player.sized(), self.what);
+        self.room.max(REPORT_LIMIT).max(most)
+    }
+
+    fn feed(&mut self, chunk: &[u8], out: &mut Vec<u8>) -> usize {
+        let count = front_for(chunk, out);
+        self.player.feed(&chunk[..count], out);
+        self.reported += out.len() as u64;
+        if !is_sent(self.what) {
+            out.clear();
+        }
+        count
+    }
+
+    fn is_there(&self) -> bool {
+        true
+    }
+
+    fn end(&mut self, out: &mut Vec<u8>) {
+        push_sized(self.player.sized(), self.what, self.reported, out);
+    }
+}
+
+/// Returns whether what is due is so of a screen of any size: all but a repaint.
+pub(crate) fn plays_sizes(what: What) -> bool
+    ensures { result ≡ plays_sizes what }
+{
+    match what {
+        What::Repaint => false,
+        What::Text | What::Reports | What::Status | What::Show | What::Picture => true,
+    }
+}
+
+/// Returns whether the reports go out.
+fn is_sent(what: What) -> bool
+    ensures { result ≡ is_sent what }
+{
+    match what {
+        What::Reports => true,
+        What::Text | What::Repaint | What::Status | What::Show | What::Picture => false,
+    }
+}
+
+/// Returns the most bytes that are due after the whole input.
+fn room_at(terminal: &SizedTerminal, what: What) -> usize
+    ensures { result ≡ room_at what terminal.now.display.grid.size }
+{
+    match what {
+        What::Text => terminal.text_limit(),
+        What::Reports => 0,
+        What::Repaint => 0,
+        What::Status => STATUS_LIMIT,
+        What::Show => show_limit(terminal.size()),
+        What::Picture => picture_limit(terminal.size()),
+    }
+}
+
+/// Appends what is due after the whole input: the text, the status, the text with its attributes, the picture, or nothing.
+fn push_sized(terminal: &SizedTerminal, what: What, reported: u64, out: &mut Vec<u8>)
+    requires room { vec_len out.old + room_at what terminal.now.display.grid.size ≤ vec_capacity out.old }
+    requires plays { plays_sizes what ≡ true }
+    ensures { out.new.items ≡ out.old.items ++ due_at_end what terminal.now reported }
+{
+    match what {
+        What::Text => terminal.text_reserved(out),
+        What::Status => push_status(terminal, reported, out),
+        What::Reports => {}
+        What::Repaint => {}
+        What::Show => show_reserved(terminal, out),
+        What::Picture => picture_reserved(terminal, out),
+    }
+}

@@ -136,7 +136,7 @@ void recording_read(struct recording *it, const struct asked *asked) {
     if (head.format == RECORDING_COMPRESSED) fail(1, "%s: it is compressed: decompress it first", asked->file);
     recording_extent extent = read_all_events(it, &file, &timing, is_timed);
     if (is_cast(&file) && (head.format == RECORDING_RAW || (it->events_count == 0 && extent.broken_part != 0))) {
-        fail(1, "%s: it is by asciinema, of a version that isn't played: versions 2 and 3 are", asked->file);
+        fail(1, "%s: it is by asciinema, of a version that isn't played: versions 1 to 3 are", asked->file);
     }
     free(file.bytes);
     free(timing.bytes);

@@ -28,18 +28,6 @@ export function objectIn(file) {
   return isObject(value) ? value : null;
 }
 
-/**
- * Returns a recording by asciinema of version 1, which is one value, as the lines of version 3. Returns any other file as it is. Both count
- * the time of an event from the one before it.
- */
-function inLines(file, cast) {
-  if (cast?.version !== 1 || !Array.isArray(cast.stdout)) return file;
-  const { stdout, ...header } = cast;
-  const events = stdout.map((event) => (Array.isArray(event) ? [event[0], "o", ...event.slice(1)] : event));
-  const term = { cols: cast.width, rows: cast.height, type: isObject(cast.env) ? cast.env.TERM : undefined };
-  return utf8.from([{ ...header, version: 3, term }, ...events].map((line) => `${JSON.stringify(line)}\n`).join(""));
-}
-
 /** Returns the times and the ends of chunks of so many bytes that have no times. */
 export function at9600Baud(length) {
   const count = Math.ceil(length / CHUNK), times = new Float64Array(count), ends = new Float64Array(count);
@@ -150,7 +138,7 @@ export function readable(beginning) {
 
 /** Returns a promise of what is played of a file: the recording, and how. `timing` is the timing file of script, or null. `asked` is that of arranged(). */
 export async function played(reader, file, timing, asked) {
-  const header = objectIn(file), read = await reader.read(inLines(file, header), timing), isCast = read.format === "asciicast";
+  const header = objectIn(file), read = await reader.read(file, timing), isCast = read.format === "asciicast";
   if (read.format === "compressed") throw new TypeError("it is compressed: decompress it first");
   if (!isCast && Number.isInteger(header?.version)) throw new TypeError(`it is by asciinema, of version ${header.version}, which isn't known`);
   const isTimed = isCast || read.format === "ttyrec" || timing !== null, how = arranged({ ...read, isCast, isTimed, pause: header?.idle_time_limit }, asked);

@@ -4,6 +4,7 @@ import gzip
 import json
 import os
 import pathlib
+import random
 import re
 import select
 import signal
@@ -18,7 +19,7 @@ import pytest
 import vt220
 from vt220 import rig as rig_module
 from vt220.cast import asciicast
-from vt220.page import NoTemplate, page
+from vt220.page import NoTemplate, page, recording, side_by_side
 from vt220.picture import svg
 from vt220.pytest_plugin import file_name
 from vt220.rig import ENTER, F6, UP, Failure, Key, KeyboardLocked, Reports, Screen, ctrl
@@ -435,9 +436,23 @@ def test_a_page_has_no_other_options(template, monkeypatch):
     assert played["notes"] == ["1 < 2"] and played["options"]["loop"] is True
     with pytest.raises(TypeError, match="size"):
         page(b"", [], "", size=1)
+    # A template without a place for the rest of a large recording.
+    with pytest.raises(NoTemplate, match="earlier version"):
+        page(random.Random(8).randbytes(1 << 18), None, "")
     monkeypatch.setenv("VT220_PAGE", "")
     with pytest.raises(NoTemplate, match="make js"):
         page(b"", [], "")
+
+
+def test_the_rest_of_a_large_recording_is_after_the_script(tmp_path, monkeypatch):
+    (tmp_path / "template").write_text("@TITLE@|@PLAYERS@|@REST@")
+    monkeypatch.setenv("VT220_PAGE", str(tmp_path / "template"))
+    large, small = random.Random(9).randbytes(1 << 18), b"small"
+    text = side_by_side("", [("a", recording(large, None, "a")), ("b", recording(small, None, "b")), ("c", recording(large, None, "c"))])
+    rests = dict(re.findall(r'<script type="application/octet-stream" id="([^"]*)">([^<]*)</script>', text.split("|")[2]))
+    played = inside(text.split("|")[1])
+    assert [each.get("rest") for each in played] == ["rest-0", None, "rest-2"] and all(len(each["bytes"]) <= 1 << 18 for each in played)
+    assert [unpacked(each["bytes"] + rests.get(each.get("rest"), "")) for each in played] == [large, small, large]
 
 
 def test_a_program_that_ends_is_not_waited_for():

@@ -16,8 +16,10 @@ from typing import Any, Iterable, Mapping, Optional, Sequence, Tuple
 
 __all__ = ["FIELDS", "NoTemplate", "live", "page", "recording", "side_by_side", "template"]
 
-# The fields that a template leaves open.
-FIELDS = ("TITLE", "PLAYERS")
+# The fields that a template leaves open. The script of the page is between the last two.
+FIELDS = ("TITLE", "PLAYERS", "REST")
+# The characters of base64 of a recording that are before the script, at most. It is a multiple of four.
+BEGINNING = 1 << 18
 # How a page plays, if its options don't name it. Times are in seconds; a marker is a time and a label, and an input a time and a text.
 OPTIONS: Mapping[str, object] = {"start": 0, "poster": None, "speed": 1, "pause": 1, "autoplay": False, "loop": False, "stops": False, "controls": True,
                                 "encoding": "dec", "terminal": "vt220", "markers": (), "inputs": (), "keystrokes": False}
@@ -68,24 +70,33 @@ def recording(
     return json.dumps({**made, **({} if read is None else {"read": read, "asked": asked}), "bytes": packed(content)})
 
 
-def _player(recorded: str, attributes: str = "") -> str:
+def _player(recorded: str, attributes: str = "", name: str = "rest") -> Tuple[str, str]:
+    """Returns the element of what recording() returns, and what comes after the script of the page: the rest of a large recording's bytes. So the first
+    frame is shown while the rest is parsed."""
+    found = re.fullmatch(r'(\{.*)("bytes": ")([A-Za-z0-9+/=]*)("\})', recorded, re.S)
+    rest = found[3][BEGINNING:] if found else ""
+    if found and rest:
+        recorded = f'{found[1]}"rest": "{name}", {found[2]}{found[3][:BEGINNING]}{found[4]}'
+        rest = f'<script type="application/octet-stream" id="{name}">{rest}</script>\n'
     # An end tag of a script can't be in it.
     inside = recorded.replace("<", "\\u003c")
-    return f'<vt220-player{attributes}><script type="application/json">{inside}</script>Loading</vt220-player>'
+    return f'<vt220-player{attributes}><script type="application/json">{inside}</script>Loading</vt220-player>', rest
 
 
-def _filled(title: str, players: str) -> str:
-    """Returns the template with a title and players. Raises NoTemplate if there is none."""
+def _filled(title: str, players: str, rest: str = "") -> str:
+    """Returns the template with a title, players, and what comes after the script. Raises NoTemplate if there is none."""
     path = template()
     if path is None:
         raise NoTemplate("a page needs the template that `make js` builds; VT220_PAGE can name it")
-    values = {"TITLE": html.escape(title), "PLAYERS": players}
-    return re.sub(f"@({'|'.join(FIELDS)})@", lambda match: values[match[1]], path.read_text(encoding="utf-8"))
+    values, text = {"TITLE": html.escape(title), "PLAYERS": players, "REST": rest}, path.read_text(encoding="utf-8")
+    if rest and "@REST@" not in text:
+        raise NoTemplate(f"{path} is the template of an earlier version")
+    return re.sub(f"@({'|'.join(FIELDS)})@", lambda match: values[match[1]], text)
 
 
 def page(content: bytes, chunks: Optional[Iterable[Tuple[int, int]]], title: str, notes: Sequence[str] = (), **options: Any) -> str:
     """Returns the page of a recording, whose arguments are those of recording(). Raises NoTemplate if there is no template."""
-    return _filled(title, _player(recording(content, chunks, title, notes, **options), " links"))
+    return _filled(title, *_player(recording(content, chunks, title, notes, **options), " links"))
 
 
 def live(title: str, address: str) -> str:
@@ -105,5 +116,6 @@ def side_by_side(title: str, recordings: Sequence[Tuple[str, str]]) -> str:
 
     It first shows the moment at which their screens first differ. Raises NoTemplate if there is no template.
     """
-    players = "".join(f"<section><h2>{html.escape(heading)}</h2>{_player(recorded)}</section>" for heading, recorded in recordings)
-    return _filled(title, players)
+    made = [(heading, *_player(recorded, name=f"rest-{i}")) for i, (heading, recorded) in enumerate(recordings)]
+    players = "".join(f"<section><h2>{html.escape(heading)}</h2>{player}</section>" for heading, player, _ in made)
+    return _filled(title, players, "".join(rest for _, _, rest in made))

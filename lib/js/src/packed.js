@@ -1,4 +1,5 @@
-// packed.js: a recording as vt220-page writes it: JSON with the list of chunks and the bytes, both by gzip in base64. The bytes come last.
+// packed.js: a recording as vt220-page writes it: JSON with the list of chunks and the bytes, both by gzip in base64. The bytes come last. In a page only
+// their beginning is in it, and the rest is in an element that it names, after the script of the page.
 import { fileOf, incoming } from "./incoming.js";
 import { LF, arranged, at9600Baud, preceded, valueIn } from "./reading.js";
 
@@ -32,6 +33,21 @@ async function* comingPieces(file, at) {
     if (piece.length < size) throw new RangeError("the bytes are cut short");
     at += size;
   }
+}
+
+/** Returns a promise that the document has been parsed. */
+function parsedDocument() {
+  if (document.readyState !== "loading") return Promise.resolve();
+  return new Promise((resolve) => document.addEventListener("DOMContentLoaded", resolve, { once: true }));
+}
+
+/** Yields the pieces of a text in base64 whose rest is in an element of the document, which may still be parsed. */
+async function* parsedPieces(beginning, id) {
+  yield* pieces(beginning);
+  await parsedDocument();
+  const rest = document.getElementById(id);
+  if (rest === null) throw new RangeError("the bytes are cut short");
+  yield* pieces(rest.textContent);
 }
 
 /** Returns a stream of the bytes that are packed in pieces of base64. */
@@ -127,7 +143,7 @@ async function packedIn(file) {
 export async function source(wanted, timing) {
   if (wanted?.bytes instanceof Uint8Array) return { recording: wanted };
   const isText = typeof wanted === "string" && /^\s*\{/.test(wanted), inside = isText ? valueIn(wanted) : null;
-  if (isPacked(inside)) return { packed: inside };
+  if (isPacked(inside)) return { packed: inside.rest === undefined ? inside : { ...inside, bytes: parsedPieces(inside.bytes, inside.rest) } };
   const file = isText ? fileOf(new TextEncoder().encode(wanted)) : await incoming(wanted), packed = await packedIn(file);
   return packed === null ? { file, timing: timing === null ? null : await (await incoming(timing)).whole() } : { packed };
 }

@@ -34,6 +34,12 @@ const Base = globalThis.HTMLElement ?? class {};
 /** The styles of all players. */
 let sheet = null;
 
+/** Returns whether the end of an element has been parsed. Something comes after it then, or all has been parsed. */
+function isParsed(element) {
+  for (let at = element; at !== null; at = at.parentNode) if (at.nextSibling !== null) return true;
+  return document.readyState !== "loading";
+}
+
 /** Returns a promise of the next turn of the page. */
 const turn = () => new Promise((resolve) => setTimeout(resolve));
 
@@ -46,6 +52,7 @@ export class Vt220Player extends Base {
   static #reader = null;
   #given = { src: null, timing: null };
   #openings = 0;
+  #isBegun = false;
   #parts = [];
   #view = null;
 
@@ -81,11 +88,13 @@ export class Vt220Player extends Base {
   }
 
   connectedCallback() {
-    if (document.readyState === "loading") document.addEventListener("DOMContentLoaded", () => this.isConnected && this.#open(), { once: true });
-    else this.#open();
+    const begin = () => this.isConnected && !this.#isBegun && this.#open();
+    if (isParsed(this)) begin();
+    else document.addEventListener("DOMContentLoaded", begin, { once: true });
   }
 
   disconnectedCallback() {
+    this.#isBegun = false;
     this.#close();
   }
 
@@ -93,9 +102,9 @@ export class Vt220Player extends Base {
     if (name === "speed") this.#view?.setSpeed(now);
     else if (name === "keystrokes") this.#view?.showKeystrokes(now !== null);
     else if (name === "label") this.shadowRoot.getElementById("screen").setAttribute("aria-label", now ?? "Terminal screen");
-    else if (this.isConnected && before !== now && document.readyState !== "loading") {
+    else if (before !== now) {
       if (name in this.#given) this.#given[name] = null;
-      this.#open();
+      if (this.#isBegun) this.#open();
     }
   }
 
@@ -151,6 +160,7 @@ export class Vt220Player extends Base {
 
   #open() {
     this.#close();
+    this.#isBegun = true;
     const opening = this.#openings, isOver = () => opening !== this.#openings, wanted = this.#wanted(), live = this.getAttribute("live");
     if (live !== null || (typeof wanted === "string" && /^wss?:/.test(wanted))) this.loaded = this.#attempt(isOver, (core) => this.#follow(live ?? wanted, core, isOver));
     else if (wanted !== null) this.loaded = this.#attempt(isOver, (core, because) => this.#load(wanted, core, because, isOver));

@@ -1,7 +1,0 @@
-mod TraceParts
-mod SmallEvents
-mod KindLines
-mod CountSums
-mod ItemPlaces
-mod Witnesses
-mod Rows

@@ -1,4 +1,0 @@
-mod Encoded
-mod Shifted
-mod CursorMoves
-mod RoundTrip

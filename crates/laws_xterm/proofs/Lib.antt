@@ -1,5 +1,0 @@
-mod ScrolledRows
-mod Repeated
-mod Beyond
-mod Returned
-mod RepeatedGlyphs

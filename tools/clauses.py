@@ -198,6 +198,22 @@ def exported(crate):
     return names, set(re.findall(r"^pub mod (\w+);", text, re.M))
 
 
+def reexported(path):
+    """Returns what a file exports of others: pairs of a module and a name."""
+    found = re.findall(r"^pub use (?:\w+::)*(\w+)::(?:\{([^}]*)\}|(\w+));", path.read_text() if path.exists() else "", re.M)
+    return {(module, name) for module, group, one in found for name in re.findall(r"\w+", group or one)}
+
+
+def home_of(item):
+    """Returns the public module of a function, with `::` behind it, or nothing for the crate's root."""
+    source, stem = ROOT / item.crate / "src", item.path.stem
+    modules = exported(item.crate)[1]
+    if (stem, item.name) in reexported(source / "lib.rt"):
+        return ""
+    homes = [stem] if stem in modules else [each for each in sorted(modules) if (stem, item.name) in reexported(source / f"{each}.rt")]
+    return f"{homes[0]}::" if homes else ""
+
+
 def parts(text):
     """Returns the items of a file of source: what begins in the first column, with the lines below it that don't."""
     return re.split(r"\n(?=(?:pub|impl|trait|fn|const|struct|enum)\b)", text)

@@ -10,12 +10,10 @@ pub mod utf8
 pub mod trace
 pub mod xterm
 pub mod xterm_paint
-pub mod trace_laws
-pub mod utf8_laws
-pub mod xterm_laws
 pub mod device
+pub mod laws
+pub mod cli
 pub mod recording
 pub mod output
-pub mod cli
 pub mod replay
 pub mod vectors

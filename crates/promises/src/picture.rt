@@ -4,3 +4,4 @@ pub mod bytes;
 pub mod document;
 pub mod laws;
 pub mod showing;
+pub mod views;

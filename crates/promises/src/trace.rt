@@ -1,6 +1,7 @@
 //! The calls of vt_trace.
 pub mod bytes;
 pub mod characters;
+pub mod feeds;
 pub mod laws;
 pub mod lines;
 pub mod names;

@@ -2,6 +2,7 @@
 pub mod ascii;
 pub mod decoder;
 pub mod feeding;
+pub mod feeds;
 pub mod laws;
 pub mod showing;
 pub mod translation;

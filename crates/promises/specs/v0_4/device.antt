@@ -1,3 +1,3 @@
-pub mod Watched
-pub mod Writing
 pub mod Runs
+pub mod Writing
+pub mod Watched

@@ -1,4 +1,5 @@
 pub mod Picture
 pub mod Animation
 pub mod Looks
+pub mod Limits
 pub mod Show

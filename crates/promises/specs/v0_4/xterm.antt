@@ -7,4 +7,5 @@ pub mod Tabs
 pub mod Scroll
 pub mod Attributes
 pub mod Log
+pub mod Limits
 pub mod Terminals

@@ -1,9 +1,13 @@
 //! The calls of vt_picture/src/laws.
 ghost use Rattle.promises.specs.v0_4.picture.Animation.{cells_shown, is_seen, row_shown, same_paper, same_row};
 ghost use Rattle.promises.specs.v0_4.picture.Animation.{seen_at};
+ghost use Rattle.promises.specs.v0_4.picture.Limits.{animation_limit, frame_limit, picture_limit, show_limit};
+ghost use Rattle.promises.specs.v0_4.screen.Sizes.{vt220_size};
 ghost use Rattle.std.specs.Prelude.{true, ℕ, ◌≡◌};
 ghost use Rattle.vt_picture.specs.declared.looks.CursorShape.{CursorShape};
 ghost use Rattle.vt_term.specs.State.{Display};
+
+use vt_picture::{ANIMATION_LIMIT, FRAME_LIMIT, PICTURE_LIMIT, SHOW_LIMIT};
 
 /// Promises what `vt_picture::laws::shows_the_screen` promises.
 pub fn shows_the_screen()
@@ -13,4 +17,14 @@ pub fn shows_the_screen()
         → is_seen before s row ≡ true → cells_shown before (seen_at before s row) ≡ cells_shown s row }
 {
     vt_picture::laws::shows_the_screen()
+}
+
+/// Promises what `vt_picture::laws::vt220_limits` promises.
+pub fn vt220_limits()
+    ensures show { show_limit vt220_size ≡ SHOW_LIMIT }
+    ensures picture { picture_limit vt220_size ≡ PICTURE_LIMIT }
+    ensures frame { frame_limit vt220_size ≡ FRAME_LIMIT }
+    ensures animation { animation_limit vt220_size ≡ ANIMATION_LIMIT }
+{
+    vt_picture::laws::vt220_limits()
 }

@@ -1,13 +1,21 @@
 //! The calls of vt_recording/src/reached.
 ghost use Rattle.promises.specs.v0_4.recording.Gathered.{events_of};
 ghost use Rattle.promises.specs.v0_4.recording.Moment.{micros_of};
-ghost use Rattle.promises.specs.v0_4.recording.Reached.{has_characters, nothing_passed, passed, steps_in};
-ghost use Rattle.std.specs.Prelude.{IfOk, option_map, ◌≡◌};
+ghost use Rattle.promises.specs.v0_4.recording.Reached.{has_characters, length_of, nothing_passed, passed, steps_in};
+ghost use Rattle.std.specs.Prelude.{IfOk, length, option_map, true, ◌≡◌, ◌≤◌};
 ghost use Rattle.vt_recording.specs.Reached.{IsTakenBetween};
 ghost use Rattle.vt_recording.specs.Timeline as timeline;
 
 use std::alloc::{AllocError, Global};
 use vt_recording::{Encoding, Event, Format, Moment, Passed, Taken, Timeline};
+
+/// Promises what `vt_recording::count_characters` promises.
+pub fn count_characters(text: &[u8]) -> u64
+    ensures value { result ≡ length_of true text.now }
+    ensures small { result ≤ length text.now }
+{
+    vt_recording::count_characters(text)
+}
 
 /// Promises what `vt_recording::passed_before` promises.
 pub fn passed_before(

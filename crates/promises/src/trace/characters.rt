@@ -2,15 +2,15 @@
 ghost use Rattle.promises.specs.v0_4.trace.Utf8.{counted_bytes};
 ghost use Rattle.promises.specs.v0_4.utf8.Decoding.{pending_after};
 ghost use Rattle.std.specs.Prelude.{List, ℕ, ◌++◌, ◌≡◌};
-ghost use Rattle.vt_trace.specs.Counted.{HasCounted};
+ghost use Rattle.vt_trace.specs.Counted.{HasCountedOn};
 
 use vt_trace::Summary;
 use vt_utf8::Decoder;
 
 /// Promises what `summary.count_utf8` promises.
 pub fn summary_count_utf8(summary: &mut Summary, decoder: &mut Decoder, chunk: &[u8])
-    ensures counted { (bytes : List ℕ) → HasCounted bytes summary.old
-        → HasCounted (bytes ++ counted_bytes decoder.old chunk.now) summary.new }
+    ensures counted { (rows : ℕ) (bytes : List ℕ) → HasCountedOn rows bytes summary.old
+        → HasCountedOn rows (bytes ++ counted_bytes decoder.old chunk.now) summary.new }
     ensures pending { decoder.new ≡ pending_after decoder.old chunk.now }
 {
     summary.count_utf8(decoder, chunk)

@@ -3,7 +3,7 @@ ghost use Rattle.promises.specs.v0_4.term.Play.{play};
 ghost use Rattle.promises.specs.v0_4.trace.Trace.{end_lines, trace, tracer_all, tracer_at_start};
 ghost use Rattle.std.specs.Prelude.{length, take, vec_capacity, vec_len, ◌*◌, ◌++◌, ◌+◌, ◌<◌, ◌^◌, ◌≡◌, ◌≤◌};
 
-use vt_term::Terminal;
+use vt_term::SizedTerminal;
 use vt_trace::{SKIPPED_LIMIT, TRACE_LIMIT, Tracer};
 
 /// Promises what `Tracer::new` promises.
@@ -13,9 +13,9 @@ pub fn tracer_new() -> Tracer
     Tracer::new()
 }
 
-/// Promises what `vt_trace::trace_reserved` promises.
+/// Promises what `vt_trace::sized::trace_reserved` promises.
 pub fn trace_reserved(
-    terminal: &mut Terminal,
+    terminal: &mut SizedTerminal,
     tracer: &mut Tracer,
     chunk: &[u8],
     reports: &mut Vec<u8>,
@@ -34,7 +34,7 @@ pub fn trace_reserved(
     ensures reports_capacity { vec_capacity reports.old ≤ vec_capacity reports.new }
     ensures capacity { vec_capacity out.old ≤ vec_capacity out.new }
 {
-    vt_trace::trace_reserved(terminal, tracer, chunk, reports, out)
+    vt_trace::sized::trace_reserved(terminal, tracer, chunk, reports, out)
 }
 
 /// Promises what `vt_trace::trace_end` promises.

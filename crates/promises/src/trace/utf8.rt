@@ -4,13 +4,13 @@ ghost use Rattle.promises.specs.v0_4.utf8.Decoding.{pending_after};
 ghost use Rattle.promises.specs.v0_4.utf8.Play.{play_utf8};
 ghost use Rattle.std.specs.Prelude.{length, take, vec_capacity, vec_len, ◌*◌, ◌++◌, ◌+◌, ◌<◌, ◌^◌, ◌≡◌, ◌≤◌};
 
-use vt_term::Terminal;
+use vt_term::SizedTerminal;
 use vt_trace::{TRACE_LIMIT, Tracer};
 use vt_utf8::Decoder;
 
-/// Promises what `vt_trace::trace_utf8_reserved` promises.
+/// Promises what `vt_trace::sized::trace_utf8_reserved` promises.
 pub fn trace_utf8_reserved(
-    terminal: &mut Terminal,
+    terminal: &mut SizedTerminal,
     tracer: &mut Tracer,
     decoder: &mut Decoder,
     chunk: &[u8],
@@ -33,5 +33,5 @@ pub fn trace_utf8_reserved(
     ensures reports_capacity { vec_capacity reports.old ≤ vec_capacity reports.new }
     ensures capacity { vec_capacity out.old ≤ vec_capacity out.new }
 {
-    vt_trace::trace_utf8_reserved(terminal, tracer, decoder, chunk, reports, out)
+    vt_trace::sized::trace_utf8_reserved(terminal, tracer, decoder, chunk, reports, out)
 }

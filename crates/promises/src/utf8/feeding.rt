@@ -2,22 +2,24 @@
 ghost use Rattle.promises.specs.v0_4.term.Play.{play};
 ghost use Rattle.promises.specs.v0_4.term.Scrolling.{log};
 ghost use Rattle.promises.specs.v0_4.utf8.Decoding.{pending_after};
+ghost use Rattle.promises.specs.v0_4.utf8.Limits.{lines_limit, utf8_lines_limit};
 ghost use Rattle.promises.specs.v0_4.utf8.Play.{play_utf8, translated};
 ghost use Rattle.promises.specs.v0_4.utf8.Translation.{translation};
 ghost use Rattle.std.specs.Prelude.{[], IsOk, length, OnErr, OnOk, take, vec_capacity, vec_len, ◌*◌, ◌++◌, ◌+◌, ◌<◌};
 ghost use Rattle.std.specs.Prelude.{◌≡◌, ◌≤◌, ◌⊎◌};
 
 use std::alloc::AllocError;
-use vt_term::Terminal;
-use vt_utf8::{Decoder, LINES_LIMIT, UTF8_LINES_LIMIT};
+use vt_term::SizedTerminal;
+use vt_utf8::Decoder;
 
-/// Promises what `vt_utf8::feed_utf8` promises.
+/// Promises what `vt_utf8::sized::feed_utf8` promises.
 pub fn feed_utf8(
-    terminal: &mut Terminal,
+    terminal: &mut SizedTerminal,
     decoder: &mut Decoder,
     piece: &[u8],
     out: &mut Vec<u8>,
 ) -> Result<(), AllocError>
+    ensures size { terminal.new.display.grid.size ≡ terminal.old.display.grid.size }
     ensures state { OnOk result (terminal.new ≡ (play_utf8 terminal.old decoder.old piece.now).state) }
     ensures pending { OnOk result (decoder.new ≡ pending_after decoder.old piece.now) }
     ensures reports { OnOk result (out.new.items
@@ -29,12 +31,12 @@ pub fn feed_utf8(
     ensures has_room { vec_len out.old + 10 * length piece.now ≤ vec_capacity out.old → IsOk result }
     ensures capacity { vec_capacity out.old ≤ vec_capacity out.new }
 {
-    vt_utf8::feed_utf8(terminal, decoder, piece, out)
+    vt_utf8::sized::feed_utf8(terminal, decoder, piece, out)
 }
 
-/// Promises what `vt_utf8::feed_utf8_reserved` promises.
+/// Promises what `vt_utf8::sized::feed_utf8_reserved` promises.
 pub fn feed_utf8_reserved(
-    terminal: &mut Terminal,
+    terminal: &mut SizedTerminal,
     decoder: &mut Decoder,
     piece: &[u8],
     out: &mut Vec<u8>,
@@ -46,12 +48,12 @@ pub fn feed_utf8_reserved(
     ensures bounded { vec_len out.new ≤ vec_len out.old + 10 * length piece.now }
     ensures capacity { vec_capacity out.old ≤ vec_capacity out.new }
 {
-    vt_utf8::feed_utf8_reserved(terminal, decoder, piece, out)
+    vt_utf8::sized::feed_utf8_reserved(terminal, decoder, piece, out)
 }
 
-/// Promises what `vt_utf8::feed_utf8_log_reserved` promises.
+/// Promises what `vt_utf8::sized::feed_utf8_log_reserved` promises.
 pub fn feed_utf8_log_reserved(
-    terminal: &mut Terminal,
+    terminal: &mut SizedTerminal,
     decoder: &mut Decoder,
     piece: &[u8],
     reports: &mut Vec<u8>,
@@ -60,8 +62,8 @@ pub fn feed_utf8_log_reserved(
 ) -> usize
     requires { vec_len reports.old + 10 * length piece.now ≤ vec_capacity reports.old }
     ensures within { result ≤ length piece.now }
-    ensures all { result < length piece.now → (vec_capacity lines.new < vec_len lines.new + UTF8_LINES_LIMIT)
-        ⊎ (vec_len lines.old + most < vec_len lines.new + UTF8_LINES_LIMIT) }
+    ensures all { result < length piece.now → (vec_capacity lines.new < vec_len lines.new + utf8_lines_limit terminal.old.display.grid.size)
+        ⊎ (vec_len lines.old + most < vec_len lines.new + utf8_lines_limit terminal.old.display.grid.size) }
     ensures state { terminal.new ≡ (play_utf8 terminal.old decoder.old (take result piece.now)).state }
     ensures pending { decoder.new ≡ pending_after decoder.old (take result piece.now) }
     ensures reports { reports.new.items
@@ -73,11 +75,11 @@ pub fn feed_utf8_log_reserved(
     ensures reports_capacity { vec_capacity reports.old ≤ vec_capacity reports.new }
     ensures lines_capacity { vec_capacity lines.old ≤ vec_capacity lines.new }
 {
-    vt_utf8::feed_utf8_log_reserved(terminal, decoder, piece, reports, lines, most)
+    vt_utf8::sized::feed_utf8_log_reserved(terminal, decoder, piece, reports, lines, most)
 }
 
-/// Promises what `vt_utf8::feed_beyond_ascii` promises.
-pub fn feed_beyond_ascii(terminal: &mut Terminal, c: char, out: &mut Vec<u8>)
+/// Promises what `vt_utf8::sized::feed_beyond_ascii` promises.
+pub fn feed_beyond_ascii(terminal: &mut SizedTerminal, c: char, out: &mut Vec<u8>)
     requires beyond { 0x80 ≤ c }
     requires room { vec_len out.old + 10 ≤ vec_capacity out.old }
     ensures state { terminal.new ≡ (play terminal.old (translation terminal.old c)).state }
@@ -85,26 +87,26 @@ pub fn feed_beyond_ascii(terminal: &mut Terminal, c: char, out: &mut Vec<u8>)
     ensures out { out.new.items ≡ out.old.items }
     ensures capacity { vec_capacity out.old ≤ vec_capacity out.new }
 {
-    vt_utf8::feed_beyond_ascii(terminal, c, out)
+    vt_utf8::sized::feed_beyond_ascii(terminal, c, out)
 }
 
-/// Promises what `vt_utf8::feed_beyond_ascii_log` promises.
+/// Promises what `vt_utf8::sized::feed_beyond_ascii_log` promises.
 pub fn feed_beyond_ascii_log(
-    terminal: &mut Terminal,
+    terminal: &mut SizedTerminal,
     c: char,
     out: &mut Vec<u8>,
     lines: &mut Vec<u8>,
 )
     requires beyond { 0x80 ≤ c }
     requires room { vec_len out.old + 10 ≤ vec_capacity out.old }
-    requires lines_room { vec_len lines.old + LINES_LIMIT ≤ vec_capacity lines.old }
+    requires lines_room { vec_len lines.old + lines_limit terminal.old.display.grid.size ≤ vec_capacity lines.old }
     ensures state { terminal.new ≡ (play terminal.old (translation terminal.old c)).state }
     ensures silent { (play terminal.old (translation terminal.old c)).reports ≡ [] }
     ensures out { out.new.items ≡ out.old.items }
     ensures lines { lines.new.items ≡ lines.old.items ++ log terminal.old (translation terminal.old c) }
-    ensures lines_bounded { vec_len lines.new ≤ vec_len lines.old + LINES_LIMIT }
+    ensures lines_bounded { vec_len lines.new ≤ vec_len lines.old + lines_limit terminal.old.display.grid.size }
     ensures capacity { vec_capacity out.old ≤ vec_capacity out.new }
     ensures lines_capacity { vec_capacity lines.old ≤ vec_capacity lines.new }
 {
-    vt_utf8::feed_beyond_ascii_log(terminal, c, out, lines)
+    vt_utf8::sized::feed_beyond_ascii_log(terminal, c, out, lines)
 }

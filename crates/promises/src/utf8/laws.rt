@@ -11,14 +11,39 @@ ghost use Rattle.promises.specs.v0_4.utf8.Similar.{shown};
 ghost use Rattle.promises.specs.v0_4.utf8.Translation.{glyph_off, is_at_end, IsPlain, translation, unshifted};
 ghost use Rattle.promises.specs.v0_4.utf8.Translation.{write_wide, written};
 ghost use Rattle.std.specs.Prelude.{[], All, false, List, None, ℕ, ◌++◌, ◌<◌, ◌∷◌, ◌≡◌, ◌≤◌};
+ghost use Rattle.vt_screen.specs.declared.size.Size.{Size};
 ghost use Rattle.vt_syntax.specs.declared.held.Held.TheVariants.{Nothing};
+ghost use Rattle.vt_term.specs.Sound.{IsSoundAt};
 ghost use Rattle.vt_term.specs.State.{State};
+
+/// Promises what `vt_utf8::laws::sized_soundness` promises.
+pub fn sized_soundness()
+    ensures { (size : Size) (s : State) (pending bytes : List ℕ) → IsSoundAt size s → IsSoundAt size (play_utf8 s pending bytes).state }
+{
+    vt_utf8::laws::sized_soundness()
+}
 
 /// Promises what `vt_utf8::laws::soundness` promises.
 pub fn soundness()
     ensures { (s : State) (pending bytes : List ℕ) → IsSound s → IsSound (play_utf8 s pending bytes).state }
 {
     vt_utf8::laws::soundness()
+}
+
+/// Promises what `vt_utf8::laws::sized_cuts` promises.
+pub fn sized_cuts()
+    ensures none { (size : Size) (s : State) (pending : List ℕ) → IsSoundAt size s
+        → play_utf8 s pending [] ≡ record { state = s; reports = [] } }
+    ensures two { (size : Size) (s : State) (pending a b : List ℕ) → IsSoundAt size s → play_utf8 s pending (a ++ b)
+        ≡ both (play_utf8 s pending a) (play_utf8 (play_utf8 s pending a).state (pending_after pending a) b) }
+    ensures pending { (pending a b : List ℕ)
+        → pending_after pending (a ++ b) ≡ pending_after (pending_after pending a) b }
+    ensures translated { (size : Size) (s : State) (pending a b : List ℕ) → IsSoundAt size s → translated s pending (a ++ b)
+        ≡ translated s pending a ++ translated (play_utf8 s pending a).state (pending_after pending a) b }
+    ensures all { (size : Size) (s : State) (pending : List ℕ) (pieces : List (List ℕ)) → IsSoundAt size s
+        → play_utf8_all s pending pieces ≡ play_utf8 s pending (joined pieces) }
+{
+    vt_utf8::laws::sized_cuts()
 }
 
 /// Promises what `vt_utf8::laws::cuts` promises.
@@ -37,6 +62,15 @@ pub fn cuts()
     vt_utf8::laws::cuts()
 }
 
+/// Promises what `vt_utf8::laws::sized_one_byte` promises.
+pub fn sized_one_byte()
+    ensures { (size : Size) (s : State) (pending : List ℕ) (b : ℕ) (xs ys : List ℕ) → IsSoundAt size s → xs ++ ys ≡ (read pending b).characters
+        → translated s pending (b ∷ [])
+        ≡ translated_all s xs ++ translated_all (play s (translated_all s xs)).state ys }
+{
+    vt_utf8::laws::sized_one_byte()
+}
+
 /// Promises what `vt_utf8::laws::one_byte` promises.
 pub fn one_byte()
     ensures { (s : State) (pending : List ℕ) (b : ℕ) (xs ys : List ℕ) → IsSound s → xs ++ ys ≡ (read pending b).characters
@@ -44,6 +78,14 @@ pub fn one_byte()
         ≡ translated_all s xs ++ translated_all (play s (translated_all s xs)).state ys }
 {
     vt_utf8::laws::one_byte()
+}
+
+/// Promises what `vt_utf8::laws::sized_silence` promises.
+pub fn sized_silence()
+    ensures silent { (size : Size) (s : State) (c : ℕ) → IsSoundAt size s → 0x80 ≤ c → (play s (translation s c)).reports ≡ [] }
+    ensures plain { (s : State) (c : ℕ) → 0x80 ≤ c → All IsPlain (translation s c) }
+{
+    vt_utf8::laws::sized_silence()
 }
 
 /// Promises what `vt_utf8::laws::silence` promises.
@@ -71,6 +113,26 @@ pub fn glyphs()
     ensures themselves { (n : ℕ) → IsGlyph n → 0xA0 ≤ n → shown n ≡ n }
 {
     vt_utf8::laws::glyphs()
+}
+
+/// Promises what `vt_utf8::laws::sized_writes` promises.
+pub fn sized_writes()
+    ensures glyph { (size : Size) (s : State) (n : ℕ) → IsSoundAt size s → s.held ≡ Nothing → IsGlyph n
+        → play s (written n s.display.sets)
+        ≡ record { state = record s { display = write_glyph n (unshifted s.display) }; reports = [] } }
+    ensures one { (size : Size) (s : State) (c : ℕ) → IsSoundAt size s → s.held ≡ Nothing → 0x80 ≤ c → cells c ≡ 1
+        → play s (translation s c)
+        ≡ record { state = record s { display = write_glyph (shown c) (unshifted s.display) }; reports = [] } }
+    ensures off { (size : Size) (s : State) (c : ℕ) → IsSoundAt size s → s.held ≡ Nothing → 0x80 ≤ c → cells c ≡ 1
+        → scrolled_off s (translation s c) ≡ glyph_off s.display }
+    ensures two { (size : Size) (s : State) (c : ℕ) → IsSoundAt size s → s.held ≡ Nothing → s.display.sets.pending ≡ None → 0x80 ≤ c → cells c ≡ 2
+        → play s (translation s c)
+        ≡ record { state = record s { display = write_wide (shown c) s.display }; reports = [] } }
+    ensures two_off { (size : Size) (s : State) (c : ℕ) → IsSoundAt size s → s.held ≡ Nothing → s.display.sets.pending ≡ None → 0x80 ≤ c
+        → cells c ≡ 2 → is_at_end s.display ≡ false → scrolled_off s (translation s c) ≡ glyph_off s.display }
+    ensures none { (s : State) (c : ℕ) → s.held ≡ Nothing → 0x80 ≤ c → cells c ≡ 0 → translation s c ≡ [] }
+{
+    vt_utf8::laws::sized_writes()
 }
 
 /// Promises what `vt_utf8::laws::writes` promises.

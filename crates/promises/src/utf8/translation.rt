@@ -4,7 +4,7 @@ ghost use Rattle.promises.specs.v0_4.utf8.Play.{translated_all};
 ghost use Rattle.std.specs.Option.{option_to_list};
 ghost use Rattle.std.specs.Prelude.{◌≡◌, ◌≤◌};
 
-use vt_term::Terminal;
+use vt_term::SizedTerminal;
 use vt_utf8::Bytes;
 
 /// Promises what `vt_utf8::cells` promises.
@@ -15,9 +15,9 @@ pub fn cells(c: char) -> usize
     vt_utf8::cells(c)
 }
 
-/// Promises what `vt_utf8::translated` promises.
-pub fn translated(terminal: &Terminal, character: Option<char>) -> Bytes
+/// Promises what `vt_utf8::sized::translated` promises.
+pub fn translated(terminal: &SizedTerminal, character: Option<char>) -> Bytes
     ensures { result.items ≡ translated_all terminal.now (option_to_list character) }
 {
-    vt_utf8::translated(terminal, character)
+    vt_utf8::sized::translated(terminal, character)
 }

@@ -1,20 +1,24 @@
 //! The calls of vt_xterm/src/feeding.
 ghost use Rattle.promises.specs.v0_4.utf8.Decoding.{pending_after};
+ghost use Rattle.promises.specs.v0_4.xterm.Limits.{xterm_lines_limit};
 ghost use Rattle.promises.specs.v0_4.xterm.Play.{behind, play_xterm, xterm_log};
 ghost use Rattle.std.specs.Prelude.{IsOk, length, OnErr, OnOk, take, vec_capacity, vec_len, ◌*◌, ◌++◌, ◌+◌, ◌<◌, ◌≡◌};
 ghost use Rattle.std.specs.Prelude.{◌≤◌, ◌⊎◌};
 
 use std::alloc::AllocError;
-use vt_term::Terminal;
-use vt_xterm::{Front, LINES_LIMIT};
+use vt_term::SizedTerminal;
+use vt_xterm::SizedFront;
 
-/// Promises what `vt_xterm::feed_xterm` promises.
+/// Promises what `vt_xterm::sized::feed_xterm` promises.
 pub fn feed_xterm(
-    terminal: &mut Terminal,
-    front: &mut Front,
+    terminal: &mut SizedTerminal,
+    front: &mut SizedFront,
     piece: &[u8],
     out: &mut Vec<u8>,
 ) -> Result<(), AllocError>
+    requires one_size { front.old.pages.other.grid.size ≡ terminal.old.display.grid.size }
+    ensures size { terminal.new.display.grid.size ≡ terminal.old.display.grid.size }
+    ensures other_size { front.new.pages.other.grid.size ≡ front.old.pages.other.grid.size }
     ensures state { OnOk result (terminal.new
         ≡ (play_xterm (behind terminal.old front.old) front.old.pending piece.now).whole.state) }
     ensures pages { OnOk result (front.new.pages
@@ -29,17 +33,20 @@ pub fn feed_xterm(
     ensures has_room { vec_len out.old + 10 * length piece.now ≤ vec_capacity out.old → IsOk result }
     ensures capacity { vec_capacity out.old ≤ vec_capacity out.new }
 {
-    vt_xterm::feed_xterm(terminal, front, piece, out)
+    vt_xterm::sized::feed_xterm(terminal, front, piece, out)
 }
 
-/// Promises what `vt_xterm::feed_xterm_reserved` promises.
+/// Promises what `vt_xterm::sized::feed_xterm_reserved` promises.
 pub fn feed_xterm_reserved(
-    terminal: &mut Terminal,
-    front: &mut Front,
+    terminal: &mut SizedTerminal,
+    front: &mut SizedFront,
     piece: &[u8],
     out: &mut Vec<u8>,
 )
-    requires { vec_len out.old + 10 * length piece.now ≤ vec_capacity out.old }
+    requires room { vec_len out.old + 10 * length piece.now ≤ vec_capacity out.old }
+    requires one_size { front.old.pages.other.grid.size ≡ terminal.old.display.grid.size }
+    ensures size { terminal.new.display.grid.size ≡ terminal.old.display.grid.size }
+    ensures other_size { front.new.pages.other.grid.size ≡ front.old.pages.other.grid.size }
     ensures state { terminal.new
         ≡ (play_xterm (behind terminal.old front.old) front.old.pending piece.now).whole.state }
     ensures pages { front.new.pages
@@ -50,22 +57,25 @@ pub fn feed_xterm_reserved(
     ensures bounded { vec_len out.new ≤ vec_len out.old + 10 * length piece.now }
     ensures capacity { vec_capacity out.old ≤ vec_capacity out.new }
 {
-    vt_xterm::feed_xterm_reserved(terminal, front, piece, out)
+    vt_xterm::sized::feed_xterm_reserved(terminal, front, piece, out)
 }
 
-/// Promises what `vt_xterm::feed_xterm_log_reserved` promises.
+/// Promises what `vt_xterm::sized::feed_xterm_log_reserved` promises.
 pub fn feed_xterm_log_reserved(
-    terminal: &mut Terminal,
-    front: &mut Front,
+    terminal: &mut SizedTerminal,
+    front: &mut SizedFront,
     piece: &[u8],
     reports: &mut Vec<u8>,
     lines: &mut Vec<u8>,
     most: usize,
 ) -> usize
-    requires { vec_len reports.old + 10 * length piece.now ≤ vec_capacity reports.old }
+    requires room { vec_len reports.old + 10 * length piece.now ≤ vec_capacity reports.old }
+    requires one_size { front.old.pages.other.grid.size ≡ terminal.old.display.grid.size }
     ensures within { result ≤ length piece.now }
-    ensures all { result < length piece.now → (vec_capacity lines.new < vec_len lines.new + LINES_LIMIT)
-        ⊎ (vec_len lines.old + most < vec_len lines.new + LINES_LIMIT) }
+    ensures all { result < length piece.now → (vec_capacity lines.new < vec_len lines.new + xterm_lines_limit terminal.old.display.grid.size)
+        ⊎ (vec_len lines.old + most < vec_len lines.new + xterm_lines_limit terminal.old.display.grid.size) }
+    ensures size { terminal.new.display.grid.size ≡ terminal.old.display.grid.size }
+    ensures other_size { front.new.pages.other.grid.size ≡ front.old.pages.other.grid.size }
     ensures state { terminal.new ≡ (play_xterm (behind terminal.old front.old) front.old.pending
         (take result piece.now)).whole.state }
     ensures pages { front.new.pages ≡ (play_xterm (behind terminal.old front.old) front.old.pending
@@ -80,5 +90,5 @@ pub fn feed_xterm_log_reserved(
     ensures reports_capacity { vec_capacity reports.old ≤ vec_capacity reports.new }
     ensures lines_capacity { vec_capacity lines.old ≤ vec_capacity lines.new }
 {
-    vt_xterm::feed_xterm_log_reserved(terminal, front, piece, reports, lines, most)
+    vt_xterm::sized::feed_xterm_log_reserved(terminal, front, piece, reports, lines, most)
 }

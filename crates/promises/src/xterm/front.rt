@@ -1,12 +1,68 @@
 //! The calls of vt_xterm/src/front.
 ghost use Rattle.promises.specs.v0_4.term.Pages.{with_page};
-ghost use Rattle.promises.specs.v0_4.term.State.{display_at_power_up, power_up};
-ghost use Rattle.promises.specs.v0_4.xterm.Play.{front_at_power_up};
+ghost use Rattle.promises.specs.v0_4.term.State.{display_at_power_up, display_of, power_up, state_of};
+ghost use Rattle.promises.specs.v0_4.xterm.Play.{front_at_power_up, front_of};
 ghost use Rattle.std.specs.Prelude.{IfOk, length, ◌≡◌, ◌≤◌};
+ghost use Rattle.vt_screen.specs.Sizes.{IsSize};
 
 use std::alloc::{AllocError, Global};
-use vt_term::Terminal;
-use vt_xterm::Front;
+use vt_term::{Size, SizedTerminal, Terminal};
+use vt_xterm::{Front, SizedFront};
+
+/// Promises what `SizedFront::new` promises.
+pub fn sized_front_new(alloc: Global, size: Size) -> Result<SizedFront, AllocError>
+    requires { IsSize size }
+    ensures { IfOk result (λ front. front ≡ front_of size) }
+{
+    SizedFront::new(alloc, size)
+}
+
+/// Promises what `sized_front.copy_from` promises.
+pub fn sized_front_copy_from(sized_front: &mut SizedFront, other: &SizedFront)
+    requires { sized_front.old.pages.other.grid.size ≡ other.now.pages.other.grid.size }
+    ensures { sized_front.new ≡ other.now }
+{
+    sized_front.copy_from(other)
+}
+
+/// Promises what `sized_front.show_other` promises.
+pub fn sized_front_show_other(sized_front: &SizedFront, terminal: &mut SizedTerminal)
+    requires { terminal.old.display.grid.size ≡ sized_front.now.pages.other.grid.size }
+    ensures { terminal.new ≡ record (state_of terminal.old.display.grid.size) {
+      display = with_page sized_front.now.pages.other (display_of terminal.old.display.grid.size);
+    } }
+{
+    sized_front.show_other(terminal)
+}
+
+/// Promises what `sized_front.pending` promises.
+pub fn sized_front_pending(sized_front: &SizedFront) -> &[u8]
+    ensures value { result.now ≡ sized_front.now.pending }
+    ensures few { length result.now ≤ 3 }
+{
+    sized_front.pending()
+}
+
+/// Promises what `sized_front.is_alternate` promises.
+pub fn sized_front_is_alternate(sized_front: &SizedFront) -> bool
+    ensures { result ≡ sized_front.now.pages.alternate }
+{
+    sized_front.is_alternate()
+}
+
+/// Promises what `sized_front.brackets` promises.
+pub fn sized_front_brackets(sized_front: &SizedFront) -> bool
+    ensures { result ≡ sized_front.now.pages.brackets }
+{
+    sized_front.brackets()
+}
+
+/// Promises what `sized_front.resizes` promises.
+pub fn sized_front_resizes(sized_front: &SizedFront) -> bool
+    ensures { result ≡ sized_front.now.pages.resizes }
+{
+    sized_front.resizes()
+}
 
 /// Promises what `Front::new` promises.
 pub fn front_new(alloc: Global) -> Result<Front, AllocError>

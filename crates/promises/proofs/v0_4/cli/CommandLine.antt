@@ -1,11 +1,8 @@
 -- 0.4: vt_cli/specs/CommandLine is today's.
-use Rattle.clap.specs.Words.{first_of, IsAmong, Kinds, Row, Text}
-use Rattle.clap.specs.declared.error.kind.ErrorKind.{ErrorKind}
+use Rattle.clap.specs.Words.{Kinds, Row, Text}
 use Rattle.promises.specs.v0_4.cli.CommandLine as frozen
 use Rattle.std.proofs.Common.{refl, ◌≡◌}
-use Rattle.std.specs.Option.{option_map}
-use Rattle.std.specs.Prelude.{[], codes, List, Ok, Option, Some, string_bytes, true, ℕ, ◌++◌, ◌∷◌, ◌≡◌, ◌≤◌}
-use Rattle.std.specs.Str.Parse.{ParsesUnsigned}
+use Rattle.std.specs.Prelude.{List, Option, ℕ, ◌≡◌}
 use Rattle.vt_cli.specs.CommandLine as today
 use Rattle.vt_cli.specs.CommandLine.{HasNoSettings, is_plain, IsNumberOf, name_of, status_for}
 use Rattle.vt_cli.specs.declared.asked.Refused.{Refused}
@@ -32,8 +29,17 @@ word_name-same = refl
 pub text_option-same : frozen.text_option ≡ today.text_option
 text_option-same = refl
 
+pub required_argument-same : frozen.required_argument ≡ today.required_argument
+required_argument-same = refl
+
 pub flag_option-same : frozen.flag_option ≡ today.flag_option
 flag_option-same = refl
+
+pub arguments-same : frozen.arguments ≡ today.arguments
+arguments-same = refl
+
+pub subcommand_with-same : frozen.subcommand_with ≡ today.subcommand_with
+subcommand_with-same = refl
 
 pub subcommand-same : frozen.subcommand ≡ today.subcommand
 subcommand-same = refl
@@ -52,6 +58,9 @@ with_lines-same = refl
 
 pub with_events-same : frozen.with_events ≡ today.with_events
 with_events-same = refl
+
+pub with_search-same : frozen.with_search ≡ today.with_search
+with_search-same = refl
 
 pub as_program-same : frozen.as_program ≡ today.as_program
 as_program-same = refl

@@ -1,15 +1,12 @@
 -- 0.4: vt_cli/specs/Request is today's.
-use Rattle.clap.specs.Words.{first_of, Kinds, Row, Text}
+use Rattle.clap.specs.Words.{Kinds, Row, Text}
 use Rattle.promises.specs.v0_4.cli.Request as frozen
 use Rattle.std.proofs.Common.{refl, ◌≡◌}
-use Rattle.std.specs.Option.{option_map}
-use Rattle.std.specs.Prelude.{[], codes, List, Ok, Option, Some, string_bytes, ℕ, ◌++◌, ◌∷◌, ◌≡◌, ◌≤◌}
+use Rattle.std.specs.Prelude.{List, Option, ℕ, ◌≡◌}
 use Rattle.std.specs.declared.alloc.Global.{Global}
 use Rattle.std.specs.declared.string.String.{String}
-use Rattle.vt_cli.specs.CommandLine.{faults_in, found_in, is_set, IsNumberOf, word_name}
 use Rattle.vt_cli.specs.Request as today
 use Rattle.vt_cli.specs.Request.{AreOptions, HasNoRequest, IsFound, word_looks}
-use Rattle.vt_cli.specs.Source.{source_in}
 use Rattle.vt_cli.specs.declared.asked.Refused.{Refused}
 use Rattle.vt_cli.specs.declared.asked.Request.{Request}
 
@@ -42,6 +39,7 @@ IsFound-made found r ρ = record {
   source = ρ.source;
   timing = ρ.timing;
   title = ρ.title;
+  pattern = ρ.pattern;
   full = ρ.full;
   partial = ρ.partial;
   quiet = ρ.quiet;
@@ -55,6 +53,7 @@ IsFound-read found r ρ = record {
   source = ρ.source;
   timing = ρ.timing;
   title = ρ.title;
+  pattern = ρ.pattern;
   full = ρ.full;
   partial = ρ.partial;
   quiet = ρ.quiet;

@@ -18,8 +18,20 @@ takes_start-same = refl
 pub plays_xterm-same : frozen.plays_xterm ≡ today.plays_xterm
 plays_xterm-same = refl
 
+pub size_of-same : frozen.size_of ≡ today.size_of
+size_of-same = refl
+
+pub plays_sizes-same : frozen.plays_sizes ≡ today.plays_sizes
+plays_sizes-same = refl
+
+pub has_one_size-same : frozen.has_one_size ≡ today.has_one_size
+has_one_size-same = refl
+
 pub may_move-same : frozen.may_move ≡ today.may_move
 may_move-same = refl
+
+pub is_timed-same : frozen.is_timed ≡ today.is_timed
+is_timed-same = refl
 
 pub lacks_steps-same : frozen.lacks_steps ≡ today.lacks_steps
 lacks_steps-same = refl

@@ -2,7 +2,7 @@
 use Rattle.promises.proofs.v0_4.term.Modes.{private_modes-same}
 use Rattle.promises.specs.v0_4.controls.Spoken as frozen
 use Rattle.std.proofs.Common.{refl, ◌≡◌}
-use Rattle.std.specs.List.{flat_map, list_all, list_any}
+use Rattle.std.specs.List.{list_all, list_any}
 use Rattle.std.specs.Prelude.{[], Bool, bytes_eq, codes, decimal, List, map, nat_le, true, ℕ, ◌&&◌, ◌++◌, ◌||◌, ◌∷◌}
 use Rattle.std.specs.Prelude.{◌≡◌}
 use Rattle.vt_controls.specs.Spoken as today

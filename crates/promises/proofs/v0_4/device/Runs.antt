@@ -1,8 +1,6 @@
 -- 0.4: vt_device/specs/Runs is today's.
 use Rattle.promises.specs.v0_4.device.Runs as frozen
-use Rattle.std.proofs.Common.{◌≡◌}
-use Rattle.std.specs.Io.KnownBytes.{Appends, Consumes}
-use Rattle.std.specs.Prelude.{Bool, List, Option, ℕ, ◌≡◌}
+use Rattle.std.specs.Prelude.{Bool, List, Option, ℕ}
 use Rattle.vt_device.specs.Runs as today
 use Rattle.vt_device.specs.Runs.{Flags}
 

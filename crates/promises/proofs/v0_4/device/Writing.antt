@@ -1,8 +1,7 @@
 -- 0.4: vt_device/specs/Writing is today's.
 use Rattle.promises.specs.v0_4.device.Writing as frozen
 use Rattle.std.proofs.Common.{refl, ◌≡◌}
-use Rattle.std.specs.Io.KnownBytes.{Appends}
-use Rattle.std.specs.Prelude.{length, List, Option, ℕ, ◌++◌, ◌<◌, ◌≡◌}
+use Rattle.std.specs.Prelude.{List, Option, ℕ, ◌≡◌}
 use Rattle.vt_device.specs.Writing as today
 
 pub IsProperBeginning-made : (w due : List ℕ) → frozen.IsProperBeginning' w due → today.IsProperBeginning w due

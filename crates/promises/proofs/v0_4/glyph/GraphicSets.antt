@@ -1,11 +1,7 @@
 -- 0.4: vt_glyph/specs/GraphicSets is today's.
 use Rattle.promises.specs.v0_4.glyph.GraphicSets as frozen
-use Rattle.std.proofs.Common.{◌≡◌}
-use Rattle.std.specs.Option.{ForSome}
-use Rattle.std.specs.Prelude.{length, List, Option, ℕ, ◌<◌, ◌≡◌, ◌≤◌}
 use Rattle.vt_glyph.specs.GraphicSets as today
 use Rattle.vt_glyph.specs.GraphicSets.{GraphicSets}
-use Rattle.vt_glyph.specs.declared.set.Set.{Set}
 
 pub GraphicSets-made : frozen.GraphicSets' → today.GraphicSets
 GraphicSets-made ρ = record {

@@ -6,7 +6,6 @@ use Rattle.std.specs.Prelude.{if◌then◌else◌, nat_lt, None, Some, ◌%◌, 
 use Rattle.vt_glyph.specs.Invocation as today
 use Rattle.vt_glyph.specs.Invocation.{has_no_glyph, invoked}
 use Rattle.vt_glyph.specs.Tables.{space}
-use Rattle.vt_glyph.specs.declared.set.Set.{Set}
 
 pub sets_at_power_up-same : frozen.sets_at_power_up ≡ today.sets_at_power_up
 sets_at_power_up-same = refl

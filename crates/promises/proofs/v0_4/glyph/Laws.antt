@@ -4,10 +4,9 @@ use Rattle.promises.proofs.v0_4.glyph.Spell.{spelling_of-same}
 use Rattle.promises.proofs.v0_4.glyph.Tables.{glyph_of-same, IsGlyph-same}
 use Rattle.promises.specs.v0_4.glyph.Laws as frozen
 use Rattle.std.proofs.Common.{◌≡◌}
-use Rattle.std.specs.Prelude.{IfSome, length, List, None, Some, ℕ, ◌<◌, ◌≡◌, ◌≤◌}
+use Rattle.std.specs.Prelude.{IfSome, None, Some, ℕ, ◌≡◌, ◌≤◌}
 use Rattle.vt_glyph.specs.GraphicSets.{AreSoundSets, GraphicSets}
-use Rattle.vt_glyph.specs.Invocation.{designated, HasGlyph, in_use, InUseTable, locked_left, locked_right, restored}
-use Rattle.vt_glyph.specs.Invocation.{sets_at_power_up, shifted_once}
+use Rattle.vt_glyph.specs.Invocation.{HasGlyph, in_use, InUseTable}
 use Rattle.vt_glyph.specs.Laws as today
 use Rattle.vt_glyph.specs.Spell.{AreSpellingSets, code_of, shifted_for}
 use Rattle.vt_glyph.specs.Tables.{space, substitute_glyph}

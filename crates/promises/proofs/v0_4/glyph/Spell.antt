@@ -3,9 +3,8 @@ use Rattle.promises.proofs.v0_4.glyph.Tables.{glyph_of-same}
 use Rattle.promises.specs.v0_4.glyph.Spell as frozen
 use Rattle.std.proofs.Common.{refl, ◌≡◌}
 use Rattle.std.specs.Option.{option_map_or}
-use Rattle.std.specs.Prelude.{find, if◌then◌else◌, nat_le, None, ◌&&◌, ◌==◌, ◌≡◌}
+use Rattle.std.specs.Prelude.{find, if◌then◌else◌, nat_le, ◌&&◌, ◌==◌, ◌≡◌}
 use Rattle.vt_glyph.specs.GraphicSets.{GraphicSets}
-use Rattle.vt_glyph.specs.Invocation.{set_at}
 use Rattle.vt_glyph.specs.Spell as today
 use Rattle.vt_glyph.specs.Tables.{set_codes, space}
 use Rattle.vt_glyph.specs.declared.glyph.Spelling.TheVariants.{Plain, Second, Third}

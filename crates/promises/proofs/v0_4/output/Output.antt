@@ -1,8 +1,7 @@
 -- 0.4: vt_output/specs/Output is today's.
 use Rattle.promises.specs.v0_4.output.Output as frozen
 use Rattle.std.proofs.Common.{refl, ◌≡◌}
-use Rattle.std.specs.Prelude.{Bool, length, List, true, ℕ, ◌++◌, ◌+◌, ◌≡◌, ◌≤◌}
-use Rattle.vt_device.specs.Writing.{IsProperBeginning}
+use Rattle.std.specs.Prelude.{Bool, List, ℕ, ◌≡◌}
 use Rattle.vt_output.specs.Output as today
 use Rattle.vt_output.specs.Output.{IsCutAtEnd, Translation}
 

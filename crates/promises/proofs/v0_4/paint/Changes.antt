@@ -4,11 +4,11 @@ use Rattle.promises.proofs.v0_4.term.Play.{play-same}
 use Rattle.promises.specs.v0_4.paint.Changes as frozen
 use Rattle.std.proofs.Common.{refl, ◌≡◌}
 use Rattle.std.specs.List.{range_with_len, sum_by}
-use Rattle.std.specs.Prelude.{[], Bool, if◌then◌else◌, List, not, slice_index_or, ℕ, ◌++◌, ◌-◌, ◌≡◌, ◌≤◌}
+use Rattle.std.specs.Prelude.{[], Bool, if◌then◌else◌, List, not, slice_index_or, ℕ, ◌-◌, ◌≡◌, ◌≤◌}
 use Rattle.vt_paint.specs.Changes as today
 use Rattle.vt_paint.specs.Changes.{is_marked, same_cell}
 use Rattle.vt_screen.specs.Grid.{last_row}
-use Rattle.vt_term.specs.State.{Display, last_column, State}
+use Rattle.vt_term.specs.State.{Display, State}
 
 pub same_cell-same : frozen.same_cell ≡ today.same_cell
 same_cell-same = refl

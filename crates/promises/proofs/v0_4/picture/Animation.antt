@@ -1,19 +1,22 @@
 -- 0.4: vt_picture/specs/Animation is today's.
 use Rattle.promises.proofs.v0_4.picture.Looks.{same_looks-same, trimmed-same}
-use Rattle.promises.proofs.v0_4.picture.Picture.{alternative-same, escaped-same, rectangle-same, style-same}
+use Rattle.promises.proofs.v0_4.picture.Picture.{alternative-same, document_start-same, escaped-same, rectangle-same}
+use Rattle.promises.proofs.v0_4.picture.Picture.{style-same}
 use Rattle.promises.proofs.v0_4.screen.Grid.{row_of-same}
 use Rattle.promises.proofs.v0_4.term.Modes.{is_set-same}
 use Rattle.promises.specs.v0_4.picture.Animation as frozen
 use Rattle.std.proofs.Common.{refl, ◌≡◌}
 use Rattle.std.specs.List.{range_with_len}
-use Rattle.std.specs.Prelude.{[], Bool, codes, decimal, flat_map, if◌then◌else◌, List, nat_le, not, slice_index_or}
-use Rattle.std.specs.Prelude.{suc, true, zero, ℕ, ◌&&◌, ◌*◌, ◌++◌, ◌+◌, ◌-◌, ◌<◌, ◌==◌, ◌∷◌, ◌≡◌}
+use Rattle.std.specs.Prelude.{[], Bool, codes, decimal, flat_map, if◌then◌else◌, length, List, nat_le, not}
+use Rattle.std.specs.Prelude.{slice_index_or, suc, true, zero, ℕ, ◌%◌, ◌&&◌, ◌*◌, ◌++◌, ◌+◌, ◌-◌, ◌/◌, ◌<◌, ◌==◌, ◌∷◌}
+use Rattle.std.specs.Prelude.{◌≡◌}
 use Rattle.vt_picture.specs.Animation as today
-use Rattle.vt_picture.specs.Animation.{dark_colour, definition_end, group_end, is_ended, is_hidden, light_colour}
-use Rattle.vt_picture.specs.Animation.{mark_attributes, mark_left, mark_top, span_attributes, squeezed, title_byte}
+use Rattle.vt_picture.specs.Animation.{dark_colour, definition_end, digit, group_end, is_ended, is_hidden}
+use Rattle.vt_picture.specs.Animation.{light_colour, mark_attributes, mark_left, mark_top, narrow_screens}
+use Rattle.vt_picture.specs.Animation.{span_attributes, title_byte}
 use Rattle.vt_picture.specs.Looks.{is_empty}
-use Rattle.vt_picture.specs.Picture.{ink, left_of, line_feed, paper, run_end, top_of, width_of}
-use Rattle.vt_screen.specs.Grid.{Grid, last_row}
+use Rattle.vt_picture.specs.Picture.{ink, left_of, line_feed, paper, run_end, title_end, top_of, width_of}
+use Rattle.vt_screen.specs.Grid.{Grid}
 use Rattle.vt_screen.specs.Same.{same_bool, same_rendition, when}
 use Rattle.vt_screen.specs.declared.cell.Cell.{Cell}
 use Rattle.vt_screen.specs.declared.cell.Rendition.{Rendition}
@@ -123,8 +126,11 @@ first_of_look-same = λ ι s row. (first_like-same ι) ((row_of-same ι) s.grid 
 pub row_is_blank-same : frozen.row_is_blank ≡ today.row_is_blank
 row_is_blank-same = λ ι s row. is_empty ((trimmed-same ι) ((row_of-same ι) s.grid row))
 
+pub first_number-same : frozen.first_number ≡ today.first_number
+first_number-same = λ ι size frame. (size.rows + 8) * frame
+
 pub number_on_screen-same : frozen.number_on_screen ≡ today.number_on_screen
-number_on_screen-same = λ ι frame s row. 32 * frame + (if (row_is_blank-same ι) s row then 0 else (first_of_look-same ι) s row)
+number_on_screen-same = λ ι frame s row. (first_number-same ι) s.grid.size frame + (if (row_is_blank-same ι) s row then 0 else (first_of_look-same ι) s row)
 
 pub row_drawn-same : frozen.row_drawn ≡ today.row_drawn
 unfolding frozen.row_drawn today.row_drawn
@@ -138,16 +144,20 @@ pub rows_drawn-same : frozen.rows_drawn ≡ today.rows_drawn
 unfolding frozen.rows_drawn today.rows_drawn
 rows_drawn-same = λ ι shape duration frame count s. flat_map (λ r. (row_drawn-same ι) shape duration frame s r) (range_with_len 1 count)
 
+pub narrow_screens-same : frozen.narrow_screens ≡ today.narrow_screens
+narrow_screens-same = refl
+
 pub whole_paper-same : frozen.whole_paper ≡ today.whole_paper
 unfolding frozen.whole_paper today.whole_paper
-whole_paper-same = λ ι duration frame reversed width.
-    codes "<rect" ++ paper reversed ++ codes " x='-20' y='-10' width='200%' height='100%'/>" ++ line_feed
-    ++ (row_definition-same ι) duration (32 * frame) reversed width []
+whole_paper-same = λ ι duration frame reversed size width.
+    codes "<rect" ++ paper reversed ++ codes " x='-" ++ decimal (10 * narrow_screens size)
+    ++ codes "' y='-10' width='" ++ decimal (100 * narrow_screens size) ++ codes "%' height='100%'/>" ++ line_feed
+    ++ (row_definition-same ι) duration ((first_number-same ι) size frame) reversed width []
 
 pub screen_drawn-same : frozen.screen_drawn ≡ today.screen_drawn
 unfolding frozen.screen_drawn today.screen_drawn
 screen_drawn-same = λ ι shape duration frame s.
-    (whole_paper-same ι) duration frame ((is_reversed-same ι) s) s.grid.width ++ (rows_drawn-same ι) shape duration frame last_row s
+    (whole_paper-same ι) duration frame ((is_reversed-same ι) s) s.grid.size s.grid.width ++ (rows_drawn-same ι) shape duration frame s.grid.size.rows s
 
 pub same_row-same : frozen.same_row ≡ today.same_row
 same_row-same = λ ι shape before s row.
@@ -155,14 +165,15 @@ same_row-same = λ ι shape before s row.
     && (cursor_column-same ι) shape row before == (cursor_column-same ι) shape row s
 
 pub seen_at-same : frozen.seen_at ≡ today.seen_at
-seen_at-same = λ ι before s row. (first_like-same ι) ((row_of-same ι) s.grid row) before.grid last_row 1
+seen_at-same = λ ι before s row. (first_like-same ι) ((row_of-same ι) s.grid row) before.grid before.grid.size.rows 1
 
 pub is_seen-same : frozen.is_seen ≡ today.is_seen
-is_seen-same = λ ι before s row. nat_le ((seen_at-same ι) before s row) last_row
+is_seen-same = λ ι before s row. nat_le ((seen_at-same ι) before s row) before.grid.size.rows
 
 pub number_after-same : frozen.number_after ≡ today.number_after
 number_after-same = λ ι frame numbers before s row.
-    if (is_seen-same ι) before s row then slice_index_or numbers ((seen_at-same ι) before s row - 1) 0 else 32 * frame + (first_of_look-same ι) s row
+    if (is_seen-same ι) before s row then slice_index_or numbers ((seen_at-same ι) before s row - 1) 0
+    else (first_number-same ι) s.grid.size frame + (first_of_look-same ι) s row
 
 pub row_changed-same : frozen.row_changed ≡ today.row_changed
 unfolding frozen.row_changed today.row_changed
@@ -183,22 +194,45 @@ same_paper-same = λ ι before s. same_bool ((is_reversed-same ι) before) ((is_
 
 pub changes_drawn-same : frozen.changes_drawn ≡ today.changes_drawn
 changes_drawn-same = λ ι shape duration frame numbers before s.
-    if (same_paper-same ι) before s then (rows_changed-same ι) shape duration frame last_row numbers before s
+    if (same_paper-same ι) before s then (rows_changed-same ι) shape duration frame s.grid.size.rows numbers before s
     else (screen_drawn-same ι) shape duration frame s
+
+pub number_then-same : frozen.number_then ≡ today.number_then
+number_then-same = λ ι frame numbers before s row.
+    if (same_paper-same ι) before s then (number_after-same ι) frame numbers before s row else (number_on_screen-same ι) frame s row
 
 pub AreNumbered-same : frozen.AreNumbered ≡ today.AreNumbered
 AreNumbered-same = λ ι frame numbers before s after.
-    (i : ℕ) → i < last_row → slice_index_or after i 0
-    ≡ (if (same_paper-same ι) before s then (number_after-same ι) frame numbers before s (i + 1) else (number_on_screen-same ι) frame s (i + 1))
+    (i : ℕ) → i < length after → slice_index_or after i 0 ≡ (number_then-same ι) frame numbers before s (i + 1)
+
+pub digit-same : frozen.digit ≡ today.digit
+digit-same = refl
+
+pub fraction-same : frozen.fraction ≡ today.fraction
+unfolding frozen.fraction today.fraction
+fraction-same = λ ι n. digit 10000 n ++ digit 1000 (n % 10000) ++ digit 100 (n % 1000) ++ digit 10 (n % 100) ++ digit 1 (n % 10)
+
+pub ratio-same : frozen.ratio ≡ today.ratio
+unfolding frozen.ratio today.ratio
+ratio-same = λ ι upper lower.
+    when (not (upper / lower == 0)) (decimal (upper / lower))
+    ++ when (not (upper % lower == 0)) (codes "." ++ (fraction-same ι) (100000 * (upper % lower) / lower))
+
+pub stretch-same : frozen.stretch ≡ today.stretch
+stretch-same = λ ι size width. if width == size.narrow then (ratio-same ι) size.wide size.narrow else (ratio-same ι) size.narrow size.wide
+
+pub scale-same : frozen.scale ≡ today.scale
+unfolding frozen.scale today.scale
+scale-same = λ ι size width. codes " transform='scale(" ++ (stretch-same ι) size width ++ codes " 1)'"
 
 pub squeezed-same : frozen.squeezed ≡ today.squeezed
-squeezed-same = refl
+squeezed-same = λ ι size columns width. when (not (width == columns)) ((scale-same ι) size width)
 
 pub frame_start-same : frozen.frame_start ≡ today.frame_start
 unfolding frozen.frame_start today.frame_start
-frame_start-same = λ ι columns micros reversed width.
+frame_start-same = λ ι size columns micros reversed width.
     codes "<g class='vt220-f' style='--vt220-t:" ++ decimal micros ++ codes "'"
-    ++ ink reversed ++ squeezed columns width ++ codes ">" ++ line_feed
+    ++ ink reversed ++ (squeezed-same ι) size columns width ++ codes ">" ++ line_feed
 
 pub group_end-same : frozen.group_end ≡ today.group_end
 group_end-same = refl
@@ -206,18 +240,10 @@ group_end-same = refl
 pub frame-same : frozen.frame ≡ today.frame
 unfolding frozen.frame today.frame
 frame-same = λ ι shape duration columns number micros numbers before s.
-    (frame_start-same ι) columns micros ((is_reversed-same ι) s) s.grid.width ++ (changes_drawn-same ι) shape duration number numbers before s ++ group_end
+    (frame_start-same ι) s.grid.size columns micros ((is_reversed-same ι) s) s.grid.width ++ (changes_drawn-same ι) shape duration number numbers before s ++ group_end
 
 pub title_byte-same : frozen.title_byte ≡ today.title_byte
 title_byte-same = refl
-
-pub animation_start-same : frozen.animation_start ≡ today.animation_start
-unfolding frozen.animation_start today.animation_start
-animation_start-same = λ ι columns.
-    codes "<svg xmlns='http://www.w3.org/2000/svg' viewBox='-10 -10 " ++ decimal (width_of (columns + 2))
-    ++ codes " 452' width='" ++ decimal (width_of (columns + 2))
-    ++ codes "' height='452' role='img' xml:space='preserve'>" ++ line_feed
-    ++ codes "<title>"
 
 pub moving_style-same : frozen.moving_style ≡ today.moving_style
 unfolding frozen.moving_style today.moving_style
@@ -244,18 +270,19 @@ moving_start-same = λ ι theme duration.
 
 pub first_start-same : frozen.first_start ≡ today.first_start
 unfolding frozen.first_start today.first_start
-first_start-same = λ ι columns reversed width. codes "<g" ++ ink reversed ++ squeezed columns width ++ codes ">" ++ line_feed
+first_start-same = λ ι size columns reversed width.
+    codes "<g" ++ ink reversed ++ (squeezed-same ι) size columns width ++ codes ">" ++ line_feed
 
 pub first_screen-same : frozen.first_screen ≡ today.first_screen
 unfolding frozen.first_screen today.first_screen
 first_screen-same = λ ι shape duration columns s.
-    (first_start-same ι) columns ((is_reversed-same ι) s) s.grid.width ++ (screen_drawn-same ι) shape duration 0 s ++ group_end
+    (first_start-same ι) s.grid.size columns ((is_reversed-same ι) s) s.grid.width ++ (screen_drawn-same ι) shape duration 0 s ++ group_end
 
 pub animation_head-same : frozen.animation_head ≡ today.animation_head
 unfolding frozen.animation_head today.animation_head
 animation_head-same = λ ι theme shape title duration columns first last.
-    (animation_start-same ι) columns ++ flat_map title_byte title ++ codes "</title>" ++ line_feed ++ codes "<desc>"
-    ++ (alternative-same ι) last_row last.grid ++ (style-same ι) ++ (moving_style-same ι) ++ (moving_start-same ι) theme duration
+    (document_start-same ι) last.grid.size.rows columns ++ flat_map title_byte title ++ title_end
+    ++ (alternative-same ι) last.grid.size.rows last.grid ++ (style-same ι) ++ (moving_style-same ι) ++ (moving_start-same ι) theme duration
     ++ (first_screen-same ι) shape duration columns first
 
 pub animation_end-same : frozen.animation_end ≡ today.animation_end

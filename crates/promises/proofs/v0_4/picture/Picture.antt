@@ -9,10 +9,9 @@ use Rattle.std.specs.Prelude.{[], Bool, codes, decimal, encode_utf8, flat_map, i
 use Rattle.std.specs.Prelude.{◌+◌, ◌==◌, ◌∷◌}
 use Rattle.vt_picture.specs.Looks.{is_blank}
 use Rattle.vt_picture.specs.Picture as today
-use Rattle.vt_picture.specs.Picture.{baseline_of, goes_on, ink, is_followed, left_of, line_feed, outline, paper}
-use Rattle.vt_picture.specs.Picture.{run_attributes, run_end, top_of, width_of}
+use Rattle.vt_picture.specs.Picture.{baseline_of, goes_on, height_of, ink, is_followed, left_of, line_feed, outline}
+use Rattle.vt_picture.specs.Picture.{paper, run_attributes, run_end, title_end, top_of, width_of}
 use Rattle.vt_screen.specs.Cells.{blank}
-use Rattle.vt_screen.specs.Grid.{last_row}
 use Rattle.vt_screen.specs.Same.{when}
 use Rattle.vt_screen.specs.declared.cell.Cell.{Cell}
 use Rattle.vt_screen.specs.declared.cell.Rendition.{Rendition}
@@ -33,6 +32,9 @@ left_of-same = refl
 
 pub width_of-same : frozen.width_of ≡ today.width_of
 width_of-same = refl
+
+pub height_of-same : frozen.height_of ≡ today.height_of
+height_of-same = refl
 
 pub top_of-same : frozen.top_of ≡ today.top_of
 top_of-same = refl
@@ -123,12 +125,16 @@ alternative-same = λ ι count g. flat_map (λ r. (alternative_line-same ι) ((r
 
 pub document_start-same : frozen.document_start ≡ today.document_start
 unfolding frozen.document_start today.document_start
-document_start-same = λ ι columns.
+document_start-same = λ ι rows columns.
     codes "<svg xmlns='http://www.w3.org/2000/svg' viewBox='-10 -10 " ++ decimal (width_of (columns + 2))
-    ++ codes " 452' width='" ++ decimal (width_of (columns + 2))
-    ++ codes "' height='452' role='img' xml:space='preserve'>" ++ line_feed
-    ++ codes "<title>VT220 screen</title>" ++ line_feed
-    ++ codes "<desc>"
+    ++ codes " " ++ decimal (height_of rows)
+    ++ codes "' width='" ++ decimal (width_of (columns + 2))
+    ++ codes "' height='" ++ decimal (height_of rows)
+    ++ codes "' role='img' xml:space='preserve'>" ++ line_feed
+    ++ codes "<title>"
+
+pub title_end-same : frozen.title_end ≡ today.title_end
+title_end-same = refl
 
 pub style-same : frozen.style ≡ today.style
 unfolding frozen.style today.style
@@ -157,14 +163,15 @@ pub group-same : frozen.group ≡ today.group
 unfolding frozen.group today.group
 group-same = λ ι s.
     (group_start-same ι) ((is_set-same ι) private_values 5 s.modes)
-    ++ (rows_picture-same ι) ((is_set-same ι) private_values 5 s.modes) last_row s.grid
+    ++ (rows_picture-same ι) ((is_set-same ι) private_values 5 s.modes) s.grid.size.rows s.grid
     ++ (cursor_picture-same ι) s
     ++ codes "</g>" ++ line_feed
 
 pub picture_of-same : frozen.picture_of ≡ today.picture_of
 unfolding frozen.picture_of today.picture_of
 picture_of-same = λ ι s.
-    (document_start-same ι) s.grid.width ++ (alternative-same ι) last_row s.grid ++ (style-same ι) ++ (group-same ι) s ++ codes "</svg>" ++ line_feed
+    (document_start-same ι) s.grid.size.rows s.grid.width ++ codes "VT220 screen" ++ title_end
+    ++ (alternative-same ι) s.grid.size.rows s.grid ++ (style-same ι) ++ (group-same ι) s ++ codes "</svg>" ++ line_feed
 
 pub picture-same : frozen.picture ≡ today.picture
 picture-same = λ ι s. (picture_of-same ι) s.display

@@ -8,7 +8,6 @@ use Rattle.std.specs.Prelude.{[], encode_utf8, flat_map, List, ◌++◌, ◌∷�
 use Rattle.vt_picture.specs.Show as today
 use Rattle.vt_picture.specs.Show.{change}
 use Rattle.vt_screen.specs.Cells.{plain}
-use Rattle.vt_screen.specs.Grid.{last_row}
 use Rattle.vt_screen.specs.declared.cell.Cell.{Cell}
 use Rattle.vt_screen.specs.declared.cell.Rendition.{Rendition}
 
@@ -34,4 +33,4 @@ unfolding frozen.shown_lines today.shown_lines
 shown_lines-same = λ ι count g. flat_map (λ r. (shown_line-same ι) ((row_of-same ι) g r)) (range_with_len 1 count)
 
 pub show-same : frozen.show ≡ today.show
-show-same = λ ι s. (shown_lines-same ι) last_row s.display.grid
+show-same = λ ι s. (shown_lines-same ι) s.display.grid.size.rows s.display.grid

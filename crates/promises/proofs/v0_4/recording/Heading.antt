@@ -4,9 +4,9 @@ use Rattle.std.proofs.Common.{refl, ◌≡◌}
 use Rattle.std.specs.List.{ends_with}
 use Rattle.std.specs.Option.{option_or}
 use Rattle.std.specs.Prelude.{[], codes, cond, List, nat_eq, None, option_and_then, ℕ, ◌&&◌, ◌∷◌}
-use Rattle.vt_recording.specs.Asciicast.{document_in, json_text}
+use Rattle.vt_recording.specs.Asciicast.{json_text}
 use Rattle.vt_recording.specs.Heading as today
-use Rattle.vt_recording.specs.Heading.{count_of, in_document, nothing, terminal_of, up_to_quote}
+use Rattle.vt_recording.specs.Heading.{count_of, header_in, in_document, nothing, terminal_of, up_to_quote}
 use Rattle.vt_recording.specs.Lines.{front_line}
 use Rattle.vt_recording.specs.Script.{begins_with, first_words, stripped}
 use Rattle.vt_recording.specs.declared.format.Format.TheVariants as format
@@ -54,6 +54,9 @@ in_header-same = refl
 pub in_document-same : frozen.in_document ≡ today.in_document
 in_document-same = refl
 
+pub header_in-same : frozen.header_in ≡ today.header_in
+header_in-same = refl
+
 pub after_last-at : (words : List ℕ) (text : List ℕ) → frozen.after_last words text ≡ today.after_last words text
 unfolding frozen.after_last today.after_last
 after_last-at words [] = λ ι. None
@@ -85,7 +88,7 @@ pub heading_of-at : (x0 : Format) (x1 : List ℕ) → frozen.heading_of x0 x1 �
 heading_of-at format.Raw bytes = λ ι. nothing
 heading_of-at format.Script bytes = λ ι. (in_line-same ι) (front_line bytes)
 heading_of-at format.Ttyrec bytes = λ ι. nothing
-heading_of-at format.Asciicast bytes = λ ι. in_document (document_in (front_line (json_text bytes)))
+heading_of-at format.Asciicast bytes = λ ι. in_document (header_in (json_text bytes))
 
 pub heading_of-same : frozen.heading_of ≡ today.heading_of
 heading_of-same = λ ι x0 x1. heading_of-at x0 x1 ι

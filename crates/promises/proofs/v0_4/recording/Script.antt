@@ -1,7 +1,7 @@
 -- 0.4: vt_recording/specs/Script is today's.
 use Rattle.promises.specs.v0_4.recording.Script as frozen
 use Rattle.std.proofs.Common.{refl, ◌≡◌}
-use Rattle.std.specs.Prelude.{drop, false, length, List, true, ℕ, ◌<◌, ◌≡◌, ◌≤◌}
+use Rattle.std.specs.Prelude.{List, ℕ, ◌≡◌}
 use Rattle.vt_recording.specs.Script as today
 use Rattle.vt_recording.specs.Script.{is_end}
 

@@ -4,7 +4,6 @@ use Rattle.promises.specs.v0_4.recording.Taken as frozen
 use Rattle.std.proofs.Common.{refl, ◌≡◌}
 use Rattle.std.specs.Prelude.{List, None, Option, ℕ, ◌≡◌}
 use Rattle.vt_recording.specs.Asciicast.{Cast}
-use Rattle.vt_recording.specs.Characters.{AreWritten}
 use Rattle.vt_recording.specs.Moment.{cut, micros_of}
 use Rattle.vt_recording.specs.Taken as today
 use Rattle.vt_recording.specs.Taken.{in_recording, IsOfBytes, IsOfCast, IsOfScriptBy}

@@ -1,24 +1,20 @@
 -- 0.4: vt_recording/specs/Timeline is today's.
-use Rattle.promises.proofs.v0_4.recording.Asciicast.{event_in-same}
+use Rattle.json.specs.Json.{item, Items, no_items}
+use Rattle.promises.proofs.v0_4.recording.Asciicast.{event_in-same, frame_of-same}
 use Rattle.promises.proofs.v0_4.recording.Lines.{lines_of-same}
 use Rattle.promises.proofs.v0_4.recording.Timing.{is_apart-same}
 use Rattle.promises.specs.v0_4.recording.Timeline as frozen
 use Rattle.std.proofs.Common.{refl, ◌≡◌}
-use Rattle.std.specs.List.{All, flat_map}
-use Rattle.std.specs.Prelude.{[], Bool, length, List, map, None, Option, Some, take, ℕ, ◌++◌, ◌+◌, ◌∷◌, ◌≡◌}
+use Rattle.std.specs.Prelude.{[], Bool, false, length, List, None, Option, Some, take, ℕ, ◌+◌, ◌∷◌, ◌≡◌}
 use Rattle.vt_recording.specs.Asciicast as cast
-use Rattle.vt_recording.specs.Script.{EndsAt}
 use Rattle.vt_recording.specs.Taken.{in_recording}
 use Rattle.vt_recording.specs.Timeline as today
 use Rattle.vt_recording.specs.Timeline.{and_then, AreFrames, at_once, ends_at, Event, frame, IsOfScriptBy, Timeline}
 use Rattle.vt_recording.specs.Timeline.{told_by, told_in, unless}
 use Rattle.vt_recording.specs.Timing as timing
 use Rattle.vt_recording.specs.Timing.{Spot}
-use Rattle.vt_recording.specs.Ttyrec.{EndsBefore, IsWhole, Piece, spelled, time_of}
-use Rattle.vt_recording.specs.declared.format.Break.{Break}
 use Rattle.vt_recording.specs.declared.format.Format.TheVariants as format
 use Rattle.vt_recording.specs.declared.format.Format.{Format}
-use Rattle.vt_recording.specs.declared.timeline.EventKind.{EventKind}
 
 pub Event-made : frozen.Event' → today.Event
 Event-made ρ = record {
@@ -93,22 +89,40 @@ cast_events-at version clock at (line ∷ lines) = λ ι.
 pub cast_events-same : frozen.cast_events ≡ today.cast_events
 cast_events-same = λ ι version clock at x3. cast_events-at version clock at x3 ι
 
-pub cast_by-at : (version : Option ℕ) (at : ℕ) (x2 : List (List ℕ)) → frozen.cast_by version at x2 ≡ today.cast_by version at x2
-cast_by-at None at lines = λ ι. ends_at (in_recording (Some 0))
-cast_by-at (Some version) at lines = λ ι. (cast_events-same ι) version 0 at lines
+pub frame_events-at : (clock : ℕ) (x1 : Items) → frozen.frame_events clock x1 ≡ today.frame_events clock x1
+unfolding frozen.frame_events today.frame_events
+frame_events-at clock no_items = λ ι. ends_at None
+frame_events-at clock (item frame frames) = λ ι.
+    and_then (cast.time_behind false ((frame_of-same ι) frame) 1 clock) (told_in false ((frame_of-same ι) frame) 1 clock) 0
+    (λ now. (frame_events-at now frames ι))
+
+pub frame_events-same : frozen.frame_events ≡ today.frame_events
+frame_events-same = λ ι clock x1. frame_events-at clock x1 ι
+
+pub events_by_frames-at : (x0 : Option Items) → frozen.events_by_frames x0 ≡ today.events_by_frames x0
+events_by_frames-at None = λ ι. ends_at (in_recording (Some 0))
+events_by_frames-at (Some frames) = λ ι. (frame_events-same ι) 0 frames
+
+pub events_by_frames-same : frozen.events_by_frames ≡ today.events_by_frames
+events_by_frames-same = λ ι x0. events_by_frames-at x0 ι
+
+pub cast_by-at : (version : Option ℕ) (frames : Option Items) (at : ℕ) (x3 : List (List ℕ)) → frozen.cast_by version frames at x3 ≡ today.cast_by version frames at x3
+cast_by-at None frames at lines = λ ι. (events_by_frames-same ι) frames
+cast_by-at (Some version) frames at lines = λ ι. (cast_events-same ι) version 0 at lines
 
 pub cast_by-same : frozen.cast_by ≡ today.cast_by
-cast_by-same = λ ι version at x2. cast_by-at version at x2 ι
+cast_by-same = λ ι version frames at x3. cast_by-at version frames at x3 ι
 
-pub cast_from-at : (start : ℕ) (x1 : List (List ℕ)) → frozen.cast_from start x1 ≡ today.cast_from start x1
-cast_from-at start [] = λ ι. ends_at (in_recording (Some 0))
-cast_from-at start (header ∷ lines) = λ ι. (cast_by-same ι) (cast.version_in header) (start + (length header + 1)) lines
+pub cast_from-at : (frames : Option Items) (start : ℕ) (x2 : List (List ℕ)) → frozen.cast_from frames start x2 ≡ today.cast_from frames start x2
+cast_from-at frames start [] = λ ι. (events_by_frames-same ι) frames
+cast_from-at frames start (header ∷ lines) = λ ι. (cast_by-same ι) (cast.version_in header) frames (start + (length header + 1)) lines
 
 pub cast_from-same : frozen.cast_from ≡ today.cast_from
-cast_from-same = λ ι start x1. cast_from-at start x1 ι
+cast_from-same = λ ι frames start x2. cast_from-at frames start x2 ι
 
 pub asciicast-same : frozen.asciicast ≡ today.asciicast
-asciicast-same = λ ι bytes. (cast_from-same ι) (cast.start_of bytes) ((lines_of-same ι) (cast.json_text bytes))
+asciicast-same = λ ι bytes.
+    (cast_from-same ι) (cast.frames_in (cast.json_text bytes)) (cast.start_of bytes) ((lines_of-same ι) (cast.json_text bytes))
 
 pub signal_in-same : frozen.signal_in ≡ today.signal_in
 signal_in-same = refl

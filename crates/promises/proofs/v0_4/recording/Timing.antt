@@ -5,7 +5,6 @@ use Rattle.std.proofs.Common.{refl, ◌≡◌}
 use Rattle.std.specs.Option.{option_or}
 use Rattle.std.specs.Prelude.{[], Bool, codes, length, List, None, Option, take, ℕ, ◌+◌, ◌∷◌, ◌≡◌}
 use Rattle.vt_recording.specs.Moment.{cut, micros_of}
-use Rattle.vt_recording.specs.Script.{EndsAt}
 use Rattle.vt_recording.specs.Timing as today
 use Rattle.vt_recording.specs.Timing.{break_in, differ, is_empty, played_in, Spot, spot_after, start, step_in, unless}
 use Rattle.vt_recording.specs.Timing.{value_in}

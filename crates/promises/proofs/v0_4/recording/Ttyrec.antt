@@ -1,8 +1,7 @@
 -- 0.4: vt_recording/specs/Ttyrec is today's.
 use Rattle.promises.specs.v0_4.recording.Ttyrec as frozen
 use Rattle.std.proofs.Common.{refl, ◌≡◌}
-use Rattle.std.specs.List.{All, flat_map}
-use Rattle.std.specs.Prelude.{length, List, Option, ℕ, ◌++◌, ◌+◌, ◌≡◌}
+use Rattle.std.specs.Prelude.{List, Option, ℕ, ◌≡◌}
 use Rattle.vt_recording.specs.Ttyrec as today
 use Rattle.vt_recording.specs.Ttyrec.{due, EndsBefore, IsWhole, Piece, size_of, spelled, time_of}
 

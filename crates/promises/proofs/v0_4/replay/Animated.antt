@@ -2,31 +2,20 @@
 use Rattle.promises.proofs.v0_4.picture.Animation.{animation_head-same, frame-same, number_after-same}
 use Rattle.promises.proofs.v0_4.picture.Animation.{number_on_screen-same, same_paper-same}
 use Rattle.promises.proofs.v0_4.recording.Gathered.{events_of-same}
-use Rattle.promises.proofs.v0_4.recording.Timeline.{IsTimelineOf-same}
 use Rattle.promises.proofs.v0_4.replay.Playing.{played_as-same}
 use Rattle.promises.specs.v0_4.replay.Animated as frozen
 use Rattle.std.proofs.Common.{refl, ◌≡◌}
 use Rattle.std.specs.List.{range_with_len}
-use Rattle.std.specs.Prelude.{[], cond, if◌then◌else◌, List, map, max, None, Option, ℕ, ◌++◌, ◌+◌, ◌∷◌, ◌≡◌}
-use Rattle.vt_cli.specs.declared.what.Looks.{Looks}
+use Rattle.std.specs.Prelude.{[], cond, if◌then◌else◌, List, map, max, ℕ, ◌++◌, ◌+◌, ◌∷◌}
 use Rattle.vt_picture.specs.Animation.{animation_end}
 use Rattle.vt_picture.specs.declared.looks.CursorShape.{CursorShape}
-use Rattle.vt_recording.specs.Moment.{micros_of}
-use Rattle.vt_recording.specs.Reached.{has_characters, IsTakenBetween, steps_in}
-use Rattle.vt_recording.specs.Timeline.{Event, Timeline}
-use Rattle.vt_recording.specs.declared.format.Break.{Break}
-use Rattle.vt_recording.specs.declared.format.Encoding.{Encoding}
-use Rattle.vt_recording.specs.declared.format.Format.{Format}
-use Rattle.vt_recording.specs.declared.format.Moment.{Moment}
+use Rattle.vt_recording.specs.Timeline.{Event}
 use Rattle.vt_replay.specs.Animated as today
 use Rattle.vt_replay.specs.Animated.{duration_of, next_number}
 use Rattle.vt_replay.specs.Session.{is_empty}
-use Rattle.vt_replay.specs.declared.language.Language.{Language}
+use Rattle.vt_replay.specs.Steps.{IsStepped}
 use Rattle.vt_screen.specs.Grid.{last_row}
 use Rattle.vt_term.specs.State.{Display}
-
-pub Step-same : frozen.Step ≡ today.Step
-Step-same = refl
 
 pub first_numbers-same : frozen.first_numbers ≡ today.first_numbers
 unfolding frozen.first_numbers today.first_numbers
@@ -79,20 +68,7 @@ animation-same = λ ι shows looks title opening content steps.
 pub shown_after-same : frozen.shown_after ≡ today.shown_after
 shown_after-same = λ ι language bytes. ((played_as-same ι) language bytes).state.display
 
-pub IsAnimation-made : (looks : Looks) (title opening : List ℕ) (language : Language) (format : Format) (encoding : Encoding) (until : Option Moment) (timing : Option (List ℕ)) (bytes picture : List ℕ) (broken : Option Break) (replaced : ℕ) → frozen.IsAnimation' looks title opening language format encoding until timing bytes picture broken replaced → today.IsAnimation looks title opening language format encoding until timing bytes picture broken replaced
-IsAnimation-made looks title opening language format encoding until timing bytes picture broken replaced ρ = record {
-  content = ρ.content;
-  taken = ρ.taken;
-  timeline = ρ.timeline;
-  is_of = coe 0 1 (ι. (IsTimelineOf-same ι) format timing bytes ρ.timeline) ρ.is_of;
-  picture_is = coe 0 1 (ι. picture ≡ (animation-same ι) ((shown_after-same ι) language) looks title opening ρ.content (steps_in (has_characters format encoding) (micros_of until) ρ.timeline.events)) ρ.picture_is;
-}
-
-pub IsAnimation-read : (looks : Looks) (title opening : List ℕ) (language : Language) (format : Format) (encoding : Encoding) (until : Option Moment) (timing : Option (List ℕ)) (bytes picture : List ℕ) (broken : Option Break) (replaced : ℕ) → today.IsAnimation looks title opening language format encoding until timing bytes picture broken replaced → frozen.IsAnimation' looks title opening language format encoding until timing bytes picture broken replaced
-IsAnimation-read looks title opening language format encoding until timing bytes picture broken replaced ρ = record {
-  content = ρ.content;
-  taken = ρ.taken;
-  timeline = ρ.timeline;
-  is_of = coe 1 0 (ι. (IsTimelineOf-same ι) format timing bytes ρ.timeline) ρ.is_of;
-  picture_is = coe 1 0 (ι. picture ≡ (animation-same ι) ((shown_after-same ι) language) looks title opening ρ.content (steps_in (has_characters format encoding) (micros_of until) ρ.timeline.events)) ρ.picture_is;
-}
+pub IsAnimation-same : frozen.IsAnimation ≡ today.IsAnimation
+IsAnimation-same = λ ι looks title opening language format encoding until timing bytes picture broken replaced.
+    IsStepped (λ content steps. (animation-same ι) ((shown_after-same ι) language) looks title opening content steps) format encoding until timing bytes picture broken
+    replaced

@@ -8,10 +8,9 @@ use Rattle.std.proofs.Common.{refl, ◌≡◌}
 use Rattle.std.specs.Prelude.{[], Bool, cond, decimal, false, length, List, None, not, Option, Some, true, ℕ, ◌&&◌}
 use Rattle.std.specs.Prelude.{◌++◌, ◌+◌, ◌∷◌, ◌≡◌}
 use Rattle.vt_recording.specs.Reached.{has_characters, nothing_passed}
-use Rattle.vt_recording.specs.Timeline.{Event, is_output, Timeline}
+use Rattle.vt_recording.specs.Timeline.{Event, is_output}
 use Rattle.vt_recording.specs.declared.format.Break.{Break}
 use Rattle.vt_recording.specs.declared.format.Encoding.TheVariants.{Utf8}
-use Rattle.vt_recording.specs.declared.format.Format.TheVariants as format
 use Rattle.vt_recording.specs.declared.format.Format.{Format}
 use Rattle.vt_recording.specs.declared.format.Moment.TheVariants as moment
 use Rattle.vt_recording.specs.declared.format.Moment.{Moment}

@@ -20,6 +20,21 @@ wide_for-same = refl
 pub named_for-same : frozen.named_for ≡ today.named_for
 named_for-same = refl
 
+pub takes_size-same : frozen.takes_size ≡ today.takes_size
+takes_size-same = refl
+
+pub is_vt220-same : frozen.is_vt220 ≡ today.is_vt220
+is_vt220-same = refl
+
+pub size_named-same : frozen.size_named ≡ today.size_named
+size_named-same = refl
+
+pub size_for-same : frozen.size_for ≡ today.size_for
+size_for-same = refl
+
+pub wide_on-same : frozen.wide_on ≡ today.wide_on
+wide_on-same = refl
+
 pub host_by-same : frozen.host_by ≡ today.host_by
 host_by-same = refl
 

@@ -1,20 +1,22 @@
 -- 0.4: vt_replay/specs/Playing is today's.
 use Rattle.promises.proofs.v0_4.replay.Due.{end_by-same}
-use Rattle.promises.proofs.v0_4.replay.Session.{session-same, session_is_there-same, session_repaint-same}
+use Rattle.promises.proofs.v0_4.replay.Session.{session_at-same, session_is_there-same, session_repaint-same}
 use Rattle.promises.proofs.v0_4.term.Play.{play-same}
-use Rattle.promises.proofs.v0_4.term.State.{power_up-same}
+use Rattle.promises.proofs.v0_4.term.State.{state_of-same}
 use Rattle.promises.proofs.v0_4.utf8.Play.{play_utf8-same}
 use Rattle.promises.specs.v0_4.replay.Playing as frozen
 use Rattle.std.proofs.Common.{refl, ◌≡◌}
-use Rattle.std.specs.Prelude.{[], Bool, false, List, true, ℕ}
+use Rattle.std.specs.Prelude.{[], List, ℕ}
+use Rattle.vt_cli.specs.declared.what.What.TheVariants.{Repaint}
 use Rattle.vt_cli.specs.declared.what.What.{What}
 use Rattle.vt_output.specs.Output.{nothing, OutputTable}
 use Rattle.vt_replay.specs.Due.{sent_by, there_by}
 use Rattle.vt_replay.specs.Playing as today
 use Rattle.vt_replay.specs.Playing.{on_terminal}
-use Rattle.vt_replay.specs.Session.{is_of_session}
 use Rattle.vt_replay.specs.declared.language.Language.TheVariants.{Dec, Utf8, Xterm}
 use Rattle.vt_replay.specs.declared.language.Language.{Language}
+use Rattle.vt_screen.specs.Sizes.{vt220_size}
+use Rattle.vt_screen.specs.declared.size.Size.{Size}
 
 pub language_of-same : frozen.language_of ≡ today.language_of
 language_of-same = refl
@@ -22,13 +24,16 @@ language_of-same = refl
 pub on_terminal-same : frozen.on_terminal ≡ today.on_terminal
 on_terminal-same = refl
 
-pub played_as-at : (x0 : Language) (x1 : List ℕ) → frozen.played_as x0 x1 ≡ today.played_as x0 x1
-played_as-at Dec bytes = λ ι. (play-same ι) (power_up-same ι) bytes
-played_as-at Utf8 bytes = λ ι. (play_utf8-same ι) (power_up-same ι) [] bytes
-played_as-at Xterm bytes = λ ι. on_terminal ((session-same ι) bytes)
+pub played_at-at : (x0 : Size) (x1 : Language) (x2 : List ℕ) → frozen.played_at x0 x1 x2 ≡ today.played_at x0 x1 x2
+played_at-at size Dec bytes = λ ι. (play-same ι) ((state_of-same ι) size) bytes
+played_at-at size Utf8 bytes = λ ι. (play_utf8-same ι) ((state_of-same ι) size) [] bytes
+played_at-at size Xterm bytes = λ ι. on_terminal ((session_at-same ι) size bytes)
+
+pub played_at-same : frozen.played_at ≡ today.played_at
+played_at-same = λ ι x0 x1 x2. played_at-at x0 x1 x2 ι
 
 pub played_as-same : frozen.played_as ≡ today.played_as
-played_as-same = λ ι x0 x1. played_as-at x0 x1 ι
+played_as-same = λ ι language bytes. (played_at-same ι) vt220_size language bytes
 
 pub Due-made : frozen.Due' → today.Due
 Due-made ρ = record {
@@ -44,19 +49,27 @@ Due-read ρ = record {
   there = ρ.there;
 }
 
-pub replay_by-at : (of_session : Bool) (x1 : Language) (x2 : What) → frozen.replay_by of_session x1 x2 ≡ today.replay_by of_session x1 x2
-replay_by-at true language what = λ ι. record { written = nothing; ending = (session_repaint-same ι); there = (session_is_there-same ι) }
-replay_by-at false language what = λ ι.
-    let played = (played_as-same ι) language in
-    record { written = sent_by played what; ending = (end_by-same ι) played what; there = there_by played what }
+pub due_by-same : frozen.due_by ≡ today.due_by
+due_by-same = λ ι played what. record { written = sent_by played what; ending = (end_by-same ι) played what; there = there_by played what }
 
-pub replay_by-same : frozen.replay_by ≡ today.replay_by
-replay_by-same = λ ι of_session x1 x2. replay_by-at of_session x1 x2 ι
+pub repainted-at : (x0 : Language) → frozen.repainted x0 ≡ today.repainted x0
+repainted-at Xterm = λ ι. record { written = nothing; ending = (session_repaint-same ι); there = (session_is_there-same ι) }
+repainted-at language = λ ι. (due_by-same ι) ((played_as-same ι) language) Repaint
 
-pub replayed-same : frozen.replayed ≡ today.replayed
-replayed-same = λ ι language what. (replay_by-same ι) (is_of_session language what) language what
+pub repainted-same : frozen.repainted ≡ today.repainted
+repainted-same = λ ι x0. repainted-at x0 ι
+
+pub replayed_at-at : (x0 : Size) (x1 : Language) (x2 : What) → frozen.replayed_at x0 x1 x2 ≡ today.replayed_at x0 x1 x2
+replayed_at-at size language Repaint = λ ι. (repainted-same ι) language
+replayed_at-at size language what = λ ι. (due_by-same ι) ((played_at-same ι) size language) what
+
+pub replayed_at-same : frozen.replayed_at ≡ today.replayed_at
+replayed_at-same = λ ι x0 x1 x2. replayed_at-at x0 x1 x2 ι
+
+pub SizedReplayTable-same : frozen.SizedReplayTable ≡ today.SizedReplayTable
+SizedReplayTable-same = λ ι size language what result piece b w f limit.
+    let due = (replayed_at-same ι) size language what in
+    OutputTable due.written due.ending due.there result piece b w f limit
 
 pub ReplayTable-same : frozen.ReplayTable ≡ today.ReplayTable
-ReplayTable-same = λ ι language what result piece b w f limit.
-    let due = (replayed-same ι) language what in
-    OutputTable due.written due.ending due.there result piece b w f limit
+ReplayTable-same = λ ι language what result piece b w f limit. (SizedReplayTable-same ι) vt220_size language what result piece b w f limit

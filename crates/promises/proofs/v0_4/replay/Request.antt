@@ -1,20 +1,27 @@
 -- 0.4: vt_replay/specs/Request is today's.
 use Rattle.promises.proofs.v0_4.recording.Detection.{detected-same}
+use Rattle.promises.proofs.v0_4.replay.Animated.{IsAnimation-same}
 use Rattle.promises.proofs.v0_4.replay.Host.{host_of-same}
+use Rattle.promises.proofs.v0_4.replay.Search.{IsSearched-same}
 use Rattle.promises.proofs.v0_4.replay.Words.{WordTable-same}
 use Rattle.promises.specs.v0_4.replay.Request as frozen
 use Rattle.std.proofs.Common.{refl, ◌≡◌}
-use Rattle.std.specs.Prelude.{[], Bool, Err, false, length, List, None, Option, Result, Some, true, ℕ, ◌++◌, ◌≡◌, ◌≤◌}
+use Rattle.std.specs.Prelude.{Bool, false, List, None, Option, Some, ℕ, ◌≡◌}
 use Rattle.vt_cli.specs.declared.asked.Request.{Request}
+use Rattle.vt_cli.specs.declared.what.What.TheVariants.{Picture}
+use Rattle.vt_cli.specs.declared.what.Word.TheVariants.{Animation, Events, Replay, Search}
+use Rattle.vt_cli.specs.declared.what.Word.{Word}
 use Rattle.vt_device.specs.Runs.{Flags}
-use Rattle.vt_recording.specs.Reading.{ReadTable}
-use Rattle.vt_recording.specs.declared.fault.Fault.{Fault}
+use Rattle.vt_recording.specs.Reached.{IsTakenBetween}
 use Rattle.vt_recording.specs.declared.format.Break.{Break}
-use Rattle.vt_recording.specs.declared.format.Format.TheVariants as format
 use Rattle.vt_recording.specs.declared.format.Format.{Format}
+use Rattle.vt_replay.specs.Animated.{title_of}
+use Rattle.vt_replay.specs.EventTable.{IsTableTaken}
 use Rattle.vt_replay.specs.Host.{opening, plain_host}
+use Rattle.vt_replay.specs.Playing.{language_of}
 use Rattle.vt_replay.specs.Request as today
-use Rattle.vt_replay.specs.Request.{ended_of, IsPlayed, IsPrepared, IsTakenBy, shown_format}
+use Rattle.vt_replay.specs.Request.{ended_of, IsPlayed, IsPrepared, shown_format}
+use Rattle.vt_replay.specs.Search.{text_of}
 use Rattle.vt_replay.specs.declared.host.Host.{Host}
 use Rattle.vt_replay.specs.declared.requests.Outcome.{Outcome}
 
@@ -35,13 +42,13 @@ ended_of-same = refl
 
 pub IsStreamed-made : (o : Outcome) (r : Request) (b w : List ℕ) (f : Flags) → frozen.IsStreamed' o r b w f → today.IsStreamed o r b w f
 IsStreamed-made o r b w f ρ = record {
-  table = coe 0 1 (ι. (WordTable-same ι) o.ended r.word (plain_host r).terminal (plain_host r).encoding r.piece b w f r.limit) ρ.table;
+  table = coe 0 1 (ι. (WordTable-same ι) o.ended r.word (plain_host r).size (plain_host r).terminal (plain_host r).encoding r.piece b w f r.limit) ρ.table;
   none_replaced = ρ.none_replaced;
 }
 
 pub IsStreamed-read : (o : Outcome) (r : Request) (b w : List ℕ) (f : Flags) → today.IsStreamed o r b w f → frozen.IsStreamed' o r b w f
 IsStreamed-read o r b w f ρ = record {
-  table = coe 1 0 (ι. (WordTable-same ι) o.ended r.word (plain_host r).terminal (plain_host r).encoding r.piece b w f r.limit) ρ.table;
+  table = coe 1 0 (ι. (WordTable-same ι) o.ended r.word (plain_host r).size (plain_host r).terminal (plain_host r).encoding r.piece b w f r.limit) ρ.table;
   none_replaced = ρ.none_replaced;
 }
 
@@ -53,7 +60,7 @@ IsPlayed-made o r host content broken replaced w writer_failed ρ = record {
   at_end = ρ.at_end;
   none_left = ρ.none_left;
   played = ρ.played;
-  table = coe 0 1 (ι. (WordTable-same ι) ρ.played r.word host.terminal host.encoding r.piece ρ.c w (record { reader_failed = false; reader_ended = ρ.at_end; writer_failed = writer_failed }) r.limit) ρ.table;
+  table = coe 0 1 (ι. (WordTable-same ι) ρ.played r.word host.size host.terminal host.encoding r.piece ρ.c w (record { reader_failed = false; reader_ended = ρ.at_end; writer_failed = writer_failed }) r.limit) ρ.table;
   ended = ρ.ended;
   replaces = ρ.replaces;
 }
@@ -66,19 +73,31 @@ IsPlayed-read o r host content broken replaced w writer_failed ρ = record {
   at_end = ρ.at_end;
   none_left = ρ.none_left;
   played = ρ.played;
-  table = coe 1 0 (ι. (WordTable-same ι) ρ.played r.word host.terminal host.encoding r.piece ρ.c w (record { reader_failed = false; reader_ended = ρ.at_end; writer_failed = writer_failed }) r.limit) ρ.table;
+  table = coe 1 0 (ι. (WordTable-same ι) ρ.played r.word host.size host.terminal host.encoding r.piece ρ.c w (record { reader_failed = false; reader_ended = ρ.at_end; writer_failed = writer_failed }) r.limit) ρ.table;
   ended = ρ.ended;
   replaces = ρ.replaces;
 }
 
+pub IsTakenBy-at : (x0 : Word) (x1 : Request) (x2 : Format) (x3 : Host) (timing : Option (List ℕ)) (bytes : List ℕ) (content : List ℕ) (broken : Option Break) (replaced : ℕ) → frozen.IsTakenBy x0 x1 x2 x3 timing bytes content broken replaced ≡ today.IsTakenBy x0 x1 x2 x3 timing bytes content broken replaced
+IsTakenBy-at Events r format host timing bytes content broken replaced = λ ι.
+    IsTableTaken format r.full r.from r.until timing bytes content broken replaced
+IsTakenBy-at (Animation looks) r format host timing bytes content broken replaced = λ ι.
+    (IsAnimation-same ι) looks (title_of r.title) (opening (Replay Picture) host) (language_of host.terminal host.encoding) format host.encoding r.until
+    timing bytes content broken replaced
+IsTakenBy-at Search r format host timing bytes content broken replaced = λ ι.
+    (IsSearched-same ι) (text_of r.pattern) (opening (Replay Picture) host) (language_of host.terminal host.encoding) format host.encoding r.until
+    timing bytes content broken replaced
+IsTakenBy-at word r format host timing bytes content broken replaced = λ ι.
+    IsTakenBetween format host.encoding r.from r.until timing bytes content broken replaced
+
 pub IsTakenBy-same : frozen.IsTakenBy ≡ today.IsTakenBy
-IsTakenBy-same = refl
+IsTakenBy-same = λ ι x0 x1 x2 x3 timing bytes content broken replaced. IsTakenBy-at x0 x1 x2 x3 timing bytes content broken replaced ι
 
 pub IsPrepared-made : (r : Request) (format : Format) (timing : Option (List ℕ)) (b : List ℕ) (host : Host) (bytes : List ℕ) (broken : Option Break) (replaced : ℕ) → frozen.IsPrepared' r format timing b host bytes broken replaced → today.IsPrepared r format timing b host bytes broken replaced
 IsPrepared-made r format timing b host bytes broken replaced ρ = record {
   host_is = coe 0 1 (ι. host ≡ (host_of-same ι) r format b) ρ.host_is;
   content = ρ.content;
-  taken = ρ.taken;
+  taken = coe 0 1 (ι. (IsTakenBy-same ι) r.word r format host timing b ρ.content broken replaced) ρ.taken;
   joined = ρ.joined;
 }
 
@@ -86,7 +105,7 @@ pub IsPrepared-read : (r : Request) (format : Format) (timing : Option (List ℕ
 IsPrepared-read r format timing b host bytes broken replaced ρ = record {
   host_is = coe 1 0 (ι. host ≡ (host_of-same ι) r format b) ρ.host_is;
   content = ρ.content;
-  taken = ρ.taken;
+  taken = coe 1 0 (ι. (IsTakenBy-same ι) r.word r format host timing b ρ.content broken replaced) ρ.taken;
   joined = ρ.joined;
 }
 

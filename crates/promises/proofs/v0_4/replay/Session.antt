@@ -1,17 +1,21 @@
 -- 0.4: vt_replay/specs/Session is today's.
-use Rattle.promises.proofs.v0_4.term.State.{power_up-same}
+use Rattle.promises.proofs.v0_4.term.State.{state_of-same}
 use Rattle.promises.proofs.v0_4.utf8.Decoding.{pending_after-same}
-use Rattle.promises.proofs.v0_4.xterm.Play.{front_at_power_up-same, play_xterm-same}
+use Rattle.promises.proofs.v0_4.xterm.Play.{front_of-same, play_xterm-same}
 use Rattle.promises.proofs.v0_4.xterm_paint.Repaint.{xterm_repaint-same}
 use Rattle.promises.specs.v0_4.replay.Session as frozen
 use Rattle.std.proofs.Common.{refl, ◌≡◌}
 use Rattle.std.specs.Prelude.{[]}
 use Rattle.vt_replay.specs.Session as today
 use Rattle.vt_replay.specs.Session.{is_between}
+use Rattle.vt_screen.specs.Sizes.{vt220_size}
 use Rattle.vt_xterm.specs.Play.{behind}
 
+pub session_at-same : frozen.session_at ≡ today.session_at
+session_at-same = λ ι size bytes. (play_xterm-same ι) (behind ((state_of-same ι) size) ((front_of-same ι) size)) [] bytes
+
 pub session-same : frozen.session ≡ today.session
-session-same = λ ι bytes. (play_xterm-same ι) (behind (power_up-same ι) (front_at_power_up-same ι)) [] bytes
+session-same = λ ι bytes. (session_at-same ι) vt220_size bytes
 
 pub is_empty-same : frozen.is_empty ≡ today.is_empty
 is_empty-same = refl
@@ -24,6 +28,3 @@ session_repaint-same = λ ι bytes. (xterm_repaint-same ι) ((session-same ι) b
 
 pub session_is_there-same : frozen.session_is_there ≡ today.session_is_there
 session_is_there-same = λ ι bytes. is_between ((session-same ι) bytes).whole ((pending_after-same ι) [] bytes)
-
-pub is_of_session-same : frozen.is_of_session ≡ today.is_of_session
-is_of_session-same = refl

@@ -2,7 +2,7 @@
 use Rattle.promises.proofs.v0_4.replay.Encoding.{decoded-same}
 use Rattle.promises.proofs.v0_4.replay.Log.{lines_in-same, screen-same, screen_in-same}
 use Rattle.promises.proofs.v0_4.replay.Pages.{pages-same}
-use Rattle.promises.proofs.v0_4.replay.Playing.{replayed-same}
+use Rattle.promises.proofs.v0_4.replay.Playing.{replayed_at-same}
 use Rattle.promises.proofs.v0_4.term.State.{power_up-same}
 use Rattle.promises.proofs.v0_4.trace.Summary.{summary-same}
 use Rattle.promises.proofs.v0_4.trace.Trace.{end_lines-same, trace-same, tracer_all-same}
@@ -10,8 +10,8 @@ use Rattle.promises.proofs.v0_4.trace.Utf8.{summary_utf8-same, trace_utf8-same, 
 use Rattle.promises.specs.v0_4.replay.Words as frozen
 use Rattle.std.proofs.Common.{◌≡◌}
 use Rattle.std.specs.Prelude.{[], List, Result, ℕ}
-use Rattle.vt_cli.specs.declared.what.Word.TheVariants.{Animation, Content, Events, Log, Pages, Replay, Summary}
-use Rattle.vt_cli.specs.declared.what.Word.TheVariants.{Trace}
+use Rattle.vt_cli.specs.declared.what.Word.TheVariants.{Animation, Content, Events, Log, Pages, Replay, Search}
+use Rattle.vt_cli.specs.declared.what.Word.TheVariants.{Summary, Trace}
 use Rattle.vt_cli.specs.declared.what.Word.{Word}
 use Rattle.vt_device.specs.Runs.{Flags}
 use Rattle.vt_output.specs.Output.{all, always, nothing, OutputTable}
@@ -23,6 +23,7 @@ use Rattle.vt_recording.specs.declared.format.TerminalType.{TerminalType}
 use Rattle.vt_replay.specs.Playing.{language_of}
 use Rattle.vt_replay.specs.Showing.{ShownTable}
 use Rattle.vt_replay.specs.Words as today
+use Rattle.vt_screen.specs.declared.size.Size.{Size}
 use Rattle.vt_trace.specs.Trace.{tracer_at_start}
 
 pub pages_written-same : frozen.pages_written ≡ today.pages_written
@@ -62,26 +63,27 @@ of_decoded-same = λ ι encoding written ending. record {
   there = always;
 }
 
-pub due_of-at : (x0 : Word) (x1 : TerminalType) (x2 : Encoding) → frozen.due_of x0 x1 x2 ≡ today.due_of x0 x1 x2
-due_of-at (Replay what) terminal encoding = λ ι. (replayed-same ι) (language_of terminal encoding) what
-due_of-at (Animation looks) terminal encoding = λ ι. (of_decoded-same ι) Dec all nothing
-due_of-at Log terminal encoding = λ ι.
+pub due_of-at : (x0 : Word) (x1 : Size) (x2 : TerminalType) (x3 : Encoding) → frozen.due_of x0 x1 x2 x3 ≡ today.due_of x0 x1 x2 x3
+due_of-at (Replay what) size terminal encoding = λ ι. (replayed_at-same ι) size (language_of terminal encoding) what
+due_of-at (Animation looks) size terminal encoding = λ ι. (of_decoded-same ι) Dec all nothing
+due_of-at Log size terminal encoding = λ ι.
     let language = language_of terminal encoding in
     record { written = (lines_in-same ι) language; ending = (screen_in-same ι) language; there = always }
-due_of-at Pages terminal encoding = λ ι. (of_decoded-same ι) encoding (pages_written-same ι) (screen-same ι)
-due_of-at Trace terminal encoding = λ ι. record { written = (trace_in-same ι) encoding; ending = (trace_end_in-same ι) encoding; there = always }
-due_of-at Summary terminal encoding = λ ι. record { written = nothing; ending = (summary_in-same ι) encoding; there = always }
-due_of-at Events terminal encoding = λ ι. (of_decoded-same ι) Dec all nothing
-due_of-at Content terminal encoding = λ ι. (of_decoded-same ι) encoding all nothing
+due_of-at Pages size terminal encoding = λ ι. (of_decoded-same ι) encoding (pages_written-same ι) (screen-same ι)
+due_of-at Trace size terminal encoding = λ ι. record { written = (trace_in-same ι) encoding; ending = (trace_end_in-same ι) encoding; there = always }
+due_of-at Summary size terminal encoding = λ ι. record { written = nothing; ending = (summary_in-same ι) encoding; there = always }
+due_of-at Events size terminal encoding = λ ι. (of_decoded-same ι) Dec all nothing
+due_of-at Content size terminal encoding = λ ι. (of_decoded-same ι) encoding all nothing
+due_of-at Search size terminal encoding = λ ι. (of_decoded-same ι) Dec all nothing
 
 pub due_of-same : frozen.due_of ≡ today.due_of
-due_of-same = λ ι x0 x1 x2. due_of-at x0 x1 x2 ι
+due_of-same = λ ι x0 x1 x2 x3. due_of-at x0 x1 x2 x3 ι
 
-pub WordTable-at : (x0 : Result (Unit {0}) Fault) (x1 : Word) (x2 : TerminalType) (x3 : Encoding) (piece : ℕ) (b : List ℕ) (w : List ℕ) (x7 : Flags) (limit : ℕ) → frozen.WordTable x0 x1 x2 x3 piece b w x7 limit ≡ today.WordTable x0 x1 x2 x3 piece b w x7 limit
-WordTable-at result Content Xterm encoding piece b w f limit = λ ι. ShownTable result piece b w f limit
-WordTable-at result word terminal encoding piece b w f limit = λ ι.
-    let due = (due_of-same ι) word terminal encoding in
+pub WordTable-at : (x0 : Result (Unit {0}) Fault) (x1 : Word) (x2 : Size) (x3 : TerminalType) (x4 : Encoding) (piece : ℕ) (b : List ℕ) (w : List ℕ) (x8 : Flags) (limit : ℕ) → frozen.WordTable x0 x1 x2 x3 x4 piece b w x8 limit ≡ today.WordTable x0 x1 x2 x3 x4 piece b w x8 limit
+WordTable-at result Content size Xterm encoding piece b w f limit = λ ι. ShownTable result piece b w f limit
+WordTable-at result word size terminal encoding piece b w f limit = λ ι.
+    let due = (due_of-same ι) word size terminal encoding in
     OutputTable due.written due.ending due.there result piece b w f limit
 
 pub WordTable-same : frozen.WordTable ≡ today.WordTable
-WordTable-same = λ ι x0 x1 x2 x3 piece b w x7 limit. WordTable-at x0 x1 x2 x3 piece b w x7 limit ι
+WordTable-same = λ ι x0 x1 x2 x3 x4 piece b w x8 limit. WordTable-at x0 x1 x2 x3 x4 piece b w x8 limit ι

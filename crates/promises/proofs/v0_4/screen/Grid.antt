@@ -3,14 +3,12 @@ use Rattle.promises.proofs.v0_4.glyph.Tables.{IsGlyph-same}
 use Rattle.promises.specs.v0_4.screen.Grid as frozen
 use Rattle.std.proofs.Common.{refl, ◌≡◌}
 use Rattle.std.specs.List.{range_with_len}
-use Rattle.std.specs.Prelude.{All, Bool, if◌then◌else◌, length, List, map, nat_le, nat_lt, slice_index}
-use Rattle.std.specs.Prelude.{slice_index_or, ℕ, ◌%◌, ◌&&◌, ◌*◌, ◌+◌, ◌-◌, ◌/◌, ◌==◌, ◌≡◌}
+use Rattle.std.specs.Prelude.{All, if◌then◌else◌, length, map, nat_le, nat_lt, slice_index}
+use Rattle.std.specs.Prelude.{slice_index_or, ◌%◌, ◌&&◌, ◌*◌, ◌+◌, ◌-◌, ◌/◌, ◌==◌, ◌≡◌}
 use Rattle.vt_screen.specs.Cells.{blank, cell_like, erased}
 use Rattle.vt_screen.specs.Grid as today
 use Rattle.vt_screen.specs.Grid.{columns_of, Grid, is_within, IsGrid}
-use Rattle.vt_screen.specs.Sizes.{IsSize, width_of}
-use Rattle.vt_screen.specs.declared.cell.Cell.{Cell}
-use Rattle.vt_screen.specs.declared.size.Size.{Size}
+use Rattle.vt_screen.specs.Sizes.{width_of}
 
 pub last_row-same : frozen.last_row ≡ today.last_row
 last_row-same = refl

@@ -1,7 +1,6 @@
 -- 0.4: vt_screen/specs/Sizes is today's.
 use Rattle.promises.specs.v0_4.screen.Sizes as frozen
 use Rattle.std.proofs.Common.{refl, ◌≡◌}
-use Rattle.std.specs.Prelude.{◌≤◌}
 use Rattle.vt_screen.specs.Sizes as today
 use Rattle.vt_screen.specs.declared.size.Size.{Size}
 

@@ -3,7 +3,7 @@ use Rattle.promises.proofs.v0_4.syntax.Split.{split_of-same}
 use Rattle.promises.specs.v0_4.syntax.Reading as frozen
 use Rattle.std.proofs.Common.{refl, ◌≡◌}
 use Rattle.std.specs.List.{flat_map, list_any, slice_split}
-use Rattle.std.specs.Prelude.{[], false, filter, if◌then◌else◌, List, map, min, take, ℕ, ◌++◌, ◌+◌, ◌==◌, ◌||◌, ◌∷◌}
+use Rattle.std.specs.Prelude.{[], false, filter, if◌then◌else◌, List, map, min, take, ℕ, ◌++◌, ◌==◌, ◌||◌, ◌∷◌}
 use Rattle.std.specs.Str.Parse.{digits_value}
 use Rattle.vt_syntax.specs.Class.{is_cancel, is_intermediate, is_parameter}
 use Rattle.vt_syntax.specs.Items.{Beginning, Cut, Ended, inters_of, Item, OfControl, OfEscape, OfString, Single}

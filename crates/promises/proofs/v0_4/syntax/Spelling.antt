@@ -2,7 +2,7 @@
 use Rattle.promises.proofs.v0_4.syntax.Class.{opens-same}
 use Rattle.promises.specs.v0_4.syntax.Spelling as frozen
 use Rattle.std.proofs.Common.{refl, ◌≡◌}
-use Rattle.std.specs.Prelude.{All, false, IfSome, length, List, Option, ℕ, ◌<◌, ◌≡◌, ◌≤◌, ◌⊎◌}
+use Rattle.std.specs.Prelude.{false, IfSome, List, Option, ℕ, ◌<◌, ◌≡◌, ◌≤◌, ◌⊎◌}
 use Rattle.vt_syntax.specs.Spelling as today
 use Rattle.vt_syntax.specs.Spelling.{AreValues, IsC0, IsEscapeFinal, IsGraphic, IsIntermediate, IsMarker, IsSequence}
 use Rattle.vt_syntax.specs.declared.event.Event.TheVariants.{Control, Escape, Print, Sequence}

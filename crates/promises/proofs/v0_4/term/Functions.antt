@@ -13,7 +13,7 @@ use Rattle.promises.proofs.v0_4.term.Tabs.{clear_tabs-same}
 use Rattle.promises.proofs.v0_4.term.Writing.{print-same, write_glyph-same}
 use Rattle.promises.specs.v0_4.term.Functions as frozen
 use Rattle.std.proofs.Common.{refl, ◌≡◌}
-use Rattle.std.specs.Prelude.{[], Bool, codes, false, is_some, List, None, Option, option_map, Some, true, unwrap_or}
+use Rattle.std.specs.Prelude.{[], codes, false, is_some, None, Option, option_map, Some, true, unwrap_or}
 use Rattle.std.specs.Prelude.{ℕ, ◌++◌, ◌∷◌}
 use Rattle.vt_glyph.specs.Invocation.{locked_left, locked_right, shifted_once}
 use Rattle.vt_glyph.specs.LookUp.{contains}
@@ -31,7 +31,6 @@ use Rattle.vt_term.specs.Moving.{cursor_position, cursor_up, set_margins}
 use Rattle.vt_term.specs.Parameters.{first}
 use Rattle.vt_term.specs.Rendition.{rendition_changes}
 use Rattle.vt_term.specs.Saving.{restore_cursor, save_cursor}
-use Rattle.vt_term.specs.State.{Display}
 use Rattle.vt_term.specs.Tabs.{horizontal_tab, set_tab}
 
 pub byte-same : frozen.byte ≡ today.byte

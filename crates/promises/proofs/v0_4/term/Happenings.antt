@@ -5,12 +5,10 @@ use Rattle.promises.proofs.v0_4.term.Scrolling.{lines_off-same, scrolled_off-sam
 use Rattle.promises.specs.v0_4.term.Happenings as frozen
 use Rattle.std.proofs.Common.{refl, ◌≡◌}
 use Rattle.std.specs.Prelude.{[], List, ℕ, ◌∷◌}
-use Rattle.vt_screen.specs.declared.cell.Cell.{Cell}
-use Rattle.vt_syntax.specs.declared.event.Event.{Event}
 use Rattle.vt_syntax.specs.declared.held.Held.{Held}
 use Rattle.vt_term.specs.Happenings as today
 use Rattle.vt_term.specs.Machines.{Machine, screens_after}
-use Rattle.vt_term.specs.State.{Display, State}
+use Rattle.vt_term.specs.State.{State}
 
 pub Happening-made : frozen.Happening' → today.Happening
 Happening-made ρ = record {

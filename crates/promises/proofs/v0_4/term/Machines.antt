@@ -3,11 +3,10 @@ use Rattle.promises.proofs.v0_4.term.Functions.{effect-same}
 use Rattle.promises.proofs.v0_4.term.Reports.{report-same}
 use Rattle.promises.specs.v0_4.term.Machines as frozen
 use Rattle.std.proofs.Common.{refl, ◌≡◌}
-use Rattle.std.specs.Prelude.{[], List, ℕ, ◌++◌, ◌∷◌}
+use Rattle.std.specs.Prelude.{[], List, ◌++◌, ◌∷◌}
 use Rattle.vt_syntax.specs.declared.event.Event.{Event}
 use Rattle.vt_term.specs.Machines as today
 use Rattle.vt_term.specs.Machines.{Machine}
-use Rattle.vt_term.specs.State.{Display}
 
 pub Machine-made : (S : Type 0) → frozen.Machine' S → today.Machine S
 Machine-made S ρ = record {

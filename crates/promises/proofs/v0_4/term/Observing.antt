@@ -4,7 +4,7 @@ use Rattle.promises.proofs.v0_4.term.Happenings.{happenings_on-same}
 use Rattle.promises.proofs.v0_4.term.Machines.{reports_after-same}
 use Rattle.promises.specs.v0_4.term.Observing as frozen
 use Rattle.std.proofs.Common.{◌≡◌}
-use Rattle.std.specs.Prelude.{List, ℕ, ◌++◌, ◌+◌, ◌≡◌}
+use Rattle.std.specs.Prelude.{List, ℕ, ◌++◌, ◌≡◌}
 use Rattle.vt_term.specs.Machines.{Machine, screens_after}
 use Rattle.vt_term.specs.Observing as today
 use Rattle.vt_term.specs.State.{Display, State}

@@ -3,15 +3,11 @@ use Rattle.promises.proofs.v0_4.screen.Grid.{blank_grid-same}
 use Rattle.promises.specs.v0_4.term.Pages as frozen
 use Rattle.std.proofs.Common.{refl, ◌≡◌}
 use Rattle.std.specs.Prelude.{false, if◌then◌else◌, min, ◌==◌, ◌≡◌}
-use Rattle.vt_glyph.specs.GraphicSets.{AreSoundSets}
-use Rattle.vt_screen.specs.Grid.{Grid, IsSoundGrid}
 use Rattle.vt_screen.specs.Sizes.{vt220_size, width_of}
 use Rattle.vt_screen.specs.declared.size.Size.{Size}
 use Rattle.vt_term.specs.Pages as today
 use Rattle.vt_term.specs.Pages.{PageState}
-use Rattle.vt_term.specs.Sound.{IsPlace}
-use Rattle.vt_term.specs.State.{saved_at_power_up, saved_sets}
-use Rattle.vt_term.specs.declared.state.Saved.{Saved}
+use Rattle.vt_term.specs.State.{saved_at_power_up}
 
 pub PageState-made : frozen.PageState' → today.PageState
 PageState-made ρ = record {

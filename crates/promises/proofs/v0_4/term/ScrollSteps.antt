@@ -1,9 +1,9 @@
 -- 0.4: vt_term/specs/ScrollSteps is today's.
 use Rattle.promises.specs.v0_4.term.ScrollSteps as frozen
 use Rattle.std.proofs.Common.{refl, ◌≡◌}
-use Rattle.std.specs.Prelude.{false, ℕ, ◌+◌, ◌≡◌, ◌≤◌}
+use Rattle.std.specs.Prelude.{ℕ, ◌≡◌}
 use Rattle.vt_term.specs.ScrollSteps as today
-use Rattle.vt_term.specs.State.{Display, last_column}
+use Rattle.vt_term.specs.State.{Display}
 
 pub EndInRow-made : (count : ℕ) (s : Display) → frozen.EndInRow' count s → today.EndInRow count s
 EndInRow-made count s ρ = record {

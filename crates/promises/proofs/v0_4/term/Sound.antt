@@ -1,14 +1,11 @@
 -- 0.4: vt_term/specs/Sound is today's.
 use Rattle.promises.specs.v0_4.term.Sound as frozen
 use Rattle.std.proofs.Common.{refl, ◌≡◌}
-use Rattle.std.specs.Prelude.{Bool, length, true, ℕ, ◌<◌, ◌≡◌, ◌≤◌}
-use Rattle.vt_glyph.specs.GraphicSets.{AreSoundSets}
-use Rattle.vt_screen.specs.Grid.{IsSoundGrid}
+use Rattle.std.specs.Prelude.{Bool, ℕ, ◌≡◌}
 use Rattle.vt_screen.specs.declared.size.Size.{Size}
-use Rattle.vt_syntax.specs.Held.{IsHeldPart}
 use Rattle.vt_term.specs.Sound as today
 use Rattle.vt_term.specs.Sound.{AreSoundMargins, IsPlace, IsSoundDisplayAt}
-use Rattle.vt_term.specs.State.{Display, last_column, saved_sets, State}
+use Rattle.vt_term.specs.State.{Display, State}
 use Rattle.vt_term.specs.declared.state.Margins.{Margins}
 
 pub AreSoundMargins-made : (rows : ℕ) (m : Margins) → frozen.AreSoundMargins' rows m → today.AreSoundMargins rows m

@@ -2,22 +2,14 @@
 use Rattle.promises.proofs.v0_4.screen.Grid.{blank_grid-same}
 use Rattle.promises.specs.v0_4.term.State as frozen
 use Rattle.std.proofs.Common.{refl, ◌≡◌}
-use Rattle.std.specs.Prelude.{Bool, false, List}
-use Rattle.vt_glyph.specs.GraphicSets.{GraphicSets}
+use Rattle.std.specs.Prelude.{false}
 use Rattle.vt_glyph.specs.Invocation.{sets_at_power_up}
 use Rattle.vt_screen.specs.Cells.{plain_brush}
-use Rattle.vt_screen.specs.Grid.{Grid}
 use Rattle.vt_screen.specs.Sizes.{vt220_size}
-use Rattle.vt_screen.specs.declared.cell.Brush.{Brush}
 use Rattle.vt_syntax.specs.declared.held.Held.TheVariants.{Nothing}
-use Rattle.vt_syntax.specs.declared.held.Held.{Held}
 use Rattle.vt_term.specs.State as today
 use Rattle.vt_term.specs.State.{at_place, Display, is_stop_at_power_up, margins_of, modes_at_power_up}
 use Rattle.vt_term.specs.State.{saved_at_power_up, stops_where}
-use Rattle.vt_term.specs.declared.state.Cursor.{Cursor}
-use Rattle.vt_term.specs.declared.state.Margins.{Margins}
-use Rattle.vt_term.specs.declared.state.Modes.{Modes}
-use Rattle.vt_term.specs.declared.state.Saved.{Saved}
 
 pub Display-made : frozen.Display' → today.Display
 Display-made ρ = record {

@@ -3,7 +3,7 @@ use Rattle.promises.proofs.v0_4.screen.Grid.{row_of-same}
 use Rattle.promises.specs.v0_4.term.Text as frozen
 use Rattle.std.proofs.Common.{refl, ◌≡◌}
 use Rattle.std.specs.List.{range_with_len}
-use Rattle.std.specs.Prelude.{[], encode_utf8_all, flat_map, List, ℕ, ◌++◌, ◌+◌, ◌∷◌}
+use Rattle.std.specs.Prelude.{[], encode_utf8_all, flat_map, List, ℕ, ◌++◌, ◌∷◌}
 use Rattle.vt_term.specs.Text as today
 use Rattle.vt_term.specs.Text.{before_trimmed, glyphs_of}
 

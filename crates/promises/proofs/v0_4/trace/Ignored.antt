@@ -1,17 +1,20 @@
 -- 0.4: vt_trace/specs/Ignored is today's.
 use Rattle.promises.proofs.v0_4.term.Functions.{effect-same}
-use Rattle.promises.proofs.v0_4.term.Names.{name_of-same}
+use Rattle.promises.proofs.v0_4.term.Names.{name_on-same}
 use Rattle.promises.proofs.v0_4.term.Reports.{report-same}
 use Rattle.promises.specs.v0_4.trace.Ignored as frozen
 use Rattle.std.proofs.Common.{refl, ◌≡◌}
 use Rattle.std.specs.Prelude.{[], false, None, Some, true, ◌≡◌, ◌≢◌, ◌⊎◌}
+use Rattle.vt_screen.specs.Grid.{last_row}
 use Rattle.vt_syntax.specs.declared.event.Event.{Event}
-use Rattle.vt_term.specs.Sound.{IsSoundDisplay}
 use Rattle.vt_term.specs.State.{Display}
 use Rattle.vt_trace.specs.Ignored as today
 
+pub is_ignored_on-same : frozen.is_ignored_on ≡ today.is_ignored_on
+is_ignored_on-same = λ ι rows event. elim ((name_on-same ι) rows event) [ None ↦ true | Some name ↦ false ]
+
 pub is_ignored-same : frozen.is_ignored ≡ today.is_ignored
-is_ignored-same = λ ι event. elim ((name_of-same ι) event) [ None ↦ true | Some name ↦ false ]
+is_ignored-same = λ ι event. (is_ignored_on-same ι) last_row event
 
 pub LeavesAlone-made : (event : Event) (s : Display) → frozen.LeavesAlone' event s → today.LeavesAlone event s
 LeavesAlone-made event s ρ = record {

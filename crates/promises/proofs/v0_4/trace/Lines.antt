@@ -1,11 +1,12 @@
 -- 0.4: vt_trace/specs/Lines is today's.
-use Rattle.promises.proofs.v0_4.term.Names.{name_of-same}
+use Rattle.promises.proofs.v0_4.term.Names.{name_on-same}
 use Rattle.promises.specs.v0_4.trace.Lines as frozen
 use Rattle.std.proofs.Common.{refl, ◌≡◌}
 use Rattle.std.specs.List.{flat_map}
 use Rattle.std.specs.Option.{option_to_list}
-use Rattle.std.specs.Prelude.{[], codes, if◌then◌else◌, List, None, not, Option, Some, ℕ, ◌%◌, ◌&&◌, ◌++◌, ◌+◌, ◌/◌}
+use Rattle.std.specs.Prelude.{[], codes, if◌then◌else◌, List, None, not, Option, Some, ℕ, ◌%◌, ◌&&◌, ◌++◌, ◌/◌}
 use Rattle.std.specs.Prelude.{◌==◌, ◌∷◌}
+use Rattle.vt_screen.specs.Grid.{last_row}
 use Rattle.vt_syntax.specs.Class.{is_plain}
 use Rattle.vt_syntax.specs.declared.event.Event.TheVariants.{Control, Escape, Print, Sequence}
 use Rattle.vt_syntax.specs.declared.event.Event.{Event}
@@ -59,6 +60,9 @@ line_named-at place event None = λ ι. line place (codes "ignored") ((bytes_col
 pub line_named-same : frozen.line_named ≡ today.line_named
 line_named-same = λ ι x0 x1 x2. line_named-at x0 x1 x2 ι
 
+pub event_line_on-same : frozen.event_line_on ≡ today.event_line_on
+unfolding frozen.event_line_on today.event_line_on
+event_line_on-same = λ ι rows place event. (line_named-same ι) place event ((name_on-same ι) rows event)
+
 pub event_line-same : frozen.event_line ≡ today.event_line
-unfolding frozen.event_line today.event_line
-event_line-same = λ ι place event. (line_named-same ι) place event ((name_of-same ι) event)
+event_line-same = λ ι place event. (event_line_on-same ι) last_row place event

@@ -1,7 +1,7 @@
 -- 0.4: vt_trace/specs/Summary is today's.
 use Rattle.promises.proofs.v0_4.syntax.Reading.{events_of-same}
-use Rattle.promises.proofs.v0_4.term.Names.{name_of-same}
-use Rattle.promises.proofs.v0_4.trace.Ignored.{is_ignored-same}
+use Rattle.promises.proofs.v0_4.term.Names.{name_on-same}
+use Rattle.promises.proofs.v0_4.trace.Ignored.{is_ignored_on-same}
 use Rattle.promises.proofs.v0_4.trace.Lines.{bytes_column-same, shown_byte-same}
 use Rattle.promises.proofs.v0_4.trace.Names.{names-same, numbered-same}
 use Rattle.promises.proofs.v0_4.trace.Skipped.{kind_name-same, kinds_of-same}
@@ -11,6 +11,7 @@ use Rattle.std.specs.Cmp.Lexicographic.{pointwise}
 use Rattle.std.specs.List.{flat_map, range_with_len}
 use Rattle.std.specs.Prelude.{[], codes, count_by, false, length, List, nat_eq, None, Some, ℕ, ◌&&◌, ◌++◌, ◌+◌, ◌==◌}
 use Rattle.std.specs.Prelude.{◌≡◌}
+use Rattle.vt_screen.specs.Grid.{last_row}
 use Rattle.vt_syntax.specs.declared.event.Event.TheVariants.{Control, Escape, Print, Sequence}
 use Rattle.vt_syntax.specs.declared.event.Event.{Event}
 use Rattle.vt_trace.specs.Summary as today
@@ -32,19 +33,19 @@ without_values-same = refl
 pub IsByteAtMost-same : frozen.IsByteAtMost ≡ today.IsByteAtMost
 IsByteAtMost-same = refl
 
-pub has_name-same : frozen.has_name ≡ today.has_name
-has_name-same = λ ι name event. elim ((name_of-same ι) event) [ None ↦ false | Some other ↦ pointwise nat_eq name other ]
+pub has_name_on-same : frozen.has_name_on ≡ today.has_name_on
+has_name_on-same = λ ι rows name event. elim ((name_on-same ι) rows event) [ None ↦ false | Some other ↦ pointwise nat_eq name other ]
 
-pub is_ignored_kind-same : frozen.is_ignored_kind ≡ today.is_ignored_kind
-is_ignored_kind-same = λ ι number event. (is_ignored-same ι) event && kind_number event == number
+pub is_ignored_kind_on-same : frozen.is_ignored_kind_on ≡ today.is_ignored_kind_on
+is_ignored_kind_on-same = λ ι rows number event. (is_ignored_on-same ι) rows event && kind_number event == number
 
-pub times_named-same : frozen.times_named ≡ today.times_named
-unfolding frozen.times_named today.times_named
-times_named-same = λ ι name events. count_by ((has_name-same ι) name) events
+pub times_named_on-same : frozen.times_named_on ≡ today.times_named_on
+unfolding frozen.times_named_on today.times_named_on
+times_named_on-same = λ ι rows name events. count_by ((has_name_on-same ι) rows name) events
 
-pub times_ignored-same : frozen.times_ignored ≡ today.times_ignored
-unfolding frozen.times_ignored today.times_ignored
-times_ignored-same = λ ι number events. count_by ((is_ignored_kind-same ι) number) events
+pub times_ignored_on-same : frozen.times_ignored_on ≡ today.times_ignored_on
+unfolding frozen.times_ignored_on today.times_ignored_on
+times_ignored_on-same = λ ι rows number events. count_by ((is_ignored_kind_on-same ι) rows number) events
 
 pub times_skipped-same : frozen.times_skipped ≡ today.times_skipped
 unfolding frozen.times_skipped today.times_skipped
@@ -99,17 +100,26 @@ ignored_lines-same = λ ι times.
 pub named_lines-same : frozen.named_lines ≡ today.named_lines
 named_lines-same = λ ι times. flat_map ((named_line-same ι) times) (range_with_len 0 (length (names-same ι)))
 
-pub all_ignored-same : frozen.all_ignored ≡ today.all_ignored
-all_ignored-same = λ ι events kinds number. counted ((times_ignored-same ι) number events + (times_skipped-same ι) number kinds)
+pub all_ignored_on-same : frozen.all_ignored_on ≡ today.all_ignored_on
+all_ignored_on-same = λ ι rows events kinds number. counted ((times_ignored_on-same ι) rows number events + (times_skipped-same ι) number kinds)
 
-pub event_summary-same : frozen.event_summary ≡ today.event_summary
-event_summary-same = λ ι events kinds.
-    (ignored_lines-same ι) ((all_ignored-same ι) events kinds)
-    ++ (named_lines-same ι) (λ number. counted ((times_named-same ι) ((numbered-same ι) number) events))
+pub event_summary_on-same : frozen.event_summary_on ≡ today.event_summary_on
+event_summary_on-same = λ ι rows events kinds.
+    (ignored_lines-same ι) ((all_ignored_on-same ι) rows events kinds)
+    ++ (named_lines-same ι) (λ number. counted ((times_named_on-same ι) rows ((numbered-same ι) number) events))
+
+pub summary_on-same : frozen.summary_on ≡ today.summary_on
+unfolding frozen.summary_on today.summary_on
+summary_on-same = λ ι rows bytes. (event_summary_on-same ι) rows ((events_of-same ι) bytes) ((kinds_of-same ι) bytes)
+
+pub times_named-same : frozen.times_named ≡ today.times_named
+times_named-same = λ ι name events. (times_named_on-same ι) last_row name events
+
+pub times_ignored-same : frozen.times_ignored ≡ today.times_ignored
+times_ignored-same = λ ι number events. (times_ignored_on-same ι) last_row number events
 
 pub summary-same : frozen.summary ≡ today.summary
-unfolding frozen.summary today.summary
-summary-same = λ ι bytes. (event_summary-same ι) ((events_of-same ι) bytes) ((kinds_of-same ι) bytes)
+summary-same = λ ι bytes. (summary_on-same ι) last_row bytes
 
 pub HasPart-made : (part bytes : List ℕ) → frozen.HasPart' part bytes → today.HasPart part bytes
 HasPart-made part bytes ρ = record {

@@ -4,7 +4,7 @@ use Rattle.promises.proofs.v0_4.syntax.Split.{split_of-same}
 use Rattle.promises.proofs.v0_4.term.Functions.{effect-same}
 use Rattle.promises.proofs.v0_4.term.Play.{play-same}
 use Rattle.promises.proofs.v0_4.term.Reports.{report-same}
-use Rattle.promises.proofs.v0_4.trace.Lines.{event_line-same, shown-same, shown_byte-same}
+use Rattle.promises.proofs.v0_4.trace.Lines.{event_line_on-same, shown-same, shown_byte-same}
 use Rattle.promises.proofs.v0_4.trace.Skipped.{skipped_line-same}
 use Rattle.promises.specs.v0_4.trace.Trace as frozen
 use Rattle.std.proofs.Common.{refl, ◌≡◌}
@@ -57,13 +57,13 @@ report_line-at place (b ∷ bytes) = λ ι. line place (codes "report") ((shown-
 pub report_line-same : frozen.report_line ≡ today.report_line
 report_line-same = λ ι x0 x1. report_line-at x0 x1 ι
 
-pub written-at : (x0 : Bool) (x1 : ℕ) (x2 : Event) (x3 : List ℕ) → frozen.written x0 x1 x2 x3 ≡ today.written x0 x1 x2 x3
-written-at in_text place (Print b) reports = λ ι.
-    if has_no_glyph b then text_end in_text ++ (event_line-same ι) place (Print b) else (text_of-same ι) in_text place b
-written-at in_text place event reports = λ ι. text_end in_text ++ ((event_line-same ι) place event ++ (report_line-same ι) place reports)
+pub written-at : (x0 : ℕ) (x1 : Bool) (x2 : ℕ) (x3 : Event) (x4 : List ℕ) → frozen.written x0 x1 x2 x3 x4 ≡ today.written x0 x1 x2 x3 x4
+written-at rows in_text place (Print b) reports = λ ι.
+    if has_no_glyph b then text_end in_text ++ (event_line_on-same ι) rows place (Print b) else (text_of-same ι) in_text place b
+written-at rows in_text place event reports = λ ι. text_end in_text ++ ((event_line_on-same ι) rows place event ++ (report_line-same ι) place reports)
 
 pub written-same : frozen.written ≡ today.written
-written-same = λ ι x0 x1 x2 x3. written-at x0 x1 x2 x3 ι
+written-same = λ ι x0 x1 x2 x3 x4. written-at x0 x1 x2 x3 x4 ι
 
 pub is_nothing-same : frozen.is_nothing ≡ today.is_nothing
 is_nothing-same = refl
@@ -112,7 +112,7 @@ end_lines-same = λ ι t. if length t.first.items == 0 then text_end t.in_text e
 pub written_all-at : (x0 : Bool) (x1 : (Event → ℕ)) (x2 : List Event) (x3 : Display) → frozen.written_all x0 x1 x2 x3 ≡ today.written_all x0 x1 x2 x3
 written_all-at in_text place_at [] s = λ ι. []
 written_all-at in_text place_at (event ∷ events) s = λ ι.
-    (written-same ι) in_text (place_at event) event ((report-same ι) event s) ++ (written_all-at (is_text event) place_at events ((effect-same ι) event s) ι)
+    (written-same ι) s.grid.size.rows in_text (place_at event) event ((report-same ι) event s) ++ (written_all-at (is_text event) place_at events ((effect-same ι) event s) ι)
 
 pub written_all-same : frozen.written_all ≡ today.written_all
 written_all-same = λ ι x0 x1 x2 x3. written_all-at x0 x1 x2 x3 ι

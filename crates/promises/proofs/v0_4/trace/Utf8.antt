@@ -1,14 +1,15 @@
 -- 0.4: vt_trace/specs/Utf8 is today's.
 use Rattle.promises.proofs.v0_4.term.Play.{play-same}
-use Rattle.promises.proofs.v0_4.trace.Summary.{summary-same}
+use Rattle.promises.proofs.v0_4.trace.Summary.{summary_on-same}
 use Rattle.promises.proofs.v0_4.trace.Trace.{open_lines-same, text_of-same, traced-same, tracer_after-same}
 use Rattle.promises.proofs.v0_4.utf8.Decoding.{characters-same, read-same}
 use Rattle.promises.proofs.v0_4.utf8.Play.{play_utf8-same}
 use Rattle.promises.proofs.v0_4.utf8.Translation.{translation-same}
 use Rattle.promises.specs.v0_4.trace.Utf8 as frozen
 use Rattle.std.proofs.Common.{refl, ◌≡◌}
-use Rattle.std.specs.Prelude.{[], false, if◌then◌else◌, length, List, map, nat_lt, None, Option, Some, ℕ, ◌++◌, ◌+◌}
+use Rattle.std.specs.Prelude.{[], false, if◌then◌else◌, length, List, map, nat_lt, None, Option, Some, ℕ, ◌++◌}
 use Rattle.std.specs.Prelude.{◌==◌, ◌∷◌}
+use Rattle.vt_screen.specs.Grid.{last_row}
 use Rattle.vt_term.specs.State.{State}
 use Rattle.vt_trace.specs.Utf8 as today
 use Rattle.vt_trace.specs.Utf8.{Ascii, counted_as, tracer_beyond}
@@ -81,6 +82,9 @@ counted_as-same = refl
 pub counted_bytes-same : frozen.counted_bytes ≡ today.counted_bytes
 counted_bytes-same = λ ι pending bytes. map counted_as ((characters-same ι) pending bytes)
 
+pub summary_utf8_on-same : frozen.summary_utf8_on ≡ today.summary_utf8_on
+unfolding frozen.summary_utf8_on today.summary_utf8_on
+summary_utf8_on-same = λ ι rows bytes. (summary_on-same ι) rows ((counted_bytes-same ι) [] bytes)
+
 pub summary_utf8-same : frozen.summary_utf8 ≡ today.summary_utf8
-unfolding frozen.summary_utf8 today.summary_utf8
-summary_utf8-same = λ ι bytes. (summary-same ι) ((counted_bytes-same ι) [] bytes)
+summary_utf8-same = λ ι bytes. (summary_utf8_on-same ι) last_row bytes

@@ -2,7 +2,7 @@
 use Rattle.promises.proofs.v0_4.term.Play.{joined-same, play-same, play_all-same}
 use Rattle.promises.specs.v0_4.update.Leads as frozen
 use Rattle.std.proofs.Common.{refl, ◌≡◌}
-use Rattle.std.specs.Prelude.{[], List, ℕ, ◌++◌, ◌∷◌, ◌≡◌}
+use Rattle.std.specs.Prelude.{[], List, ℕ, ◌∷◌, ◌≡◌}
 use Rattle.vt_term.specs.State.{State}
 use Rattle.vt_update.specs.Leads as today
 use Rattle.vt_update.specs.Leads.{Leads, silently}

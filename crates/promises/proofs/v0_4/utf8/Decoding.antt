@@ -3,7 +3,7 @@ use Rattle.bstr.specs.Utf8.{decoded, lead_len, or_replacement}
 use Rattle.promises.specs.v0_4.utf8.Decoding as frozen
 use Rattle.std.proofs.Common.{refl, ◌≡◌}
 use Rattle.std.specs.Prelude.{[], if◌then◌else◌, length, List, nat_lt, None, Option, slice_index, Some, take, ℕ, ◌&&◌}
-use Rattle.std.specs.Prelude.{◌++◌, ◌==◌, ◌∷◌, ◌≡◌, ◌≤◌}
+use Rattle.std.specs.Prelude.{◌++◌, ◌==◌, ◌∷◌, ◌≡◌}
 use Rattle.vt_utf8.specs.Decoding as today
 use Rattle.vt_utf8.specs.Decoding.{read_apart}
 

@@ -4,15 +4,13 @@ use Rattle.promises.proofs.v0_4.term.Text.{trimmed-same}
 use Rattle.promises.specs.v0_4.utf8.Placing as frozen
 use Rattle.std.proofs.Common.{refl, ◌≡◌}
 use Rattle.std.specs.List.{range_with_len}
-use Rattle.std.specs.Prelude.{encode_utf8_all, false, flat_map, true, ◌++◌, ◌≡◌}
+use Rattle.std.specs.Prelude.{encode_utf8_all, flat_map, ◌++◌, ◌≡◌}
 use Rattle.vt_screen.specs.Grid.{last_row}
 use Rattle.vt_syntax.specs.Spelling.{spell_event}
-use Rattle.vt_syntax.specs.declared.held.Held.TheVariants.{Nothing}
 use Rattle.vt_term.specs.State.{State}
 use Rattle.vt_term.specs.Text.{glyphs_of}
 use Rattle.vt_utf8.specs.Placing as today
 use Rattle.vt_utf8.specs.Placing.{to_row}
-use Rattle.vt_utf8.specs.Translation.{reads_ascii}
 
 pub to_row-same : frozen.to_row ≡ today.to_row
 to_row-same = refl

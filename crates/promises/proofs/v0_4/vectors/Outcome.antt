@@ -5,7 +5,6 @@ use Rattle.promises.proofs.v0_4.term.State.{power_up-same}
 use Rattle.promises.proofs.v0_4.term.Text.{text-same}
 use Rattle.promises.specs.v0_4.vectors.Outcome as frozen
 use Rattle.std.proofs.Common.{refl, ◌≡◌}
-use Rattle.std.specs.Prelude.{List, Option, ℕ}
 use Rattle.vt_vectors.specs.Outcome as today
 use Rattle.vt_vectors.specs.Outcome.{between_sequences}
 

@@ -6,11 +6,9 @@ use Rattle.promises.proofs.v0_4.term.Pages.{blank_page-same, blanked-same, fitte
 use Rattle.promises.proofs.v0_4.term.State.{display_of-same}
 use Rattle.promises.specs.v0_4.xterm.Pages as frozen
 use Rattle.std.proofs.Common.{refl, ◌≡◌}
-use Rattle.std.specs.Prelude.{[], Bool, false, fold, if◌then◌else◌, true, unwrap_or, ◌∷◌}
-use Rattle.vt_screen.specs.Sizes.{vt220_size}
-use Rattle.vt_term.specs.Pages.{page_of, PageState, with_page}
+use Rattle.std.specs.Prelude.{[], false, fold, if◌then◌else◌, true, unwrap_or, ◌∷◌}
+use Rattle.vt_term.specs.Pages.{page_of, with_page}
 use Rattle.vt_term.specs.Saving.{restore_cursor, save_cursor}
-use Rattle.vt_term.specs.State.{Display}
 use Rattle.vt_xterm.specs.Pages as today
 use Rattle.vt_xterm.specs.Pages.{allow_column_mode, bracket_pastes, is_window_wide, on_display, PagesState}
 use Rattle.vt_xterm.specs.Pages.{save_or_restore}
@@ -33,9 +31,6 @@ PagesState-read ρ = record {
 
 pub pages_of-same : frozen.pages_of ≡ today.pages_of
 pages_of-same = λ ι size. record { other = (blank_page-same ι) size; alternate = false; resizes = false; brackets = false }
-
-pub pages_at_power_up-same : frozen.pages_at_power_up ≡ today.pages_at_power_up
-pages_at_power_up-same = λ ι. (pages_of-same ι) vt220_size
 
 pub Screens-made : frozen.Screens' → today.Screens
 Screens-made ρ = record {

@@ -9,16 +9,13 @@ use Rattle.promises.proofs.v0_4.utf8.Decoding.{characters-same, pending_after-sa
 use Rattle.promises.proofs.v0_4.utf8.Translation.{translation-same}
 use Rattle.promises.proofs.v0_4.xterm.Front.{xterm_effect-same}
 use Rattle.promises.proofs.v0_4.xterm.Log.{xterm_lines_off-same}
-use Rattle.promises.proofs.v0_4.xterm.Pages.{pages_at_power_up-same}
+use Rattle.promises.proofs.v0_4.xterm.Pages.{pages_of-same}
 use Rattle.promises.specs.v0_4.xterm.Play as frozen
 use Rattle.std.proofs.Common.{refl, ◌≡◌}
 use Rattle.std.specs.Prelude.{[], flat_map, if◌then◌else◌, List, nat_lt, ℕ, ◌∷◌}
-use Rattle.vt_screen.specs.declared.cell.Cell.{Cell}
+use Rattle.vt_screen.specs.Sizes.{vt220_size}
 use Rattle.vt_term.specs.Machines.{screens_after}
-use Rattle.vt_term.specs.Pages.{IsSoundPage}
-use Rattle.vt_term.specs.Sound.{IsSound}
-use Rattle.vt_term.specs.State.{State}
-use Rattle.vt_xterm.specs.Pages.{PagesState, shown_by}
+use Rattle.vt_xterm.specs.Pages.{shown_by}
 use Rattle.vt_xterm.specs.Play as today
 use Rattle.vt_xterm.specs.Play.{both, nothing_played, screens_of, Whole}
 
@@ -75,8 +72,11 @@ FrontState-read ρ = record {
   pages = ρ.pages;
 }
 
+pub front_of-same : frozen.front_of ≡ today.front_of
+front_of-same = λ ι size. record { pending = []; pages = (pages_of-same ι) size }
+
 pub front_at_power_up-same : frozen.front_at_power_up ≡ today.front_at_power_up
-front_at_power_up-same = λ ι. record { pending = []; pages = (pages_at_power_up-same ι) }
+front_at_power_up-same = λ ι. (front_of-same ι) vt220_size
 
 pub behind-same : frozen.behind ≡ today.behind
 behind-same = refl

@@ -18,8 +18,8 @@ use Rattle.vt_cli.specs.declared.asked.Refused.{Refused}
 use Rattle.vt_cli.specs.declared.asked.Settings.{Settings}
 use Rattle.vt_cli.specs.declared.what.What.TheVariants as what
 use Rattle.vt_cli.specs.declared.what.What.{What}
-use Rattle.vt_cli.specs.declared.what.Word.TheVariants.{Animation, Content, Events, Log, Pages, Replay, Summary}
-use Rattle.vt_cli.specs.declared.what.Word.TheVariants.{Trace}
+use Rattle.vt_cli.specs.declared.what.Word.TheVariants.{Animation, Content, Events, Log, Pages, Replay, Search}
+use Rattle.vt_cli.specs.declared.what.Word.TheVariants.{Summary, Trace}
 use Rattle.vt_cli.specs.declared.what.Word.{Word}
 
 -- an option with a number from low to high
@@ -59,22 +59,35 @@ word_name Trace = codes "trace"
 word_name Summary = codes "summary"
 word_name Events = codes "events"
 word_name Content = codes "content"
+word_name Search = codes "search"
 
 -- an option with a text
 abbrev pub text_option : Text → Rule
 text_option name = record (new_rule name) { long = Some name; value_names = 1 }
 
+-- an argument without an option that has to be there
+abbrev pub required_argument : Text → Rule
+required_argument name = record (new_rule name) { value_names = 1; required = true }
+
 -- an option without a value
 abbrev pub flag_option : Text → Rule
 flag_option name = record (new_rule name) { long = Some name; action = Some SetTrue }
 
--- a subcommand: the options with a number, the file, and the options of a recording
-abbrev pub subcommand : Text → App
-subcommand name = fold (λ a rule. with_rule a rule) (new_app name) (piece_option ∷ limit_option ∷ file_argument
+-- the arguments of each subcommand: the options with a number, the file, and the options of a recording
+abbrev pub arguments : List Rule
+arguments =
+    piece_option ∷ limit_option ∷ file_argument
     ∷ text_option (codes "format") ∷ text_option (codes "timing") ∷ text_option (codes "from") ∷ text_option (codes "until")
     ∷ text_option (codes "encoding") ∷ text_option (codes "terminal") ∷ text_option (codes "columns")
-    ∷ flag_option (codes "animate") ∷ text_option (codes "theme") ∷ text_option (codes "cursor") ∷ text_option (codes "title")
-    ∷ flag_option (codes "full") ∷ flag_option (codes "partial") ∷ flag_option (codes "quiet") ∷ [])
+    ∷ text_option (codes "size") ∷ flag_option (codes "animate") ∷ text_option (codes "theme") ∷ text_option (codes "cursor") ∷ text_option (codes "title")
+    ∷ flag_option (codes "full") ∷ flag_option (codes "partial") ∷ flag_option (codes "quiet") ∷ []
+
+-- a subcommand with these arguments
+abbrev pub subcommand_with : Text → List Rule → App
+subcommand_with name rules = fold (λ a rule. with_rule a rule) (new_app name) rules
+
+abbrev pub subcommand : Text → App
+subcommand name = subcommand_with name arguments
 
 abbrev pub with_name : App → Text → App
 with_name a name = with_subcommand a (subcommand name).top
@@ -96,13 +109,17 @@ with_lines a = with_word (with_word (with_word (with_word a (Replay what.Show)) 
 abbrev pub with_events : App → App
 with_events a = with_word (with_word (with_word (with_word a Trace) Summary) Events) Content
 
+-- with that for a text, which comes before the file
+abbrev pub with_search : App → App
+with_search a = with_subcommand a (subcommand_with (word_name Search) (required_argument (codes "pattern") ∷ arguments)).top
+
 -- a subcommand is required, and it has a version
 abbrev pub as_program : App → App
 as_program a = on_top (λ s. record s { subcommand_required = true; has_version = true }) a
 
--- the program's command, with the twelve subcommands
+-- the program's command, with the thirteen subcommands
 abbrev pub vt220 : App
-vt220 = as_program (with_events (with_lines (with_replays (new_app (codes "vt220")))))
+vt220 = as_program (with_search (with_events (with_lines (with_replays (new_app (codes "vt220"))))))
 
 -- the faults that clap finds in the words, the first of which is the program's name
 abbrev pub faults_in : List (String Global) → Kinds
@@ -132,10 +149,11 @@ is_plain matches =
     not (is_some (first_of (codes "format") matches)) && (not (is_some (first_of (codes "timing") matches))
     && (not (is_some (first_of (codes "from") matches)) && (not (is_some (first_of (codes "until") matches))
     && (not (is_some (first_of (codes "encoding") matches)) && (not (is_some (first_of (codes "terminal") matches))
-    && (not (is_some (first_of (codes "columns") matches)) && (not (is_set (codes "animate") matches)
+    && (not (is_some (first_of (codes "columns") matches)) && (not (is_some (first_of (codes "size") matches))
+    && (not (is_set (codes "animate") matches)
     && (not (is_some (first_of (codes "theme") matches)) && (not (is_some (first_of (codes "cursor") matches))
     && (not (is_some (first_of (codes "title") matches)) && (not (is_set (codes "full") matches)
-    && (not (is_set (codes "partial") matches) && not (is_set (codes "quiet") matches)))))))))))))
+    && (not (is_set (codes "partial") matches) && not (is_set (codes "quiet") matches))))))))))))))
 
 -- s is what the subcommand that clap found, and its matches, ask for: a replay of bytes that no recorder wrote
 pub record AreSettings' (found : Option (Text × List Row)) (s : Settings) : Type 0 where

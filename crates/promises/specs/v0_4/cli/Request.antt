@@ -32,9 +32,10 @@ pub record IsFound' (found : Option (Text × List Row)) (r : Request) : Type 0 w
   pub matches : List Row
   pub word : found ≡ Some (word_name r.word, matches)
   pub options : AreOptions matches r.piece r.limit r.file
-  pub source : source_in (word_name r.word) matches ≡ Ok (record { format = r.format; from = r.from; until = r.until; encoding = r.encoding; terminal = r.terminal; wide = r.wide; looks = word_looks r.word })
+  pub source : source_in (word_name r.word) matches ≡ Ok (record { format = r.format; from = r.from; until = r.until; encoding = r.encoding; terminal = r.terminal; wide = r.wide; size = r.size; looks = word_looks r.word })
   pub timing : option_map (λ f. string_bytes f) r.timing ≡ first_of (codes "timing") matches
   pub title : option_map (λ t. string_bytes t) r.title ≡ first_of (codes "title") matches
+  pub pattern : option_map (λ t. string_bytes t) r.pattern ≡ first_of (codes "pattern") matches
   pub full : r.full ≡ is_set (codes "full") matches
   pub partial : r.partial ≡ is_set (codes "partial") matches
   pub quiet : r.quiet ≡ is_set (codes "quiet") matches

@@ -1,11 +1,13 @@
 -- 0.4: vt_cli/specs/Source.
 use Rattle.clap.specs.Words.{Text}
-use Rattle.std.specs.Prelude.{Bool, bytes_eq, codes, false, is_some, None, not, Option, Some, true, ◌&&◌, ◌||◌}
+use Rattle.std.specs.Prelude.{Bool, bytes_eq, codes, cond, false, is_some, nat_lt, None, not, Option, Some, true, ℕ}
+use Rattle.std.specs.Prelude.{◌&&◌, ◌||◌}
 use Rattle.vt_cli.specs.declared.what.Looks.{Looks}
 use Rattle.vt_recording.specs.declared.format.Format.TheVariants.{Asciicast, Raw, Script, Ttyrec}
 use Rattle.vt_recording.specs.declared.format.Format.{Format}
 use Rattle.vt_recording.specs.declared.format.Moment.TheVariants.{Bytes, Event, Marker, Micros}
 use Rattle.vt_recording.specs.declared.format.Moment.{Moment}
+use Rattle.vt_screen.specs.declared.size.Size.{Size}
 
 -- a timing file goes with a recording of script(1) alone
 abbrev pub takes_timing : Option Format → Bool
@@ -40,10 +42,29 @@ plays_xterm command =
     not (bytes_eq command (codes "pages"))
     && (not (bytes_eq command (codes "trace")) && not (bytes_eq command (codes "summary")))
 
+-- the size of so many rows of so many columns, if a screen may have it. Its narrow and its wide screen are of one width
+abbrev pub size_of : (columns rows : ℕ) → Option Size
+size_of columns rows =
+    cond (nat_lt 79 columns && (nat_lt columns 256 && (nat_lt 1 rows && nat_lt rows 256)))
+    (Some (record { rows = rows; narrow = columns; wide = columns })) None
+
+-- the command of this name plays a screen of any size
+abbrev pub plays_sizes : Text → Bool
+plays_sizes command =
+    bytes_eq command (codes "text") || (bytes_eq command (codes "reports") || (bytes_eq command (codes "status")
+    || (bytes_eq command (codes "show") || bytes_eq command (codes "picture"))))
+
+-- a picture that moves has a VT220's size
+abbrev pub has_one_size : (command : Text) → Option Looks → Bool
+has_one_size command looks = is_some looks || not (plays_sizes command)
+
 -- the command of this name writes a picture that may move
 abbrev pub may_move : Text → Bool
 may_move command = bytes_eq command (codes "picture")
 
--- a picture that moves has a step for each time
-abbrev pub lacks_steps : Option Format → (timed : Bool) → Option Looks → Bool
-lacks_steps format timed looks = is_some looks && not (has_times format timed)
+-- a picture that moves has a step for each time, and so has a search
+abbrev pub is_timed : (command : Text) → Option Looks → Bool
+is_timed command looks = is_some looks || bytes_eq command (codes "search")
+
+abbrev pub lacks_steps : (command : Text) → Option Format → (timed : Bool) → Option Looks → Bool
+lacks_steps command format timed looks = is_timed command looks && not (has_times format timed)

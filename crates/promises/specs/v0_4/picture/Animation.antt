@@ -1,14 +1,16 @@
 -- 0.4: vt_picture/specs/Animation.
 use Rattle.promises.specs.v0_4.picture.Looks.{is_empty, same_looks, trimmed}
-use Rattle.promises.specs.v0_4.picture.Picture.{alternative, escaped, ink, left_of, line_feed, paper, rectangle}
-use Rattle.promises.specs.v0_4.picture.Picture.{run_attributes, run_end, style, top_of, width_of}
-use Rattle.promises.specs.v0_4.screen.Grid.{last_row, row_of}
+use Rattle.promises.specs.v0_4.picture.Picture.{alternative, document_start, escaped, ink, left_of, line_feed, paper}
+use Rattle.promises.specs.v0_4.picture.Picture.{rectangle, run_attributes, run_end, style, title_end, top_of}
+use Rattle.promises.specs.v0_4.picture.Picture.{width_of}
+use Rattle.promises.specs.v0_4.screen.Grid.{row_of}
 use Rattle.promises.specs.v0_4.screen.Same.{same_bool, same_rendition, when}
 use Rattle.promises.specs.v0_4.term.Modes.{is_set, private_values}
+use Rattle.std.specs.Int.{div_ceil}
 use Rattle.std.specs.List.{range_with_len}
-use Rattle.std.specs.Prelude.{[], Bool, codes, decimal, false, flat_map, if◌then◌else◌, List, nat_le, nat_lt, not}
-use Rattle.std.specs.Prelude.{slice_index_or, suc, true, zero, ℕ, ◌&&◌, ◌*◌, ◌++◌, ◌+◌, ◌-◌, ◌<◌, ◌==◌, ◌||◌, ◌∷◌}
-use Rattle.std.specs.Prelude.{◌≡◌}
+use Rattle.std.specs.Prelude.{[], Bool, codes, decimal, false, flat_map, if◌then◌else◌, length, List, nat_le, nat_lt}
+use Rattle.std.specs.Prelude.{not, slice_index_or, suc, true, zero, ℕ, ◌%◌, ◌&&◌, ◌*◌, ◌++◌, ◌+◌, ◌-◌, ◌/◌, ◌<◌, ◌==◌}
+use Rattle.std.specs.Prelude.{◌||◌, ◌∷◌, ◌≡◌}
 use Rattle.vt_picture.specs.declared.looks.CursorShape.TheVariants.{Block, Hidden, Outline, Underline}
 use Rattle.vt_picture.specs.declared.looks.CursorShape.{CursorShape}
 use Rattle.vt_picture.specs.declared.looks.Theme.TheVariants.{Amber, Dark, Green, Light}
@@ -16,6 +18,7 @@ use Rattle.vt_picture.specs.declared.looks.Theme.{Theme}
 use Rattle.vt_screen.specs.Grid.{Grid}
 use Rattle.vt_screen.specs.declared.cell.Cell.{Cell}
 use Rattle.vt_screen.specs.declared.cell.Rendition.{Rendition}
+use Rattle.vt_screen.specs.declared.size.Size.{Size}
 use Rattle.vt_term.specs.State.{Display}
 
 -- how many of these cells go on with a run of these attributes
@@ -134,9 +137,13 @@ first_of_look s row = first_like (row_of s.grid row) s.grid (row - 1) 1
 abbrev pub row_is_blank : Display → (row : ℕ) → Bool
 row_is_blank s row = is_empty (trimmed (row_of s.grid row))
 
+-- the first number of a frame. Each frame has eight numbers more than there are rows, so that no two have one in common
+abbrev pub first_number : Size → (frame : ℕ) → ℕ
+first_number size frame = (size.rows + 8) * frame
+
 -- the number of a row of a whole screen, in a frame of this number. The paper under the screen has that of a blank row
 abbrev pub number_on_screen : (frame : ℕ) → Display → (row : ℕ) → ℕ
-number_on_screen frame s row = 32 * frame + (if row_is_blank s row then 0 else first_of_look s row)
+number_on_screen frame s row = first_number s.grid.size frame + (if row_is_blank s row then 0 else first_of_look s row)
 
 -- a row of a whole screen; a blank one is there already
 unfoldable pub row_drawn : CursorShape → (duration frame : ℕ) → Display → (row : ℕ) → List ℕ
@@ -150,15 +157,21 @@ row_drawn shape duration frame s row =
 unfoldable pub rows_drawn : CursorShape → (duration frame count : ℕ) → Display → List ℕ
 rows_drawn shape duration frame count s = flat_map (λ r. row_drawn shape duration frame s r) (range_with_len 1 count)
 
--- the paper under a whole screen, in a group of any width, and a blank row
-unfoldable pub whole_paper : (duration frame : ℕ) → (reversed : Bool) → (width : ℕ) → List ℕ
-whole_paper duration frame reversed width =
-    codes "<rect" ++ paper reversed ++ codes " x='-20' y='-10' width='200%' height='100%'/>" ++ line_feed
-    ++ row_definition duration (32 * frame) reversed width []
+-- how many narrow screens side by side are as wide as a wide one
+abbrev pub narrow_screens : Size → ℕ
+narrow_screens size = div_ceil size.wide size.narrow
+
+-- the paper under a whole screen, and a blank row. The paper covers the picture also where a wide screen is drawn as wide as
+-- a narrow one
+unfoldable pub whole_paper : (duration frame : ℕ) → (reversed : Bool) → Size → (width : ℕ) → List ℕ
+whole_paper duration frame reversed size width =
+    codes "<rect" ++ paper reversed ++ codes " x='-" ++ decimal (10 * narrow_screens size)
+    ++ codes "' y='-10' width='" ++ decimal (100 * narrow_screens size) ++ codes "%' height='100%'/>" ++ line_feed
+    ++ row_definition duration (first_number size frame) reversed width []
 
 unfoldable pub screen_drawn : CursorShape → (duration frame : ℕ) → Display → List ℕ
 screen_drawn shape duration frame s =
-    whole_paper duration frame (is_reversed s) s.grid.width ++ rows_drawn shape duration frame last_row s
+    whole_paper duration frame (is_reversed s) s.grid.size s.grid.width ++ rows_drawn shape duration frame s.grid.size.rows s
 
 -- a row looks the same on two screens
 abbrev pub same_row : CursorShape → Display → Display → (row : ℕ) → Bool
@@ -168,15 +181,16 @@ same_row shape before s row =
 
 -- the first row of the screen before that looks like a row
 abbrev pub seen_at : Display → Display → (row : ℕ) → ℕ
-seen_at before s row = first_like (row_of s.grid row) before.grid last_row 1
+seen_at before s row = first_like (row_of s.grid row) before.grid before.grid.size.rows 1
 
 abbrev pub is_seen : Display → Display → (row : ℕ) → Bool
-is_seen before s row = nat_le (seen_at before s row) last_row
+is_seen before s row = nat_le (seen_at before s row) before.grid.size.rows
 
 -- the number of a row of a frame: that of a row of the screen before that looks like it, and otherwise a new one
 abbrev pub number_after : (frame : ℕ) → (numbers : List ℕ) → Display → Display → (row : ℕ) → ℕ
 number_after frame numbers before s row =
-    if is_seen before s row then slice_index_or numbers (seen_at before s row - 1) 0 else 32 * frame + first_of_look s row
+    if is_seen before s row then slice_index_or numbers (seen_at before s row - 1) 0
+    else first_number s.grid.size frame + first_of_look s row
 
 -- a row over what it was before; one that looks the same is left out
 unfoldable pub row_changed : CursorShape → (duration frame : ℕ) → (numbers : List ℕ) → Display → Display → (row : ℕ) → List ℕ
@@ -198,33 +212,56 @@ same_paper before s = same_bool (is_reversed before) (is_reversed s) && before.g
 
 abbrev pub changes_drawn : CursorShape → (duration frame : ℕ) → (numbers : List ℕ) → Display → Display → List ℕ
 changes_drawn shape duration frame numbers before s =
-    if same_paper before s then rows_changed shape duration frame last_row numbers before s
+    if same_paper before s then rows_changed shape duration frame s.grid.size.rows numbers before s
     else screen_drawn shape duration frame s
+
+-- the number of a row after a frame
+abbrev pub number_then : (frame : ℕ) → (numbers : List ℕ) → Display → Display → (row : ℕ) → ℕ
+number_then frame numbers before s row =
+    if same_paper before s then number_after frame numbers before s row else number_on_screen frame s row
 
 -- each row has its number after a frame
 abbrev pub AreNumbered : (frame : ℕ) → (numbers : List ℕ) → Display → Display → (after : List ℕ) → Type 0
 AreNumbered frame numbers before s after =
-    (i : ℕ) → i < last_row → slice_index_or after i 0
-    ≡ (if same_paper before s then number_after frame numbers before s (i + 1) else number_on_screen frame s (i + 1))
+    (i : ℕ) → i < length after → slice_index_or after i 0 ≡ number_then frame numbers before s (i + 1)
+
+-- the digit of a unit, unless nothing is left
+abbrev pub digit : (unit left : ℕ) → List ℕ
+digit unit left = when (not (left == 0)) ((0x30 + left / unit) ∷ [])
+
+-- the five digits of a part of 100000, without the zeros at their end
+unfoldable pub fraction : ℕ → List ℕ
+fraction n = digit 10000 n ++ digit 1000 (n % 10000) ++ digit 100 (n % 1000) ++ digit 10 (n % 100) ++ digit 1 (n % 10)
+
+-- a ratio as CSS spells a number, with five decimal places at most: no zero before the point, and none at the end
+unfoldable pub ratio : (upper lower : ℕ) → List ℕ
+ratio upper lower =
+    when (not (upper / lower == 0)) (decimal (upper / lower))
+    ++ when (not (upper % lower == 0)) (codes "." ++ fraction (100000 * (upper % lower) / lower))
+
+-- how many times the other width of a size is one of them
+abbrev pub stretch : Size → (width : ℕ) → List ℕ
+stretch size width = if width == size.narrow then ratio size.wide size.narrow else ratio size.narrow size.wide
+
+unfoldable pub scale : Size → (width : ℕ) → List ℕ
+scale size width = codes " transform='scale(" ++ stretch size width ++ codes " 1)'"
 
 -- a screen of the other width is drawn as wide as the picture
-abbrev pub squeezed : (columns width : ℕ) → List ℕ
-squeezed columns width =
-    when (not (width == columns))
-    (if width == 80 then codes " transform='scale(1.65 1)'" else codes " transform='scale(.60606 1)'")
+abbrev pub squeezed : Size → (columns width : ℕ) → List ℕ
+squeezed size columns width = when (not (width == columns)) (scale size width)
 
 -- the start of a frame that is shown after so many microseconds, in a picture of so many columns
-unfoldable pub frame_start : (columns micros : ℕ) → (reversed : Bool) → (width : ℕ) → List ℕ
-frame_start columns micros reversed width =
+unfoldable pub frame_start : Size → (columns micros : ℕ) → (reversed : Bool) → (width : ℕ) → List ℕ
+frame_start size columns micros reversed width =
     codes "<g class='vt220-f' style='--vt220-t:" ++ decimal micros ++ codes "'"
-    ++ ink reversed ++ squeezed columns width ++ codes ">" ++ line_feed
+    ++ ink reversed ++ squeezed size columns width ++ codes ">" ++ line_feed
 
 abbrev pub group_end : List ℕ
 group_end = codes "</g>" ++ line_feed
 
 unfoldable pub frame : CursorShape → (duration columns number micros : ℕ) → (numbers : List ℕ) → Display → Display → List ℕ
 frame shape duration columns number micros numbers before s =
-    frame_start columns micros (is_reversed s) s.grid.width ++ changes_drawn shape duration number numbers before s ++ group_end
+    frame_start s.grid.size columns micros (is_reversed s) s.grid.width ++ changes_drawn shape duration number numbers before s ++ group_end
 
 -- a byte of the title; &, < and > by the entities of XML, and a space for a control character, which XML lacks
 abbrev pub title_byte : ℕ → List ℕ
@@ -233,14 +270,6 @@ title_byte b =
     if b == 0x3C then codes "&lt;" else (
     if b == 0x3E then codes "&gt;" else (
     if nat_lt b 0x20 then 0x20 ∷ [] else b ∷ [])))
-
--- its start, up to the title
-unfoldable pub animation_start : ℕ → List ℕ
-animation_start columns =
-    codes "<svg xmlns='http://www.w3.org/2000/svg' viewBox='-10 -10 " ++ decimal (width_of (columns + 2))
-    ++ codes " 452' width='" ++ decimal (width_of (columns + 2))
-    ++ codes "' height='452' role='img' xml:space='preserve'>" ++ line_feed
-    ++ codes "<title>"
 
 -- what hides a frame until its time, again and again, unless the reader wants no motion, and the colours of the theme in
 -- place of the light and the dark one. The times and the colours are properties, so an HTML page may hold several
@@ -274,19 +303,20 @@ moving_start theme duration =
     ++ codes "' direction='ltr' font-style='normal' font-weight='normal' letter-spacing='0' word-spacing='0'>" ++ line_feed
 
 -- the start of the screen at the beginning
-unfoldable pub first_start : (columns : ℕ) → (reversed : Bool) → (width : ℕ) → List ℕ
-first_start columns reversed width = codes "<g" ++ ink reversed ++ squeezed columns width ++ codes ">" ++ line_feed
+unfoldable pub first_start : Size → (columns : ℕ) → (reversed : Bool) → (width : ℕ) → List ℕ
+first_start size columns reversed width =
+    codes "<g" ++ ink reversed ++ squeezed size columns width ++ codes ">" ++ line_feed
 
 -- the screen at the beginning, in a picture of so many columns
 unfoldable pub first_screen : CursorShape → (duration columns : ℕ) → Display → List ℕ
 first_screen shape duration columns s =
-    first_start columns (is_reversed s) s.grid.width ++ screen_drawn shape duration 0 s ++ group_end
+    first_start s.grid.size columns (is_reversed s) s.grid.width ++ screen_drawn shape duration 0 s ++ group_end
 
 -- everything up to the first frame, in a picture of so many columns: the text alternative is that of the last screen
 unfoldable pub animation_head : Theme → CursorShape → (title : List ℕ) → (duration columns : ℕ) → Display → Display → List ℕ
 animation_head theme shape title duration columns first last =
-    animation_start columns ++ flat_map title_byte title ++ codes "</title>" ++ line_feed ++ codes "<desc>"
-    ++ alternative last_row last.grid ++ style ++ moving_style ++ moving_start theme duration
+    document_start last.grid.size.rows columns ++ flat_map title_byte title ++ title_end
+    ++ alternative last.grid.size.rows last.grid ++ style ++ moving_style ++ moving_start theme duration
     ++ first_screen shape duration columns first
 
 abbrev pub animation_end : List ℕ

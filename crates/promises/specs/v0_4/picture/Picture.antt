@@ -1,7 +1,7 @@
 -- 0.4: vt_picture/specs/Picture.
 use Rattle.promises.specs.v0_4.picture.Looks.{is_blank, trimmed}
 use Rattle.promises.specs.v0_4.screen.Cells.{blank}
-use Rattle.promises.specs.v0_4.screen.Grid.{last_row, row_of}
+use Rattle.promises.specs.v0_4.screen.Grid.{row_of}
 use Rattle.promises.specs.v0_4.screen.Same.{same_rendition, when}
 use Rattle.promises.specs.v0_4.term.Modes.{is_set, private_values}
 use Rattle.std.specs.List.{range_with_len}
@@ -28,6 +28,10 @@ left_of col = 10 * (col - 1)
 
 abbrev pub width_of : ℕ → ℕ
 width_of columns = 10 * columns
+
+-- the height of some rows, with a margin above and below them
+abbrev pub height_of : ℕ → ℕ
+height_of rows = 18 * rows + 20
 
 -- the top edge of a row, and the baseline of its characters
 abbrev pub top_of : ℕ → ℕ
@@ -123,14 +127,19 @@ alternative_line cells = flat_map (λ cell. escaped cell.glyph) (trimmed cells) 
 unfoldable pub alternative : ℕ → Grid → List ℕ
 alternative count g = flat_map (λ r. alternative_line (row_of g r)) (range_with_len 1 count)
 
--- its start, up to the text alternative. Around the cells is a margin as wide as a column
-unfoldable pub document_start : ℕ → List ℕ
-document_start columns =
+-- its start, up to the title. Around the cells is a margin as wide as a column
+unfoldable pub document_start : (rows columns : ℕ) → List ℕ
+document_start rows columns =
     codes "<svg xmlns='http://www.w3.org/2000/svg' viewBox='-10 -10 " ++ decimal (width_of (columns + 2))
-    ++ codes " 452' width='" ++ decimal (width_of (columns + 2))
-    ++ codes "' height='452' role='img' xml:space='preserve'>" ++ line_feed
-    ++ codes "<title>VT220 screen</title>" ++ line_feed
-    ++ codes "<desc>"
+    ++ codes " " ++ decimal (height_of rows)
+    ++ codes "' width='" ++ decimal (width_of (columns + 2))
+    ++ codes "' height='" ++ decimal (height_of rows)
+    ++ codes "' role='img' xml:space='preserve'>" ++ line_feed
+    ++ codes "<title>"
+
+-- the end of the title, and the start of the text alternative
+abbrev pub title_end : List ℕ
+title_end = codes "</title>" ++ line_feed ++ codes "<desc>"
 
 -- the style, the same in every picture. Its names are of pictures alone, and no two of its rules set the same property,
 -- so an HTML page may hold several
@@ -161,13 +170,14 @@ cursor_picture s = when (is_set private_values 25 s.modes) (rectangle outline s.
 unfoldable pub group : Display → List ℕ
 group s =
     group_start (is_set private_values 5 s.modes)
-    ++ rows_picture (is_set private_values 5 s.modes) last_row s.grid
+    ++ rows_picture (is_set private_values 5 s.modes) s.grid.size.rows s.grid
     ++ cursor_picture s
     ++ codes "</g>" ++ line_feed
 
 unfoldable pub picture_of : Display → List ℕ
 picture_of s =
-    document_start s.grid.width ++ alternative last_row s.grid ++ style ++ group s ++ codes "</svg>" ++ line_feed
+    document_start s.grid.size.rows s.grid.width ++ codes "VT220 screen" ++ title_end
+    ++ alternative s.grid.size.rows s.grid ++ style ++ group s ++ codes "</svg>" ++ line_feed
 
 abbrev pub picture : State → List ℕ
 picture s = picture_of s.display

@@ -1,7 +1,7 @@
 -- 0.4: vt_picture/specs/Show.
 use Rattle.promises.specs.v0_4.picture.Looks.{trimmed}
 use Rattle.promises.specs.v0_4.screen.Cells.{plain}
-use Rattle.promises.specs.v0_4.screen.Grid.{last_row, row_of}
+use Rattle.promises.specs.v0_4.screen.Grid.{row_of}
 use Rattle.promises.specs.v0_4.screen.Same.{same_rendition, when}
 use Rattle.std.specs.List.{range_with_len}
 use Rattle.std.specs.Prelude.{[], codes, encode_utf8, flat_map, List, not, ℕ, ◌++◌, ◌∷◌}
@@ -36,4 +36,4 @@ unfoldable pub shown_lines : ℕ → Grid → List ℕ
 shown_lines count g = flat_map (λ r. shown_line (row_of g r)) (range_with_len 1 count)
 
 abbrev pub show : State → List ℕ
-show s = shown_lines last_row s.display.grid
+show s = shown_lines s.display.grid.size.rows s.display.grid

@@ -1,6 +1,6 @@
 -- 0.4: vt_recording/specs/Asciicast.
-use Rattle.json.specs.Find.{as_number, get}
-use Rattle.json.specs.Json.{document, Json}
+use Rattle.json.specs.Find.{as_number, as_str, at as nth, get}
+use Rattle.json.specs.Json.{array, document, item, Items, Json, no_items}
 use Rattle.json.specs.Lex.{tokens}
 use Rattle.json.specs.Token as token
 use Rattle.json.specs.Token.{Token}
@@ -9,9 +9,9 @@ use Rattle.promises.specs.v0_4.recording.Script.{begins_with}
 use Rattle.promises.specs.v0_4.recording.Seconds.{micros_of_number}
 use Rattle.std.specs.Char.{is_ascii_whitespace}
 use Rattle.std.specs.List.{prefix_len, starts_with}
-use Rattle.std.specs.Prelude.{None, Option, option_and_then, option_map, Some, true, ℕ, ◌&&◌, ◌++◌, ◌+◌, ◌-◌, ◌^◌}
-use Rattle.std.specs.Prelude.{[], Bool, bytes_eq, chars, codes, cond, drop, false, length, List, min, nat_eq, nat_le}
-use Rattle.std.specs.Prelude.{◌||◌, ◌∷◌}
+use Rattle.std.specs.Prelude.{[], Bool, bytes_eq, chars, codes, cond, drop, false, is_some, length, List, min, nat_eq}
+use Rattle.std.specs.Prelude.{nat_le, None, Option, option_and_then, option_map, Some, true, ℕ, ◌&&◌, ◌++◌, ◌+◌, ◌-◌}
+use Rattle.std.specs.Prelude.{◌^◌, ◌||◌, ◌∷◌}
 use Rattle.std.specs.Str.Lossy.{utf8_valid_len}
 use Rattle.vt_recording.specs.Asciicast.{Cast}
 
@@ -87,9 +87,9 @@ event_in line = cond (is_text line) (event_of (tokens line)) None
 abbrev pub is_silent : (version : ℕ) → List ℕ → Bool
 is_silent version line = nat_eq (length line) 0 || (nat_eq version 3 && starts_with nat_eq line (0x23 ∷ []))
 
--- the time of an event: in version 3 its number counts from the event before. It stops at 2^64 - 1
+-- the time of an event: in versions 1 and 3 its number counts from the event before. It stops at 2^64 - 1
 abbrev pub clock_after : (version clock micros : ℕ) → ℕ
-clock_after version clock micros = cond (nat_eq version 3) (min (clock + micros) (2 ^ 64 - 1)) micros
+clock_after version clock micros = cond (nat_eq version 2) micros (min (clock + micros) (2 ^ 64 - 1))
 
 abbrev pub in_time : (until : Option ℕ) → (time : ℕ) → Bool
 in_time None time = true
@@ -135,16 +135,50 @@ cast_of version until clock at (line ∷ lines) =
     (heard_in (is_silent version line) (event_in line) version until clock) at
     (λ now. cast_of version until now (at + (length line + 1)) lines)
 
--- the lines after the first one, by its version
-abbrev pub cast_by : (version : Option ℕ) → (until : Option ℕ) → (at : ℕ) → List (List ℕ) → Cast
-cast_by None until at lines = record { characters = []; broken = Some 0 }
-cast_by (Some version) until at lines = cast_of version until 0 at lines
+-- a frame is an array of a number and a string, and is output
+abbrev pub frame_of : Json → Option Event
+frame_of value =
+    cond (is_some (nth 2 value)) None
+    (event_from (option_and_then as_number (nth 0 value)) (Some (codes "o")) (option_and_then as_str (nth 1 value)))
+
+abbrev pub is_one : Option (List ℕ) → Bool
+is_one None = false
+is_one (Some number) = bytes_eq number (codes "1")
+
+abbrev pub names_one : Json → Bool
+names_one value = is_one (option_and_then as_number (get (codes "version") value))
+
+abbrev pub items_in : Json → Option Items
+items_in (array items) = Some items
+items_in _ = None
+
+abbrev pub frames_of : Json → Option Items
+frames_of value = cond (names_one value) (option_and_then items_in (get (codes "stdout") value)) None
+
+-- the frames of a text
+abbrev pub frames_in : List ℕ → Option Items
+frames_in text = option_and_then frames_of (document_in text)
+
+unfoldable pub cast_of_frames : (until : Option ℕ) (clock : ℕ) → Items → Cast
+cast_of_frames until clock no_items = record { characters = []; broken = None }
+cast_of_frames until clock (item frame frames) =
+    and_then (time_behind false (frame_of frame) 1 clock) (heard_in false (frame_of frame) 1 until clock) 0
+    (λ now. cast_of_frames until now frames)
+
+-- a recording of no version is broken at its first byte
+abbrev pub cast_by_frames : (until : Option ℕ) → Option Items → Cast
+cast_by_frames until None = record { characters = []; broken = Some 0 }
+cast_by_frames until (Some frames) = cast_of_frames until 0 frames
+
+abbrev pub cast_by : (version : Option ℕ) → (frames : Option Items) → (until : Option ℕ) → (at : ℕ) → List (List ℕ) → Cast
+cast_by None frames until at lines = cast_by_frames until frames
+cast_by (Some version) frames until at lines = cast_of version until 0 at lines
 
 -- the lines starting at a byte
-abbrev pub cast_from : (until : Option ℕ) → (start : ℕ) → List (List ℕ) → Cast
-cast_from until start [] = record { characters = []; broken = Some 0 }
-cast_from until start (header ∷ lines) = cast_by (version_in header) until (start + (length header + 1)) lines
+abbrev pub cast_from : (frames : Option Items) → (until : Option ℕ) → (start : ℕ) → List (List ℕ) → Cast
+cast_from frames until start [] = cast_by_frames until frames
+cast_from frames until start (header ∷ lines) = cast_by (version_in header) frames until (start + (length header + 1)) lines
 
 -- a recording
 abbrev pub asciicast : (until : Option ℕ) → (bytes : List ℕ) → Cast
-asciicast until bytes = cast_from until (start_of bytes) (lines_of (json_text bytes))
+asciicast until bytes = cast_from (frames_in (json_text bytes)) until (start_of bytes) (lines_of (json_text bytes))

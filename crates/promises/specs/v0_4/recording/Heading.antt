@@ -1,7 +1,7 @@
 -- 0.4: vt_recording/specs/Heading.
 use Rattle.json.specs.Find.{as_number, as_str, get}
 use Rattle.json.specs.Json.{Json}
-use Rattle.promises.specs.v0_4.recording.Asciicast.{document_in, json_text, version_of}
+use Rattle.promises.specs.v0_4.recording.Asciicast.{document_in, json_text, names_one, version_of}
 use Rattle.promises.specs.v0_4.recording.Lines.{front_line}
 use Rattle.promises.specs.v0_4.recording.Script.{begins_with, first_words, stripped}
 use Rattle.promises.specs.v0_4.recording.Seconds.{number}
@@ -67,12 +67,17 @@ abbrev pub by_version : Option ℕ → Json → Heading
 by_version None header = nothing
 by_version (Some version) header = cond (nat_eq version 3) (by_term header) (by_env header)
 
+-- that of version 1 has the members of version 2
 abbrev pub in_header : Json → Heading
-in_header header = by_version (version_of header) header
+in_header header = cond (names_one header) (by_env header) (by_version (version_of header) header)
 
 abbrev pub in_document : Option Json → Heading
 in_document None = nothing
 in_document (Some header) = in_header header
+
+-- the object on the first line, or that of all lines, as in version 1
+abbrev pub header_in : List ℕ → Option Json
+header_in text = option_or (document_in (front_line text)) (document_in text)
 
 -- the text after the last place that has these words
 unfoldable pub after_last : (words text : List ℕ) → Option (List ℕ)
@@ -103,4 +108,4 @@ abbrev pub heading_of : Format → List ℕ → Heading
 heading_of format.Raw bytes = nothing
 heading_of format.Script bytes = in_line (front_line bytes)
 heading_of format.Ttyrec bytes = nothing
-heading_of format.Asciicast bytes = in_document (document_in (front_line (json_text bytes)))
+heading_of format.Asciicast bytes = in_document (header_in (json_text bytes))

@@ -1,4 +1,5 @@
 -- 0.4: vt_recording/specs/Timeline.
+use Rattle.json.specs.Json.{item, Items, no_items}
 use Rattle.promises.specs.v0_4.recording.Asciicast as cast
 use Rattle.promises.specs.v0_4.recording.Asciicast.{in_time}
 use Rattle.promises.specs.v0_4.recording.Characters.{AreWritten}
@@ -100,17 +101,29 @@ cast_events version clock at (line ∷ lines) =
     (told_in (cast.is_silent version line) (cast.event_in line) version clock) at
     (λ now. cast_events version now (at + (length line + 1)) lines)
 
--- the lines after the first one, by its version
-abbrev pub cast_by : (version : Option ℕ) → (at : ℕ) → List (List ℕ) → Timeline
-cast_by None at lines = ends_at (in_recording (Some 0))
-cast_by (Some version) at lines = cast_events version 0 at lines
+-- the frames of version 1
+unfoldable pub frame_events : (clock : ℕ) → Items → Timeline
+frame_events clock no_items = ends_at None
+frame_events clock (item frame frames) =
+    and_then (cast.time_behind false (cast.frame_of frame) 1 clock) (told_in false (cast.frame_of frame) 1 clock) 0
+    (λ now. frame_events now frames)
 
-abbrev pub cast_from : (start : ℕ) → List (List ℕ) → Timeline
-cast_from start [] = ends_at (in_recording (Some 0))
-cast_from start (header ∷ lines) = cast_by (cast.version_in header) (start + (length header + 1)) lines
+abbrev pub events_by_frames : Option Items → Timeline
+events_by_frames None = ends_at (in_recording (Some 0))
+events_by_frames (Some frames) = frame_events 0 frames
+
+-- the version is in the first line, or it is 1
+abbrev pub cast_by : (version : Option ℕ) → (frames : Option Items) → (at : ℕ) → List (List ℕ) → Timeline
+cast_by None frames at lines = events_by_frames frames
+cast_by (Some version) frames at lines = cast_events version 0 at lines
+
+abbrev pub cast_from : (frames : Option Items) → (start : ℕ) → List (List ℕ) → Timeline
+cast_from frames start [] = events_by_frames frames
+cast_from frames start (header ∷ lines) = cast_by (cast.version_in header) frames (start + (length header + 1)) lines
 
 abbrev pub asciicast : (bytes : List ℕ) → Timeline
-asciicast bytes = cast_from (cast.start_of bytes) (lines_of (cast.json_text bytes))
+asciicast bytes =
+    cast_from (cast.frames_in (cast.json_text bytes)) (cast.start_of bytes) (lines_of (cast.json_text bytes))
 
 -- the text after a name in a line of a signal
 abbrev pub signal_in : (name line : List ℕ) → Option (List ℕ)

@@ -2,32 +2,25 @@
 use Rattle.promises.specs.v0_4.picture.Animation.{animation_end, animation_head, frame, number_after}
 use Rattle.promises.specs.v0_4.picture.Animation.{number_on_screen, same_paper}
 use Rattle.promises.specs.v0_4.recording.Gathered.{events_of}
-use Rattle.promises.specs.v0_4.recording.Moment.{micros_of}
-use Rattle.promises.specs.v0_4.recording.Reached.{has_characters, steps_in}
-use Rattle.promises.specs.v0_4.recording.Timeline.{IsTimelineOf}
 use Rattle.promises.specs.v0_4.replay.Playing.{played_as}
 use Rattle.promises.specs.v0_4.replay.Session.{is_empty}
+use Rattle.promises.specs.v0_4.replay.Steps.{Step}
 use Rattle.promises.specs.v0_4.screen.Grid.{last_row}
 use Rattle.std.specs.List.{range_with_len}
 use Rattle.std.specs.Prelude.{[], codes, cond, fold, if◌then◌else◌, List, map, max, min, None, Option, Some}
-use Rattle.std.specs.Prelude.{string_bytes, ℕ, ◌++◌, ◌+◌, ◌-◌, ◌^◌, ◌∷◌, ◌≡◌}
+use Rattle.std.specs.Prelude.{string_bytes, ℕ, ◌++◌, ◌+◌, ◌-◌, ◌^◌, ◌∷◌}
 use Rattle.std.specs.declared.alloc.Global.{Global}
 use Rattle.std.specs.declared.string.String.{String}
 use Rattle.vt_cli.specs.declared.what.Looks.{Looks}
 use Rattle.vt_picture.specs.declared.looks.CursorShape.{CursorShape}
-use Rattle.vt_recording.specs.Reached.{IsTakenBetween}
-use Rattle.vt_recording.specs.Timeline.{Event, Timeline}
+use Rattle.vt_recording.specs.Timeline.{Event}
 use Rattle.vt_recording.specs.declared.format.Break.{Break}
 use Rattle.vt_recording.specs.declared.format.Encoding.{Encoding}
 use Rattle.vt_recording.specs.declared.format.Format.{Format}
 use Rattle.vt_recording.specs.declared.format.Moment.{Moment}
-use Rattle.vt_recording.specs.declared.timeline.Event as mark
+use Rattle.vt_replay.specs.Steps.{IsStepped}
 use Rattle.vt_replay.specs.declared.language.Language.{Language}
 use Rattle.vt_term.specs.State.{Display}
-
--- an event without its bytes
-abbrev pub Step : Type 0
-Step = mark.Event
 
 -- those of the screen at the beginning
 unfoldable pub first_numbers : Display → List ℕ
@@ -86,13 +79,9 @@ animation shows looks title opening content steps =
 abbrev pub shown_after : Language → List ℕ → Display
 shown_after language bytes = (played_as language bytes).state.display
 
--- the picture of a recording up to a moment, and where that breaks its format. Its events are those of its content
-pub record IsAnimation' (looks : Looks) (title opening : List ℕ) (language : Language) (format : Format) (encoding : Encoding)
-    (until : Option Moment) (timing : Option (List ℕ)) (bytes picture : List ℕ) (broken : Option Break) (replaced : ℕ) : Type 0 where
-  pub content : List ℕ
-  pub taken : IsTakenBetween format encoding None until timing bytes content broken replaced
-  pub timeline : Timeline
-  pub is_of : IsTimelineOf format timing bytes timeline
-  pub picture_is : picture
-      ≡ animation (shown_after language) looks title opening content
-      (steps_in (has_characters format encoding) (micros_of until) timeline.events)
+-- the picture of a recording up to a moment, and where that breaks its format
+abbrev pub IsAnimation : Looks → (title opening : List ℕ) → Language → Format → Encoding → (until : Option Moment) → (timing : Option (List ℕ))
+    → (bytes picture : List ℕ) → (broken : Option Break) → (replaced : ℕ) → Type 0
+IsAnimation looks title opening language format encoding until timing bytes picture broken replaced =
+    IsStepped (λ content steps. animation (shown_after language) looks title opening content steps) format encoding until timing bytes picture broken
+    replaced

@@ -1,9 +1,13 @@
 -- 0.4: vt_replay/specs/Host.
+use Rattle.promises.specs.v0_4.cli.Source.{size_of}
 use Rattle.promises.specs.v0_4.recording.Heading.{heading_of}
-use Rattle.std.specs.Prelude.{[], Bool, codes, cond, false, List, nat_eq, None, Option, Some, unwrap_or, ℕ, ◌++◌, ◌∷◌}
+use Rattle.promises.specs.v0_4.replay.Sized.{plays_sizes}
+use Rattle.promises.specs.v0_4.screen.Sizes.{vt220_size}
+use Rattle.std.specs.Prelude.{[], Bool, codes, cond, false, List, nat_eq, None, Option, Some, unwrap_or, ℕ, ◌&&◌}
+use Rattle.std.specs.Prelude.{◌++◌, ◌||◌, ◌∷◌}
 use Rattle.vt_cli.specs.declared.asked.Request.{Request}
-use Rattle.vt_cli.specs.declared.what.Word.TheVariants.{Animation, Content, Events, Log, Pages, Replay, Summary}
-use Rattle.vt_cli.specs.declared.what.Word.TheVariants.{Trace}
+use Rattle.vt_cli.specs.declared.what.Word.TheVariants.{Animation, Content, Events, Log, Pages, Replay, Search}
+use Rattle.vt_cli.specs.declared.what.Word.TheVariants.{Summary, Trace}
 use Rattle.vt_cli.specs.declared.what.Word.{Word}
 use Rattle.vt_recording.specs.declared.format.Encoding.TheVariants.{Dec, Utf8}
 use Rattle.vt_recording.specs.declared.format.Encoding.{Encoding}
@@ -13,6 +17,7 @@ use Rattle.vt_recording.specs.declared.format.TerminalType.TheVariants.{Vt220, X
 use Rattle.vt_recording.specs.declared.format.TerminalType.{TerminalType}
 use Rattle.vt_recording.specs.declared.heading.Heading.{Heading}
 use Rattle.vt_replay.specs.declared.host.Host.{Host}
+use Rattle.vt_screen.specs.declared.size.Size.{Size}
 
 -- the terminal that was asked for, otherwise the one that the recording names, otherwise a VT220. Only a VT220 reads dec
 abbrev pub terminal_for : (wanted : Option TerminalType) → Option Encoding → (named : Option TerminalType) → TerminalType
@@ -49,14 +54,45 @@ named_for Trace named = named
 named_for Summary named = named
 named_for Events named = None
 named_for Content named = None
+named_for Search named = named
 
-abbrev pub host_by : TerminalType → Request → Format → (columns : Option ℕ) → Host
-host_by terminal r format columns =
-    record { terminal = terminal; encoding = encoding_for terminal r.encoding format; wide = wide_for r.wide columns }
+-- the word plays a screen of any size
+abbrev pub takes_size : Word → Bool
+takes_size (Replay what) = plays_sizes what
+takes_size word = false
+
+-- a VT220's screen: 24 rows of 80 or 132 columns
+abbrev pub is_vt220 : (columns rows : ℕ) → Bool
+is_vt220 columns rows = nat_eq rows 24 && (nat_eq columns 80 || nat_eq columns 132)
+
+-- the size that the recording names, if it isn't a VT220's and a screen may have it
+abbrev pub size_named : (columns rows : Option ℕ) → Option Size
+size_named (Some columns) (Some rows) = cond (is_vt220 columns rows) None (size_of columns rows)
+size_named columns rows = None
+
+-- the size that was asked for, otherwise the one that the recording names, if the width wasn't asked for and the word plays it
+abbrev pub size_for : Word → (wanted : Option Size) → (wide : Option Bool) → (columns rows : Option ℕ) → Option Size
+size_for word (Some size) wide columns rows = Some size
+size_for word None (Some wide) columns rows = None
+size_for word None None columns rows = cond (takes_size word) (size_named columns rows) None
+
+-- a VT220's screen alone is made 132 columns wide
+abbrev pub wide_on : Option Size → (wanted : Option Bool) → (columns : Option ℕ) → Bool
+wide_on (Some size) wanted columns = false
+wide_on None wanted columns = wide_for wanted columns
+
+abbrev pub host_by : TerminalType → Request → Format → (columns rows : Option ℕ) → Host
+host_by terminal r format columns rows =
+    let size = size_for r.word r.size r.wide columns rows in record {
+      terminal = terminal;
+      encoding = encoding_for terminal r.encoding format;
+      wide = wide_on size r.wide columns;
+      size = unwrap_or size vt220_size;
+    }
 
 abbrev pub host_for : Request → Format → Heading → Host
 host_for r format heading =
-    host_by (terminal_for r.terminal r.encoding (named_for r.word heading.terminal)) r format heading.columns
+    host_by (terminal_for r.terminal r.encoding (named_for r.word heading.terminal)) r format heading.columns heading.rows
 
 -- for what the host of a recording sent
 abbrev pub host_of : Request → Format → (bytes : List ℕ) → Host
@@ -77,7 +113,7 @@ widening_shown Vt220 = []
 widening_shown Xterm = widening Xterm
 
 -- the bytes that are played before those of a recording. A trace and a summary are of what the host sent alone. A picture that
--- moves is ready before it is written
+-- moves and the spans of a search are ready before they are written
 abbrev pub opening : Word → Host → List ℕ
 opening (Replay what) host = cond host.wide (widening host.terminal) []
 opening (Animation looks) host = []
@@ -87,3 +123,4 @@ opening Trace host = []
 opening Summary host = []
 opening Events host = []
 opening Content host = cond host.wide (widening_shown host.terminal) []
+opening Search host = []

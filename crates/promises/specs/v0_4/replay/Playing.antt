@@ -1,11 +1,13 @@
 -- 0.4: vt_replay/specs/Playing.
 use Rattle.promises.specs.v0_4.output.Output.{nothing, OutputTable}
 use Rattle.promises.specs.v0_4.replay.Due.{end_by, sent_by, there_by}
-use Rattle.promises.specs.v0_4.replay.Session.{is_of_session, session, session_is_there, session_repaint}
+use Rattle.promises.specs.v0_4.replay.Session.{session_at, session_is_there, session_repaint}
+use Rattle.promises.specs.v0_4.screen.Sizes.{vt220_size}
 use Rattle.promises.specs.v0_4.term.Play.{play}
-use Rattle.promises.specs.v0_4.term.State.{power_up}
+use Rattle.promises.specs.v0_4.term.State.{state_of}
 use Rattle.promises.specs.v0_4.utf8.Play.{play_utf8}
-use Rattle.std.specs.Prelude.{[], Bool, false, List, Result, true, ℕ}
+use Rattle.std.specs.Prelude.{[], Bool, List, Result, ℕ}
+use Rattle.vt_cli.specs.declared.what.What.TheVariants.{Repaint}
 use Rattle.vt_cli.specs.declared.what.What.{What}
 use Rattle.vt_device.specs.Runs.{Flags}
 use Rattle.vt_recording.specs.declared.fault.Fault.{Fault}
@@ -16,6 +18,7 @@ use Rattle.vt_recording.specs.declared.format.TerminalType.{TerminalType}
 use Rattle.vt_replay.specs.Playing.{Due}
 use Rattle.vt_replay.specs.declared.language.Language.TheVariants.{Dec, Utf8, Xterm}
 use Rattle.vt_replay.specs.declared.language.Language.{Language}
+use Rattle.vt_screen.specs.declared.size.Size.{Size}
 use Rattle.vt_term.specs.Play.{Played}
 use Rattle.vt_xterm.specs.Play.{WholePlayed}
 
@@ -29,11 +32,15 @@ language_of terminal.Xterm encoding = Xterm
 abbrev pub on_terminal : WholePlayed → Played
 on_terminal p = record { state = p.whole.state; reports = p.reports }
 
--- what all the bytes of a host leave and report, from power-up
+-- what all the bytes of a host leave and report, from power-up of a terminal of a size
+abbrev pub played_at : Size → Language → List ℕ → Played
+played_at size Dec bytes = play (state_of size) bytes
+played_at size Utf8 bytes = play_utf8 (state_of size) [] bytes
+played_at size Xterm bytes = on_terminal (session_at size bytes)
+
+-- of a VT220's size
 abbrev pub played_as : Language → List ℕ → Played
-played_as Dec bytes = play power_up bytes
-played_as Utf8 bytes = play_utf8 power_up [] bytes
-played_as Xterm bytes = on_terminal (session bytes)
+played_as language bytes = played_at vt220_size language bytes
 
 -- what is due of a replay: as the host's bytes come, and at their end, and whether that is there
 pub record Due' : Type 0 where
@@ -41,18 +48,26 @@ pub record Due' : Type 0 where
   pub ending : List ℕ → List ℕ
   pub there : List ℕ → Bool
 
-abbrev pub replay_by : (of_session : Bool) → Language → What → Due
-replay_by true language what = record { written = nothing; ending = session_repaint; there = session_is_there }
-replay_by false language what =
-    let played = played_as language in
-    record { written = sent_by played what; ending = end_by played what; there = there_by played what }
+-- by what the bytes leave and report
+abbrev pub due_by : (played : List ℕ → Played) → What → Due
+due_by played what = record { written = sent_by played what; ending = end_by played what; there = there_by played what }
 
--- a repaint under TERM=xterm is of the whole session, everything else of the terminal
-abbrev pub replayed : Language → What → Due
-replayed language what = replay_by (is_of_session language what) language what
+-- a repaint is of a VT220's size. Under TERM=xterm it is of the whole session, everything else of the terminal
+abbrev pub repainted : Language → Due
+repainted Xterm = record { written = nothing; ending = session_repaint; there = session_is_there }
+repainted language = due_by (played_as language) Repaint
 
--- what each answer of a replay says of a host's bytes in a language
-abbrev pub ReplayTable : Language → What → Result (Unit {0}) Fault → (piece : ℕ) → (b w : List ℕ) → Flags → (limit : ℕ) → Type 0
-ReplayTable language what result piece b w f limit =
-    let due = replayed language what in
+-- on a screen of a size
+abbrev pub replayed_at : Size → Language → What → Due
+replayed_at size language Repaint = repainted language
+replayed_at size language what = due_by (played_at size language) what
+
+-- what each answer of a replay on a screen of a size says of a host's bytes in a language
+abbrev pub SizedReplayTable : Size → Language → What → Result (Unit {0}) Fault → (piece : ℕ) → (b w : List ℕ) → Flags → (limit : ℕ) → Type 0
+SizedReplayTable size language what result piece b w f limit =
+    let due = replayed_at size language what in
     OutputTable due.written due.ending due.there result piece b w f limit
+
+-- and on a VT220's
+abbrev pub ReplayTable : Language → What → Result (Unit {0}) Fault → (piece : ℕ) → (b w : List ℕ) → Flags → (limit : ℕ) → Type 0
+ReplayTable language what result piece b w f limit = SizedReplayTable vt220_size language what result piece b w f limit

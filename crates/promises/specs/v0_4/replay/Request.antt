@@ -1,17 +1,18 @@
 -- 0.4: vt_replay/specs/Request.
 use Rattle.promises.specs.v0_4.recording.Detection.{detected}
 use Rattle.promises.specs.v0_4.recording.Reading.{ReadTable}
-use Rattle.promises.specs.v0_4.replay.Animated.{title_of}
+use Rattle.promises.specs.v0_4.replay.Animated.{IsAnimation, title_of}
 use Rattle.promises.specs.v0_4.replay.EventTable.{IsTableTaken}
 use Rattle.promises.specs.v0_4.replay.Host.{host_of, opening, plain_host}
 use Rattle.promises.specs.v0_4.replay.Playing.{language_of}
+use Rattle.promises.specs.v0_4.replay.Search.{IsSearched, text_of}
 use Rattle.promises.specs.v0_4.replay.Words.{WordTable}
 use Rattle.std.specs.Prelude.{[], Bool, Err, false, is_some, length, List, None, not, Ok, Option, Result, Some, true}
 use Rattle.std.specs.Prelude.{ℕ, ◌&&◌, ◌++◌, ◌||◌, ◌≡◌, ◌≤◌, ◌⊎◌}
 use Rattle.vt_cli.specs.declared.asked.Request.{Request}
 use Rattle.vt_cli.specs.declared.what.What.TheVariants.{Picture}
-use Rattle.vt_cli.specs.declared.what.Word.TheVariants.{Animation, Content, Events, Log, Pages, Replay, Summary}
-use Rattle.vt_cli.specs.declared.what.Word.TheVariants.{Trace}
+use Rattle.vt_cli.specs.declared.what.Word.TheVariants.{Animation, Content, Events, Log, Pages, Replay, Search}
+use Rattle.vt_cli.specs.declared.what.Word.TheVariants.{Summary, Trace}
 use Rattle.vt_cli.specs.declared.what.Word.{Word}
 use Rattle.vt_device.specs.Runs.{Flags}
 use Rattle.vt_recording.specs.Reached.{IsTakenBetween}
@@ -24,7 +25,6 @@ use Rattle.vt_recording.specs.declared.format.Format.TheVariants as format
 use Rattle.vt_recording.specs.declared.format.Format.{Format}
 use Rattle.vt_recording.specs.declared.format.Moment.TheVariants.{Bytes, Event, Marker, Micros}
 use Rattle.vt_recording.specs.declared.format.Moment.{Moment}
-use Rattle.vt_replay.specs.Animated.{IsAnimation}
 use Rattle.vt_replay.specs.Request.{IsPlayed, IsPrepared, IsStreamed, IsTakenApart, IsUnread}
 use Rattle.vt_replay.specs.declared.host.Host.{Host}
 use Rattle.vt_replay.specs.declared.requests.Outcome.{Outcome}
@@ -43,7 +43,7 @@ is_streamed format.Script until wide whole = false
 is_streamed format.Ttyrec until wide whole = false
 is_streamed format.Asciicast until wide whole = false
 
--- the word writes what is made of a whole recording: the table of its events, or a picture that moves
+-- the word writes what is made of a whole recording: the table of its events, a picture that moves, or the spans of a search
 abbrev pub takes_whole : Word → Bool
 takes_whole (Replay what) = false
 takes_whole (Animation looks) = true
@@ -53,6 +53,7 @@ takes_whole Trace = false
 takes_whole Summary = false
 takes_whole Events = true
 takes_whole Content = false
+takes_whole Search = true
 
 -- the word needs the whole input: it writes what is made of it, or begins in the middle
 abbrev pub needs_whole : Request → Bool
@@ -66,7 +67,7 @@ ended_of broken (Err fault) = Err fault
 
 -- the word was carried out on the input as it came
 pub record IsStreamed' (o : Outcome) (r : Request) (b w : List ℕ) (f : Flags) : Type 0 where
-  pub table : WordTable o.ended r.word (plain_host r).terminal (plain_host r).encoding r.piece b w f r.limit
+  pub table : WordTable o.ended r.word (plain_host r).size (plain_host r).terminal (plain_host r).encoding r.piece b w f r.limit
   pub none_replaced : o.replaced ≡ 0
 
 -- the word was carried out on the content of a recording, of which c was played, from memory: no read fails. At the end
@@ -79,17 +80,20 @@ pub record IsPlayed' (o : Outcome) (r : Request) (host : Host) (content : List �
   pub at_end : Bool
   pub none_left : at_end ≡ true → rest ≡ []
   pub played : Result (Unit {0}) Fault
-  pub table : WordTable played r.word host.terminal host.encoding r.piece c w (record { reader_failed = false; reader_ended = at_end; writer_failed = writer_failed }) r.limit
+  pub table : WordTable played r.word host.size host.terminal host.encoding r.piece c w (record { reader_failed = false; reader_ended = at_end; writer_failed = writer_failed }) r.limit
   pub ended : o.ended ≡ ended_of broken played
   pub replaces : o.replaced ≡ replaced
 
--- what is taken out of a recording for a word: the table of its events, a picture that moves, or its content
+-- what is taken out of a recording for a word: the table of its events, a picture that moves, the spans of a search, or its content
 abbrev pub IsTakenBy : Word → Request → Format → Host → (timing : Option (List ℕ)) → (bytes content : List ℕ)
     → (broken : Option Break) → (replaced : ℕ) → Type 0
 IsTakenBy Events r format host timing bytes content broken replaced =
     IsTableTaken format r.full r.from r.until timing bytes content broken replaced
 IsTakenBy (Animation looks) r format host timing bytes content broken replaced =
     IsAnimation looks (title_of r.title) (opening (Replay Picture) host) (language_of host.terminal host.encoding) format host.encoding r.until
+    timing bytes content broken replaced
+IsTakenBy Search r format host timing bytes content broken replaced =
+    IsSearched (text_of r.pattern) (opening (Replay Picture) host) (language_of host.terminal host.encoding) format host.encoding r.until
     timing bytes content broken replaced
 IsTakenBy word r format host timing bytes content broken replaced =
     IsTakenBetween format host.encoding r.from r.until timing bytes content broken replaced

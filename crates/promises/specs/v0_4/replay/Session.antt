@@ -1,19 +1,21 @@
 -- 0.4: vt_replay/specs/Session.
 use Rattle.promises.specs.v0_4.replay.Due.{is_nothing}
-use Rattle.promises.specs.v0_4.term.State.{power_up}
+use Rattle.promises.specs.v0_4.screen.Sizes.{vt220_size}
+use Rattle.promises.specs.v0_4.term.State.{state_of}
 use Rattle.promises.specs.v0_4.utf8.Decoding.{pending_after}
-use Rattle.promises.specs.v0_4.xterm.Play.{behind, front_at_power_up, play_xterm}
+use Rattle.promises.specs.v0_4.xterm.Play.{behind, front_of, play_xterm}
 use Rattle.promises.specs.v0_4.xterm_paint.Repaint.{xterm_repaint}
 use Rattle.std.specs.Prelude.{[], Bool, false, List, true, ℕ, ◌&&◌, ◌∷◌}
-use Rattle.vt_cli.specs.declared.what.What.TheVariants.{Repaint}
-use Rattle.vt_cli.specs.declared.what.What.{What}
-use Rattle.vt_replay.specs.declared.language.Language.TheVariants.{Xterm}
-use Rattle.vt_replay.specs.declared.language.Language.{Language}
+use Rattle.vt_screen.specs.declared.size.Size.{Size}
 use Rattle.vt_xterm.specs.Play.{Whole, WholePlayed}
 
--- what all the bytes of a host leave, from power-up
+-- what all the bytes of a host leave, from power-up of a terminal of a size
+abbrev pub session_at : Size → List ℕ → WholePlayed
+session_at size bytes = play_xterm (behind (state_of size) (front_of size)) [] bytes
+
+-- of a VT220's size
 abbrev pub session : List ℕ → WholePlayed
-session bytes = play_xterm (behind power_up front_at_power_up) [] bytes
+session bytes = session_at vt220_size bytes
 
 abbrev pub is_empty : List ℕ → Bool
 is_empty [] = true
@@ -30,8 +32,3 @@ session_repaint bytes = xterm_repaint (session bytes).whole
 -- it is there between sequences and between characters only
 abbrev pub session_is_there : List ℕ → Bool
 session_is_there bytes = is_between (session bytes).whole (pending_after [] bytes)
-
--- what is asked for is of the whole session: under TERM=xterm a repaint
-abbrev pub is_of_session : Language → What → Bool
-is_of_session Xterm Repaint = true
-is_of_session language what = false

@@ -3,15 +3,15 @@ use Rattle.promises.specs.v0_4.output.Output.{all, always, nothing, OutputTable}
 use Rattle.promises.specs.v0_4.replay.Encoding.{decoded}
 use Rattle.promises.specs.v0_4.replay.Log.{lines_in, screen, screen_in}
 use Rattle.promises.specs.v0_4.replay.Pages.{pages}
-use Rattle.promises.specs.v0_4.replay.Playing.{language_of, replayed}
+use Rattle.promises.specs.v0_4.replay.Playing.{language_of, replayed_at}
 use Rattle.promises.specs.v0_4.replay.Showing.{ShownTable}
 use Rattle.promises.specs.v0_4.term.State.{power_up}
 use Rattle.promises.specs.v0_4.trace.Summary.{summary}
 use Rattle.promises.specs.v0_4.trace.Trace.{end_lines, trace, tracer_all, tracer_at_start}
 use Rattle.promises.specs.v0_4.trace.Utf8.{summary_utf8, trace_utf8, tracer_utf8}
 use Rattle.std.specs.Prelude.{[], List, Result, ℕ}
-use Rattle.vt_cli.specs.declared.what.Word.TheVariants.{Animation, Content, Events, Log, Pages, Replay, Summary}
-use Rattle.vt_cli.specs.declared.what.Word.TheVariants.{Trace}
+use Rattle.vt_cli.specs.declared.what.Word.TheVariants.{Animation, Content, Events, Log, Pages, Replay, Search}
+use Rattle.vt_cli.specs.declared.what.Word.TheVariants.{Summary, Trace}
 use Rattle.vt_cli.specs.declared.what.Word.{Word}
 use Rattle.vt_device.specs.Runs.{Flags}
 use Rattle.vt_recording.specs.declared.fault.Fault.{Fault}
@@ -20,6 +20,7 @@ use Rattle.vt_recording.specs.declared.format.Encoding.{Encoding}
 use Rattle.vt_recording.specs.declared.format.TerminalType.TheVariants.{Xterm}
 use Rattle.vt_recording.specs.declared.format.TerminalType.{TerminalType}
 use Rattle.vt_replay.specs.Playing.{Due}
+use Rattle.vt_screen.specs.declared.size.Size.{Size}
 
 abbrev pub pages_written : List ℕ → List ℕ
 pages_written bytes = pages power_up bytes
@@ -52,22 +53,23 @@ of_decoded encoding written ending = record {
   there = always;
 }
 
--- a row a word, for a terminal and in an encoding. A picture that moves and the table of events are ready before they are written. A replay and a log play xterm; what content writes then is below
-abbrev pub due_of : Word → TerminalType → Encoding → Due
-due_of (Replay what) terminal encoding = replayed (language_of terminal encoding) what
-due_of (Animation looks) terminal encoding = of_decoded Dec all nothing
-due_of Log terminal encoding =
+-- a row a word, for a terminal of a size and in an encoding. A picture that moves, the table of events and the spans of a search are ready before they are written. A replay and a log play xterm; what content writes then is below
+abbrev pub due_of : Word → Size → TerminalType → Encoding → Due
+due_of (Replay what) size terminal encoding = replayed_at size (language_of terminal encoding) what
+due_of (Animation looks) size terminal encoding = of_decoded Dec all nothing
+due_of Log size terminal encoding =
     let language = language_of terminal encoding in
     record { written = lines_in language; ending = screen_in language; there = always }
-due_of Pages terminal encoding = of_decoded encoding pages_written screen
-due_of Trace terminal encoding = record { written = trace_in encoding; ending = trace_end_in encoding; there = always }
-due_of Summary terminal encoding = record { written = nothing; ending = summary_in encoding; there = always }
-due_of Events terminal encoding = of_decoded Dec all nothing
-due_of Content terminal encoding = of_decoded encoding all nothing
+due_of Pages size terminal encoding = of_decoded encoding pages_written screen
+due_of Trace size terminal encoding = record { written = trace_in encoding; ending = trace_end_in encoding; there = always }
+due_of Summary size terminal encoding = record { written = nothing; ending = summary_in encoding; there = always }
+due_of Events size terminal encoding = of_decoded Dec all nothing
+due_of Content size terminal encoding = of_decoded encoding all nothing
+due_of Search size terminal encoding = of_decoded Dec all nothing
 
 -- what each answer says, by the word. Under TERM=xterm content is what a VT220 is sent, so that it shows the same
-abbrev pub WordTable : Result (Unit {0}) Fault → Word → TerminalType → Encoding → (piece : ℕ) → (b w : List ℕ) → Flags → (limit : ℕ) → Type 0
-WordTable result Content Xterm encoding piece b w f limit = ShownTable result piece b w f limit
-WordTable result word terminal encoding piece b w f limit =
-    let due = due_of word terminal encoding in
+abbrev pub WordTable : Result (Unit {0}) Fault → Word → Size → TerminalType → Encoding → (piece : ℕ) → (b w : List ℕ) → Flags → (limit : ℕ) → Type 0
+WordTable result Content size Xterm encoding piece b w f limit = ShownTable result piece b w f limit
+WordTable result word size terminal encoding piece b w f limit =
+    let due = due_of word size terminal encoding in
     OutputTable due.written due.ending due.there result piece b w f limit

@@ -2,7 +2,7 @@
 use Rattle.promises.specs.v0_4.syntax.Held.{events_from, held_from}
 use Rattle.promises.specs.v0_4.term.Happenings.{happenings_on}
 use Rattle.promises.specs.v0_4.term.Machines.{reports_after, screens_after}
-use Rattle.std.specs.Prelude.{List, ℕ, ◌++◌, ◌+◌, ◌≡◌}
+use Rattle.std.specs.Prelude.{List, ℕ, ◌++◌, ◌≡◌}
 use Rattle.vt_term.specs.Happenings.{Happening}
 use Rattle.vt_term.specs.Machines.{Machine}
 use Rattle.vt_term.specs.State.{Display, State}

@@ -1,16 +1,21 @@
 -- 0.4: vt_trace/specs/Ignored.
+use Rattle.promises.specs.v0_4.screen.Grid.{last_row}
 use Rattle.promises.specs.v0_4.term.Functions.{effect}
-use Rattle.promises.specs.v0_4.term.Names.{name_of}
+use Rattle.promises.specs.v0_4.term.Names.{name_on}
 use Rattle.promises.specs.v0_4.term.Reports.{report}
 use Rattle.promises.specs.v0_4.term.Sound.{IsSoundDisplay}
-use Rattle.std.specs.Prelude.{[], Bool, false, None, Some, true, ◌≡◌, ◌≢◌, ◌⊎◌}
+use Rattle.std.specs.Prelude.{[], Bool, false, None, Some, true, ℕ, ◌≡◌, ◌≢◌, ◌⊎◌}
 use Rattle.vt_syntax.specs.declared.event.Event.{Event}
 use Rattle.vt_term.specs.State.{Display}
 use Rattle.vt_trace.specs.Ignored.{LeavesAlone}
 
--- an event without a name
+-- an event without a name, on a screen of so many rows
+abbrev pub is_ignored_on : ℕ → Event → Bool
+is_ignored_on rows event = elim (name_on rows event) [ None ↦ true | Some name ↦ false ]
+
+-- on a VT220
 abbrev pub is_ignored : Event → Bool
-is_ignored event = elim (name_of event) [ None ↦ true | Some name ↦ false ]
+is_ignored event = is_ignored_on last_row event
 
 -- the event leaves the display as it is, and reports nothing
 pub record LeavesAlone' (event : Event) (s : Display) : Type 0 where

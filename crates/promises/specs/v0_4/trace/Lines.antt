@@ -1,6 +1,7 @@
 -- 0.4: vt_trace/specs/Lines.
+use Rattle.promises.specs.v0_4.screen.Grid.{last_row}
 use Rattle.promises.specs.v0_4.syntax.Class.{is_plain}
-use Rattle.promises.specs.v0_4.term.Names.{name_of}
+use Rattle.promises.specs.v0_4.term.Names.{name_on}
 use Rattle.std.specs.List.{flat_map}
 use Rattle.std.specs.Option.{option_to_list}
 use Rattle.std.specs.Prelude.{[], codes, decimal, if◌then◌else◌, List, nat_lt, None, not, Option, Some, ℕ, ◌%◌, ◌&&◌}
@@ -54,5 +55,10 @@ abbrev pub line_named : ℕ → Event → Option (List ℕ) → List ℕ
 line_named place event (Some name) = line place name (values_column event)
 line_named place event None = line place (codes "ignored") (bytes_column event)
 
-unfoldable pub event_line : ℕ → Event → List ℕ
-event_line place event = line_named place event (name_of event)
+-- on a screen of so many rows
+unfoldable pub event_line_on : ℕ → ℕ → Event → List ℕ
+event_line_on rows place event = line_named place event (name_on rows event)
+
+-- on a VT220's
+abbrev pub event_line : ℕ → Event → List ℕ
+event_line place event = event_line_on last_row place event

@@ -3,7 +3,7 @@ use Rattle.promises.specs.v0_4.glyph.Designation.{finals}
 use Rattle.promises.specs.v0_4.term.Functions.{controls, exclamation_sequences, FunctionTable, number_sign_escapes}
 use Rattle.promises.specs.v0_4.term.Functions.{plain_escapes, plain_sequences, private_sequences, quote_sequences}
 use Rattle.promises.specs.v0_4.term.Functions.{set_name, space_escapes}
-use Rattle.std.specs.Prelude.{[], codes, get_or, List, map, take, ℕ, ◌++◌, ◌+◌, ◌∷◌}
+use Rattle.std.specs.Prelude.{[], codes, get_or, List, map, take, ℕ, ◌++◌, ◌∷◌}
 
 abbrev pub names_in : FunctionTable → List (List ℕ)
 names_in table = map (λ row. row.1.name) table

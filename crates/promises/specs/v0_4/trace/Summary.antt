@@ -1,7 +1,8 @@
 -- 0.4: vt_trace/specs/Summary.
+use Rattle.promises.specs.v0_4.screen.Grid.{last_row}
 use Rattle.promises.specs.v0_4.syntax.Reading.{events_of}
-use Rattle.promises.specs.v0_4.term.Names.{name_of}
-use Rattle.promises.specs.v0_4.trace.Ignored.{is_ignored}
+use Rattle.promises.specs.v0_4.term.Names.{name_on}
+use Rattle.promises.specs.v0_4.trace.Ignored.{is_ignored_on}
 use Rattle.promises.specs.v0_4.trace.Lines.{bytes_column, shown_byte}
 use Rattle.promises.specs.v0_4.trace.Names.{names, numbered}
 use Rattle.promises.specs.v0_4.trace.Skipped.{kind_name, kinds_of}
@@ -45,18 +46,18 @@ IsByteAtMost (Control b) = b ≤ 0xFF
 IsByteAtMost _ = Unit {0}
 
 -- the event has this name
-abbrev pub has_name : List ℕ → Event → Bool
-has_name name event = elim (name_of event) [ None ↦ false | Some other ↦ pointwise nat_eq name other ]
+abbrev pub has_name_on : ℕ → List ℕ → Event → Bool
+has_name_on rows name event = elim (name_on rows event) [ None ↦ false | Some other ↦ pointwise nat_eq name other ]
 
 -- the event is ignored, and its kind has this number
-abbrev pub is_ignored_kind : ℕ → Event → Bool
-is_ignored_kind number event = is_ignored event && kind_number event == number
+abbrev pub is_ignored_kind_on : ℕ → ℕ → Event → Bool
+is_ignored_kind_on rows number event = is_ignored_on rows event && kind_number event == number
 
-unfoldable pub times_named : List ℕ → List Event → ℕ
-times_named name events = count_by (has_name name) events
+unfoldable pub times_named_on : ℕ → List ℕ → List Event → ℕ
+times_named_on rows name events = count_by (has_name_on rows name) events
 
-unfoldable pub times_ignored : ℕ → List Event → ℕ
-times_ignored number events = count_by (is_ignored_kind number) events
+unfoldable pub times_ignored_on : ℕ → ℕ → List Event → ℕ
+times_ignored_on rows number events = count_by (is_ignored_kind_on rows number) events
 
 -- among kinds of items without a function
 unfoldable pub times_skipped : ℕ → List ℕ → ℕ
@@ -121,18 +122,27 @@ abbrev pub named_lines : (ℕ → ℕ) → List ℕ
 named_lines times = flat_map (named_line times) (range_with_len 0 (length names))
 
 -- how often an event was ignored, or an item had no function, whose kind has this number
-abbrev pub all_ignored : List Event → List ℕ → ℕ → ℕ
-all_ignored events kinds number = counted (times_ignored number events + times_skipped number kinds)
+abbrev pub all_ignored_on : ℕ → List Event → List ℕ → ℕ → ℕ
+all_ignored_on rows events kinds number = counted (times_ignored_on rows number events + times_skipped number kinds)
 
 -- the summary of events, and of the kinds of items without a function
-abbrev pub event_summary : List Event → List ℕ → List ℕ
-event_summary events kinds =
-    ignored_lines (all_ignored events kinds)
-    ++ named_lines (λ number. counted (times_named (numbered number) events))
+abbrev pub event_summary_on : ℕ → List Event → List ℕ → List ℕ
+event_summary_on rows events kinds =
+    ignored_lines (all_ignored_on rows events kinds)
+    ++ named_lines (λ number. counted (times_named_on rows (numbered number) events))
 
 -- the summary of a terminal's input
-unfoldable pub summary : List ℕ → List ℕ
-summary bytes = event_summary (events_of bytes) (kinds_of bytes)
+unfoldable pub summary_on : ℕ → List ℕ → List ℕ
+summary_on rows bytes = event_summary_on rows (events_of bytes) (kinds_of bytes)
+
+abbrev pub times_named : List ℕ → List Event → ℕ
+times_named name events = times_named_on last_row name events
+
+abbrev pub times_ignored : ℕ → List Event → ℕ
+times_ignored number events = times_ignored_on last_row number events
+
+abbrev pub summary : List ℕ → List ℕ
+summary bytes = summary_on last_row bytes
 
 -- some bytes have this part
 pub record HasPart' (part bytes : List ℕ) : Type 0 where

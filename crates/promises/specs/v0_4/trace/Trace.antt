@@ -6,7 +6,7 @@ use Rattle.promises.specs.v0_4.syntax.Split.{split_of}
 use Rattle.promises.specs.v0_4.term.Functions.{effect}
 use Rattle.promises.specs.v0_4.term.Play.{play}
 use Rattle.promises.specs.v0_4.term.Reports.{report}
-use Rattle.promises.specs.v0_4.trace.Lines.{event_line, line, shown, shown_byte}
+use Rattle.promises.specs.v0_4.trace.Lines.{event_line_on, line, shown, shown_byte}
 use Rattle.promises.specs.v0_4.trace.Skipped.{code_of, cut_sequence, is_empty, skipped_line, spoilt_sequence}
 use Rattle.std.specs.List.{flat_map}
 use Rattle.std.specs.Prelude.{[], Bool, codes, decimal, false, if◌then◌else◌, length, List, nat_le, nat_lt, not, take}
@@ -66,11 +66,11 @@ abbrev pub report_line : ℕ → List ℕ → List ℕ
 report_line place [] = []
 report_line place (b ∷ bytes) = line place (codes "report") (shown (b ∷ bytes))
 
--- what is written of an event with its report
-abbrev pub written : Bool → ℕ → Event → List ℕ → List ℕ
-written in_text place (Print b) reports =
-    if has_no_glyph b then text_end in_text ++ event_line place (Print b) else text_of in_text place b
-written in_text place event reports = text_end in_text ++ (event_line place event ++ report_line place reports)
+-- what is written of an event with its report, on a screen of so many rows
+abbrev pub written : ℕ → Bool → ℕ → Event → List ℕ → List ℕ
+written rows in_text place (Print b) reports =
+    if has_no_glyph b then text_end in_text ++ event_line_on rows place (Print b) else text_of in_text place b
+written rows in_text place event reports = text_end in_text ++ (event_line_on rows place event ++ report_line place reports)
 
 abbrev pub is_nothing : Held → Bool
 is_nothing held.Nothing = true
@@ -132,7 +132,7 @@ end_lines t = if length t.first.items == 0 then text_end t.in_text else open_lin
 abbrev pub written_all : Bool → (Event → ℕ) → List Event → Display → List ℕ
 written_all in_text place_at [] s = []
 written_all in_text place_at (event ∷ events) s =
-    written in_text (place_at event) event (report event s) ++ written_all (is_text event) place_at events (effect event s)
+    written s.grid.size.rows in_text (place_at event) event (report event s) ++ written_all (is_text event) place_at events (effect event s)
 
 abbrev pub text_after : Bool → List Event → Bool
 text_after in_text [] = in_text

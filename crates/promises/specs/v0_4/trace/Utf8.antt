@@ -1,6 +1,7 @@
 -- 0.4: vt_trace/specs/Utf8.
+use Rattle.promises.specs.v0_4.screen.Grid.{last_row}
 use Rattle.promises.specs.v0_4.term.Play.{play}
-use Rattle.promises.specs.v0_4.trace.Summary.{summary}
+use Rattle.promises.specs.v0_4.trace.Summary.{summary_on}
 use Rattle.promises.specs.v0_4.trace.Trace.{between, open_lines, text_of, traced, tracer_after}
 use Rattle.promises.specs.v0_4.utf8.Decoding.{characters, read}
 use Rattle.promises.specs.v0_4.utf8.Play.{play_utf8}
@@ -66,6 +67,10 @@ counted_as c = if nat_lt c 0x80 then c else 0xE9
 abbrev pub counted_bytes : List ℕ → List ℕ → List ℕ
 counted_bytes pending bytes = map counted_as (characters pending bytes)
 
--- the summary of a host's UTF-8
-unfoldable pub summary_utf8 : List ℕ → List ℕ
-summary_utf8 bytes = summary (counted_bytes [] bytes)
+-- the summary of a host's UTF-8, on a screen of so many rows
+unfoldable pub summary_utf8_on : ℕ → List ℕ → List ℕ
+summary_utf8_on rows bytes = summary_on rows (counted_bytes [] bytes)
+
+-- on a VT220
+abbrev pub summary_utf8 : List ℕ → List ℕ
+summary_utf8 bytes = summary_utf8_on last_row bytes

@@ -1,6 +1,5 @@
 -- 0.4: vt_xterm/specs/Pages.
 use Rattle.promises.specs.v0_4.glyph.LookUp.{look_up}
-use Rattle.promises.specs.v0_4.screen.Sizes.{vt220_size}
 use Rattle.promises.specs.v0_4.term.Editing.{erase_in_display}
 use Rattle.promises.specs.v0_4.term.Modes.{column_mode, private_modes, with_mode}
 use Rattle.promises.specs.v0_4.term.Pages.{blank_page, blanked, fitted, page_of, with_page}
@@ -23,10 +22,6 @@ pub record PagesState' : Type 0 where
 
 abbrev pub pages_of : Size → PagesState
 pages_of size = record { other = blank_page size; alternate = false; resizes = false; brackets = false }
-
--- those of a VT220's size
-abbrev pub pages_at_power_up : PagesState
-pages_at_power_up = pages_of vt220_size
 
 -- the display, and the pages behind it: what events change
 pub record Screens' : Type 0 where

@@ -1,4 +1,5 @@
 -- 0.4: vt_xterm/specs/Play.
+use Rattle.promises.specs.v0_4.screen.Sizes.{vt220_size}
 use Rattle.promises.specs.v0_4.syntax.Held.{events_from, held_from}
 use Rattle.promises.specs.v0_4.term.Machines.{reports_after, screens_after}
 use Rattle.promises.specs.v0_4.term.Pages.{IsSoundPage}
@@ -11,9 +12,10 @@ use Rattle.promises.specs.v0_4.utf8.Decoding.{characters, pending_after}
 use Rattle.promises.specs.v0_4.utf8.Translation.{translation}
 use Rattle.promises.specs.v0_4.xterm.Front.{xterm_effect}
 use Rattle.promises.specs.v0_4.xterm.Log.{xterm_lines_off}
-use Rattle.promises.specs.v0_4.xterm.Pages.{pages_at_power_up, screens, shown_by}
+use Rattle.promises.specs.v0_4.xterm.Pages.{pages_of, screens, shown_by}
 use Rattle.std.specs.Prelude.{[], flat_map, if◌then◌else◌, List, nat_lt, ℕ, ◌++◌, ◌∷◌}
 use Rattle.vt_screen.specs.declared.cell.Cell.{Cell}
+use Rattle.vt_screen.specs.declared.size.Size.{Size}
 use Rattle.vt_syntax.specs.declared.event.Event.{Event}
 use Rattle.vt_term.specs.Machines.{Machine}
 use Rattle.vt_term.specs.State.{State}
@@ -44,8 +46,12 @@ pub record FrontState' : Type 0 where
   pub pending : List ℕ
   pub pages : PagesState
 
+abbrev pub front_of : Size → FrontState
+front_of size = record { pending = []; pages = pages_of size }
+
+-- that of a VT220's size
 abbrev pub front_at_power_up : FrontState
-front_at_power_up = record { pending = []; pages = pages_at_power_up }
+front_at_power_up = front_of vt220_size
 
 -- a terminal and a front
 abbrev pub behind : State → FrontState → Whole

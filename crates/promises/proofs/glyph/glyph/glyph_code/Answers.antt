@@ -1,7 +1,7 @@
 use Rattle.promises.proofs.glyph.glyph.glyph_code.Goals as goal
 use Rattle.promises.proofs.v0_4.glyph.Encoding.{encoded_glyph-same, encoding_of-same}
 use Rattle.promises.proofs.v0_4.glyph.Spell.{spelling_of-same}
-use Rattle.std.specs.Prelude.{◌<◌, ◌≡◌}
+use Rattle.std.specs.Prelude.{◌≡◌}
 use Rattle.vt_glyph.specs.Encoding.{encoded_spelling}
 
 pub returns-clause-value : goal.returns-clause-value

@@ -2,7 +2,6 @@ use Rattle.promises.proofs.glyph.in_use.in_use_glyph.Goals as goal
 use Rattle.promises.proofs.v0_4.glyph.Invocation.{glyph_in_use-same}
 use Rattle.promises.proofs.v0_4.glyph.Tables.{IsGlyph-same}
 use Rattle.std.specs.Prelude.{◌≡◌}
-use Rattle.vt_glyph.specs.Invocation.{HasGlyph}
 
 pub returns-clause-value : goal.returns-clause-value
 returns-clause-value c = coe 1 0 (ι. c.glyph.result ≡ (glyph_in_use-same ι) c.args.in_use.now c.args.b) c.glyph.ensures.value

@@ -1,11 +1,7 @@
 use Rattle.promises.proofs.paint.changes.repaint_changes_reserved.Goals as goal
 use Rattle.promises.proofs.v0_4.paint.Changes.{differing-same}
-use Rattle.std.specs.Prelude.{drop, vec_capacity, vec_len, ◌*◌, ◌+◌, ◌≡◌, ◌≤◌}
-use Rattle.vt_controls.specs.Spoken.{Speaks}
-use Rattle.vt_paint.specs.Changes.{AreChanges, Changes}
-use Rattle.vt_paint.specs.declared.paint.TheConstants.{PAINT_LIMIT}
-use Rattle.vt_syntax.specs.declared.held.Held.TheVariants.{Nothing}
-use Rattle.vt_term.specs.Sound.{IsSound}
+use Rattle.std.specs.Prelude.{vec_len, ◌*◌, ◌+◌, ◌≤◌}
+use Rattle.vt_paint.specs.Changes.{AreChanges}
 use Rattle.vt_term.specs.State.{State}
 
 pub returns-clause-small : goal.returns-clause-small

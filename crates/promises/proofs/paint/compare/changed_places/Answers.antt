@@ -1,7 +1,6 @@
 use Rattle.promises.proofs.paint.compare.changed_places.Goals as goal
 use Rattle.promises.proofs.v0_4.paint.Changes.{AreCounted-same, AreMarked-same, differing-same}
-use Rattle.std.specs.Prelude.{◌*◌, ◌≡◌, ◌≤◌}
-use Rattle.vt_screen.specs.declared.size.TheConstants.{COLUMNS, ROWS}
+use Rattle.std.specs.Prelude.{◌≡◌}
 
 pub returns-clause-marked : goal.returns-clause-marked
 returns-clause-marked c = coe 1 0 (ι. (AreMarked-same ι) c.changed_places.new.marks c.args.a.now.display.grid c.args.b.now.display.grid) c.changed_places.ensures.marked

@@ -1,7 +1,5 @@
 use Rattle.promises.proofs.paint.laws.spoken.Goals as goal
 use Rattle.promises.proofs.v0_4.paint.Repaint.{paint-same}
-use Rattle.std.specs.Prelude.{List, ℕ}
-use Rattle.std.specs.Str.{IsAscii}
 use Rattle.vt_controls.specs.Spoken.{Speaks}
 use Rattle.vt_term.specs.Sound.{IsSound}
 use Rattle.vt_term.specs.State.{State}

@@ -1,8 +1,6 @@
 use Rattle.promises.proofs.paint.paint.repaint.Goals as goal
 use Rattle.promises.proofs.v0_4.paint.Repaint.{IsRebuilt-same, paint-same}
-use Rattle.std.specs.Prelude.{IsErrOf, OnErr, OnOk, vec_capacity, vec_len, ◌++◌, ◌+◌, ◌<◌, ◌↔◌, ◌≡◌, ◌≢◌, ◌≤◌}
-use Rattle.vt_paint.specs.declared.paint.TheConstants.{PAINT_LIMIT}
-use Rattle.vt_syntax.specs.declared.held.Held.TheVariants.{Nothing}
+use Rattle.std.specs.Prelude.{OnOk, ◌++◌, ◌≡◌}
 
 pub returns-clause-items : goal.returns-clause-items
 returns-clause-items c = coe 1 0 (ι. OnOk c.repaint.result (c.repaint.new.out.items ≡ c.args.out.now.items ++ (paint-same ι) c.args.t.now)) c.repaint.ensures.items

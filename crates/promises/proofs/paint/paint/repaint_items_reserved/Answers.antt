@@ -1,7 +1,6 @@
 use Rattle.promises.proofs.paint.paint.repaint_items_reserved.Goals as goal
 use Rattle.promises.proofs.v0_4.paint.Repaint.{made_events-same}
-use Rattle.std.specs.Prelude.{vec_capacity, vec_len, ◌++◌, ◌+◌, ◌-◌, ◌≡◌, ◌≤◌}
-use Rattle.vt_paint.specs.declared.paint.TheConstants.{PAINT_LIMIT}
+use Rattle.std.specs.Prelude.{◌++◌, ◌≡◌}
 use Rattle.vt_syntax.specs.Spelling.{spell_events}
 
 pub returns-clause-items : goal.returns-clause-items

@@ -1,8 +1,6 @@
 use Rattle.promises.proofs.paint.paint.repaint_reserved.Goals as goal
 use Rattle.promises.proofs.v0_4.paint.Repaint.{IsRebuilt-same, paint-same}
-use Rattle.std.specs.Prelude.{vec_capacity, vec_len, ◌++◌, ◌+◌, ◌≡◌, ◌≤◌}
-use Rattle.vt_paint.specs.declared.paint.TheConstants.{PAINT_LIMIT}
-use Rattle.vt_syntax.specs.declared.held.Held.TheVariants.{Nothing}
+use Rattle.std.specs.Prelude.{◌++◌, ◌≡◌}
 
 pub returns-clause-items : goal.returns-clause-items
 returns-clause-items c = coe 1 0 (ι. c.repaint_reserved.new.out.items ≡ c.args.out.now.items ++ (paint-same ι) c.args.t.now) c.repaint_reserved.ensures.items

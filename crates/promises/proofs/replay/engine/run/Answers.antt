@@ -2,8 +2,6 @@ use Rattle.promises.proofs.replay.engine.run.Goals as goal
 use Rattle.promises.proofs.v0_4.replay.Due.{PlayedTable-same}
 use Rattle.promises.proofs.v0_4.term.Play.{play-same}
 use Rattle.promises.proofs.v0_4.term.State.{power_up-same}
-use Rattle.std.specs.Io.KnownBytes.{IsAtEnd}
-use Rattle.std.specs.Prelude.{false, true, ◌≡◌, ◌≤◌}
 use Rattle.vt_device.specs.Runs.{Moves}
 
 pub returns-clause-answer : goal.returns-clause-answer

@@ -1,7 +1,5 @@
 use Rattle.promises.proofs.replay.engine.run_from.Goals as goal
 use Rattle.promises.proofs.v0_4.replay.Playing.{ReplayTable-same}
-use Rattle.std.specs.Io.KnownBytes.{IsAtEnd}
-use Rattle.std.specs.Prelude.{false, true, ◌≡◌, ◌≤◌}
 use Rattle.vt_device.specs.Runs.{Moves}
 
 pub returns-clause-answer : goal.returns-clause-answer

@@ -1,7 +1,5 @@
 use Rattle.promises.proofs.replay.logging.write_log.Goals as goal
 use Rattle.promises.proofs.v0_4.replay.Log.{lines-same, screen-same}
-use Rattle.std.specs.Io.KnownBytes.{IsAtEnd}
-use Rattle.std.specs.Prelude.{false, true, ◌≡◌, ◌≤◌}
 use Rattle.vt_device.specs.Runs.{Moves}
 use Rattle.vt_output.specs.Output.{always, OutputTable}
 

@@ -1,7 +1,5 @@
 use Rattle.promises.proofs.replay.logging.write_log_from.Goals as goal
 use Rattle.promises.proofs.v0_4.replay.Log.{lines_in-same, screen_in-same}
-use Rattle.std.specs.Io.KnownBytes.{IsAtEnd}
-use Rattle.std.specs.Prelude.{false, true, ◌≡◌, ◌≤◌}
 use Rattle.vt_device.specs.Runs.{Moves}
 use Rattle.vt_output.specs.Output.{always, OutputTable}
 

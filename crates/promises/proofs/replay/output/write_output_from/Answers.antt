@@ -1,7 +1,5 @@
 use Rattle.promises.proofs.replay.output.write_output_from.Goals as goal
 use Rattle.promises.proofs.v0_4.replay.Encoding.{EncodedTable-same}
-use Rattle.std.specs.Io.KnownBytes.{IsAtEnd}
-use Rattle.std.specs.Prelude.{[], false, true, ◌≡◌, ◌≤◌}
 use Rattle.vt_device.specs.Runs.{Moves}
 
 pub returns-clause-answer : goal.returns-clause-answer

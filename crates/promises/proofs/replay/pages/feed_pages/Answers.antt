@@ -1,8 +1,7 @@
 use Rattle.promises.proofs.replay.pages.feed_pages.Goals as goal
 use Rattle.promises.proofs.v0_4.replay.Pages.{pages-same}
 use Rattle.promises.proofs.v0_4.term.Play.{play-same}
-use Rattle.std.specs.Prelude.{IsOk, length, OnErr, OnOk, vec_capacity, vec_len, ◌*◌, ◌++◌, ◌+◌, ◌≡◌, ◌≤◌}
-use Rattle.vt_replay.specs.declared.pages.TheConstants.{PAGE_LIMIT}
+use Rattle.std.specs.Prelude.{OnOk, ◌++◌, ◌≡◌}
 
 pub returns-clause-state : goal.returns-clause-state
 returns-clause-state c = coe 1 0 (ι. OnOk c.feed_pages.result (c.feed_pages.new.terminal ≡ ((play-same ι) c.args.terminal.now c.args.piece.now).state)) c.feed_pages.ensures.state

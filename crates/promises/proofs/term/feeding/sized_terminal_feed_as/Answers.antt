@@ -1,7 +1,6 @@
 use Rattle.promises.proofs.term.feeding.sized_terminal_feed_as.Goals as goal
 use Rattle.promises.proofs.v0_4.term.Observing.{happenings_of-same}
-use Rattle.std.specs.Prelude.{length, take, vec_capacity, vec_len, ◌*◌, ◌+◌, ◌<◌, ◌≤◌}
-use Rattle.vt_term.specs.Observing.{Feeds}
+use Rattle.std.specs.Prelude.{take}
 
 pub returns-clause-saw : goal.returns-clause-saw
 returns-clause-saw g c = coe 1 0 (ι. g.O.Observer.Saw c.args.observer.now ((happenings_of-same ι) g.P.Profile.machine g.P.Profile.screens c.args.sized_terminal.now c.args.profile.now (take c.feed_as.result c.args.piece.now)) c.feed_as.new.observer) c.feed_as.ensures.saw

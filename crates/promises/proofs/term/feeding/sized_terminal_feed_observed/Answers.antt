@@ -1,7 +1,7 @@
 use Rattle.promises.proofs.term.feeding.sized_terminal_feed_observed.Goals as goal
 use Rattle.promises.proofs.v0_4.term.Happenings.{happenings-same}
 use Rattle.promises.proofs.v0_4.term.Play.{play-same}
-use Rattle.std.specs.Prelude.{length, take, vec_capacity, vec_len, ◌*◌, ◌++◌, ◌+◌, ◌<◌, ◌≡◌, ◌≤◌}
+use Rattle.std.specs.Prelude.{take, ◌++◌, ◌≡◌}
 
 pub returns-clause-state : goal.returns-clause-state
 returns-clause-state g c = coe 1 0 (ι. c.feed_observed.new.self ≡ ((play-same ι) c.args.sized_terminal.now (take c.feed_observed.result c.args.piece.now)).state) c.feed_observed.ensures.state

@@ -1,8 +1,7 @@
 use Rattle.promises.proofs.term.feeds.terminal_feed_log.Goals as goal
 use Rattle.promises.proofs.v0_4.term.Play.{play-same}
 use Rattle.promises.proofs.v0_4.term.Scrolling.{log-same}
-use Rattle.std.specs.Prelude.{IsOk, length, OnErr, OnOk, vec_capacity, vec_len, ◌*◌, ◌++◌, ◌+◌, ◌≡◌, ◌≤◌}
-use Rattle.vt_term.specs.declared.terminal.TheConstants.{ROW_TEXT_LIMIT}
+use Rattle.std.specs.Prelude.{OnOk, ◌++◌, ◌≡◌}
 
 pub returns-clause-state : goal.returns-clause-state
 returns-clause-state c = coe 1 0 (ι. OnOk c.feed_log.result (c.feed_log.new.self ≡ ((play-same ι) c.args.terminal.now c.args.piece.now).state)) c.feed_log.ensures.state

@@ -1,8 +1,7 @@
 use Rattle.promises.proofs.term.feeds.terminal_feed_log_reserved.Goals as goal
 use Rattle.promises.proofs.v0_4.term.Play.{play-same}
 use Rattle.promises.proofs.v0_4.term.Scrolling.{log-same}
-use Rattle.std.specs.Prelude.{length, take, vec_capacity, vec_len, ◌*◌, ◌++◌, ◌+◌, ◌<◌, ◌≡◌, ◌≤◌}
-use Rattle.vt_term.specs.declared.terminal.TheConstants.{ROW_TEXT_LIMIT}
+use Rattle.std.specs.Prelude.{take, ◌++◌, ◌≡◌}
 
 pub returns-clause-state : goal.returns-clause-state
 returns-clause-state c = coe 1 0 (ι. c.feed_log_reserved.new.self ≡ ((play-same ι) c.args.terminal.now (take c.feed_log_reserved.result c.args.piece.now)).state) c.feed_log_reserved.ensures.state

@@ -1,7 +1,7 @@
 use Rattle.promises.proofs.term.feeds.terminal_next_event.Goals as goal
 use Rattle.promises.proofs.v0_4.syntax.Held.{events_from-same, held_from-same}
 use Rattle.promises.proofs.v0_4.syntax.Spelling.{IsEvent-same}
-use Rattle.std.specs.Prelude.{IfNone, IfSome, length, take, ◌≡◌, ◌≤◌}
+use Rattle.std.specs.Prelude.{IfSome, take, ◌≡◌}
 use Rattle.vt_syntax.specs.Event.{event_in, event_of}
 
 pub returns-clause-event : goal.returns-clause-event

@@ -2,7 +2,7 @@ use Rattle.promises.proofs.term.fronts.sized_terminal_carry_out.Goals as goal
 use Rattle.promises.proofs.v0_4.syntax.Spelling.{IsEvent-same}
 use Rattle.promises.proofs.v0_4.term.Functions.{effect-same}
 use Rattle.promises.proofs.v0_4.term.Reports.{report-same}
-use Rattle.std.specs.Prelude.{vec_capacity, vec_len, ◌++◌, ◌+◌, ◌≡◌, ◌≤◌}
+use Rattle.std.specs.Prelude.{◌++◌, ◌≡◌}
 use Rattle.vt_syntax.specs.Event.{event_of}
 
 pub carry_out-requires-clause-event : goal.carry_out-requires-clause-event

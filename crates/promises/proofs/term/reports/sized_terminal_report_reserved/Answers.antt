@@ -1,6 +1,6 @@
 use Rattle.promises.proofs.term.reports.sized_terminal_report_reserved.Goals as goal
 use Rattle.promises.proofs.v0_4.term.Reports.{report-same}
-use Rattle.std.specs.Prelude.{vec_capacity, vec_len, ◌++◌, ◌+◌, ◌≡◌, ◌≤◌}
+use Rattle.std.specs.Prelude.{◌++◌, ◌≡◌}
 use Rattle.vt_syntax.specs.Event.{event_of}
 
 pub returns-clause-items : goal.returns-clause-items

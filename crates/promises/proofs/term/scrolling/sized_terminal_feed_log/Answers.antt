@@ -1,8 +1,7 @@
 use Rattle.promises.proofs.term.scrolling.sized_terminal_feed_log.Goals as goal
 use Rattle.promises.proofs.v0_4.term.Play.{play-same}
 use Rattle.promises.proofs.v0_4.term.Scrolling.{log-same}
-use Rattle.std.specs.Prelude.{IsOk, length, OnErr, OnOk, vec_capacity, vec_len, ◌*◌, ◌++◌, ◌+◌, ◌≡◌, ◌≤◌}
-use Rattle.vt_term.specs.Text.{row_text_limit}
+use Rattle.std.specs.Prelude.{OnOk, ◌++◌, ◌≡◌}
 
 pub returns-clause-state : goal.returns-clause-state
 returns-clause-state c = coe 1 0 (ι. OnOk c.feed_log.result (c.feed_log.new.self ≡ ((play-same ι) c.args.sized_terminal.now c.args.piece.now).state)) c.feed_log.ensures.state

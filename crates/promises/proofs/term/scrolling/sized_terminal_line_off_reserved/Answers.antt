@@ -1,10 +1,8 @@
 use Rattle.promises.proofs.term.scrolling.sized_terminal_line_off_reserved.Goals as goal
 use Rattle.promises.proofs.v0_4.term.Scrolling.{line_off-same}
 use Rattle.promises.proofs.v0_4.term.Text.{line_text-same}
-use Rattle.std.specs.Prelude.{false, flat_map, List, true, vec_capacity, vec_len, ℕ, ◌++◌, ◌+◌, ◌≡◌, ◌≤◌}
+use Rattle.std.specs.Prelude.{flat_map, List, ℕ, ◌++◌, ◌≡◌}
 use Rattle.vt_syntax.specs.Event.{event_of}
-use Rattle.vt_term.specs.Scrolling.{scrolls_off}
-use Rattle.vt_term.specs.Text.{row_text_limit}
 
 pub returns-clause-lines : goal.returns-clause-lines
 returns-clause-lines c = coe 1 0 (ι. (values : List ℕ) → c.line_off_reserved.new.lines.items ≡ c.args.lines.now.items ++ flat_map (line_text-same ι) ((line_off-same ι) (event_of c.args.kind values) c.args.sized_terminal.now.display)) c.line_off_reserved.ensures.lines

@@ -1,6 +1,6 @@
 use Rattle.promises.proofs.trace.names.name.Goals as goal
 use Rattle.promises.proofs.v0_4.term.Names.{name_of-same}
-use Rattle.std.specs.Prelude.{IfSome, length, option_copied, ◌≡◌, ◌≤◌}
+use Rattle.std.specs.Prelude.{option_copied, ◌≡◌}
 use Rattle.vt_syntax.specs.Event.{event_of}
 
 pub returns-clause-word : goal.returns-clause-word

@@ -1,8 +1,7 @@
 use Rattle.promises.proofs.trace.tracing.trace_reserved.Goals as goal
 use Rattle.promises.proofs.v0_4.term.Play.{play-same}
 use Rattle.promises.proofs.v0_4.trace.Trace.{trace-same, tracer_all-same}
-use Rattle.std.specs.Prelude.{length, take, vec_capacity, vec_len, ◌*◌, ◌++◌, ◌+◌, ◌<◌, ◌^◌, ◌≡◌, ◌≤◌}
-use Rattle.vt_trace.specs.declared.tracing.TheConstants.{TRACE_LIMIT}
+use Rattle.std.specs.Prelude.{take, ◌++◌, ◌≡◌}
 
 pub returns-clause-state : goal.returns-clause-state
 returns-clause-state c = coe 1 0 (ι. c.trace_reserved.new.terminal ≡ ((play-same ι) c.args.terminal.now (take c.trace_reserved.result c.args.chunk.now)).state) c.trace_reserved.ensures.state

@@ -2,8 +2,7 @@ use Rattle.promises.proofs.trace.utf8.trace_utf8_reserved.Goals as goal
 use Rattle.promises.proofs.v0_4.trace.Utf8.{trace_utf8-same, tracer_utf8-same}
 use Rattle.promises.proofs.v0_4.utf8.Decoding.{pending_after-same}
 use Rattle.promises.proofs.v0_4.utf8.Play.{play_utf8-same}
-use Rattle.std.specs.Prelude.{length, take, vec_capacity, vec_len, ◌*◌, ◌++◌, ◌+◌, ◌<◌, ◌^◌, ◌≡◌, ◌≤◌}
-use Rattle.vt_trace.specs.declared.tracing.TheConstants.{TRACE_LIMIT}
+use Rattle.std.specs.Prelude.{take, ◌++◌, ◌≡◌}
 
 pub returns-clause-state : goal.returns-clause-state
 returns-clause-state c = coe 1 0 (ι. c.trace_utf8_reserved.new.terminal ≡ ((play_utf8-same ι) c.args.terminal.now c.args.decoder.now (take c.trace_utf8_reserved.result c.args.chunk.now)).state) c.trace_utf8_reserved.ensures.state

@@ -2,7 +2,7 @@ use Rattle.promises.proofs.update.laws.leading.Goals as goal
 use Rattle.promises.proofs.v0_4.paint.Repaint.{paint-same}
 use Rattle.promises.proofs.v0_4.term.Play.{joined-same, play-same}
 use Rattle.promises.proofs.v0_4.update.Leads.{last_state-same, LeadsAlong-same}
-use Rattle.std.specs.Prelude.{[], List, ℕ, ◌++◌, ◌↔◌, ◌≡◌}
+use Rattle.std.specs.Prelude.{List, ℕ, ◌++◌, ◌≡◌}
 use Rattle.vt_syntax.specs.declared.held.Held.TheVariants.{Nothing}
 use Rattle.vt_term.specs.Sound.{IsSound}
 use Rattle.vt_term.specs.State.{State}

@@ -1,13 +1,9 @@
 use Rattle.promises.proofs.update.updating.update.Goals as goal
 use Rattle.promises.proofs.v0_4.paint.Changes.{differing-same}
 use Rattle.promises.proofs.v0_4.paint.Repaint.{paint-same}
-use Rattle.std.specs.Prelude.{drop, IsErrOf, OnErr, OnOk, vec_capacity, vec_len, ◌*◌, ◌++◌, ◌+◌, ◌<◌, ◌↔◌, ◌≡◌, ◌≢◌}
-use Rattle.std.specs.Prelude.{◌≤◌, ◌⊎◌}
-use Rattle.std.specs.Str.{IsAscii}
-use Rattle.vt_controls.specs.Spoken.{Speaks}
-use Rattle.vt_syntax.specs.declared.held.Held.TheVariants.{Nothing}
-use Rattle.vt_update.specs.Leads.{HasOtherColumns, Updates}
-use Rattle.vt_update.specs.declared.updating.TheConstants.{UPDATE_LIMIT}
+use Rattle.std.specs.Prelude.{OnOk, vec_len, ◌*◌, ◌++◌, ◌+◌, ◌≡◌}
+use Rattle.std.specs.Prelude.{◌≤◌}
+use Rattle.vt_update.specs.Leads.{HasOtherColumns}
 
 pub returns-clause-small : goal.returns-clause-small
 returns-clause-small c = coe 1 0 (ι. OnOk c.update.result (c.args.shown.now.display.grid.width ≡ c.args.to.now.display.grid.width → c.args.shown.now.display.stops ≡ c.args.to.now.display.stops → vec_len c.update.new.out ≤ vec_len c.args.out.now + 28 * (differing-same ι) c.args.shown.now.display.grid c.args.to.now.display.grid + 230)) c.update.ensures.small

@@ -2,8 +2,7 @@ use Rattle.promises.proofs.utf8.feeding.feed_beyond_ascii_log.Goals as goal
 use Rattle.promises.proofs.v0_4.term.Play.{play-same}
 use Rattle.promises.proofs.v0_4.term.Scrolling.{log-same}
 use Rattle.promises.proofs.v0_4.utf8.Translation.{translation-same}
-use Rattle.std.specs.Prelude.{[], vec_capacity, vec_len, ◌++◌, ◌+◌, ◌≡◌, ◌≤◌}
-use Rattle.vt_xterm.specs.declared.log.TheConstants.{LINES_LIMIT}
+use Rattle.std.specs.Prelude.{[], ◌++◌, ◌≡◌}
 
 pub returns-clause-state : goal.returns-clause-state
 returns-clause-state c = coe 1 0 (ι. c.feed_beyond_ascii_log.new.terminal ≡ ((play-same ι) c.args.terminal.now ((translation-same ι) c.args.terminal.now c.args.c)).state) c.feed_beyond_ascii_log.ensures.state

@@ -1,7 +1,7 @@
 use Rattle.promises.proofs.utf8.feeding.feed_utf8.Goals as goal
 use Rattle.promises.proofs.v0_4.utf8.Decoding.{pending_after-same}
 use Rattle.promises.proofs.v0_4.utf8.Play.{play_utf8-same}
-use Rattle.std.specs.Prelude.{IsOk, length, OnErr, OnOk, vec_capacity, vec_len, ◌*◌, ◌++◌, ◌+◌, ◌≡◌, ◌≤◌}
+use Rattle.std.specs.Prelude.{OnOk, ◌++◌, ◌≡◌}
 
 pub returns-clause-state : goal.returns-clause-state
 returns-clause-state c = coe 1 0 (ι. OnOk c.feed_utf8.result (c.feed_utf8.new.terminal ≡ ((play_utf8-same ι) c.args.terminal.now c.args.decoder.now c.args.piece.now).state)) c.feed_utf8.ensures.state

@@ -2,8 +2,7 @@ use Rattle.promises.proofs.utf8.feeding.feed_utf8_log_reserved.Goals as goal
 use Rattle.promises.proofs.v0_4.term.Scrolling.{log-same}
 use Rattle.promises.proofs.v0_4.utf8.Decoding.{pending_after-same}
 use Rattle.promises.proofs.v0_4.utf8.Play.{play_utf8-same, translated-same}
-use Rattle.std.specs.Prelude.{length, take, vec_capacity, vec_len, ◌*◌, ◌++◌, ◌+◌, ◌<◌, ◌≡◌, ◌≤◌, ◌⊎◌}
-use Rattle.vt_utf8.specs.declared.feeding.TheConstants.{UTF8_LINES_LIMIT}
+use Rattle.std.specs.Prelude.{take, ◌++◌, ◌≡◌}
 
 pub returns-clause-state : goal.returns-clause-state
 returns-clause-state c = coe 1 0 (ι. c.feed_utf8_log_reserved.new.terminal ≡ ((play_utf8-same ι) c.args.terminal.now c.args.decoder.now (take c.feed_utf8_log_reserved.result c.args.piece.now)).state) c.feed_utf8_log_reserved.ensures.state

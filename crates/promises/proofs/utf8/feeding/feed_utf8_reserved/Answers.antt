@@ -1,7 +1,7 @@
 use Rattle.promises.proofs.utf8.feeding.feed_utf8_reserved.Goals as goal
 use Rattle.promises.proofs.v0_4.utf8.Decoding.{pending_after-same}
 use Rattle.promises.proofs.v0_4.utf8.Play.{play_utf8-same}
-use Rattle.std.specs.Prelude.{length, vec_capacity, vec_len, ◌*◌, ◌++◌, ◌+◌, ◌≡◌, ◌≤◌}
+use Rattle.std.specs.Prelude.{◌++◌, ◌≡◌}
 
 pub returns-clause-state : goal.returns-clause-state
 returns-clause-state c = coe 1 0 (ι. c.feed_utf8_reserved.new.terminal ≡ ((play_utf8-same ι) c.args.terminal.now c.args.decoder.now c.args.piece.now).state) c.feed_utf8_reserved.ensures.state

@@ -1,7 +1,7 @@
 use Rattle.promises.proofs.v0_4.utf8.Decoding.{pending_after-same}
 use Rattle.promises.proofs.v0_4.xterm.Play.{play_xterm-same}
 use Rattle.promises.proofs.xterm.feeding.feed_xterm.Goals as goal
-use Rattle.std.specs.Prelude.{IsOk, length, OnErr, OnOk, vec_capacity, vec_len, ◌*◌, ◌++◌, ◌+◌, ◌≡◌, ◌≤◌}
+use Rattle.std.specs.Prelude.{OnOk, ◌++◌, ◌≡◌}
 use Rattle.vt_xterm.specs.Play.{behind}
 
 pub returns-clause-state : goal.returns-clause-state

@@ -1,9 +1,8 @@
 use Rattle.promises.proofs.v0_4.utf8.Decoding.{pending_after-same}
 use Rattle.promises.proofs.v0_4.xterm.Play.{play_xterm-same, xterm_log-same}
 use Rattle.promises.proofs.xterm.feeding.feed_xterm_log_reserved.Goals as goal
-use Rattle.std.specs.Prelude.{length, take, vec_capacity, vec_len, ◌*◌, ◌++◌, ◌+◌, ◌<◌, ◌≡◌, ◌≤◌, ◌⊎◌}
+use Rattle.std.specs.Prelude.{take, ◌++◌, ◌≡◌}
 use Rattle.vt_xterm.specs.Play.{behind}
-use Rattle.vt_xterm.specs.declared.log.TheConstants.{LINES_LIMIT}
 
 pub returns-clause-state : goal.returns-clause-state
 returns-clause-state c = coe 1 0 (ι. c.feed_xterm_log_reserved.new.terminal ≡ ((play_xterm-same ι) (behind c.args.terminal.now c.args.front.now) c.args.front.now.pending (take c.feed_xterm_log_reserved.result c.args.piece.now)).whole.state) c.feed_xterm_log_reserved.ensures.state

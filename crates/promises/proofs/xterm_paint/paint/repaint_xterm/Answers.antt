@@ -1,10 +1,7 @@
 use Rattle.promises.proofs.v0_4.xterm_paint.Repaint.{IsRebuilt-same, showing_other-same, xterm_repaint-same}
 use Rattle.promises.proofs.xterm_paint.paint.repaint_xterm.Goals as goal
-use Rattle.std.specs.Prelude.{[], IsErrOf, OnErr, OnOk, vec_capacity, vec_len, ◌++◌, ◌+◌, ◌<◌, ◌↔◌, ◌≡◌, ◌≢◌, ◌≤◌}
-use Rattle.std.specs.Prelude.{◌⊎◌}
-use Rattle.vt_syntax.specs.declared.held.Held.TheVariants.{Nothing}
+use Rattle.std.specs.Prelude.{OnOk, ◌++◌, ◌≡◌}
 use Rattle.vt_xterm.specs.Play.{behind}
-use Rattle.vt_xterm_paint.specs.declared.paint.TheConstants.{XTERM_PAINT_LIMIT}
 
 pub returns-clause-items : goal.returns-clause-items
 returns-clause-items c = coe 1 0 (ι. OnOk c.repaint_xterm.result (c.repaint_xterm.new.out.items ≡ c.args.out.now.items ++ (xterm_repaint-same ι) (behind c.args.t.now c.args.front.now))) c.repaint_xterm.ensures.items

@@ -1,0 +1,28 @@
+-- 0.4: vt_picture/specs/Limits is today's.
+use Rattle.promises.specs.v0_4.picture.Limits as frozen
+use Rattle.std.proofs.Common.{refl, ◌≡◌}
+use Rattle.vt_picture.specs.Limits as today
+
+pub shown_line_limit-same : frozen.shown_line_limit ≡ today.shown_line_limit
+shown_line_limit-same = refl
+
+pub show_limit-same : frozen.show_limit ≡ today.show_limit
+show_limit-same = refl
+
+pub alternative_limit-same : frozen.alternative_limit ≡ today.alternative_limit
+alternative_limit-same = refl
+
+pub rows_limit-same : frozen.rows_limit ≡ today.rows_limit
+rows_limit-same = refl
+
+pub picture_limit-same : frozen.picture_limit ≡ today.picture_limit
+picture_limit-same = refl
+
+pub drawn_row_limit-same : frozen.drawn_row_limit ≡ today.drawn_row_limit
+drawn_row_limit-same = refl
+
+pub frame_limit-same : frozen.frame_limit ≡ today.frame_limit
+frame_limit-same = refl
+
+pub animation_limit-same : frozen.animation_limit ≡ today.animation_limit
+animation_limit-same = refl

@@ -1,0 +1,35 @@
+-- 0.4: vt_picture/specs/Limits.
+use Rattle.std.specs.Prelude.{ℕ, ◌*◌, ◌+◌}
+use Rattle.vt_screen.specs.declared.size.Size.{Size}
+
+-- of a row with its attributes: twelve for attributes and four for a character for each cell of the wide screen, twelve for
+-- the attributes at its end, and LF
+abbrev pub shown_line_limit : Size → ℕ
+shown_line_limit size = 16 * size.wide + 13
+
+abbrev pub show_limit : Size → ℕ
+show_limit size = size.rows * shown_line_limit size
+
+-- of the text alternative: five for each cell, and LF
+abbrev pub alternative_limit : Size → ℕ
+alternative_limit size = size.rows * (5 * size.wide + 1)
+
+-- of the rows of a picture: 203 for each cell
+abbrev pub rows_limit : Size → ℕ
+rows_limit size = size.rows * (203 * size.wide)
+
+-- of a picture: the text alternative, the rows, and 1000 for everything else
+abbrev pub picture_limit : Size → ℕ
+picture_limit size = alternative_limit size + rows_limit size + 1000
+
+-- of a row in a frame: 203 for each cell and 360 more
+abbrev pub drawn_row_limit : Size → ℕ
+drawn_row_limit size = 203 * size.wide + 360
+
+-- of a frame: its rows, and 500 for everything else
+abbrev pub frame_limit : Size → ℕ
+frame_limit size = size.rows * drawn_row_limit size + 500
+
+-- of what is before the frames, without the title: the text alternative, the first screen, and 2000 for everything else
+abbrev pub animation_limit : Size → ℕ
+animation_limit size = alternative_limit size + frame_limit size + 2000

@@ -1,0 +1,91 @@
+-- 0.4: vt_replay/specs/Search.
+use Rattle.promises.specs.v0_4.glyph.Tables.{space}
+use Rattle.promises.specs.v0_4.recording.Gathered.{events_of}
+use Rattle.promises.specs.v0_4.recording.Reached.{length_of}
+use Rattle.promises.specs.v0_4.replay.Animated.{shown_after}
+use Rattle.promises.specs.v0_4.replay.EventTable.{time_column}
+use Rattle.promises.specs.v0_4.replay.Steps.{Step}
+use Rattle.promises.specs.v0_4.screen.Cells.{blank}
+use Rattle.promises.specs.v0_4.screen.Grid.{last_row, row_of}
+use Rattle.promises.specs.v0_4.term.Text.{glyphs_of, trimmed}
+use Rattle.promises.specs.v0_4.utf8.Cells.{cells}
+use Rattle.promises.specs.v0_4.utf8.Similar.{shown}
+use Rattle.std.specs.List.{range_with_len}
+use Rattle.std.specs.Prelude.{[], Bool, codes, cond, encode_utf8_all, false, flat_map, if◌then◌else◌, length, List}
+use Rattle.std.specs.Prelude.{nat_lt, None, not, Option, slice_index_or, Some, string_bytes, true, ℕ, ◌++◌, ◌+◌, ◌-◌}
+use Rattle.std.specs.Prelude.{◌==◌, ◌∷◌}
+use Rattle.std.specs.Str.{chars}
+use Rattle.std.specs.declared.alloc.Global.{Global}
+use Rattle.std.specs.declared.string.String.{String}
+use Rattle.vt_recording.specs.declared.format.Break.{Break}
+use Rattle.vt_recording.specs.declared.format.Encoding.{Encoding}
+use Rattle.vt_recording.specs.declared.format.Format.{Format}
+use Rattle.vt_recording.specs.declared.format.Moment.{Moment}
+use Rattle.vt_replay.specs.Search.{first_place, spans}
+use Rattle.vt_replay.specs.Steps.{IsStepped}
+use Rattle.vt_replay.specs.declared.language.Language.TheVariants.{Dec, Utf8, Xterm}
+use Rattle.vt_replay.specs.declared.language.Language.{Language}
+use Rattle.vt_screen.specs.declared.cell.Cell.{Cell}
+use Rattle.vt_term.specs.State.{Display}
+
+abbrev pub text_of : Option (String Global) → List ℕ
+text_of None = []
+text_of (Some text) = string_bytes text
+
+-- what is shown for a character: in UTF-8 a similar glyph in one cell, or in two, of which the second is a space. Some characters
+-- have no cell
+abbrev pub in_cells : (wide : Bool) → (glyph : ℕ) → List ℕ
+in_cells false glyph = glyph ∷ []
+in_cells true glyph = glyph ∷ space ∷ []
+
+abbrev pub shown_for : ℕ → List ℕ
+shown_for c = if nat_lt c 0x80 then c ∷ [] else (if cells c == 0 then [] else in_cells (nat_lt 1 (cells c)) (shown c))
+
+-- a VT220's own characters are shown by themselves
+abbrev pub is_utf8 : Language → Bool
+is_utf8 Dec = false
+is_utf8 Utf8 = true
+is_utf8 Xterm = true
+
+-- the text as the screen shows it, in UTF-8
+abbrev pub wanted : Language → (text : List ℕ) → List ℕ
+wanted language text = cond (is_utf8 language) (encode_utf8_all (flat_map (λ c. shown_for c) (chars text))) text
+
+-- a row with a character in its last column goes on in the next one
+abbrev pub goes_on : List Cell → Bool
+goes_on cells = not ((slice_index_or cells (length cells - 1) blank).glyph == space)
+
+-- any other row ends with LF. In UTF-8 a space comes before: it may be the second cell of a character
+abbrev pub line_end : (utf8 : Bool) → List Cell → List ℕ
+line_end utf8 cells = if goes_on cells then [] else (if utf8 then space ∷ 0x0A ∷ [] else 0x0A ∷ [])
+
+-- a row in UTF-8, without the spaces at its end
+abbrev pub line : (utf8 : Bool) → List Cell → List ℕ
+line utf8 cells = encode_utf8_all (trimmed (glyphs_of cells)) ++ line_end utf8 cells
+
+abbrev pub line_of : (utf8 : Bool) → Display → (row : ℕ) → List ℕ
+line_of utf8 s row = line utf8 (row_of s.grid row)
+
+-- the rows, one after the other
+unfoldable pub lines : (utf8 : Bool) → Display → List ℕ
+lines utf8 s = flat_map (λ row. line_of utf8 s row) (range_with_len 1 last_row)
+
+-- the row and the column, from 1, of a byte of the rows starting at this one, of which so many are left
+abbrev pub column_of : (before : List ℕ) → ℕ
+column_of before = length_of true before + 1
+
+-- the time of the first event after which it isn't there, or `-` if it is there at the end
+abbrev pub until_column : Option ℕ → List ℕ
+until_column None = codes "-"
+until_column (Some clock) = time_column true clock
+
+-- of steps, which have the bytes of a content. The opening comes before it
+abbrev pub searched : Language → (text opening content : List ℕ) → List Step → List ℕ
+searched language text opening content steps =
+    spans (λ bytes. first_place (is_utf8 language) (wanted language text) (shown_after language (opening ++ bytes))) 0 None (events_of steps content)
+
+-- the lines of a recording up to a moment, and where that breaks its format
+abbrev pub IsSearched : (text opening : List ℕ) → Language → Format → Encoding → (until : Option Moment) → (timing : Option (List ℕ))
+    → (bytes lines : List ℕ) → (broken : Option Break) → (replaced : ℕ) → Type 0
+IsSearched text opening language format encoding until timing bytes lines broken replaced =
+    IsStepped (λ content steps. searched language text opening content steps) format encoding until timing bytes lines broken replaced

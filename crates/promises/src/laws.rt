@@ -1,0 +1,5 @@
+//! The calls of vt_laws.
+pub mod program;
+pub mod trace;
+pub mod utf8;
+pub mod xterm;

@@ -1,2 +1,0 @@
-//! The calls of laws_trace.
-pub mod lib;

@@ -1,2 +1,0 @@
-//! The calls of laws_utf8.
-pub mod lib;

@@ -1,2 +1,0 @@
-//! The calls of laws_xterm.
-pub mod lib;

@@ -6,7 +6,7 @@ use Rattle.vt_term.specs.State.{State}
 use Rattle.vt_term.specs.Text.{text, line_text}
 use Rattle.vt_picture.specs.Show.{show}
 use Rattle.vt_picture.specs.Picture.{picture}
-use Rattle.vt_draw.specs.Draw.{draw}
+use Rattle.vt_picture.specs.Draw.{draw}
 use Rattle.vt_paint.specs.Repaint.{paint}
 use Rattle.vt220_c.specs.declared.form.Form.{Form}
 use Rattle.vt220_c.specs.declared.form.Form.TheVariants.{Text, RowText, Show, Picture, Draw, Repaint}

@@ -4,9 +4,9 @@ ghost use Rattle.std.specs.Str.{IsAscii};
 ghost use Rattle.vt_syntax.specs.declared.held.Held.TheVariants.{Nothing};
 ghost use Rattle.vt_term.specs.Play.{play};
 ghost use Rattle.vt_term.specs.Scrolling.{log};
-ghost use Rattle.vt_draw.specs.Draw.{draw_from};
+ghost use Rattle.vt_picture.specs.Draw.{draw_from};
 ghost use Rattle.vt_paint.specs.Changes.{differing};
-ghost use Rattle.vt_controls.specs.Spoken.{Speaks};
+ghost use Rattle.vt_paint.specs.Spoken.{Speaks};
 ghost use Rattle.vt220_c.specs.Bells.{bells};
 ghost use Rattle.vt220_c.specs.Forms.{written_as, CanBe};
 ghost use Rattle.vt220_c.specs.Told.{Plays};
@@ -19,9 +19,10 @@ use crate::player::Player;
 use crate::playing::play;
 use std::alloc::{AllocError, Global};
 use std::marker::Model;
-use vt_draw::{draw_from_reserved, draw_reserved};
 use vt_paint::repaint_reserved;
-use vt_picture::{PICTURE_LIMIT, picture_reserved, show_reserved};
+use vt_picture::{
+    PICTURE_LIMIT, draw_from_reserved, draw_reserved, picture_reserved, show_reserved,
+};
 use vt_term::{REPORT_LIMIT, ROW_TEXT_LIMIT, Terminal};
 use vt_update::{UPDATE_LIMIT, update_reserved};
 use vt_xterm::LINES_LIMIT;

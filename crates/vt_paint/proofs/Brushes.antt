@@ -13,12 +13,12 @@ use Rattle.vt_screen.specs.declared.cell.Brush.{Brush}
 use Rattle.vt_term.specs.State.{Display}
 use Rattle.vt_term.specs.Rendition.{with_attribute, with_attributes}
 use Rattle.vt_term.specs.Functions.{control, plain_escape, escape_with, sequence_in, sequences_of, effect}
-use Rattle.vt_controls.specs.Controls.{spelling_sets_events, rendition_values, brush_events, left_event, right_event}
-use Rattle.vt_controls.specs.Controls.{sets_events}
+use Rattle.vt_paint.specs.Controls.{spelling_sets_events, rendition_values, brush_events, left_event, right_event}
+use Rattle.vt_paint.specs.Controls.{sets_events}
 use Rattle.vt_paint.proofs.AfterEvents.{display_after, Makes}
 use Rattle.vt_screen.specs.Same.{same_rendition}
 use Rattle.vt_paint.proofs.Equality.{same_rendition-is}
-use Rattle.vt_controls.proofs.Tests.{both_pass, all_brushes, at_brush}
+use Rattle.vt_paint.proofs.Tests.{both_pass, all_brushes, at_brush}
 
 -- ---- the brush
 

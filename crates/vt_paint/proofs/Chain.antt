@@ -9,25 +9,26 @@ use Rattle.vt_screen.specs.declared.cell.Brush.{Brush}
 use Rattle.vt_screen.specs.declared.cell.Cell.{Cell}
 use Rattle.vt_screen.specs.Cells.{blank, brush_of, plain_brush}
 use Rattle.vt_screen.specs.declared.size.Size.{Size}
-use Rattle.vt_screen.specs.Sizes.{vt220_size, IsSize}
-use Rattle.vt_screen.specs.Grid.{Grid, IsGrid, cell_at, grid_of, blank_grid, columns}
+use Rattle.vt_screen.specs.Sizes.{width_of, IsSize}
+use Rattle.vt_screen.specs.Grid.{Grid, IsGrid, cell_at, grid_of, blank_grid}
 use Rattle.vt_term.specs.declared.state.Cursor.{Cursor}
 use Rattle.vt_term.specs.declared.state.Margins.{Margins}
 use Rattle.vt_term.specs.declared.state.Modes.{Modes}
-use Rattle.vt_term.specs.State.{Display, at_place, full_margins, modes_at_power_up, saved_sets, saved_at_power_up}
-use Rattle.vt_term.specs.Sound.{AreSoundMargins, IsSoundDisplay, IsPlace}
+use Rattle.vt_term.specs.State.{Display, bottom_row, at_place, margins_of, modes_at_power_up, saved_sets}
+use Rattle.vt_term.specs.State.{saved_at_power_up}
+use Rattle.vt_term.specs.Sound.{AreSoundMargins, IsSoundSizedDisplay, IsPlace}
 use Rattle.vt_term.specs.Modes.{with_mode}
 use Rattle.vt_term.specs.Functions.{sequence_in, sequences_of, plain_escape, effect}
 use Rattle.vt_term.specs.Answers.{line_of_cursor}
 use Rattle.vt_paint.specs.Same.{same_saved}
-use Rattle.vt_controls.specs.Controls.{margins_to, brush_events, sets_events, spelling_sets_events, private_mode}
-use Rattle.vt_controls.specs.Controls.{cursor_position, save_cursor}
+use Rattle.vt_paint.specs.Controls.{margins_to, brush_events, sets_events, spelling_sets_events, private_mode}
+use Rattle.vt_paint.specs.Controls.{cursor_position, save_cursor}
 use Rattle.vt_paint.specs.Pieces.{glyph_events, pieces, is_blank_grid}
 use Rattle.vt_paint.specs.Items.{cells_item, margins_item, origin_item, position_item, wrap_item, last_items}
 use Rattle.vt_paint.specs.Items.{saved_events, saved_item}
 use Rattle.vt_paint.proofs.AfterEvents.{display_after, display_after-append, Makes, MakesSome, then_makes, one_makes}
 use Rattle.vt_paint.proofs.AfterEvents.{none_makes}
-use Rattle.vt_controls.proofs.Tests.{not_true}
+use Rattle.vt_paint.proofs.Tests.{not_true}
 use Rattle.vt_paint.proofs.Equality.{is_blank-is, same_saved-is}
 use Rattle.vt_paint.proofs.Painting.{painted, all_blank, painted_none, glyph_leaves, shown, IsReady, behind}
 use Rattle.vt_paint.proofs.Painting.{AreGlyphs, pieces_leaves, cursor_leaves, put_again}
@@ -57,33 +58,34 @@ part s modes cursor brush sets margins origin = record s {
 -- ---- margins and origin
 
 margins_leaves : (s : Display) (modes : Modes) (cursor : Cursor) (brush : Brush) (sets : GraphicSets) (m : Margins)
-    (origin : Bool) → s.grid.size.rows ≡ 24 → AreSoundMargins 24 m
-    → MakesSome (margins_item m) (part s modes cursor brush sets full_margins origin)
+    (origin : Bool) → AreSoundMargins s.grid.size.rows m
+    → MakesSome (margins_item (bottom_row s) m) (part s modes cursor brush sets (margins_of s.grid.size) origin)
     (λ cursor. part s modes cursor brush sets m origin)
 unfolding display_after margins_item sequence_in sequences_of
-margins_leaves s modes cursor brush sets m origin rows sound = go (eqb m.top 1 && eqb m.bottom 24) refl
+margins_leaves s modes cursor brush sets m origin sound = go (eqb m.top 1 && eqb m.bottom s.grid.size.rows) refl
   where
     made : ℕ → ℕ → Margins
     made t b = record { top = t; bottom = b }
 
-    go : (b : Bool) → eqb m.top 1 && eqb m.bottom 24 ≡ b
-        → MakesSome (cond b [] (margins_to m.top m.bottom ∷ [])) (part s modes cursor brush sets full_margins origin)
+    go : (b : Bool) → eqb m.top 1 && eqb m.bottom s.grid.size.rows ≡ b
+        → MakesSome (cond b [] (margins_to m.top m.bottom ∷ []))
+        (part s modes cursor brush sets (margins_of s.grid.size) origin)
         (λ cursor. part s modes cursor brush sets m origin)
     go true e =
-        let a = and_parts (eqb m.top 1) (eqb m.bottom 24) e in
+        let a = and_parts (eqb m.top 1) (eqb m.bottom s.grid.size.rows) e in
         let top : 1 ≡ m.top = sym (eqb-true m.top 1 a.0) in
-        let bottom : 24 ≡ m.bottom = sym (eqb-true m.bottom 24 a.1) in
+        let bottom : s.grid.size.rows ≡ m.bottom = sym (eqb-true m.bottom s.grid.size.rows a.1) in
         record {
           some = cursor;
           makes = record {
-            is = ap (λ t. part s modes cursor brush sets (made t 24) origin) top
+            is = ap (λ t. part s modes cursor brush sets (made t s.grid.size.rows) origin) top
                 ∙ ap (λ b. part s modes cursor brush sets (made m.top b) origin) bottom;
           };
         }
     go false e =
         let top : max m.top 1 ≡ m.top = omega (arith, sound) in
         let none : eqb m.bottom 0 ≡ false = ne_eqb m.bottom 0 (omega (arith, sound)) in
-        let bottom : min m.bottom s.grid.size.rows ≡ m.bottom = omega (arith, sound, rows) in
+        let bottom : min m.bottom s.grid.size.rows ≡ m.bottom = omega (arith, sound) in
         let less : ltb m.top m.bottom ≡ true = lt-ltb m.top m.bottom sound.two_rows in
         record { some = at_place (cond origin m.top 1) 1; makes = record { is = rw (top, none, bottom, less) refl } }
 
@@ -102,7 +104,7 @@ origin_leaves false s modes cursor brush sets m now false h = record { some = at
 
 -- ---- the cursor
 
-line_back : (s : Display) → IsSoundDisplay s
+line_back : (s : Display) → IsSoundSizedDisplay s
     → (cond s.modes.decom (min (s.margins.top + max (line_of_cursor s) 1 - 1) s.margins.bottom)
     (min (max (line_of_cursor s) 1) s.grid.size.rows)) ≡ s.cursor.row
 line_back s i = go s.modes.decom refl
@@ -111,10 +113,10 @@ line_back s i = go s.modes.decom refl
         → cond b (min (s.margins.top + max (cond b (s.cursor.row - s.margins.top + 1) s.cursor.row) 1 - 1)
         s.margins.bottom) (min (max (cond b (s.cursor.row - s.margins.top + 1) s.cursor.row) 1) s.grid.size.rows) ≡ s.cursor.row
     go true e = let o = i.origin e in omega (arith, o)
-    go false e = omega (arith, i.cursor.row_1, i.cursor.row_last, ap (λ (z : Size). z.rows) i.of_size)
+    go false e = omega (arith, i.cursor.row_1, i.cursor.row_last)
 
 position_leaves : (s : Display) (modes : Modes) (cursor : Cursor) (brush : Brush) (sets : GraphicSets)
-    → IsSoundDisplay s
+    → IsSoundSizedDisplay s
     → Makes (position_item s) (part s modes cursor brush sets s.margins s.modes.decom)
     (part s modes (at_place s.cursor.row s.cursor.col) brush sets s.margins s.modes.decom)
 position_leaves s modes cursor brush sets i =
@@ -163,122 +165,125 @@ recorded s modes = record s {
   cursor = saved_cursor s.saved;
   brush = s.saved.brush;
   sets = saved_sets s.saved;
-  margins = full_margins;
+  margins = margins_of s.grid.size;
   modes = record modes { decom = s.saved.origin };
   saved = saved_at_power_up;
 }
 
-line_on : (rows : ℕ) (origin : Bool) (r : ℕ) → 1 ≤ r → r ≤ 24 → rows ≡ 24
-    → cond origin (min (1 + max r 1 - 1) 24) (min (max r 1) rows) ≡ r
-line_on rows true r h k is = omega arith
-line_on rows false r h k is = omega (arith, is)
+line_on : (rows : ℕ) (origin : Bool) (r : ℕ) → 1 ≤ r → r ≤ rows
+    → cond origin (min (1 + max r 1 - 1) rows) (min (max r 1) rows) ≡ r
+line_on rows true r h k = omega arith
+line_on rows false r h k = omega arith
 
 save_leaves : (s : Display) (modes : Modes) (sets : GraphicSets)
     → effect save_cursor (with_sets (part (recorded s modes) modes (saved_cursor s.saved) s.saved.brush sets
-    full_margins s.saved.origin) s.saved.g s.saved.gl s.saved.gr)
+    (margins_of s.grid.size) s.saved.origin) s.saved.g s.saved.gl s.saved.gr)
     ≡ part s modes (saved_cursor s.saved) s.saved.brush
-    (record sets { g = s.saved.g; left = s.saved.gl; right = s.saved.gr }) full_margins s.saved.origin
+    (record sets { g = s.saved.g; left = s.saved.gl; right = s.saved.gr }) (margins_of s.grid.size) s.saved.origin
 unfolding plain_escape
 save_leaves s modes sets = refl
 
 -- by the events of its wrap flag, and then some others
 pub record_leaves : (s z : Display) (modes : Modes) (cursor : Cursor) (brush made : Brush) (sets : GraphicSets)
     (wraps rest : List Event)
-    → s.grid.size.rows ≡ 24 → IsPlace 24 s.grid.width s.saved.row s.saved.col s.saved.wrap → AreSoundSets (saved_sets s.saved) → length sets.g ≡ 4
+    → IsPlace s.grid.size.rows s.grid.width s.saved.row s.saved.col s.saved.wrap → AreSoundSets (saved_sets s.saved)
+    → length sets.g ≡ 4
     → Makes wraps
-    (part (recorded s modes) modes (at_place s.saved.row s.saved.col) brush sets full_margins s.saved.origin)
-    (part (recorded s modes) modes (saved_cursor s.saved) made sets full_margins s.saved.origin)
+    (part (recorded s modes) modes (at_place s.saved.row s.saved.col) brush sets (margins_of s.grid.size) s.saved.origin)
+    (part (recorded s modes) modes (saved_cursor s.saved) made sets (margins_of s.grid.size) s.saved.origin)
     → Makes rest (part s modes (saved_cursor s.saved) s.saved.brush
-    (record sets { g = s.saved.g; left = s.saved.gl; right = s.saved.gr }) full_margins s.saved.origin) z
+    (record sets { g = s.saved.g; left = s.saved.gl; right = s.saved.gr }) (margins_of s.grid.size) s.saved.origin) z
     → Makes (origin_item true s.saved.origin
     ++ (cursor_position s.saved.row s.saved.col ∷ (wraps ++ (brush_events s.saved.brush
     ++ (sets_events (saved_sets s.saved) ++ save_cursor ∷ rest)))))
-    (part (recorded s modes) modes cursor brush sets full_margins false) z
-record_leaves s z modes cursor brush made sets wraps rest rows place sound four wrapped behind =
+    (part (recorded s modes) modes cursor brush sets (margins_of s.grid.size) false) z
+record_leaves s z modes cursor brush made sets wraps rest place sound four wrapped behind =
     let d = recorded s modes in
+    let m = margins_of s.grid.size in
     let origin = s.saved.origin in
-    let w = origin_leaves true d modes cursor brush sets full_margins false origin (λ e. refl) in
-    then_makes w.makes (then_makes (one_makes (cursor_leaves (part d modes w.some brush sets full_margins origin)
-    s.saved.row s.saved.row s.saved.col place.col_1 place.col_last (line_on s.grid.size.rows origin s.saved.row place.row_1 place.row_last rows)))
+    let w = origin_leaves true d modes cursor brush sets m false origin (λ e. refl) in
+    then_makes w.makes (then_makes (one_makes (cursor_leaves (part d modes w.some brush sets m origin)
+    s.saved.row s.saved.row s.saved.col place.col_1 place.col_last (line_on s.grid.size.rows origin s.saved.row place.row_1 place.row_last)))
     (then_makes wrapped (then_makes (brush_leaves _ s.saved.brush)
-    (then_makes (sets_leaves (part d modes (saved_cursor s.saved) s.saved.brush sets full_margins origin)
+    (then_makes (sets_leaves (part d modes (saved_cursor s.saved) s.saved.brush sets m origin)
     (saved_sets s.saved) four sound) (then_makes (one_makes (save_leaves s modes sets)) behind)))))
 
--- power-up with this width, these stops, this saved record with its brush and its sets, and this cursor
-abbrev pub with_saved : Bool → List Bool → Saved → Cursor → Display
-with_saved wide stops saved cursor = record (with_stops wide stops cursor) {
+-- power-up of a size with this width, these stops, this saved record with its brush and its sets, and this cursor
+abbrev pub with_saved : Size → Bool → List Bool → Saved → Cursor → Display
+with_saved size wide stops saved cursor = record (with_stops size wide stops cursor) {
   saved = saved;
   brush = saved.brush;
   sets = saved_sets saved;
 }
 
-vt220-sized : IsSize vt220_size
-vt220-sized = record { rows = (omega arith, omega arith); narrow = omega arith; wide = omega arith; columns = omega arith }
-
 -- a space in the last column of a blank grid leaves a blank cell, and the wrap flag
-space_leaves : (wide : Bool) (s : Display) → IsPlace 24 (columns wide) s.saved.row s.saved.col s.saved.wrap
-    → s.grid ≡ blank_grid vt220_size wide
+space_leaves : (size : Size) (wide : Bool) (s : Display) → IsSize size
+    → IsPlace size.rows (width_of size wide) s.saved.row s.saved.col s.saved.wrap
+    → s.grid ≡ blank_grid size wide
     → Makes (when s.saved.wrap (Print space ∷ []))
     (part (recorded s modes_at_power_up) modes_at_power_up (at_place s.saved.row s.saved.col) plain_brush sets_at_power_up
-    full_margins s.saved.origin)
+    (margins_of s.grid.size) s.saved.origin)
     (part (recorded s modes_at_power_up) modes_at_power_up (saved_cursor s.saved) plain_brush sets_at_power_up
-    full_margins s.saved.origin)
+    (margins_of s.grid.size) s.saved.origin)
 unfolding display_after glyph_read after_read
-space_leaves wide s place on_blank = go s.saved.wrap refl
+space_leaves size wide s sized place on_blank = go s.saved.wrap refl
   where
     shape : Bool → Display
     shape w = part (recorded s modes_at_power_up) modes_at_power_up
-        (record { row = s.saved.row; col = s.saved.col; wrap = w }) plain_brush sets_at_power_up full_margins
+        (record { row = s.saved.row; col = s.saved.col; wrap = w }) plain_brush sets_at_power_up (margins_of s.grid.size)
         s.saved.origin
 
     go : (b : Bool) → s.saved.wrap ≡ b → Makes (when b (Print space ∷ [])) (shape false) (shape s.saved.wrap)
     go false e = none_makes (ap shape (sym e))
     go true e =
         let here : blank ≡ cell_at s.grid s.saved.row s.saved.col =
-        rw on_blank (sym (cell_at-grid_of vt220_size (columns wide) (λ r c. blank) s.saved.row s.saved.col place.row_1
+        rw on_blank (sym (cell_at-grid_of size (width_of size wide) (λ r c. blank) s.saved.row s.saved.col place.row_1
         place.row_last place.col_1 place.col_last)) in
         let last : s.saved.col ≡ s.grid.width = rw on_blank (place.wrap_last e) in
-        let is : IsGrid s.grid = rw on_blank (IsGrid-grid_of vt220_size (columns wide) _ vt220-sized (wide, refl)) in
+        let is : IsGrid s.grid = rw on_blank (IsGrid-grid_of size (width_of size wide) _ sized (wide, refl)) in
         record {
           is = put_again (shape false) s.saved.row s.saved.col blank here last is refl refl ∙ ap shape (sym e);
         }
 
 -- DECOM reset again
-off_leaves : (wide : Bool) (s : Display) (origin : Bool)
+off_leaves : (size : Size) (wide : Bool) (s : Display) (origin : Bool)
     → MakesSome (when origin (private_mode 6 false ∷ []))
-    (record (with_saved wide s.stops s.saved (saved_cursor s.saved)) { modes = record modes_at_power_up { decom = origin } })
-    (with_saved wide s.stops s.saved)
+    (record (with_saved size wide s.stops s.saved (saved_cursor s.saved)) {
+      modes = record modes_at_power_up { decom = origin };
+    })
+    (with_saved size wide s.stops s.saved)
 unfolding display_after sequence_in sequences_of with_mode
-off_leaves wide s true = record { some = at_place 1 1; makes = record { is = refl } }
-off_leaves wide s false = record { some = saved_cursor s.saved; makes = record { is = refl } }
+off_leaves size wide s true = record { some = at_place 1 1; makes = record { is = refl } }
+off_leaves size wide s false = record { some = saved_cursor s.saved; makes = record { is = refl } }
 
 origin_when : (origin : Bool) → origin_item true origin ≡ when origin (private_mode 6 true ∷ [])
 unfolding origin_item
 origin_when true = refl
 origin_when false = refl
 
-pub saved_leaves : (wide : Bool) (s : Display) (cursor : Cursor)
-    → IsPlace 24 (columns wide) s.saved.row s.saved.col s.saved.wrap → AreSoundSets (saved_sets s.saved)
-    → MakesSome (saved_item s.saved) (with_stops wide s.stops cursor) (with_saved wide s.stops s.saved)
+pub saved_leaves : (size : Size) (wide : Bool) (s : Display) (cursor : Cursor) → IsSize size
+    → IsPlace size.rows (width_of size wide) s.saved.row s.saved.col s.saved.wrap → AreSoundSets (saved_sets s.saved)
+    → MakesSome (saved_item s.saved) (with_stops size wide s.stops cursor) (with_saved size wide s.stops s.saved)
 unfolding saved_item saved_events
-saved_leaves wide s cursor place sets = go (same_saved s.saved saved_at_power_up) refl
+saved_leaves size wide s cursor sized place sets = go (same_saved s.saved saved_at_power_up) refl
   where
     on_blank : Display
-    on_blank = record s { grid = blank_grid vt220_size wide }
+    on_blank = record s { grid = blank_grid size wide }
 
     go : (b : Bool) → same_saved s.saved saved_at_power_up ≡ b
-        → MakesSome (when (not b) (saved_events s.saved)) (with_stops wide s.stops cursor) (with_saved wide s.stops s.saved)
+        → MakesSome (when (not b) (saved_events s.saved)) (with_stops size wide s.stops cursor)
+        (with_saved size wide s.stops s.saved)
     go true e = record {
       some = cursor;
-      makes = none_makes (ap (λ s'. with_saved wide s.stops s' cursor) (sym (same_saved-is s.saved saved_at_power_up e)));
+      makes = none_makes (ap (λ s'. with_saved size wide s.stops s' cursor) (sym (same_saved-is s.saved saved_at_power_up e)));
     }
     go false e =
-        let w = off_leaves wide s s.saved.origin in
+        let w = off_leaves size wide s s.saved.origin in
         record {
           some = w.some;
           makes =
               rw (← origin_when s.saved.origin) (record_leaves on_blank _ modes_at_power_up cursor plain_brush plain_brush
-              sets_at_power_up _ _ refl place sets refl (space_leaves wide on_blank place refl) w.makes);
+              sets_at_power_up _ _ place sets refl (space_leaves size wide on_blank sized place refl) w.makes);
         }
 
 -- ---- the cells
@@ -287,29 +292,28 @@ pub record HasCells (s x : Display) : Type 0 where
   pub cursor : Cursor
   pub brush : Brush
   pub sets : GraphicSets
-  pub is : x ≡ part s modes_at_power_up cursor brush sets full_margins false
+  pub is : x ≡ part s modes_at_power_up cursor brush sets (margins_of s.grid.size) false
   pub four : length sets.g ≡ 4
   pub none : sets.pending ≡ None
   pub spells : s.cursor.wrap ≡ true → AreSpellingSets sets
 
-blank_grid-is : (wide : Bool) (g : Grid) → g.width ≡ columns wide → IsGrid g → g.size ≡ vt220_size → is_blank_grid g ≡ true
-    → blank_grid vt220_size wide ≡ g
+blank_grid-is : (wide : Bool) (g : Grid) → g.width ≡ width_of g.size wide → IsGrid g → is_blank_grid g ≡ true
+    → blank_grid g.size wide ≡ g
 unfolding is_blank_grid
-blank_grid-is wide g w is size h =
-    ap (λ n. grid_of vt220_size n (λ r c. blank)) (sym w)
-    ∙ grid_of-same vt220_size g.width (λ r c. blank) (cell_at g)
-    (λ r c r1 r24 c1 cw. sym (is_blank-is (cell_at g r c) (blank_at g 24 r c h r1 (omega arith) c1 cw)))
-    ∙ ap (λ z. grid_of z g.width (cell_at g)) (sym size)
+blank_grid-is wide g w is h =
+    ap (λ n. grid_of g.size n (λ r c. blank)) (sym w)
+    ∙ grid_of-same g.size g.width (λ r c. blank) (cell_at g)
+    (λ r c r1 rn c1 cw. sym (is_blank-is (cell_at g r c) (blank_at g g.size.rows r c h r1 (omega arith) c1 cw)))
     ∙ grid_of-cell_at g is.cells
 
-pub cells_leaves : (wide : Bool) (s : Display) (cursor : Cursor) → s.grid.width ≡ columns wide → IsGrid s.grid
-    → s.grid.size ≡ vt220_size → AreGlyphs s.grid → AreSoundSets (saved_sets s.saved)
-    → HasCells s (display_after (with_saved wide s.stops s.saved cursor) (cells_item s.grid s.cursor.wrap))
+pub cells_leaves : (wide : Bool) (s : Display) (cursor : Cursor) → s.grid.width ≡ width_of s.grid.size wide → IsGrid s.grid
+    → AreGlyphs s.grid → AreSoundSets (saved_sets s.saved)
+    → HasCells s (display_after (with_saved s.grid.size wide s.stops s.saved cursor) (cells_item s.grid s.cursor.wrap))
 unfolding display_after cells_item
-cells_leaves wide s cursor w is size are sets = go (is_blank_grid s.grid && not s.cursor.wrap) refl
+cells_leaves wide s cursor w is are sets = go (is_blank_grid s.grid && not s.cursor.wrap) refl
   where
     x0 : Display
-    x0 = with_saved wide s.stops s.saved cursor
+    x0 = with_saved s.grid.size wide s.stops s.saved cursor
 
     t : GraphicSets
     t = spelling_sets (saved_sets s.saved)
@@ -325,7 +329,7 @@ cells_leaves wide s cursor w is size are sets = go (is_blank_grid s.grid && not 
           cursor = cursor;
           brush = s.saved.brush;
           sets = saved_sets s.saved;
-          is = ap (λ g. record x0 { grid = g }) (blank_grid-is wide s.grid w is size p.0);
+          is = ap (λ g. record x0 { grid = g }) (blank_grid-is wide s.grid w is p.0);
           four = sets.four;
           none = refl;
           spells = λ h. absurd (cc (h, not_true s.cursor.wrap p.1));
@@ -333,11 +337,11 @@ cells_leaves wide s cursor w is size are sets = go (is_blank_grid s.grid && not 
     go false e =
         let spells = spelling_sets_are (saved_sets s.saved) sets.four refl in
         let ready : IsReady base = record { sets = spells; irm = refl; decawm = refl; decom = refl } in
-        let on_blank : blank_grid vt220_size wide ≡ painted all_blank s.grid 1 1 =
-        ap (λ n. grid_of vt220_size n all_blank) (sym w) ∙ painted_none all_blank s.grid in
+        let on_blank : blank_grid s.grid.size wide ≡ painted all_blank s.grid 1 1 =
+        ap (λ n. grid_of s.grid.size n all_blank) (sym w) ∙ painted_none all_blank s.grid in
         let painted_is = (spelling_sets_leaves x0).is ∙ ap (λ g. shown base g cursor s.saved.brush) on_blank in
         let v = pieces_leaves base s.grid (display_after x0 spelling_sets_events) cursor s.saved.brush
-        ready is size are painted_is in
+        ready is are painted_is in
         record {
           cursor = v.cursor;
           brush = v.brush;
@@ -353,12 +357,12 @@ cells_leaves wide s cursor w is size are sets = go (is_blank_grid s.grid && not 
 pub last_leaves : (known : Bool) (s : Display) (modes : Modes) (cursor : Cursor) (brush : Brush) (sets : GraphicSets)
     (origin : Bool)
     → (known ≡ true → modes ≡ modes_at_power_up) → (known ≡ true → origin ≡ false)
-    → modes.irm ≡ false → modes.decawm ≡ true → IsSoundDisplay s → AreGlyphs s.grid
+    → modes.irm ≡ false → modes.decawm ≡ true → IsSoundSizedDisplay s → AreGlyphs s.grid
     → length sets.g ≡ 4 → sets.pending ≡ None → (s.cursor.wrap ≡ true → AreSpellingSets sets)
-    → Makes (last_items known s) (part s modes cursor brush sets full_margins origin) s
+    → Makes (last_items known s) (part s modes cursor brush sets (margins_of s.grid.size) origin) s
 unfolding last_items
 last_leaves known s modes cursor brush sets origin is_known was irm decawm i are four none spells =
-    let w1 = margins_leaves s modes cursor brush sets s.margins origin (ap (λ (z : Size). z.rows) i.of_size) i.margins in
+    let w1 = margins_leaves s modes cursor brush sets s.margins origin i.margins in
     let w2 = origin_leaves known s modes w1.some brush sets s.margins origin s.modes.decom was in
     let w4 = wrap_leaves s modes brush sets irm decawm i.grid.shape i.cursor.wrap_last are spells in
     let x5 = part s modes s.cursor s.brush sets s.margins s.modes.decom in

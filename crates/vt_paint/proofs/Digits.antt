@@ -3,7 +3,7 @@ use Rattle.std.proofs.Common.{◌≡◌, true, ℕ, ◌+◌, ◌/◌, ◌%◌, �
 use Rattle.std.specs.Fmt.{digits}
 use Rattle.std.specs.List.{list_all, range_with_len}
 use Rattle.vt_glyph.proofs.Lists.{all_in_range}
-use Rattle.vt_controls.proofs.Spelled.{same_bytes, same_bytes-is}
+use Rattle.vt_paint.proofs.Spelled.{same_bytes, same_bytes-is}
 
 abbrev two : ℕ → List ℕ
 two n = (48 + n / 10) ∷ (48 + n % 10) ∷ []

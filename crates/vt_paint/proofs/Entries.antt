@@ -5,17 +5,17 @@ use Rattle.std.specs.Prelude.{decimal}
 use Rattle.std.specs.Fmt.{digits}
 use Rattle.std.specs.Cmp.Lexicographic.{pointwise_decides}
 use Rattle.std.proofs.lemmas.Bool.Decides.{Decides-eqb}
-use Rattle.vt_controls.proofs.Spelled.{same_bytes}
-use Rattle.vt_controls.proofs.Tests.{both_pass, all_brushes, at_brush}
+use Rattle.vt_paint.proofs.Spelled.{same_bytes}
+use Rattle.vt_paint.proofs.Tests.{both_pass, all_brushes, at_brush}
 use Rattle.vt_syntax.specs.Spelling.{spell_events, spell_event}
 use Rattle.vt_screen.specs.declared.cell.Brush.{Brush}
-use Rattle.vt_controls.specs.Controls.{cursor_position, brush_events}
+use Rattle.vt_paint.specs.Controls.{cursor_position, brush_events}
 use Rattle.std.specs.List.{range_with_len, list_all}
 use Rattle.std.proofs.lemmas.Bool.{leb-true}
 use Rattle.vt_glyph.proofs.Lists.{all_in_range}
 use borrow.Rule.Slice.PartMut.{mid_of}
-use mir.Val.{bool_byte}
 use Rattle.vt_paint.specs.declared.tables.TheConstants.{ROW_PARTS, COLUMN_PARTS, BRUSHES, BRUSH_LENGTHS}
+use Rattle.vt_paint.specs.Limits.{row_digits}
 use Rattle.vt_paint.specs.Private.HeaderParts.{row_part, column_part, brush_part, brush_index}
 
 -- ---- brushes
@@ -46,10 +46,13 @@ brush_length_at n below =
 
 -- ---- rows and columns
 
-abbrev row_entry : ℕ → List ℕ
-row_entry row = take (4 + bool_byte (nat_le 10 row)) (mid_of (8 * (row - 1)) (8 * (row - 1) + 8 - 8 * (row - 1)) ROW_PARTS)
+abbrev pub row_length : ℕ → ℕ
+row_length row = slice_index_or ROW_PARTS (8 * (row - 1) + 8 - 1) 0
 
-rows_are : list_all (λ row. same_bytes (row_entry row) (row_part row)) (range_with_len 1 24) ≡ true
+abbrev row_entry : ℕ → List ℕ
+row_entry row = take (row_length row) (mid_of (8 * (row - 1)) (8 * (row - 1) + 8 - 8 * (row - 1)) ROW_PARTS)
+
+rows_are : list_all (λ row. same_bytes (row_entry row) (row_part row)) (range_with_len 1 255) ≡ true
 unfolding digits row_part
 rows_are = refl
 
@@ -58,27 +61,36 @@ column_entry col =
     take (slice_index_or COLUMN_PARTS (8 * (col - 1) + 8 - 1) 0)
     (mid_of (8 * (col - 1)) (8 * (col - 1) + 8 - 8 * (col - 1)) COLUMN_PARTS)
 
-columns_are : list_all (λ col. same_bytes (column_entry col) (column_part col)) (range_with_len 1 132) ≡ true
+columns_are : list_all (λ col. same_bytes (column_entry col) (column_part col)) (range_with_len 1 255) ≡ true
 unfolding digits column_part
 columns_are = refl
 
-pub row_at : (row : ℕ) → 1 ≤ row → row ≤ 24 → row_entry row ≡ row_part row
+row_lengths_are : list_all (λ row. nat_le (row_length row) (3 + row_digits row)) (range_with_len 1 255) ≡ true
+unfolding row_digits
+row_lengths_are = refl
+
+pub row_length_at : (row : ℕ) → 1 ≤ row → row ≤ 255 → row_length row ≤ 3 + row_digits row
+row_length_at row low high =
+    leb-true _ (3 + row_digits row) (all_in_range (λ row. nat_le (row_length row) (3 + row_digits row)) 1 255 row row_lengths_are
+    low (omega arith))
+
+pub row_at : (row : ℕ) → 1 ≤ row → row ≤ 255 → row_entry row ≡ row_part row
 row_at row low high =
     (pointwise_decides Decides-eqb (row_entry row) (row_part row)).0
-    (all_in_range (λ row. same_bytes (row_entry row) (row_part row)) 1 24 row rows_are low (omega arith))
+    (all_in_range (λ row. same_bytes (row_entry row) (row_part row)) 1 255 row rows_are low (omega arith))
 
-lengths_are : list_all (λ col. nat_le (slice_index_or COLUMN_PARTS (8 * (col - 1) + 8 - 1) 0) 7) (range_with_len 1 132) ≡ true
+lengths_are : list_all (λ col. nat_le (slice_index_or COLUMN_PARTS (8 * (col - 1) + 8 - 1) 0) 7) (range_with_len 1 255) ≡ true
 lengths_are = refl
 
-pub length_at : (col : ℕ) → 1 ≤ col → col ≤ 132 → slice_index_or COLUMN_PARTS (8 * (col - 1) + 8 - 1) 0 ≤ 7
+pub length_at : (col : ℕ) → 1 ≤ col → col ≤ 255 → slice_index_or COLUMN_PARTS (8 * (col - 1) + 8 - 1) 0 ≤ 7
 length_at col low high =
-    leb-true _ 7 (all_in_range (λ col. nat_le (slice_index_or COLUMN_PARTS (8 * (col - 1) + 8 - 1) 0) 7) 1 132 col
+    leb-true _ 7 (all_in_range (λ col. nat_le (slice_index_or COLUMN_PARTS (8 * (col - 1) + 8 - 1) 0) 7) 1 255 col
     lengths_are low (omega arith))
 
-pub column_at : (col : ℕ) → 1 ≤ col → col ≤ 132 → column_entry col ≡ column_part col
+pub column_at : (col : ℕ) → 1 ≤ col → col ≤ 255 → column_entry col ≡ column_part col
 column_at col low high =
     (pointwise_decides Decides-eqb (column_entry col) (column_part col)).0
-    (all_in_range (λ col. same_bytes (column_entry col) (column_part col)) 1 132 col columns_are low (omega arith))
+    (all_in_range (λ col. same_bytes (column_entry col) (column_part col)) 1 255 col columns_are low (omega arith))
 
 -- ---- headers
 

@@ -13,7 +13,7 @@ use Rattle.vt_term.specs.declared.state.Saved.{Saved}
 use Rattle.vt_screen.specs.Same.{same_bool, same_rendition, same_brush}
 use Rattle.vt_paint.specs.Same.{is_blank, same_set, same_saved}
 use Rattle.vt_paint.specs.Changes.{same_cell}
-use Rattle.vt_controls.proofs.Tests.{both_pass, all_brushes, at_brush}
+use Rattle.vt_paint.proofs.Tests.{both_pass, all_brushes, at_brush}
 use Rattle.std.proofs.lemmas.Bool.Decides.{eqb_tells, nat_tests}
 use Rattle.vt_glyph.specs.Tables.{glyph_of}
 use Rattle.vt_glyph.specs.Spell.{spelling_of}

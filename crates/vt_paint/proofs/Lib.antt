@@ -1,3 +1,7 @@
+pub mod Tests
+pub mod Digits
+pub mod Speech
+pub mod Spelled
 pub mod AfterEvents
 pub mod Brushes
 pub mod Stops
@@ -12,3 +16,4 @@ pub mod Painting
 pub mod Whole
 pub mod Equality
 pub mod Differing
+pub mod RowLimits

@@ -10,7 +10,7 @@ use Rattle.vt_term.specs.Parameters.{first}
 use Rattle.vt_term.specs.State.{Display, modes_at_power_up}
 use Rattle.vt_term.specs.Modes.{with_mode, ansi_modes, private_modes, keypad_mode, report_form}
 use Rattle.vt_term.specs.Functions.{control, plain_escape, escape_with, sequence_in, sequences_of}
-use Rattle.vt_controls.specs.Controls.{ModeRow, mode_rows}
+use Rattle.vt_paint.specs.Controls.{ModeRow, mode_rows}
 use Rattle.vt_paint.specs.Items.{mode_item, row_item, modes_item, shift_item}
 use Rattle.vt_paint.proofs.AfterEvents.{display_after, Makes, then_makes, none_makes}
 

@@ -3,7 +3,6 @@ use Rattle.std.proofs.Common.{◌≡◌, Bool, cond, ◌&&◌, ◌||◌, ℕ, �
 use Rattle.std.proofs.Common.{true, false, not, ◌-◌, min, max, [], ◌∷◌, ◌++◌, sym}
 use Rattle.vt_screen.proofs.Places.{cell_at-grid_of, grid_of-same, grid_of-cell_at}
 use Rattle.std.proofs.lemmas.Bool.Decides.{nat_tests}
-use Rattle.vt_screen.specs.Sizes.{vt220_size}
 use Rattle.vt_screen.specs.declared.cell.Cell.{Cell}
 use Rattle.vt_screen.specs.Cells.{blank, brush_of}
 use Rattle.vt_screen.specs.Grid.{Grid, IsGrid, grid_of, cell_at, put}
@@ -21,7 +20,7 @@ use Rattle.vt_glyph.specs.Invocation.{glyph_read, after_read}
 use Rattle.vt_glyph.specs.Spell.{spelling_of, code_of, shifted_for, AreSpellingSets}
 use Rattle.vt_term.specs.Writing.{write_glyph}
 use Rattle.vt_term.specs.Functions.{control, sequence_in, sequences_of, effect}
-use Rattle.vt_controls.specs.Controls.{spelling_events, cursor_position, brush_events, protection_to, rendition_to}
+use Rattle.vt_paint.specs.Controls.{spelling_events, cursor_position, brush_events, protection_to, rendition_to}
 use Rattle.vt_paint.specs.Pieces.{glyph_events, left_of, needs_header, header, piece_of, piece, pieces}
 use Rattle.std.proofs.lemmas.Bool.{lt-ltb, le-ltb, ne_eqb}
 use Rattle.vt_screen.specs.Same.{same_brush}
@@ -31,7 +30,7 @@ use Rattle.vt_paint.proofs.Brushes.{brush_leaves}
 use Rattle.vt_screen.specs.declared.cell.Rendition.{Rendition}
 use Rattle.vt_term.specs.Rendition.{with_attribute}
 use Rattle.vt_paint.specs.Changes.{same_cell, differs_at, is_marked, AreMarked}
-use Rattle.vt_controls.specs.Controls.{all_attributes}
+use Rattle.vt_paint.specs.Controls.{all_attributes}
 use Rattle.vt_paint.specs.Private.ChangeEvents.{has_all, short_brush_events, change_of, change}
 use Rattle.vt_paint.specs.Private.ChangeEvents.{changed_cells}
 
@@ -44,22 +43,22 @@ unfoldable pub painted_cell : (ℕ → ℕ → Cell) → Grid → ℕ → ℕ �
 painted_cell under g r c i j = cond (is_before r c i j) (cell_at g i j) (under i j)
 
 abbrev pub painted : (ℕ → ℕ → Cell) → Grid → ℕ → ℕ → Grid
-painted under g r c = grid_of vt220_size g.width (painted_cell under g r c)
+painted under g r c = grid_of g.size g.width (painted_cell under g r c)
 
 -- nothing is underneath
 abbrev pub all_blank : ℕ → ℕ → Cell
 all_blank i j = blank
 
-pub painted_none : (under : ℕ → ℕ → Cell) (g : Grid) → grid_of vt220_size g.width under ≡ painted under g 1 1
+pub painted_none : (under : ℕ → ℕ → Cell) (g : Grid) → grid_of g.size g.width under ≡ painted under g 1 1
 unfolding painted_cell
 painted_none under g =
-    grid_of-same vt220_size g.width under (painted_cell under g 1 1) (λ i j i1 i24 j1 jw. grind (arith, nat_tests))
+    grid_of-same g.size g.width under (painted_cell under g 1 1) (λ i j i1 i24 j1 jw. grind (arith, nat_tests))
 
-painted_all : (under : ℕ → ℕ → Cell) (g : Grid) → IsGrid g → g.size ≡ vt220_size → painted under g 25 1 ≡ g
+painted_all : (under : ℕ → ℕ → Cell) (g : Grid) → IsGrid g → painted under g (g.size.rows + 1) 1 ≡ g
 unfolding painted_cell
-painted_all under g is size =
-    grid_of-same vt220_size g.width (painted_cell under g 25 1) (cell_at g) (λ i j i1 i24 j1 jw. grind (arith, nat_tests))
-    ∙ ap (λ z. grid_of z g.width (cell_at g)) (sym size)
+painted_all under g is =
+    grid_of-same g.size g.width (painted_cell under g (g.size.rows + 1) 1) (cell_at g)
+    (λ i j i1 i24 j1 jw. grind (arith, nat_tests))
     ∙ grid_of-cell_at g is.cells
 
 -- a row is done
@@ -67,7 +66,7 @@ painted_row : (under : ℕ → ℕ → Cell) (g : Grid) (r : ℕ)
     → painted under g r (g.width + 1) ≡ painted under g (r + 1) 1
 unfolding painted_cell
 painted_row under g r =
-    grid_of-same vt220_size g.width (painted_cell under g r (g.width + 1)) (painted_cell under g (r + 1) 1)
+    grid_of-same g.size g.width (painted_cell under g r (g.width + 1)) (painted_cell under g (r + 1) 1)
     (λ i j i1 i24 j1 jw. grind (arith, nat_tests))
 
 -- the next cell is the one underneath
@@ -75,7 +74,7 @@ painted_skip : (under : ℕ → ℕ → Cell) (g : Grid) (r c : ℕ) → cell_at
     → painted under g r c ≡ painted under g r (c + 1)
 unfolding painted_cell
 painted_skip under g r c is =
-    grid_of-same vt220_size g.width (painted_cell under g r c) (painted_cell under g r (c + 1))
+    grid_of-same g.size g.width (painted_cell under g r c) (painted_cell under g r (c + 1))
     (λ i j i1 i24 j1 jw. grind (arith, nat_tests, is))
 
 -- the next cell is put
@@ -83,11 +82,11 @@ painted_put : (under : ℕ → ℕ → Cell) (g : Grid) (r c : ℕ) → put (pai
     ≡ painted under g r (c + 1)
 unfolding painted_cell
 painted_put under g r c =
-    grid_of-same vt220_size g.width
+    grid_of-same g.size g.width
     (λ i j. cond (eqb i r) (cond (eqb j c) (cell_at g r c) (cell_at (painted under g r c) r j))
     (cell_at (painted under g r c) i j)) (painted_cell under g r (c + 1))
     (λ i j i1 i24 j1 jw.
-    let was = cell_at-grid_of vt220_size g.width (painted_cell under g r c) i j i1 i24 j1 jw in
+    let was = cell_at-grid_of g.size g.width (painted_cell under g r c) i j i1 i24 j1 jw in
     grind (arith, nat_tests, was))
 
 -- a cell that is put again
@@ -122,13 +121,13 @@ pub record IsWritten (before : Before) (base : Display) (under : ℕ → ℕ →
 -- the events of a place write its cell
 abbrev pub Writes : Before → Display → (ℕ → ℕ → Cell) → Grid → (ℕ → ℕ → List Event) → Type 0
 Writes before base under g events =
-    (r c : ℕ) (x : Display) → 1 ≤ r → r ≤ 24 → 1 ≤ c → c ≤ g.width → IsWritten before base under g r c x
+    (r c : ℕ) (x : Display) → 1 ≤ r → r ≤ g.size.rows → 1 ≤ c → c ≤ g.width → IsWritten before base under g r c x
     → IsWritten before base under g r (c + 1) (display_after x (events r c))
 
 module _ (before : Before) (base : Display) (under : ℕ → ℕ → Cell) (g : Grid)
     (events : ℕ → ℕ → List Event) (writes : Writes before base under g events)
     (first : (r : ℕ) (cursor : Cursor) (brush : Brush) → before r 1 cursor brush) where
-  row_leaves : (r : ℕ) (x : Display) → 1 ≤ r → r ≤ 24 → IsWritten before base under g r 1 x
+  row_leaves : (r : ℕ) (x : Display) → 1 ≤ r → r ≤ g.size.rows → IsWritten before base under g r 1 x
       → IsWritten before base under g (r + 1) 1 (display_after x (flat_map (events r) (range_with_len 1 g.width)))
   row_leaves r x r1 r24 w =
       let row = range_leaves (λ c x. IsWritten before base under g r c x) (events r) g.width 1 (g.width + 1) (omega arith)
@@ -140,19 +139,19 @@ module _ (before : Before) (base : Display) (under : ℕ → ℕ → Cell) (g : 
         at = λ l. first (r + 1) row.cursor row.brush;
       }
 
-  grid_leaves : (x : Display) (cursor : Cursor) (brush : Brush) → IsGrid g → g.size ≡ vt220_size
+  grid_leaves : (x : Display) (cursor : Cursor) (brush : Brush) → IsGrid g
       → x ≡ shown base (painted under g 1 1) cursor brush
       → IsShown base g
-      (display_after x (flat_map (λ r. flat_map (events r) (range_with_len 1 g.width)) (range_with_len 1 24)))
-  grid_leaves x cursor brush is size start =
+      (display_after x (flat_map (λ r. flat_map (events r) (range_with_len 1 g.width)) (range_with_len 1 g.size.rows)))
+  grid_leaves x cursor brush is start =
       let w = range_leaves (λ r x. IsWritten before base under g r 1 x)
-      (λ r. flat_map (events r) (range_with_len 1 g.width)) 24 1 25 refl
+      (λ r. flat_map (events r) (range_with_len 1 g.width)) g.size.rows 1 (g.size.rows + 1) (omega arith)
       (λ r x r1 r24 w. row_leaves r x r1 (omega arith) w) x
       (record { cursor = cursor; brush = brush; is = start; at = λ l. first 1 cursor brush }) in
       record {
         cursor = w.cursor;
         brush = w.brush;
-        is = w.is ∙ ap (λ y. shown base y w.cursor w.brush) (painted_all under g is size);
+        is = w.is ∙ ap (λ y. shown base y w.cursor w.brush) (painted_all under g is);
       }
 
 -- what a spelling is read as is written
@@ -290,7 +289,7 @@ painted_glyph base under g r c ready are =
           ∙ ap (λ y. shown base y (behind g.width r c) (brush_of cell)) (painted_put under g r c);
     }
 
-piece_leaves : (base : Display) (g : Grid) (r c : ℕ) (x : Display) → IsReady base → AreGlyphs g → 1 ≤ r → r ≤ 24
+piece_leaves : (base : Display) (g : Grid) (r c : ℕ) (x : Display) → IsReady base → AreGlyphs g → 1 ≤ r → r ≤ g.size.rows
     → 1 ≤ c → c ≤ g.width → IsPainted base g r c x → IsPainted base g r (c + 1) (display_after x (piece g r c))
 unfolding display_after piece_of
 piece_leaves base g r c x ready are r1 r24 c1 cw w = go (is_blank (cell_at g r c)) refl
@@ -320,12 +319,12 @@ unfolding left_of
 first_leaves g r cursor brush n = absurd (cc n)
 
 pub pieces_leaves : (base : Display) (g : Grid) (x : Display) (cursor : Cursor) (brush : Brush) → IsReady base
-    → IsGrid g → g.size ≡ vt220_size → AreGlyphs g → x ≡ shown base (painted all_blank g 1 1) cursor brush
+    → IsGrid g → AreGlyphs g → x ≡ shown base (painted all_blank g 1 1) cursor brush
     → IsShown base g (display_after x (pieces g))
 unfolding pieces
-pieces_leaves base g x cursor brush ready is size are start =
+pieces_leaves base g x cursor brush ready is are start =
     grid_leaves (AreAt g) base all_blank g (λ r c. piece g r c)
-    (λ r c x r1 r24 c1 cw w. piece_leaves base g r c x ready are r1 r24 c1 cw w) (first_leaves g) x cursor brush is size start
+    (λ r c x r1 r24 c1 cw w. piece_leaves base g r c x ready are r1 r24 c1 cw w) (first_leaves g) x cursor brush is start
 
 -- ---- the brush
 
@@ -360,12 +359,12 @@ abbrev anywhere : Before
 anywhere r c cursor brush = Unit {0}
 
 change_leaves : (marks : List (List Bool)) (base : Display) (b g : Grid) (r c : ℕ) (x : Display) → IsReady base
-    → AreGlyphs g → AreMarked marks b g → 1 ≤ r → r ≤ 24 → 1 ≤ c → c ≤ g.width
+    → AreGlyphs g → AreMarked marks b g → g.size.rows ≡ 24 → 1 ≤ r → r ≤ g.size.rows → 1 ≤ c → c ≤ g.width
     → IsWritten anywhere base (cell_at b) g r c x
     → IsWritten anywhere base (cell_at b) g r (c + 1) (display_after x (change marks g r c))
 unfolding display_after change_of
-change_leaves marks base b g r c x ready are marked r1 r24 c1 cw w =
-    go (is_marked marks r c) (marked r c r1 r24 c1 cw)
+change_leaves marks base b g r c x ready are marked rows r1 r24 c1 cw w =
+    go (is_marked marks r c) (marked r c r1 (omega (arith, r24, rows)) c1 cw)
   where
     cell : Cell
     cell = cell_at g r c
@@ -395,13 +394,14 @@ change_leaves marks base b g r c x ready are marked r1 r24 c1 cw w =
     }
 
 pub changed_cells_leaves : (marks : List (List Bool)) (base : Display) (b g : Grid) (cursor : Cursor) (brush : Brush)
-    → IsReady base → IsGrid b → IsGrid g → b.size ≡ vt220_size → g.size ≡ vt220_size → b.width ≡ g.width → AreGlyphs g → AreMarked marks b g
+    → IsReady base → IsGrid b → IsGrid g → b.size ≡ g.size → g.size.rows ≡ 24 → b.width ≡ g.width → AreGlyphs g
+    → AreMarked marks b g
     → IsShown base g (display_after (shown base b cursor brush) (changed_cells marks g))
 unfolding changed_cells
-changed_cells_leaves marks base b g cursor brush ready is_b is_g b_size g_size same are marked =
+changed_cells_leaves marks base b g cursor brush ready is_b is_g size rows same are marked =
     grid_leaves anywhere base (cell_at b) g (λ r c. change marks g r c)
-    (λ r c x r1 r24 c1 cw w. change_leaves marks base b g r c x ready are marked r1 r24 c1 cw w)
-    (λ r cursor brush. tt) (shown base b cursor brush) cursor brush is_g g_size
+    (λ r c x r1 r24 c1 cw w. change_leaves marks base b g r c x ready are marked rows r1 r24 c1 cw w)
+    (λ r cursor brush. tt) (shown base b cursor brush) cursor brush is_g
     (ap (λ y. shown base y cursor brush) (sym (grid_of-cell_at b is_b.cells)
-    ∙ ap (λ z. grid_of z b.width (cell_at b)) b_size
-    ∙ ap (λ n. grid_of vt220_size n (cell_at b)) same ∙ painted_none (cell_at b) g))
+    ∙ ap (λ z. grid_of z b.width (cell_at b)) size
+    ∙ ap (λ n. grid_of g.size n (cell_at b)) same ∙ painted_none (cell_at b) g))

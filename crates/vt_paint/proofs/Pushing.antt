@@ -10,8 +10,8 @@ use Rattle.std.proofs.lemmas.List.{take_more, get_or-map}
 use Rattle.std.proofs.Math.ListN.{get_or-append}
 use Rattle.vt_term.specs.declared.state.Modes.{Modes}
 use Rattle.vt_term.specs.State.{modes_at_power_up}
-use Rattle.vt_controls.specs.declared.modes.TheConstants.{AT_POWER_UP}
-use Rattle.vt_controls.specs.Controls.{private_mode, report_form, ModeRow, mode_rows, mode_event}
+use Rattle.vt_paint.specs.declared.modes.TheConstants.{AT_POWER_UP}
+use Rattle.vt_paint.specs.Controls.{private_mode, report_form, ModeRow, mode_rows, mode_event}
 use Rattle.vt_paint.specs.Items.{mode_item, row_item}
 use Rattle.vt_glyph.proofs.Lists.{all_in_range}
 use Rattle.vt_paint.proofs.Equality.{or_false, not_false}
@@ -23,7 +23,7 @@ use Rattle.vt_glyph.specs.declared.set.Set.{Set}
 use Rattle.vt_glyph.specs.GraphicSets.{GraphicSets}
 use Rattle.vt_paint.specs.Same.{is_blank}
 use Rattle.vt_screen.specs.Same.{when}
-use Rattle.vt_controls.specs.Controls.{sets_events}
+use Rattle.vt_paint.specs.Controls.{sets_events}
 use Rattle.vt_paint.specs.Pieces.{left_of, piece_of}
 use Rattle.vt_paint.specs.Private.Parts.{pieces_from, row_pieces, rows_from}
 use Rattle.vt_screen.specs.declared.cell.Cell.{Cell}

@@ -9,12 +9,12 @@ use Rattle.vt_screen.specs.Cells.{blank, brush_of}
 use Rattle.vt_screen.specs.Grid.{Grid, cell_at}
 use Rattle.vt_screen.specs.Same.{same_brush, when}
 use Rattle.vt_paint.specs.Same.{is_blank}
-use Rattle.vt_controls.specs.Controls.{cursor_position, brush_events}
+use Rattle.vt_paint.specs.Controls.{cursor_position, brush_events}
 use Rattle.vt_paint.specs.Pieces.{left_of, needs_header, header, glyph_events, piece_of, piece}
 use Rattle.vt_paint.specs.Private.Parts.{pieces_from}
 use Rattle.std.proofs.lemmas.Bool.{and_parts}
 use Rattle.vt_paint.proofs.Equality.{same_brush-is}
-use Rattle.vt_controls.proofs.Tests.{not_true}
+use Rattle.vt_paint.proofs.Tests.{not_true}
 use Rattle.vt_paint.proofs.Pushing.{appended-more, blank_piece, events, then_events}
 use Rattle.vt_paint.proofs.Painting.{left_of-first, left_of-next}
 

@@ -23,10 +23,10 @@ use Rattle.vt_syntax.specs.declared.event.Event.{Event}
 use Rattle.vt_syntax.specs.declared.event.Event.TheVariants.{Print}
 use Rattle.vt_syntax.specs.declared.event.Event.TheVariants as event
 use Rattle.vt_syntax.specs.Spelling.{spell_event}
-use Rattle.vt_controls.proofs.Tests.{is_event, is_fine, element_of}
-use Rattle.vt_controls.specs.Spoken.{Element, Character, Control, Escape, Sequence, element_bytes, is_one_of, is_among}
-use Rattle.vt_controls.specs.Spoken.{are_numbers, are_attributes, is_designation, set_finals, mode_numbers, spoken_controls}
-use Rattle.vt_controls.specs.Spoken.{spoken_escapes, spoken_sequences, is_spoken, AreElements, Speaks}
+use Rattle.vt_paint.proofs.Tests.{is_event, is_fine, element_of}
+use Rattle.vt_paint.specs.Spoken.{Element, Character, Control, Escape, Sequence, element_bytes, is_one_of, is_among}
+use Rattle.vt_paint.specs.Spoken.{are_numbers, are_attributes, is_designation, set_finals, mode_numbers, spoken_controls}
+use Rattle.vt_paint.specs.Spoken.{spoken_escapes, spoken_sequences, is_spoken, AreElements, Speaks}
 
 pub speaks-none : Speaks []
 speaks-none = ∣ record { elements = []; are_spoken = refl; are_bytes = refl } ∣₁

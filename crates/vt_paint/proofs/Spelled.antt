@@ -10,15 +10,15 @@ use Rattle.std.proofs.Math.Seq.{take-take, take-append-add}
 use Rattle.vt_glyph.proofs.Lists.{all_in_range}
 use Rattle.vt_syntax.specs.Spelling.{spell_event}
 use Rattle.vt_screen.specs.declared.cell.Rendition.{Rendition}
-use Rattle.vt_controls.specs.declared.modes.TheConstants.{FRONTS, LENGTHS, ALL_MODES}
-use Rattle.vt_controls.specs.Controls.{mode_event}
-use Rattle.vt_controls.specs.Named.{byte_named, resets, newly_set, rendition_text, rendition_change}
-use Rattle.vt_controls.specs.Spoken.{are_attributes, Speaks}
-use Rattle.vt_controls.specs.Private.Attributes.{attributes}
-use Rattle.vt_controls.specs.Private.Tables.{mode_last}
+use Rattle.vt_paint.specs.declared.modes.TheConstants.{FRONTS, LENGTHS, ALL_MODES}
+use Rattle.vt_paint.specs.Controls.{mode_event}
+use Rattle.vt_paint.specs.Named.{byte_named, resets, newly_set, rendition_text, rendition_change}
+use Rattle.vt_paint.specs.Spoken.{are_attributes, Speaks}
+use Rattle.vt_paint.specs.Private.Attributes.{attributes}
+use Rattle.vt_paint.specs.Private.Tables.{mode_last}
 use Rattle.vt_syntax.specs.Class.{opens_string}
-use Rattle.vt_controls.proofs.Speech.{fine_speaks}
-use Rattle.vt_controls.proofs.Tests.{is_fine, both_pass, at_bool, all_brushes, at_brush}
+use Rattle.vt_paint.proofs.Speech.{fine_speaks}
+use Rattle.vt_paint.proofs.Tests.{is_fine, both_pass, at_bool, all_brushes, at_brush}
 
 -- bytes are equal, by a test
 abbrev pub same_bytes : List ℕ → List ℕ → Bool

@@ -17,8 +17,8 @@ use Rattle.vt_term.specs.State.{Display}
 use Rattle.vt_term.specs.Parameters.{first}
 use Rattle.vt_term.specs.Reports.{report}
 use Rattle.vt_term.proofs.Silent.{silent-control, silent-sequence}
-use Rattle.vt_controls.specs.Spoken.{Element, is_spoken}
-use Rattle.vt_controls.specs.Spoken as spoken
+use Rattle.vt_paint.specs.Spoken.{Element, is_spoken}
+use Rattle.vt_paint.specs.Spoken as spoken
 
 -- ---- a test of each value
 

@@ -5,9 +5,10 @@ use Rattle.vt_glyph.specs.GraphicSets.{GraphicSets}
 use Rattle.vt_glyph.specs.Invocation.{sets_at_power_up}
 use Rattle.vt_screen.specs.Cells.{plain_brush}
 use Rattle.vt_term.specs.declared.state.Modes.{Modes}
-use Rattle.vt_term.specs.State.{Display, full_margins, saved_at_power_up, display_at_power_up, State, margins_of}
+use Rattle.vt_term.specs.State.{Display, saved_at_power_up, display_at_power_up, display_of, State, margins_of}
 use Rattle.vt_term.specs.State.{modes_at_power_up}
-use Rattle.vt_term.specs.Sound.{IsSoundDisplay, IsPlace, IsSound}
+use Rattle.vt_term.specs.Sound.{IsSoundDisplay, IsSoundSizedDisplay, IsPlace, IsSound, IsSoundAt}
+use Rattle.vt_term.proofs.SizeKept.{own-display}
 use Rattle.vt_term.specs.Resets.{soft_reset}
 use Rattle.vt_term.specs.Modes.{with_mode}
 use Rattle.vt_term.specs.Functions.{sequence_in, sequences_of}
@@ -30,12 +31,14 @@ use Rattle.vt_syntax.proofs.Steps.{same_held, same_events}
 use Rattle.vt_syntax.proofs.Spelled.{events_steps}
 use Rattle.vt_syntax.proofs.Cutting.{read, escape}
 use Rattle.vt_screen.specs.declared.size.Size.{Size}
-use Rattle.vt_screen.specs.Sizes.{vt220_size, width_of}
+use Rattle.vt_screen.specs.Sizes.{vt220_size}
 use Rattle.vt_term.specs.Play.{after_events, play}
+use Rattle.vt_paint.specs.Controls.{reset_to_initial_state}
+use Rattle.vt_paint.specs.Limits.{row_digits, paint_limit}
 use Rattle.vt_paint.specs.Items.{stops_item, cells_item}
 use Rattle.vt_paint.specs.Repaint.{made_events, paint}
-use Rattle.vt_controls.specs.Spoken.{Speaks}
-use Rattle.vt_controls.proofs.Speech.{speaks-ascii}
+use Rattle.vt_paint.specs.Spoken.{Speaks}
+use Rattle.vt_paint.proofs.Speech.{speaks-ascii}
 use Rattle.vt_paint.proofs.Within.{AreSpelledWithin, sound_glyphs, repaint_events, repaint_within, changes_within}
 use Rattle.vt_paint.proofs.Stops.{with_stops, reset_leaves, stops_leaves}
 
@@ -48,35 +51,39 @@ started t = record t {
   cursor = record t.cursor { wrap = false };
   brush = plain_brush;
   sets = sets_at_power_up;
-  margins = full_margins;
+  margins = margins_of t.grid.size;
   modes = start_modes t.modes;
   saved = saved_at_power_up;
 }
 
-start_leaves : (t : Display) → t.grid.size ≡ vt220_size → Makes start_item t (started t)
+start_leaves : (t : Display) → Makes start_item t (started t)
 unfolding display_after start_item sequence_in sequences_of with_mode start_modes
-start_leaves t size = record { is = ap (λ z. record (started t) { margins = margins_of z }) size }
+start_leaves t = record { is = refl }
 
-changes_leaves : (marks : List (List Bool)) (s t : Display) → IsSoundDisplay s → IsSoundDisplay t → AreGlyphs s.grid
-    → AreChanges marks t s → Makes (change_events marks s) t s
+changes_leaves : (marks : List (List Bool)) (s t : Display) → IsSoundSizedDisplay s → IsSoundSizedDisplay t → AreGlyphs s.grid
+    → t.grid.size ≡ s.grid.size → s.grid.size.rows ≡ 24 → AreChanges marks t s → Makes (change_events marks s) t s
 unfolding change_events record_item start_modes
-changes_leaves marks s t i j are changes =
+changes_leaves marks s t i j are size rows changes =
     let modes = start_modes t.modes in
     let base : Display = record (started t) { sets = spelling_sets sets_at_power_up } in
     let spells = spelling_sets_are sets_at_power_up refl refl in
     let ready : IsReady base = record { sets = spells; irm = refl; decawm = refl; decom = refl } in
     let w3 = changed_cells_leaves marks base t.grid s.grid base.cursor base.brush ready j.grid.shape i.grid.shape
-    j.of_size i.of_size changes.width are changes.marked in
+    size rows changes.width are changes.marked in
     let cells : Makes (changed_cells marks s.grid) base
-    (part (recorded s modes) modes w3.cursor w3.brush base.sets full_margins false) =
-    record { is = w3.is ∙ ap (λ (z : List Bool). record (shown base s.grid w3.cursor w3.brush) { stops = z }) changes.stops } in
+    (part (recorded s modes) modes w3.cursor w3.brush base.sets (margins_of s.grid.size) false) =
+    record {
+      is = w3.is ∙ ap (λ (z : List Bool). record (shown base s.grid w3.cursor w3.brush) { stops = z }) changes.stops
+          ∙ ap (λ z. record (shown base s.grid w3.cursor w3.brush) { stops = s.stops; margins = margins_of z }) size;
+    } in
     let w4 = wrap_leaves (recorded s modes) modes w3.brush base.sets refl refl i.grid.shape i.saved.wrap_last are
     (λ h. spells) in
     let made : GraphicSets = record base.sets { g = s.saved.g; left = s.saved.gl; right = s.saved.gr } in
-    then_makes (start_leaves t j.of_size) (then_makes (spelling_sets_leaves (started t)) (then_makes cells (then_makes
-    (record_leaves s _ modes w3.cursor w3.brush w4.some base.sets _ [] (ap (λ (z : Size). z.rows) i.of_size) i.saved i.saved_sets
+    then_makes (start_leaves t) (then_makes (spelling_sets_leaves (started t)) (then_makes cells (then_makes
+    (record_leaves s _ modes w3.cursor w3.brush w4.some base.sets _ [] i.saved i.saved_sets
     (spelling_sets_four sets_at_power_up refl) w4.makes (none_makes refl))
-    (then_makes (spelling_sets_leaves (part s modes (saved_cursor s.saved) s.saved.brush made full_margins s.saved.origin))
+    (then_makes (spelling_sets_leaves (part s modes (saved_cursor s.saved) s.saved.brush made (margins_of s.grid.size)
+    s.saved.origin))
     (last_leaves false s modes (saved_cursor s.saved) s.saved.brush (spelling_sets made) s.saved.origin
     (λ e. absurd (cc e)) (λ e. absurd (cc e)) refl refl i are (spelling_sets_four made i.saved_sets.four)
     (spelling_sets_none made spells.pending) (λ h. spelling_sets_are made i.saved_sets.four spells.pending))))))
@@ -96,64 +103,85 @@ played n es more s t fine begins held between leaves =
     rw (events, rest, shown, fine.silent t.display) refl
 
 -- the items lead there from power-up
-pub made_leaves : (s : Display) → IsSoundDisplay s → Makes (made_events s) display_at_power_up s
+pub made_leaves : (s : Display) → IsSoundSizedDisplay s → Makes (made_events s) (display_of s.grid.size) s
 unfolding made_events
 made_leaves s i =
+    let size : Size = s.grid.size in
+    let sized = i.grid.shape.size in
     let wide = i.grid.shape.width.0 in
-    let is_width = i.grid.shape.width.1 ∙ ap (λ (z : Size). width_of z wide) i.of_size in
+    let is_width = i.grid.shape.width.1 in
     let are = sound_glyphs s i in
-    let place = subst (λ (w : ℕ). IsPlace 24 w s.saved.row s.saved.col s.saved.wrap) is_width i.saved in
-    let w1 = stops_leaves wide s.stops i.stops in
-    let w2 = saved_leaves wide s w1.some place i.saved_sets in
-    let w3 = cells_leaves wide s w2.some is_width i.grid.shape i.of_size are i.saved_sets in
-    let cells : Makes (cells_item s.grid s.cursor.wrap) (with_saved wide s.stops s.saved w2.some)
-    (part s modes_at_power_up w3.cursor w3.brush w3.sets full_margins false) = record { is = w3.is } in
-    let stops = subst (λ (n : ℕ). Makes (stops_item n s.stops) display_at_power_up (with_stops wide s.stops w1.some))
+    let place = subst (λ (w : ℕ). IsPlace size.rows w s.saved.row s.saved.col s.saved.wrap) is_width i.saved in
+    let w1 = stops_leaves size wide s.stops sized i.stops in
+    let w2 = saved_leaves size wide s w1.some sized place i.saved_sets in
+    let w3 = cells_leaves wide s w2.some is_width i.grid.shape are i.saved_sets in
+    let cells : Makes (cells_item s.grid s.cursor.wrap) (with_saved size wide s.stops s.saved w2.some)
+    (part s modes_at_power_up w3.cursor w3.brush w3.sets (margins_of size) false) = record { is = w3.is } in
+    let stops = subst (λ (n : ℕ). Makes (stops_item size n s.stops) (display_of size) (with_stops size wide s.stops w1.some))
     (sym is_width) w1.makes in
     then_makes stops (then_makes w2.makes (then_makes cells
     (last_leaves true s modes_at_power_up w3.cursor w3.brush w3.sets false (λ e. refl) (λ e. refl) refl refl i are
     w3.four w3.none w3.spells)))
 
-repaint_leaves : (s t : Display) → IsSoundDisplay s → t.grid.size ≡ vt220_size → Makes (repaint_events s) t s
-repaint_leaves s t i size = then_makes (reset_leaves t size) (made_leaves s i)
+repaint_leaves : (s t : Display) → IsSoundSizedDisplay s → t.grid.size ≡ s.grid.size → Makes (repaint_events s) t s
+repaint_leaves s t i size =
+    then_makes (subst (λ (z : Size). Makes (reset_to_initial_state ∷ []) t (display_of z)) size (reset_leaves t)) (made_leaves s i)
 
-pub short : (s : State) → IsSound s → length (paint s) ≤ 93512
+-- ---- a state of a size
+
+pub short : (size : Size) (s : State) → IsSoundAt size s → length (paint s) ≤ paint_limit size
 unfolding paint
-short s i = (repaint_within s.display i.display).short
+short size s i =
+    subst (λ (z : Size). length (paint s) ≤ paint_limit z) i.display.of_size
+    (repaint_within s.display (own-display size s.display i.display)).short
 
-pub speaks : (s : State) → IsSound s → Speaks (paint s)
+pub speaks : (size : Size) (s : State) → IsSoundAt size s → Speaks (paint s)
 unfolding paint
-speaks s i = (repaint_within s.display i.display).speaks
+speaks size s i = (repaint_within s.display (own-display size s.display i.display)).speaks
 
-pub ascii : (s : State) → IsSound s → IsAscii (paint s)
-ascii s i = speaks-ascii (paint s) (speaks s i)
+pub ascii : (size : Size) (s : State) → IsSoundAt size s → IsAscii (paint s)
+ascii size s i = speaks-ascii (paint s) (speaks size s i)
 
-pub rebuilds_all : (s : State) → IsSound s → s.held ≡ Nothing → (t : State) → IsSound t
+pub rebuilds_all : (size : Size) (s : State) → IsSoundAt size s → s.held ≡ Nothing → (t : State) → IsSoundAt size t
     → play t (paint s) ≡ record { state = s; reports = [] }
 unfolding paint
-rebuilds_all s i between t j =
-    played 93512 (repaint_events s.display) _ s t (repaint_within s.display i.display) refl j.held
-    between (repaint_leaves s.display t.display i.display j.display.of_size)
+rebuilds_all size s i between t j =
+    let own = own-display size s.display i.display in
+    played (paint_limit s.display.grid.size) (repaint_events s.display) _ s t (repaint_within s.display own) refl j.held
+    between (repaint_leaves s.display t.display own (j.display.of_size ∙ sym i.display.of_size))
+
+-- ---- changes of a VT220's state
+
+rows_24 : (s : Display) → IsSoundDisplay s → s.grid.size.rows ≡ 24
+rows_24 s i = ap (λ (z : Size). z.rows) i.of_size
+
+changes_short : (rows : ℕ) → rows ≡ 24 → 222 + 4 * row_digits rows ≡ 230
+unfolding row_digits
+changes_short rows is = rw is refl
 
 pub few : (marks : List (List Bool)) (s t : Display) (before : List ℕ) → IsSoundDisplay s → AreChanges marks t s
     → length (before ++ spell_events (change_events marks s)) ≤ length before + 28 * differing t.grid s.grid + 230
 few marks s t before i changes =
-    let short = (changes_within marks s t i changes).short in
-    rw (length-append before (spell_events (change_events marks s))) (omega (arith, short))
+    let rows = rows_24 s i in
+    let short = (changes_within marks s t (own-display vt220_size s i) rows changes).short in
+    rw (length-append before (spell_events (change_events marks s)))
+    (omega (arith, short, changes_short s.grid.size.rows rows))
 
 pub changes_speak : (marks : List (List Bool)) (s t : Display) (before : List ℕ) → IsSoundDisplay s
     → AreChanges marks t s
     → Speaks (drop (length before) (before ++ spell_events (change_events marks s)))
 changes_speak marks s t before i changes =
     rw (drop-append_seam before (spell_events (change_events marks s)))
-    (changes_within marks s t i changes).speaks
+    (changes_within marks s t (own-display vt220_size s i) (rows_24 s i) changes).speaks
 
 pub changes_played : (marks : List (List Bool)) (s t : State) → IsSound s → s.held ≡ Nothing → IsSound t
     → AreChanges marks t.display s.display
     → play t (spell_events (change_events marks s.display)) ≡ record { state = s; reports = [] }
 unfolding change_events start_item
 changes_played marks s t i between j changes =
+    let own = own-display vt220_size s.display i.display in
+    let rows = rows_24 s.display i.display in
     played _ (change_events marks s.display) _ s t
-    (changes_within marks s.display t.display i.display changes) refl j.held between
-    (changes_leaves marks s.display t.display i.display j.display
-    (sound_glyphs s.display i.display) changes)
+    (changes_within marks s.display t.display own rows changes) refl j.held between
+    (changes_leaves marks s.display t.display own (own-display vt220_size t.display j.display)
+    (sound_glyphs s.display own) (j.display.of_size ∙ sym i.display.of_size) rows changes)

@@ -1,8 +1,11 @@
 -- A repaint and changes ask for events, none of which is answered, and their spelling is short.
-use Rattle.vt_controls.specs.Controls.{reset_to_initial_state, clear_all_tabs, sequence_of}
-use Rattle.vt_controls.specs.Controls.{private_mode, cursor_position, brush_events, set_tab, left_event, right_event}
-use Rattle.vt_controls.specs.Controls.{sets_events, spelling_sets_events, spelling_events, save_cursor}
+use Rattle.vt_paint.specs.Controls.{reset_to_initial_state, clear_all_tabs, sequence_of}
+use Rattle.vt_paint.specs.Controls.{private_mode, cursor_position, brush_events, set_tab, left_event, right_event}
+use Rattle.vt_paint.specs.Controls.{sets_events, spelling_sets_events, spelling_events, save_cursor}
 use Rattle.vt_screen.specs.declared.size.Size.{Size}
+use Rattle.vt_screen.specs.Sizes.{IsSize}
+use Rattle.std.proofs.Math.Nat.{mul_comm}
+use Rattle.std.proofs.lemmas.Nat.{mul-le}
 use Rattle.vt_screen.proofs.Composed.{test-at}
 use Rattle.vt_screen.proofs.Places.{width-bounds}
 use Rattle.vt_glyph.proofs.Charts.{space_is_glyph}
@@ -10,19 +13,19 @@ use Rattle.vt_glyph.proofs.Spelled.{spelling_code}
 use Rattle.vt_paint.specs.Pieces.{is_blank_grid, piece, needs_header, left_of, header, glyph_events}
 use Rattle.vt_paint.specs.Pieces.{piece_of, pieces}
 use Rattle.vt_paint.specs.Private.Parts.{row_pieces}
-use Rattle.vt_paint.specs.Private.ChangeEvents.{changed_row, change, short_brush_events, change_of, changed_cells}
+use Rattle.vt_paint.specs.Private.ChangeEvents.{changed_row, changed_rows, change, short_brush_events, change_of, changed_cells}
 use Rattle.vt_paint.specs.Private.ChangeEvents.{start_item, saved_cursor, record_item, change_events}
-use Rattle.vt_controls.specs.Spoken.{are_numbers, is_one_of, Speaks}
-use Rattle.vt_term.specs.State.{has_stop_at, stops_at_power_up, saved_at_power_up, Display, last_column, saved_sets}
+use Rattle.vt_paint.specs.Spoken.{are_numbers, is_one_of, Speaks}
+use Rattle.vt_term.specs.State.{has_stop_at, stops_of, saved_at_power_up, Display, last_column, saved_sets}
 use Rattle.vt_term.specs.State.{modes_at_power_up}
-use Rattle.std.proofs.Common.{◌≡◌, Bool, true, false, not, cond, eqb, leb, ◌&&◌, ℕ, zero, suc, ◌+◌, ◌-◌, ◌*◌, ◌≤◌}
+use Rattle.std.proofs.Common.{◌≡◌, Bool, true, false, not, cond, eqb, leb, ltb, ◌&&◌, ℕ, zero, suc, ◌+◌, ◌-◌, ◌*◌, ◌≤◌}
 use Rattle.std.proofs.Common.{◌<◌, List, [], ◌∷◌, ◌++◌, length, length-append, append_assoc, append-nil, Option, Some}
-use Rattle.std.proofs.Common.{None, decimal, codes, refl, sym, ap, ◌∙◌, arith}
+use Rattle.std.proofs.Common.{None, decimal, codes, refl, sym, ap, subst, ◌∙◌, arith}
 use Rattle.std.specs.Prelude.{All}
 use Rattle.std.specs.Fmt.{digits}
 use Rattle.std.specs.List.{range_with_len, flat_map, list_all, sum_by}
 use Rattle.std.specs.Cmp.Lexicographic.{pointwise}
-use Rattle.std.proofs.lemmas.Bool.{and_parts, le-leb, leb-true}
+use Rattle.std.proofs.lemmas.Bool.{and_parts, le-leb, leb-true, ltb-true}
 use Rattle.std.proofs.lemmas.Fmt.{length-decimal-le}
 use Rattle.std.proofs.lemmas.Grind.{flat_map-append}
 use Rattle.std.proofs.lemmas.List.Elements.{All-nil, All-cons, All-append}
@@ -41,32 +44,34 @@ use Rattle.vt_term.specs.declared.state.Margins.{Margins}
 use Rattle.vt_glyph.specs.Designation.{final_of}
 use Rattle.vt_glyph.proofs.Lists.{all_taken}
 use Rattle.vt_glyph.proofs.EachSet.{passes}
-use Rattle.vt_controls.proofs.Speech.{speaks-none, speaks-append, two_numbers_are, fine_speaks}
-use Rattle.vt_controls.proofs.Tests.{all_three, at_three, both_pass, at_bool, all_brushes, at_brush}
-use Rattle.vt_controls.proofs.Tests.{is_fine, fine_is, fine_silent}
+use Rattle.vt_paint.proofs.Speech.{speaks-none, speaks-append, two_numbers_are, fine_speaks}
+use Rattle.vt_paint.proofs.Tests.{all_three, at_three, both_pass, at_bool, all_brushes, at_brush}
+use Rattle.vt_paint.proofs.Tests.{is_fine, fine_is, fine_silent}
 use Rattle.vt_syntax.specs.Class.{opens_string}
 use Rattle.vt_syntax.specs.Held.{spell_values}
-use Rattle.vt_paint.specs.Items.{is_wide, stop_events, made_stops, stops_item, saved_events, saved_item, cells_item}
-use Rattle.vt_controls.specs.Controls.{ModeRow, mode_rows}
+use Rattle.vt_paint.specs.Limits.{row_digits, cell_limit, row_limit, paint_limit}
+use Rattle.vt_paint.specs.Items.{is_wide, width_events, stop_events, made_stops, stops_item, saved_events, saved_item, cells_item}
+use Rattle.vt_paint.specs.Controls.{ModeRow, mode_rows}
 use Rattle.vt_paint.specs.Items.{margins_item, origin_item, wrap_item, row_item, modes_item}
 use Rattle.vt_paint.specs.Items.{shift_item, last_items}
 use Rattle.vt_glyph.specs.declared.glyph.Spelling.TheVariants.{Plain, Second, Third}
 use Rattle.vt_screen.specs.declared.cell.Brush.{Brush}
 use Rattle.vt_screen.specs.declared.cell.Cell.{Cell}
 use Rattle.vt_screen.specs.Cells.{brush_of}
-use Rattle.vt_screen.specs.Grid.{Grid, cell_at}
+use Rattle.vt_screen.specs.Grid.{Grid, IsGrid, cell_at}
 use Rattle.vt_screen.specs.Same.{same_bool, when}
 use Rattle.vt_term.specs.declared.state.Cursor.{Cursor}
 use Rattle.vt_term.specs.declared.state.Modes.{Modes}
 use Rattle.vt_term.specs.declared.state.Saved.{Saved}
 use Rattle.vt_term.specs.Functions.{effect}
-use Rattle.vt_term.specs.Sound.{IsSoundDisplay}
+use Rattle.vt_term.specs.Sound.{IsSoundSizedDisplay}
 use Rattle.vt_term.specs.Answers.{line_of_cursor}
 use Rattle.vt_term.specs.Reports.{report}
 use Rattle.vt_term.specs.Play.{reports_of, after_events}
 use Rattle.vt_paint.specs.Repaint.{made_events}
 use Rattle.vt_paint.specs.Changes.{differs_at, differing_from, differing, is_marked, AreMarked, AreChanges}
 use Rattle.vt_paint.proofs.Painting.{AreGlyphs}
+use Rattle.vt_paint.proofs.RowLimits.{three_digits}
 
 -- these are events, which report nothing, and their spelling is spoken and has at most n bytes
 pub record AreSpelledWithin (n : ℕ) (es : List Event) : Type 0 where
@@ -172,11 +177,23 @@ two_within i j n m last first second hn hm fine =
     (rw append-nil (two_numbers_are n m (omega arith) (omega arith))))
     (simp length-append (omega (arith, first, second)))
 
-cursor_within : (r c : ℕ) → r ≤ 24 → c ≤ 132 → AreSpelledWithin 9 (cursor_position r c ∷ [])
-cursor_within r c h k =
-    two_within 2 3 r c 0x48 (length-decimal-le 2 r (omega arith) (omega arith) (omega arith))
+-- a row's number has at most so many digits
+digits_few : (rows r : ℕ) → r ≤ rows → rows ≤ 255 → length (decimal r) ≤ row_digits rows
+unfolding row_digits
+digits_few rows r h most = go (ltb rows 100) refl
+  where
+    go : (b : Bool) → ltb rows 100 ≡ b → length (decimal r) ≤ cond b 2 3
+    go true e =
+        let few = ltb-true rows 100 e in
+        length-decimal-le 2 r (omega arith) (omega arith) (omega arith)
+    go false e = length-decimal-le 3 r (omega arith) (omega arith) (omega arith)
+
+cursor_within : (rows r c : ℕ) → r ≤ rows → rows ≤ 255 → c ≤ 255
+    → AreSpelledWithin (7 + row_digits rows) (cursor_position r c ∷ [])
+cursor_within rows r c h most k =
+    upto (omega arith) (two_within (row_digits rows) 3 r c 0x48 (digits_few rows r h most)
     (length-decimal-le 3 c (omega arith) (omega arith) (omega arith)) (omega arith) (omega arith)
-    (λ a b t. rw (a, b, t) refl)
+    (λ a b t. rw (a, b, t) refl))
 
 brush_within : (brush : Brush) → AreSpelledWithin 17 (brush_events brush)
 unfolding brush_events digits all_brushes both_pass
@@ -222,7 +239,7 @@ spelling_within (Third code) h k = computed 3 _ (rw (le-leb 0x20 code h, le-leb 
 
 -- ---- the items
 
-stop_within : (stops : List Bool) (c : ℕ) → c ≤ 132 → AreSpelledWithin 10 (stop_events stops c)
+stop_within : (stops : List Bool) (c : ℕ) → c ≤ 255 → AreSpelledWithin 10 (stop_events stops c)
 unfolding stop_events digits opens_string
 stop_within stops c h =
     when_within 10 (has_stop_at stops c) (cursor_position 1 c ∷ set_tab ∷ [])
@@ -230,33 +247,42 @@ stop_within stops c h =
     (length-decimal-le 3 c (omega arith) (omega arith) (omega arith)) (omega arith) (omega arith)
     (λ a b t. rw (b, t) refl)) (computed 2 (set_tab ∷ []) refl))
 
-stops_within : (width : ℕ) (stops : List Bool) → AreSpelledWithin 1336 (stops_item width stops)
-unfolding stops_item made_stops digits
-stops_within width stops =
-    if_within 1336 (pointwise same_bool stops stops_at_power_up) _ _
-    (when_within 1336 (is_wide width) _ (computed 1336 (private_mode 3 true ∷ []) refl))
-    (upto (omega arith) (then_within (computed 9 (private_mode 3 true ∷ clear_all_tabs ∷ []) refl)
-    (then_within (each_within 10 (λ c. stop_events stops c) 132 1 (λ c l u. stop_within stops c (omega arith)))
-    (when_within 5 (not (is_wide width)) _ (computed 5 (private_mode 3 false ∷ []) refl)))))
+width_within : (size : Size) (wide : Bool) → AreSpelledWithin 5 (width_events size wide)
+unfolding digits both_pass
+width_within size wide =
+    when_within 5 (not (eqb size.narrow size.wide)) _
+    (computed 5 _ (at_bool (λ wide. are_within 5 (private_mode 3 wide ∷ [])) refl wide))
 
-saved_within : (saved : Saved) → saved.row ≤ 24 → saved.col ≤ 132 → AreSpelledWithin 57 (saved_item saved)
+stops_within : (size : Size) (width : ℕ) (stops : List Bool) → size.wide ≤ 255
+    → AreSpelledWithin (10 * size.wide + 16) (stops_item size width stops)
+unfolding stops_item made_stops digits
+stops_within size width stops few =
+    if_within (10 * size.wide + 16) (pointwise same_bool stops (stops_of size.wide)) _ _
+    (upto (omega arith) (when_within 5 (is_wide size width) _ (width_within size true)))
+    (upto (omega arith) (then_within (width_within size true) (then_within (computed 4 (clear_all_tabs ∷ []) refl)
+    (then_within (each_within 10 (λ c. stop_events stops c) size.wide 1 (λ c l u. stop_within stops c (omega arith)))
+    (when_within 5 (not (is_wide size width)) _ (width_within size false))))))
+
+saved_within : (rows : ℕ) (saved : Saved) → saved.row ≤ rows → rows ≤ 255 → saved.col ≤ 255
+    → AreSpelledWithin (53 + row_digits rows) (saved_item saved)
 unfolding saved_item saved_events digits
-saved_within saved h k =
-    when_within 57 (not (same_saved saved saved_at_power_up)) (saved_events saved)
+saved_within rows saved h most k =
+    when_within (53 + row_digits rows) (not (same_saved saved saved_at_power_up)) (saved_events saved)
     (upto (omega arith) (then_within (when_within 5 saved.origin _ (computed 5 (private_mode 6 true ∷ []) refl))
-    (then_within (cursor_within saved.row saved.col h k)
+    (then_within (cursor_within rows saved.row saved.col h most k)
     (then_within (when_within 1 saved.wrap _ (computed 1 (Print space ∷ []) refl))
     (then_within (brush_within saved.brush) (then_within (sets_within (saved_sets saved))
     (then_within (computed 2 (save_cursor ∷ []) refl)
     (when_within 5 saved.origin _ (computed 5 (private_mode 6 false ∷ []) refl)))))))))
 
-margins_within : (m : Margins) → m.top ≤ 24 → m.bottom ≤ 24 → AreSpelledWithin 8 (margins_item m)
+margins_within : (rows : ℕ) (m : Margins) → m.top ≤ rows → m.bottom ≤ rows → rows ≤ 255
+    → AreSpelledWithin (4 + 2 * row_digits rows) (margins_item rows m)
 unfolding margins_item
-margins_within m h k =
-    unless_within 8 (eqb m.top 1 && eqb m.bottom 24) _
-    (two_within 2 2 m.top m.bottom 0x72 (length-decimal-le 2 m.top (omega arith) (omega arith) (omega arith))
-    (length-decimal-le 2 m.bottom (omega arith) (omega arith) (omega arith)) (omega arith) (omega arith)
-    (λ a b t. rw (a, b, t) refl))
+margins_within rows m h k most =
+    unless_within (4 + 2 * row_digits rows) (eqb m.top 1 && eqb m.bottom rows) _
+    (upto (omega arith) (two_within (row_digits rows) (row_digits rows) m.top m.bottom 0x72
+    (digits_few rows m.top h most) (digits_few rows m.bottom k most) (omega arith) (omega arith)
+    (λ a b t. rw (a, b, t) refl)))
 
 origin_within : (known on : Bool) → AreSpelledWithin 5 (origin_item known on)
 unfolding origin_item digits both_pass
@@ -264,10 +290,10 @@ origin_within known on =
     unless_within 5 (known && same_bool false on) _
     (computed 5 _ (at_bool (λ on. are_within 5 (private_mode 6 on ∷ [])) refl on))
 
-line_small : (s : Display) → IsSoundDisplay s → line_of_cursor s ≤ 24
+line_small : (s : Display) → IsSoundSizedDisplay s → line_of_cursor s ≤ s.grid.size.rows
 line_small s i = go s.modes.decom
   where
-    go : (b : Bool) → cond b (s.cursor.row - s.margins.top + 1) s.cursor.row ≤ 24
+    go : (b : Bool) → cond b (s.cursor.row - s.margins.top + 1) s.cursor.row ≤ s.grid.size.rows
     go true = omega (arith, i.cursor.row_last, i.margins.from_row_1)
     go false = i.cursor.row_last
 
@@ -304,16 +330,11 @@ start_within = computed 10 start_item refl
 
 -- ---- the cells
 
-width_small : (s : Display) → IsSoundDisplay s → last_column s ≤ 132
-width_small s i =
-    omega (
-      arith,
-      (width-bounds s.grid.size s.grid.width i.grid.shape.size i.grid.shape.width).1,
-      ap (λ (z : Size). z.wide) i.of_size,
-    )
+width_small : (g : Grid) → IsGrid g → g.width ≤ g.size.wide
+width_small g is = (width-bounds g.size g.width is.size is.width).1
 
 -- each place of a sound grid has a glyph
-pub sound_glyphs : (s : Display) → IsSoundDisplay s → AreGlyphs s.grid
+pub sound_glyphs : (s : Display) → IsSoundSizedDisplay s → AreGlyphs s.grid
 sound_glyphs s i r c =
     test-at (λ cell. is_glyph cell.glyph) s.grid r c space_is_glyph i.grid.glyphs
 
@@ -321,21 +342,32 @@ glyph_within : (cell : Cell) → IsGlyph cell.glyph → AreSpelledWithin 3 (glyp
 unfolding glyph_events
 glyph_within cell is = let c = spelling_code cell.glyph is in spelling_within (spelling_of cell.glyph) c.0 c.1
 
-piece_within : (g : Grid) (r c : ℕ) → AreGlyphs g → r ≤ 24 → c ≤ 132 → AreSpelledWithin 29 (piece g r c)
+piece_within : (g : Grid) (rows r c : ℕ) → AreGlyphs g → r ≤ rows → rows ≤ 255 → c ≤ 255
+    → AreSpelledWithin (cell_limit rows) (piece g r c)
 unfolding piece_of header
-piece_within g r c are h k =
-    when_within 29 (not (is_blank (cell_at g r c))) _
-    (then_within (when_within 26 (needs_header (left_of g r c) (cell_at g r c)) _
-    (then_within (cursor_within r c h k) (brush_within (brush_of (cell_at g r c)))))
-    (glyph_within (cell_at g r c) (are r c)))
+piece_within g rows r c are h most k =
+    when_within (cell_limit rows) (not (is_blank (cell_at g r c))) _
+    (upto (omega arith) (then_within (when_within (24 + row_digits rows) (needs_header (left_of g r c) (cell_at g r c)) _
+    (upto (omega arith) (then_within (cursor_within rows r c h most k) (brush_within (brush_of (cell_at g r c))))))
+    (glyph_within (cell_at g r c) (are r c))))
 
-cells_within : (g : Grid) (wrap : Bool) → AreGlyphs g → g.width ≤ 132 → AreSpelledWithin 91883 (cells_item g wrap)
+-- the pieces of a row
+row_pieces_within : (g : Grid) (r : ℕ) → AreGlyphs g → g.width ≤ g.size.wide → IsSize g.size → r ≤ g.size.rows
+    → AreSpelledWithin (row_limit g.size) (row_pieces g r)
+unfolding row_limit
+row_pieces_within g r are w sized h =
+    upto (mul-le (cell_limit g.size.rows) g.width (cell_limit g.size.rows) g.size.wide (omega arith) w)
+    (each_within (cell_limit g.size.rows) (λ c. piece g r c) g.width 1
+    (λ c i j. piece_within g g.size.rows r c are h sized.rows.1 (omega (arith, sized.columns, w))))
+
+cells_within : (g : Grid) (wrap : Bool) → AreGlyphs g → g.width ≤ g.size.wide → IsSize g.size
+    → AreSpelledWithin (g.size.rows * row_limit g.size + 10) (cells_item g wrap)
 unfolding cells_item pieces
-cells_within g wrap are w =
-    unless_within 91883 (is_blank_grid g && not wrap) (spelling_sets_events ++ pieces g)
-    (upto (omega arith) (then_within (computed 10 spelling_sets_events refl)
-    (each_within 3828 (λ r. row_pieces g r) 24 1 (λ r l u. upto (omega (arith, w))
-    (each_within 29 (λ c. piece g r c) g.width 1 (λ c i j. piece_within g r c are (omega arith) (omega arith)))))))
+cells_within g wrap are w sized =
+    unless_within _ (is_blank_grid g && not wrap) (spelling_sets_events ++ pieces g)
+    (upto (omega (arith, mul_comm g.size.rows (row_limit g.size))) (then_within (computed 10 spelling_sets_events refl)
+    (each_within (row_limit g.size) (λ r. row_pieces g r) g.size.rows 1
+    (λ r l u. row_pieces_within g r are w sized (omega arith)))))
 
 wrap_within : (g : Grid) (cursor : Cursor) → AreGlyphs g → AreSpelledWithin 20 (wrap_item g cursor)
 unfolding wrap_item
@@ -344,70 +376,81 @@ wrap_within g cursor are =
     (then_within (brush_within (brush_of (cell_at g cursor.row cursor.col)))
     (glyph_within (cell_at g cursor.row cursor.col) (are cursor.row cursor.col)))
 
-record_within : (g : Grid) (saved : Saved) → AreGlyphs g → saved.row ≤ 24 → saved.col ≤ 132
-    → AreSpelledWithin 69 (record_item g saved)
+record_within : (g : Grid) (rows : ℕ) (saved : Saved) → AreGlyphs g → saved.row ≤ rows → rows ≤ 255 → saved.col ≤ 255
+    → AreSpelledWithin (67 + row_digits rows) (record_item g saved)
 unfolding record_item
-record_within g saved are h k =
-    upto (omega arith) (then_within (origin_within true saved.origin) (then_within (cursor_within saved.row saved.col h k)
+record_within g rows saved are h most k =
+    upto (omega arith) (then_within (origin_within true saved.origin)
+    (then_within (cursor_within rows saved.row saved.col h most k)
     (then_within (wrap_within g (saved_cursor saved) are) (then_within (brush_within saved.brush)
     (then_within (sets_within (saved_sets saved)) (computed 2 (save_cursor ∷ []) refl))))))
 
-change_within : (r c : ℕ) (marked : Bool) (cell : Cell) → IsGlyph cell.glyph → r ≤ 24 → c ≤ 132
+change_within : (rows r c : ℕ) (marked : Bool) (cell : Cell) → IsGlyph cell.glyph → r ≤ rows → rows ≤ 255 → c ≤ 255
     → AreSpelledWithin (28 * cond marked 1 0) (change_of r c marked cell)
 unfolding change_of
-change_within r c false cell is h k = none_within 0
-change_within r c true cell is h k =
-    upto (omega arith) (then_within (cursor_within r c h k)
+change_within rows r c false cell is h most k = none_within 0
+change_within rows r c true cell is h most k =
+    upto (omega (arith, three_digits rows)) (then_within (cursor_within rows r c h most k)
     (then_within (short_brush_within (brush_of cell)) (glyph_within cell is)))
 
-changed_within : (marks : List (List Bool)) (b g : Grid) → AreGlyphs g → AreMarked marks b g → g.width ≤ 132
+changed_within : (marks : List (List Bool)) (b g : Grid) → AreGlyphs g → AreMarked marks b g → g.width ≤ 255 → g.size.rows ≡ 24
     → AreSpelledWithin (28 * differing b g) (changed_cells marks g)
 unfolding changed_cells differing
-changed_within marks b g are marked w =
-    range_within 28 (λ r. differing_from b g r 1 g.width) (λ r. changed_row marks g r) 24 1 (λ r r1 r24.
+changed_within marks b g are marked w rows =
+    subst (λ (n : ℕ). AreSpelledWithin (28 * differing b g) (changed_rows marks g 1 n)) (sym rows)
+    (range_within 28 (λ r. differing_from b g r 1 g.width) (λ r. changed_row marks g r) 24 1 (λ r r1 r24.
     range_within 28 (λ c. cond (differs_at b g r c) 1 0) (λ c. change marks g r c) g.width 1 (λ c c1 cw.
     rw (sym (marked r c r1 (omega arith) c1 (omega arith)))
-    (change_within r c (is_marked marks r c) (cell_at g r c) (are r c) (omega arith) (omega arith))))
+    (change_within 24 r c (is_marked marks r c) (cell_at g r c) (are r c) (omega arith) (omega arith) (omega arith)))))
 
 -- ---- the whole
 
-last_within : (known : Bool) (s : Display) → IsSoundDisplay s → AreSpelledWithin 131 (last_items known s)
+last_within : (known : Bool) (s : Display) → IsSoundSizedDisplay s
+    → AreSpelledWithin (125 + 3 * row_digits s.grid.size.rows) (last_items known s)
 unfolding last_items
 last_within known s i =
-    let w = width_small s i in
-    let col : s.cursor.col ≤ 132 = omega (arith, i.cursor.col_last, w) in
-    let top : s.margins.top ≤ 24 = omega (arith, i.margins.two_rows, i.margins.to_last_row) in
-    upto (omega arith) (then_within (margins_within s.margins top i.margins.to_last_row)
+    let rows = s.grid.size.rows in
+    let sized = i.grid.shape.size in
+    let most : rows ≤ 255 = sized.rows.1 in
+    let col : s.cursor.col ≤ 255 = omega (arith, i.cursor.col_last, width_small s.grid i.grid.shape, sized.columns) in
+    let top : s.margins.top ≤ rows = omega (arith, i.margins.two_rows, i.margins.to_last_row) in
+    upto (omega arith) (then_within (margins_within rows s.margins top i.margins.to_last_row most)
     (then_within (origin_within known s.modes.decom)
-    (then_within (cursor_within (line_of_cursor s) s.cursor.col (line_small s i) col)
+    (then_within (cursor_within rows (line_of_cursor s) s.cursor.col (line_small s i) most col)
     (then_within (wrap_within s.grid s.cursor (sound_glyphs s i))
     (then_within (brush_within s.brush) (then_within (sets_within s.sets)
     (then_within (modes_within known s.modes) (shift_within s.sets.pending))))))))
 
-pub made_within : (s : Display) → IsSoundDisplay s → AreSpelledWithin 93510 (made_events s)
+pub made_within : (s : Display) → IsSoundSizedDisplay s
+    → AreSpelledWithin (s.grid.size.rows * row_limit s.grid.size + 10 * s.grid.size.wide + 318) (made_events s)
 unfolding made_events
 made_within s i =
-    let w = width_small s i in
-    let saved_col : s.saved.col ≤ 132 = omega (arith, i.saved.col_last, w) in
-    upto (omega arith) (then_within (stops_within (last_column s) s.stops)
-    (then_within (saved_within s.saved i.saved.row_last saved_col)
-    (then_within (cells_within s.grid s.cursor.wrap (sound_glyphs s i) w) (last_within true s i))))
+    let rows = s.grid.size.rows in
+    let sized = i.grid.shape.size in
+    let w = width_small s.grid i.grid.shape in
+    let saved_col : s.saved.col ≤ 255 = omega (arith, i.saved.col_last, w, sized.columns) in
+    upto (omega (arith, three_digits rows)) (then_within (stops_within s.grid.size (last_column s) s.stops sized.columns)
+    (then_within (saved_within rows s.saved i.saved.row_last sized.rows.1 saved_col)
+    (then_within (cells_within s.grid s.cursor.wrap (sound_glyphs s i) w sized) (last_within true s i))))
 
 -- the events of a repaint
 abbrev pub repaint_events : Display → List Event
 repaint_events s = reset_to_initial_state ∷ made_events s
 
-pub repaint_within : (s : Display) → IsSoundDisplay s → AreSpelledWithin 93512 (repaint_events s)
-repaint_within s i = then_within (computed 2 (reset_to_initial_state ∷ []) refl) (made_within s i)
+pub repaint_within : (s : Display) → IsSoundSizedDisplay s → AreSpelledWithin (paint_limit s.grid.size) (repaint_events s)
+repaint_within s i =
+    upto (omega arith) (then_within (computed 2 (reset_to_initial_state ∷ []) refl) (made_within s i))
 
-pub changes_within : (marks : List (List Bool)) (s t : Display) → IsSoundDisplay s → AreChanges marks t s
-    → AreSpelledWithin (28 * differing t.grid s.grid + 230) (change_events marks s)
+pub changes_within : (marks : List (List Bool)) (s t : Display) → IsSoundSizedDisplay s → s.grid.size.rows ≡ 24
+    → AreChanges marks t s
+    → AreSpelledWithin (28 * differing t.grid s.grid + (222 + 4 * row_digits s.grid.size.rows)) (change_events marks s)
 unfolding change_events
-changes_within marks s t i changes =
-    let w = width_small s i in
+changes_within marks s t i rows changes =
+    let most : s.grid.size.rows ≤ 255 = i.grid.shape.size.rows.1 in
+    let w : s.grid.width ≤ 255 = omega (arith, width_small s.grid i.grid.shape, i.grid.shape.size.columns) in
     let are = sound_glyphs s i in
-    let saved_col : s.saved.col ≤ 132 = omega (arith, i.saved.col_last, w) in
+    let saved_col : s.saved.col ≤ 255 = omega (arith, i.saved.col_last, w) in
     upto (omega arith) (then_within start_within (then_within (computed 10 spelling_sets_events refl)
-    (then_within (changed_within marks t.grid s.grid are changes.marked w)
-    (then_within (record_within s.grid s.saved are i.saved.row_last saved_col)
+    (then_within (changed_within marks t.grid s.grid are changes.marked w rows)
+    (then_within (record_within s.grid s.grid.size.rows s.saved are i.saved.row_last most saved_col)
     (then_within (computed 10 spelling_sets_events refl) (last_within false s i))))))

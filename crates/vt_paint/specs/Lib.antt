@@ -1,3 +1,7 @@
+pub mod Controls
+pub mod Named
+pub mod Spoken
+pub mod Limits
 pub mod Same
 pub mod Pieces
 pub mod Items

@@ -8,7 +8,7 @@ use Rattle.vt_syntax.specs.declared.event.Event.TheVariants.{Control, Sequence}
 use Rattle.vt_screen.specs.declared.cell.Rendition.{Rendition}
 use Rattle.vt_screen.specs.Same.{when}
 use Rattle.vt_term.specs.Functions.{Function, FunctionTable, controls, plain_sequences, quote_sequences}
-use Rattle.vt_controls.specs.Controls.{sequence_of, rendition_values}
+use Rattle.vt_paint.specs.Controls.{sequence_of, rendition_values}
 
 -- the byte of the function with this name
 unfoldable pub byte_named : FunctionTable → List ℕ → ℕ

@@ -5,10 +5,10 @@ use Rattle.vt_syntax.specs.declared.event.Event.{Event}
 use Rattle.vt_glyph.specs.Spell.{spelling_of}
 use Rattle.vt_screen.specs.declared.cell.Cell.{Cell}
 use Rattle.vt_screen.specs.Cells.{blank, brush_of}
-use Rattle.vt_screen.specs.Grid.{Grid, cell_at, row_of, last_row}
+use Rattle.vt_screen.specs.Grid.{Grid, cell_at, row_of}
 use Rattle.vt_screen.specs.Same.{same_brush, when}
 use Rattle.vt_paint.specs.Same.{is_blank}
-use Rattle.vt_controls.specs.Controls.{cursor_position, brush_events, spelling_events}
+use Rattle.vt_paint.specs.Controls.{cursor_position, brush_events, spelling_events}
 
 -- the cell to the left of a place; left of column 1 counts as blank
 unfoldable pub left_of : Grid → ℕ → ℕ → Cell
@@ -35,8 +35,8 @@ piece g r c = piece_of r c (left_of g r c) (cell_at g r c)
 
 -- the pieces of all cells, by row and column
 unfoldable pub pieces : Grid → List Event
-pieces g = flat_map (λ r. flat_map (λ c. piece g r c) (range_with_len 1 g.width)) (range_with_len 1 last_row)
+pieces g = flat_map (λ r. flat_map (λ c. piece g r c) (range_with_len 1 g.width)) (range_with_len 1 g.size.rows)
 
 -- every cell of every row is blank
 unfoldable pub is_blank_grid : Grid → Bool
-is_blank_grid g = list_all (λ r. list_all is_blank (row_of g r)) (range_with_len 1 last_row)
+is_blank_grid g = list_all (λ r. list_all is_blank (row_of g r)) (range_with_len 1 g.size.rows)

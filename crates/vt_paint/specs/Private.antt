@@ -3,3 +3,5 @@ pub mod HeaderParts
 pub mod Room
 pub mod ChangeEvents
 pub mod Parts
+pub mod Attributes
+pub mod Tables

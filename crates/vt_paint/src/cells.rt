@@ -7,22 +7,23 @@ ghost use Rattle.std.specs.List.{list_all};
 ghost use Rattle.vt_syntax.specs.Spelling.{spell_events};
 ghost use Rattle.vt_screen.specs.declared.cell.Brush.{Brush};
 ghost use Rattle.vt_screen.specs.Cells.{brush_of};
-ghost use Rattle.vt_screen.specs.Grid.{Grid, cell_at, row_of, last_row};
+ghost use Rattle.vt_screen.specs.Grid.{Grid, cell_at, row_of};
 ghost use Rattle.vt_screen.specs.Same.{same_brush, when};
 ghost use Rattle.vt_paint.specs.Same.{is_blank as is_blank_cell};
-ghost use Rattle.vt_controls.specs.Controls.{spelling_sets_events, spelling_events};
+ghost use Rattle.vt_paint.specs.Controls.{spelling_sets_events, spelling_events};
+ghost use Rattle.vt_paint.specs.Limits.{cell_limit, row_limit};
 ghost use Rattle.vt_paint.specs.Private.Parts.{row_pieces};
 ghost use Rattle.vt_paint.specs.Items.{cells_item};
 ghost use Rattle.vt_paint.specs.Private.Room.{head_room};
 ghost use Rattle.vt_paint.specs.Private.HeaderParts.{brush_number, lowest_word};
 
-use crate::line::{LINE, MANY, ROW_LIMIT, put, put_glyph, put_header};
+use crate::bytes::{push_bytes, push_when};
+use crate::line::{LINE, MANY, put, put_glyph, put_header};
 use crate::tables::cell_brush_number;
-use vt_controls::{push_bytes, push_when};
 use vt_glyph::Glyph;
 use vt_screen::laws::rows;
-use vt_screen::{COLUMNS, Cell};
-use vt_term::{ROWS, Terminal};
+use vt_screen::{Cell, MOST};
+use vt_term::SizedTerminal;
 
 /// The sets that the spellings of glyphs are for: G0 ASCII, G2 Supplemental, G3 Special Graphics, and G0 in GL.
 pub(crate) const SPELLING_SETS: &[u8] = b"\x1B(B\x1B*<\x1B+0\x0F";
@@ -31,8 +32,8 @@ pub(crate) const SPELLING_SETS: &[u8] = b"\x1B(B\x1B*<\x1B+0\x0F";
 const BLANK: u64 = 0x20;
 
 /// Returns the cell at a row and a column.
-pub(crate) fn row_cell(t: &Terminal, row: usize, col: usize) -> &Cell
-    requires row { (1 ≤ row) × (row ≤ last_row) }
+pub(crate) fn row_cell(t: &SizedTerminal, row: usize, col: usize) -> &Cell
+    requires row { (1 ≤ row) × (row ≤ t.now.display.grid.size.rows) }
     requires col { (1 ≤ col) × (col ≤ t.now.display.grid.width) }
     ensures { result.now ≡ cell_at t.now.display.grid row col }
 {
@@ -124,13 +125,13 @@ impl Run {
 /// Writes the cells of a row by runs. Blank cells are left out, and the cells of one brush follow one header. Returns
 /// how many bytes of the line aren't appended yet.
 fn put_row(row: usize, cells: &[Cell], line: &mut [u8; LINE], out: &mut Vec<u8>) -> usize
-    requires row { (1 ≤ row) × (row ≤ last_row) }
-    requires len { length cells.now ≤ COLUMNS }
-    requires room { vec_len out.old + ROW_LIMIT ≤ vec_capacity out.old }
+    requires row { (1 ≤ row) × (row ≤ MOST) }
+    requires len { length cells.now ≤ MOST }
+    requires room { vec_len out.old + cell_limit row * length cells.now ≤ vec_capacity out.old }
     ensures items { (g : Grid) → cells.now ≡ row_of g row
         → out.new.items ++ take result line.new ≡ out.old.items ++ spell_events (row_pieces g row) }
     ensures fits { result ≤ LINE }
-    ensures bounded { vec_len out.new + result ≤ vec_len out.old + ROW_LIMIT }
+    ensures bounded { vec_len out.new + result ≤ vec_len out.old + cell_limit row * length cells.now }
     ensures capacity { vec_capacity out.old ≤ vec_capacity out.new }
 {
     rows();
@@ -172,12 +173,12 @@ fn push_many(at: usize, line: &[u8; LINE], out: &mut Vec<u8>) -> usize
 
 /// Appends the cells of a row, gathered in the line.
 fn push_row(row: usize, cells: &[Cell], line: &mut [u8; LINE], out: &mut Vec<u8>)
-    requires row { (1 ≤ row) × (row ≤ last_row) }
-    requires len { length cells.now ≤ COLUMNS }
-    requires room { vec_len out.old + ROW_LIMIT ≤ vec_capacity out.old }
+    requires row { (1 ≤ row) × (row ≤ MOST) }
+    requires len { length cells.now ≤ MOST }
+    requires room { vec_len out.old + cell_limit row * length cells.now ≤ vec_capacity out.old }
     ensures items { (g : Grid) → cells.now ≡ row_of g row
         → out.new.items ≡ out.old.items ++ spell_events (row_pieces g row) }
-    ensures bounded { vec_len out.new ≤ vec_len out.old + ROW_LIMIT }
+    ensures bounded { vec_len out.new ≤ vec_len out.old + cell_limit row * length cells.now }
     ensures capacity { vec_capacity out.old ≤ vec_capacity out.new }
 {
     let end = put_row(row, cells, line, out);
@@ -199,15 +200,16 @@ fn push_shown_row(
     line: &mut [u8; LINE],
     out: &mut Vec<u8>,
 ) -> bool
-    requires row { (1 ≤ row) × (row ≤ last_row) }
-    requires len { length cells.now ≤ COLUMNS }
-    requires room { vec_len out.old + ROW_LIMIT + head_room shown ≤ vec_capacity out.old }
+    requires row { (1 ≤ row) × (row ≤ MOST) }
+    requires len { length cells.now ≤ MOST }
+    requires room { vec_len out.old + cell_limit row * length cells.now + head_room shown ≤ vec_capacity out.old }
     ensures shown { result ≡ (shown || not (list_all is_blank_cell cells.now)) }
     ensures items { (g : Grid) → cells.now ≡ row_of g row
         → out.new.items
         ≡ out.old.items
         ++ spell_events (when result (when (not shown) spelling_sets_events ++ row_pieces g row)) }
-    ensures bounded { vec_len out.new + head_room result ≤ vec_len out.old + ROW_LIMIT + head_room shown }
+    ensures bounded { vec_len out.new + head_room result
+        ≤ vec_len out.old + cell_limit row * length cells.now + head_room shown }
     ensures capacity { vec_capacity out.old ≤ vec_capacity out.new }
 {
     if shown {
@@ -223,17 +225,18 @@ fn push_shown_row(
 }
 
 /// Appends the sets of the spellings and the cells, if any cell is shown.
-pub(crate) fn push_cells(t: &Terminal, wrap: bool, out: &mut Vec<u8>)
-    requires { vec_len out.old + 29 * ROWS * COLUMNS + 11 ≤ vec_capacity out.old }
+pub(crate) fn push_cells(t: &SizedTerminal, wrap: bool, out: &mut Vec<u8>)
+    requires { vec_len out.old + t.now.display.grid.size.rows * row_limit t.now.display.grid.size + 11 ≤ vec_capacity out.old }
     ensures items { out.new.items ≡ out.old.items ++ spell_events (cells_item t.now.display.grid wrap) }
-    ensures bounded { vec_len out.new ≤ vec_len out.old + 29 * ROWS * COLUMNS + 11 }
+    ensures bounded { vec_len out.new
+        ≤ vec_len out.old + t.now.display.grid.size.rows * row_limit t.now.display.grid.size + 11 }
     ensures capacity { vec_capacity out.old ≤ vec_capacity out.new }
 {
     rows();
     let mut shown = wrap;
     let mut line = [0; LINE];
     push_when(wrap, SPELLING_SETS, out);
-    for row in 1..ROWS + 1 {
+    for row in 1..t.size().rows + 1 {
         shown = push_shown_row(row, t.row(row), shown, &mut line, out);
     }
 }

@@ -4,25 +4,28 @@ ghost use Rattle.std.specs.Prelude.{◌≡◌, ◌+◌, ◌-◌, ◌*◌, ◌≤
 ghost use Rattle.std.specs.Prelude.{drop, vec_len, vec_capacity};
 ghost use Rattle.vt_syntax.specs.declared.held.Held.TheVariants.{Nothing};
 ghost use Rattle.vt_syntax.specs.Spelling.{spell_events};
+ghost use Rattle.vt_screen.specs.Sizes.{vt220_size};
 ghost use Rattle.vt_screen.specs.Grid.{Grid, row_of, last_row};
 ghost use Rattle.vt_term.specs.State.{State};
 ghost use Rattle.vt_term.specs.Sound.{IsSound};
 ghost use Rattle.vt_term.specs.Play.{play};
 ghost use Rattle.vt_paint.specs.Changes.{differing, AreChanges, Changes};
-ghost use Rattle.vt_controls.specs.Spoken.{Speaks};
+ghost use Rattle.vt_paint.specs.Spoken.{Speaks};
 ghost use Rattle.vt_paint.specs.Private.ChangeEvents.{has_all, short_brush_events, change_of};
 ghost use Rattle.vt_paint.specs.Private.ChangeEvents.{changed_row, changed_cells, record_item, change_events};
 
 use crate::PAINT_LIMIT;
+use crate::bytes::push_bytes;
 use crate::cells::SPELLING_SETS;
 use crate::controls::{push_brush, push_glyph, push_sets};
+use crate::function::Function;
 use crate::items::push_mode_item;
 use crate::line::ROW_LIMIT;
+use crate::modes::{DECAWM, DECOM};
 use crate::paint::{push_last, push_wrap};
-use vt_controls::{DECAWM, DECOM, Function, push_bytes};
 use vt_screen::laws::rows;
-use vt_screen::{Brush, COLUMNS, Cell, Rendition};
-use vt_term::{Cursor, ROWS, STOPS, Saved, Terminal};
+use vt_screen::{Brush, COLUMNS, Cell, MOST, Rendition};
+use vt_term::{Cursor, ROWS, STOPS, Saved, SizedTerminal, Terminal};
 
 // ---- the cells
 
@@ -34,7 +37,7 @@ fn has_all(attributes: Rendition) -> bool
 }
 
 /// Appends SGR and DECSCA, in at most 15 bytes: without the 0 of SGR if every attribute is set.
-#[tactic(auto, unfolding(crate::specs::Private::ChangeEvents::short_brush_events, vt_controls::specs::Controls::brush_events))]
+#[tactic(auto, unfolding(crate::specs::Private::ChangeEvents::short_brush_events, crate::specs::Controls::brush_events))]
 fn push_short_brush(brush: Brush, out: &mut Vec<u8>)
     requires { vec_len out.old + 17 ≤ vec_capacity out.old }
     ensures items { out.new.items ≡ out.old.items ++ spell_events (short_brush_events brush) }
@@ -84,8 +87,9 @@ fn push_changed_row(row: usize, cells: &[Cell], marks: &[bool; STOPS], out: &mut
 }
 
 /// Appends the marked cells.
-fn push_changed_cells(marks: &[[bool; STOPS]; ROWS], t: &Terminal, out: &mut Vec<u8>)
-    requires { vec_len out.old + 29 * ROWS * COLUMNS ≤ vec_capacity out.old }
+fn push_changed_cells(marks: &[[bool; STOPS]; ROWS], t: &SizedTerminal, out: &mut Vec<u8>)
+    requires size { t.now.display.grid.size ≡ vt220_size }
+    requires room { vec_len out.old + 29 * ROWS * COLUMNS ≤ vec_capacity out.old }
     ensures items { out.new.items ≡ out.old.items ++ spell_events (changed_cells marks.now t.now.display.grid) }
     ensures bounded { vec_len out.new ≤ vec_len out.old + 29 * ROWS * COLUMNS }
     ensures capacity { vec_capacity out.old ≤ vec_capacity out.new }
@@ -99,13 +103,14 @@ fn push_changed_cells(marks: &[[bool; STOPS]; ROWS], t: &Terminal, out: &mut Vec
 
 /// Appends the saved record: the saved state is made, and then saved.
 #[tactic(auto, unfolding(crate::specs::Private::ChangeEvents::record_item))]
-fn push_record(t: &Terminal, saved: &Saved, out: &mut Vec<u8>)
-    requires row { (1 ≤ saved.now.row) × (saved.now.row ≤ last_row) }
+fn push_record(t: &SizedTerminal, saved: &Saved, out: &mut Vec<u8>)
+    requires row { (1 ≤ saved.now.row) × (saved.now.row ≤ t.now.display.grid.size.rows) }
+    requires rows { t.now.display.grid.size.rows ≤ MOST }
     requires col { (1 ≤ saved.now.col) × (saved.now.col ≤ t.now.display.grid.width) }
-    requires narrow { t.now.display.grid.width ≤ COLUMNS }
-    requires room { vec_len out.old + 70 ≤ vec_capacity out.old }
+    requires narrow { t.now.display.grid.width ≤ MOST }
+    requires room { vec_len out.old + 71 ≤ vec_capacity out.old }
     ensures items { out.new.items ≡ out.old.items ++ spell_events (record_item t.now.display.grid saved.now) }
-    ensures bounded { vec_len out.new ≤ vec_len out.old + 70 }
+    ensures bounded { vec_len out.new ≤ vec_len out.old + 71 }
     ensures capacity { vec_capacity out.old ≤ vec_capacity out.new }
 {
     push_mode_item(DECOM, true, false, saved.origin, out);
@@ -149,10 +154,10 @@ fn push_changes(marks: &[[bool; STOPS]; ROWS], t: &Terminal, out: &mut Vec<u8>)
     Function::soft_reset().push(out);
     Function::mode(DECAWM, true).push(out);
     push_bytes(SPELLING_SETS, out);
-    push_changed_cells(marks, t, out);
-    push_record(t, &t.saved(), out);
+    push_changed_cells(marks, &t.sized, out);
+    push_record(&t.sized, &t.saved(), out);
     push_bytes(SPELLING_SETS, out);
-    push_last(t, false, out);
+    push_last(&t.sized, false, out);
 }
 
 /// Appends to `out` bytes that lead a terminal to `t`. It appends at most 28 bytes for each marked position, and 230.

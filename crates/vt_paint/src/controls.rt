@@ -4,10 +4,11 @@ ghost use Rattle.vt_syntax.specs.declared.event.Event.TheVariants.{Print};
 ghost use Rattle.vt_syntax.specs.Spelling.{spell_events};
 ghost use Rattle.vt_glyph.specs.declared.set.Set.TheVariants.{Ascii};
 ghost use Rattle.vt_glyph.specs.Spell.{spelling_of};
-ghost use Rattle.vt_controls.specs.Controls.{brush_events, sets_events, shift_to, spelling_events};
+ghost use Rattle.vt_paint.specs.Controls.{brush_events, sets_events, shift_to, spelling_events};
 
+use crate::bytes::push_bytes;
+use crate::function::Function;
 use crate::tables::brush_part;
-use vt_controls::{Function, push_bytes};
 use vt_glyph::{Glyph, Set, Spelling};
 use vt_screen::Brush;
 

@@ -1,13 +1,13 @@
 //! Control functions, each spelled once.
 ghost use Rattle.std.specs.Prelude.{◌≡◌, ◌+◌, ◌≤◌, ◌<◌, ◌++◌, ◌∷◌, [], true, length, take, codes, vec_len, vec_capacity};
 ghost use Rattle.vt_syntax.specs.Spelling.{spell_event};
-ghost use Rattle.vt_controls.specs.Controls.{sequence_of, cursor_position, margins_to, clear_all_tabs, all_attributes};
-ghost use Rattle.vt_controls.specs.Controls.{protection_to, set_tab, shift_to, reset_to_initial_state, soft_reset, save_cursor};
-ghost use Rattle.vt_controls.specs.Controls.{designation_of, left_event, right_event, mode_event};
-ghost use Rattle.vt_controls.specs.Named.{control_named, sequence_named, unless_one, no_protection, resets, newly_set};
-ghost use Rattle.vt_controls.specs.Named.{rendition_change};
-ghost use Rattle.vt_controls.specs.Spoken.{Control, Escape, Sequence, is_spoken, is_one_of, Speaks};
-ghost use Rattle.vt_controls.specs.Private.Attributes.{attribute, attributes};
+ghost use Rattle.vt_paint.specs.Controls.{sequence_of, cursor_position, margins_to, clear_all_tabs, all_attributes};
+ghost use Rattle.vt_paint.specs.Controls.{protection_to, set_tab, shift_to, reset_to_initial_state, soft_reset, save_cursor};
+ghost use Rattle.vt_paint.specs.Controls.{designation_of, left_event, right_event, mode_event};
+ghost use Rattle.vt_paint.specs.Named.{control_named, sequence_named, unless_one, no_protection, resets, newly_set};
+ghost use Rattle.vt_paint.specs.Named.{rendition_change};
+ghost use Rattle.vt_paint.specs.Spoken.{Control, Escape, Sequence, is_spoken, is_one_of, Speaks};
+ghost use Rattle.vt_paint.specs.Private.Attributes.{attribute, attributes};
 
 use crate::bytes::{push_bytes, put_front, put_number, put_part};
 use crate::modes::{ALL_MODES, FRONTS, LENGTHS, last_of};
@@ -27,7 +27,7 @@ pub struct Function {
 
 impl Model for Function {
     ghost use Rattle.std.specs.Prelude.{◌≤◌, ℕ, List, take};
-    ghost use Rattle.vt_controls.specs.Spoken.{Speaks};
+    ghost use Rattle.vt_paint.specs.Spoken.{Speaks};
 
     ghost Value = { List ℕ };
 
@@ -142,6 +142,7 @@ impl Function {
         ensures short { n < 100 → length result ≤ 9 }
         ensures shorter { n < 100 → m < 100 → length result ≤ 8 }
         ensures shortest { n < 10 → length result ≤ 8 }
+        ensures bounded { length result ≤ 10 }
     {
         let mut bytes = [0; FUNCTION_LIMIT];
         let at = put_part(b"\x1B[", 0, &mut bytes);
@@ -160,6 +161,7 @@ impl Function {
         ensures value { result ≡ spell_event (cursor_position line col) }
         ensures short { line < 100 → length result ≤ 9 }
         ensures shortest { line < 10 → length result ≤ 8 }
+        ensures bounded { length result ≤ 10 }
     {
         Function::numbered_twice(line, col, b'H')
     }
@@ -223,6 +225,7 @@ impl Function {
     pub fn margins_to(top: u8, bottom: u8) -> Function
         ensures value { result ≡ spell_event (margins_to top bottom) }
         ensures short { top < 100 → bottom < 100 → length result ≤ 8 }
+        ensures bounded { length result ≤ 10 }
     {
         Function::numbered_twice(top, bottom, b'r')
     }

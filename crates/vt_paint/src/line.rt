@@ -4,15 +4,16 @@ ghost use Rattle.std.specs.Prelude.{◌≡◌, ◌+◌, ◌≤◌, ◌<◌, ◌+
 ghost use Rattle.vt_syntax.specs.Spelling.{spell_event, spell_events};
 ghost use Rattle.vt_glyph.specs.Spell.{spelling_of};
 ghost use Rattle.vt_screen.specs.declared.cell.Brush.{Brush};
-ghost use Rattle.vt_controls.specs.Controls.{cursor_position, brush_events, spelling_events};
+ghost use Rattle.vt_paint.specs.Controls.{cursor_position, brush_events, spelling_events};
+ghost use Rattle.vt_paint.specs.Limits.{row_digits};
 ghost use Rattle.vt_paint.specs.Private.HeaderParts.{brush_number};
 
+use crate::bytes::put_front;
 use crate::tables::{brush_part, column_part, row_part};
-use vt_controls::put_front;
 use vt_glyph::Glyph;
-use vt_screen::{COLUMNS, ROWS};
+use vt_screen::{COLUMNS, MOST};
 
-/// The limit of a row in bytes: 29 for each of 132 cells.
+/// The limit of a row of a VT220 in bytes: 29 for each of 132 cells.
 pub(crate) const ROW_LIMIT: usize = 29 * COLUMNS;
 
 /// The capacity for bytes that aren't appended yet.
@@ -20,7 +21,7 @@ pub(crate) const LINE: usize = 2048;
 
 /// If there are this many bytes, they are appended before the next header. After fewer there is capacity for a run: a
 /// header, and the glyphs of a row.
-pub(crate) const MANY: usize = 1536;
+pub(crate) const MANY: usize = 1248;
 
 /// Writes a byte.
 #[inline(always)]
@@ -42,12 +43,13 @@ pub(crate) fn put_header(
     at: usize,
     line: &mut [u8; LINE],
 ) -> usize
-    requires row { (1 ≤ row) × (row ≤ ROWS) }
-    requires col { (1 ≤ col) × (col ≤ COLUMNS) }
+    requires row { (1 ≤ row) × (row ≤ MOST) }
+    requires col { (1 ≤ col) × (col ≤ MOST) }
     requires room { at + 29 ≤ LINE }
     ensures items { (brush : Brush) → number ≡ brush_number brush
         → take result line.new ≡ take at line.old ++ spell_events (cursor_position row col ∷ brush_events brush) }
-    ensures bounded { result ≤ at + 26 }
+    ensures bounded { result ≤ at + 24 + row_digits row }
+    ensures few { result ≤ at + 27 }
 {
     let (start, len) = row_part(row);
     let at = put_front(start, len, at, line);

@@ -1,7 +1,7 @@
 //! The table of modes.
 ghost use Rattle.std.specs.Prelude.{◌≡◌, ◌<◌, map};
-ghost use Rattle.vt_controls.specs.Controls.{mode_rows};
-ghost use Rattle.vt_controls.specs.Private.Tables.{mode_last};
+ghost use Rattle.vt_paint.specs.Controls.{mode_rows};
+ghost use Rattle.vt_paint.specs.Private.Tables.{mode_last};
 
 use vt_term::Modes;
 

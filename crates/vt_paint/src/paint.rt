@@ -1,23 +1,25 @@
-//! The repaint.
+//! The repaint of a terminal of any size.
 ghost use Rattle.std.specs.Prelude.{◌≡◌, ◌↔◌, ◌+◌, ◌-◌, ◌≤◌, ◌<◌, ◌++◌, ◌≢◌, IsErrOf, OnOk, OnErr, vec_len, vec_capacity};
 ghost use Rattle.vt_syntax.specs.declared.held.Held.TheVariants.{Nothing};
 ghost use Rattle.vt_syntax.specs.Spelling.{spell_events};
-ghost use Rattle.vt_screen.specs.Grid.{last_row};
+ghost use Rattle.vt_paint.specs.Limits.{paint_limit};
 ghost use Rattle.vt_paint.specs.Items.{position_item, wrap_item, last_items};
-ghost use Rattle.vt_paint.specs.Repaint.{made_events, paint, IsRebuilt};
+ghost use Rattle.vt_paint.specs.Repaint.{made_events, paint, IsRebuiltAt};
 
 use crate::cells::{push_cells, row_cell};
 use crate::controls::{push_brush, push_sets};
+use crate::function::Function;
 use crate::items::{
     push_cell, push_margins, push_mode_item, push_modes, push_saved, push_shift, push_stops,
 };
-use crate::laws::rebuilds;
+use crate::laws::sized_rebuilds;
+use crate::limits::paint_limit;
+use crate::modes::DECOM;
 use thiserror::Error;
-use vt_controls::{DECOM, Function};
 use vt_screen::{COLUMNS, ROWS};
-use vt_term::{Cursor, Terminal};
+use vt_term::{Cursor, SizedTerminal};
 
-/// The limit of a repaint in bytes: 29 for each of 24 rows of 132 cells, 10 for each tab stop, and 320 for all others.
+/// The limit of a repaint of a VT220 in bytes: 29 for each of 24 rows of 132 cells, 10 for each tab stop, and 320 for all others.
 pub const PAINT_LIMIT: usize = 29 * ROWS * COLUMNS + 10 * COLUMNS + 320;
 
 const _: () = prove!(PAINT_LIMIT == 93512);
@@ -35,8 +37,8 @@ pub enum PaintError {
 
 /// Appends the cell at the cursor's position once more, if the cursor's wrap flag is set.
 #[tactic(auto, unfolding(crate::specs::Items::wrap_item))]
-pub(crate) fn push_wrap(t: &Terminal, cursor: Cursor, out: &mut Vec<u8>)
-    requires row { (1 ≤ cursor.row) × (cursor.row ≤ last_row) }
+pub(crate) fn push_wrap(t: &SizedTerminal, cursor: Cursor, out: &mut Vec<u8>)
+    requires row { (1 ≤ cursor.row) × (cursor.row ≤ t.now.display.grid.size.rows) }
     requires col { (1 ≤ cursor.col) × (cursor.col ≤ t.now.display.grid.width) }
     requires room { vec_len out.old + 20 ≤ vec_capacity out.old }
     ensures items { out.new.items ≡ out.old.items ++ spell_events (wrap_item t.now.display.grid cursor) }
@@ -49,12 +51,12 @@ pub(crate) fn push_wrap(t: &Terminal, cursor: Cursor, out: &mut Vec<u8>)
 }
 
 /// Appends the cursor and its wrap flag.
-pub(crate) fn push_cursor(t: &Terminal, out: &mut Vec<u8>)
-    requires { vec_len out.old + 29 ≤ vec_capacity out.old }
+pub(crate) fn push_cursor(t: &SizedTerminal, out: &mut Vec<u8>)
+    requires { vec_len out.old + 30 ≤ vec_capacity out.old }
     ensures items { out.new.items
         ≡ out.old.items
         ++ spell_events (position_item t.now.display ++ wrap_item t.now.display.grid t.now.display.cursor) }
-    ensures bounded { vec_len out.new ≤ vec_len out.old + 29 }
+    ensures bounded { vec_len out.new ≤ vec_len out.old + 30 }
     ensures capacity { vec_capacity out.old ≤ vec_capacity out.new }
 {
     let cursor = t.cursor();
@@ -70,16 +72,16 @@ pub(crate) fn push_cursor(t: &Terminal, out: &mut Vec<u8>)
 /// Appends the end of a repaint and of changes: everything except the cells, the width, the stops and the saved record.
 /// If `known` is true, the modes are as at power-up, and those that stay so are left out.
 #[tactic(auto, unfolding(crate::specs::Items::last_items))]
-pub(crate) fn push_last(t: &Terminal, known: bool, out: &mut Vec<u8>)
-    requires { vec_len out.old + 152 ≤ vec_capacity out.old }
+pub(crate) fn push_last(t: &SizedTerminal, known: bool, out: &mut Vec<u8>)
+    requires { vec_len out.old + 154 ≤ vec_capacity out.old }
     ensures items { out.new.items ≡ out.old.items ++ spell_events (last_items known t.now.display) }
-    ensures bounded { vec_len out.new ≤ vec_len out.old + 152 }
+    ensures bounded { vec_len out.new ≤ vec_len out.old + 154 }
     ensures capacity { vec_capacity out.old ≤ vec_capacity out.new }
 {
     // The width's contract gives the soundness of the state, and so the bounds of the margins.
     let _ = t.width();
     let sets = t.sets();
-    push_margins(t.margins(), out);
+    push_margins(t.size().rows, t.margins(), out);
     push_mode_item(DECOM, known, false, t.modes().decom, out);
     push_cursor(t, out);
     push_brush(t.brush(), out);
@@ -88,42 +90,44 @@ pub(crate) fn push_last(t: &Terminal, known: bool, out: &mut Vec<u8>)
     push_shift(sets.pending(), out);
 }
 
-/// Appends the repaint to `out`: the bytes that rebuild the terminal's state on any terminal.
+/// Appends the repaint to `out`: the bytes that rebuild the terminal's state on any terminal of its size.
 ///
-/// It first reserves `PAINT_LIMIT` bytes of capacity.
+/// It first reserves `paint_limit` bytes of capacity.
 ///
 /// # Errors
 ///
 /// Returns `Partial` if the terminal is inside a sequence, which is checked first. Returns `Memory` if allocation
 /// fails. The contents of `out` are then unchanged.
-pub fn repaint(t: &Terminal, out: &mut Vec<u8>) -> Result<(), PaintError>
+pub fn repaint(t: &SizedTerminal, out: &mut Vec<u8>) -> Result<(), PaintError>
     ensures items { OnOk result (out.new.items ≡ out.old.items ++ paint t.now) }
-    ensures rebuilds { OnOk result (IsRebuilt t.now) }
+    ensures rebuilds { OnOk result (IsRebuiltAt t.now.display.grid.size t.now) }
     ensures partial { IsErrOf result PaintError.Partial ↔ (t.now.held ≢ Nothing) }
-    ensures memory { IsErrOf result PaintError.Memory → vec_capacity out.old < vec_len out.old + PAINT_LIMIT }
+    ensures memory { IsErrOf result PaintError.Memory
+        → vec_capacity out.old < vec_len out.old + paint_limit t.now.display.grid.size }
     ensures unchanged { OnErr result (out.new.items ≡ out.old.items) }
-    ensures bounded { vec_len out.new ≤ vec_len out.old + PAINT_LIMIT }
+    ensures bounded { vec_len out.new ≤ vec_len out.old + paint_limit t.now.display.grid.size }
     ensures capacity { vec_capacity out.old ≤ vec_capacity out.new }
 {
     if !t.is_between() {
         return Err(PaintError::Partial);
     }
-    out.reserve(PAINT_LIMIT).map_err(|_| PaintError::Memory)?;
+    out.reserve(paint_limit(t.size()))
+        .map_err(|_| PaintError::Memory)?;
     repaint_reserved(t, out);
     Ok(())
 }
 
-/// Appends the repaint of a terminal between sequences to `out`, which has capacity for `PAINT_LIMIT` more bytes. It
+/// Appends the repaint of a terminal between sequences to `out`, which has capacity for `paint_limit` more bytes. It
 /// never fails and allocates nothing.
-pub fn repaint_reserved(t: &Terminal, out: &mut Vec<u8>)
+pub fn repaint_reserved(t: &SizedTerminal, out: &mut Vec<u8>)
     requires between { t.now.held ≡ Nothing }
-    requires room { vec_len out.old + PAINT_LIMIT ≤ vec_capacity out.old }
+    requires room { vec_len out.old + paint_limit t.now.display.grid.size ≤ vec_capacity out.old }
     ensures items { out.new.items ≡ out.old.items ++ paint t.now }
-    ensures rebuilds { IsRebuilt t.now }
-    ensures bounded { vec_len out.new ≤ vec_len out.old + PAINT_LIMIT }
+    ensures rebuilds { IsRebuiltAt t.now.display.grid.size t.now }
+    ensures bounded { vec_len out.new ≤ vec_len out.old + paint_limit t.now.display.grid.size }
     ensures capacity { vec_capacity out.old ≤ vec_capacity out.new }
 {
-    rebuilds();
+    sized_rebuilds();
     // The width's contract gives the soundness of the state.
     let _ = t.width();
     Function::reset().push(out);
@@ -131,14 +135,14 @@ pub fn repaint_reserved(t: &Terminal, out: &mut Vec<u8>)
 }
 
 /// Appends a repaint without its first function, RIS: from power-up these bytes lead to the terminal's state. `out` has
-/// capacity for `PAINT_LIMIT` - 2 more bytes. It never fails and allocates nothing.
-pub fn repaint_items_reserved(t: &Terminal, out: &mut Vec<u8>)
-    requires { vec_len out.old + (PAINT_LIMIT - 2) ≤ vec_capacity out.old }
+/// capacity for `paint_limit` - 2 more bytes. It never fails and allocates nothing.
+pub fn repaint_items_reserved(t: &SizedTerminal, out: &mut Vec<u8>)
+    requires { vec_len out.old + (paint_limit t.now.display.grid.size - 2) ≤ vec_capacity out.old }
     ensures items { out.new.items ≡ out.old.items ++ spell_events (made_events t.now.display) }
-    ensures bounded { vec_len out.new ≤ vec_len out.old + (PAINT_LIMIT - 2) }
+    ensures bounded { vec_len out.new ≤ vec_len out.old + (paint_limit t.now.display.grid.size - 2) }
     ensures capacity { vec_capacity out.old ≤ vec_capacity out.new }
 {
-    push_stops(t.width(), t.stops(), out);
+    push_stops(t.size(), t.width(), t.stops(), out);
     push_saved(&t.saved(), out);
     push_cells(t, t.cursor().wrap, out);
     push_last(t, true, out);

@@ -3,8 +3,8 @@ use Rattle.std.proofs.Common.{◌≡◌, ℕ, ◌+◌, ◌<◌, ◌≤◌, List,
 use Rattle.std.proofs.Common.{sym, ap, subst, ◌∙◌, append_assoc, append-nil, set}
 use Rattle.std.proofs.Math.Seq.{drop-append_seam}
 use Rattle.std.proofs.lemmas.List.{take_more_set}
-use Rattle.vt_controls.specs.Spoken.{Speaks}
-use Rattle.vt_controls.proofs.Speech.{speaks-none, speaks-append, character_speaks}
+use Rattle.vt_paint.specs.Spoken.{Speaks}
+use Rattle.vt_paint.proofs.Speech.{speaks-none, speaks-append, character_speaks}
 use Rattle.vt_update.specs.Private.Appended.{Appended}
 
 -- a character more, at a place

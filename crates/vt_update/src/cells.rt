@@ -5,7 +5,7 @@ ghost use Rattle.vt_update.specs.Private.Appended.{Appended};
 
 use crate::remote::Remote;
 use crate::rows::{BLANK, Rows};
-use vt_controls::Function;
+use vt_paint::Function;
 use vt_screen::{Cell, ROWS};
 use vt_term::Terminal;
 

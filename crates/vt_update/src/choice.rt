@@ -1,7 +1,7 @@
 //! The choice of bytes. Updates depend only on their number, and on that they are elements of what updates consist of.
 //! The terminal that they lead to is checked by playing them before they are sent.
 ghost use Rattle.std.specs.Prelude.{◌≡◌, ◌≤◌, ◌++◌, drop, vec_len, vec_capacity};
-ghost use Rattle.vt_controls.specs.Spoken.{Speaks};
+ghost use Rattle.vt_paint.specs.Spoken.{Speaks};
 ghost use Rattle.vt_update.specs.Private.Appended.{Appended};
 
 use crate::remote::Remote;

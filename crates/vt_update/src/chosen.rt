@@ -1,10 +1,10 @@
 //! The chosen bytes: elements that updates consist of, and nothing else.
 ghost use Rattle.std.specs.Prelude.{◌≡◌, ℕ, ◌+◌, ◌≤◌, length, take, vec_capacity};
-ghost use Rattle.vt_controls.specs.Spoken.{Speaks};
+ghost use Rattle.vt_paint.specs.Spoken.{Speaks};
 ghost use Rattle.vt_update.specs.declared.chosen.TheConstants.{ROOM};
 ghost use Rattle.vt_update.specs.Private.Appended.{Appended};
 
-use vt_controls::{FUNCTION_LIMIT, Function};
+use vt_paint::{FUNCTION_LIMIT, Function};
 use vt_screen::Cell;
 
 /// The number of bytes that are kept before they are appended to the output.

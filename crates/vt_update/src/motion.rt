@@ -3,7 +3,7 @@ ghost use Rattle.std.specs.Prelude.{◌≤◌};
 ghost use Rattle.vt_screen.specs.Grid.{last_row};
 
 use crate::remote::{Remote, number};
-use vt_controls::{DECAWM, DECOM, Function};
+use vt_paint::{DECAWM, DECOM, Function};
 use vt_term::{Cursor, Margins, Terminal};
 
 /// The most cells that are written again to get past them.

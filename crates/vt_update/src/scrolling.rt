@@ -4,7 +4,7 @@ ghost use Rattle.vt_screen.specs.Grid.{last_row};
 
 use crate::remote::{Remote, number};
 use crate::rows::{Rows, filled, unlike};
-use vt_controls::Function;
+use vt_paint::Function;
 use vt_screen::{Cell, ROWS, same_cells};
 use vt_term::{Margins, Terminal};
 

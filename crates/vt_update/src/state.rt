@@ -3,8 +3,8 @@ ghost use Rattle.std.specs.Prelude.{◌≤◌, ◌<◌};
 ghost use Rattle.vt_screen.specs.Grid.{last_row};
 
 use crate::remote::Remote;
-use vt_controls::{Function, mode_values};
 use vt_glyph::{Set, Sets};
+use vt_paint::{Function, mode_values};
 use vt_screen::ROWS;
 use vt_term::{Cursor, Margins, Modes, Saved, Terminal};
 

@@ -9,7 +9,7 @@ ghost use Rattle.vt_term.specs.Sound.{IsSound};
 ghost use Rattle.vt_term.specs.Play.{play};
 ghost use Rattle.vt_paint.specs.Repaint.{paint};
 ghost use Rattle.vt_paint.specs.Changes.{differing, AreChanges};
-ghost use Rattle.vt_controls.specs.Spoken.{Speaks};
+ghost use Rattle.vt_paint.specs.Spoken.{Speaks};
 ghost use Rattle.vt_update.specs.Leads.{Leads, Updates, HasOtherColumns};
 
 use crate::choice::push_choice;

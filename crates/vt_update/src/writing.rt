@@ -2,8 +2,8 @@
 ghost use Rattle.std.specs.Prelude.{◌≡◌, ◌≤◌, length};
 
 use crate::remote::Remote;
-use vt_controls::{Function, IRM};
 use vt_glyph::{Glyph, Set, Spelling};
+use vt_paint::{Function, IRM};
 use vt_screen::{Brush, Cell};
 
 impl Remote {

@@ -2,3 +2,4 @@ mod Painted
 mod Pending
 mod Spelled
 mod Rebuilt
+mod Vt220

@@ -13,23 +13,24 @@ use Rattle.vt_screen.specs.declared.cell.Rendition.{Rendition}
 use Rattle.vt_screen.specs.declared.cell.Brush.{Brush}
 use Rattle.vt_screen.specs.declared.cell.Cell.{Cell}
 use Rattle.vt_screen.specs.Cells.{brush_of}
+use Rattle.vt_screen.specs.declared.size.Size.{Size}
 use Rattle.vt_screen.specs.Grid.{Grid, cell_at}
 use Rattle.vt_screen.specs.Same.{same_bool, when}
 use Rattle.vt_term.specs.declared.state.Cursor.{Cursor}
 use Rattle.vt_term.specs.declared.state.Margins.{Margins}
 use Rattle.vt_term.specs.declared.state.Modes.{Modes}
 use Rattle.vt_term.specs.declared.state.Saved.{Saved}
-use Rattle.vt_term.specs.State.{Display, has_stop_at, stops_at_power_up, saved_sets, saved_at_power_up, modes_at_power_up}
+use Rattle.vt_term.specs.State.{Display, has_stop_at, stops_of, saved_sets, saved_at_power_up, modes_at_power_up}
 use Rattle.vt_term.specs.Modes.{with_mode}
 use Rattle.vt_term.specs.Rendition.{select_graphic_rendition}
 use Rattle.vt_term.specs.Functions.{effect, sequence_in, sequences_of}
-use Rattle.vt_controls.specs.Controls.{private_mode, ansi_mode, cursor_position, rendition_to, rendition_values, protection_to}
-use Rattle.vt_controls.specs.Controls.{brush_events, sets_events, left_event, right_event, keypad}
-use Rattle.vt_controls.specs.Controls.{sequence_of, ModeRow, mode_rows, spelling_events, spelling_sets_events, save_cursor}
-use Rattle.vt_controls.proofs.Tests.{at_brush, all_brushes, both_pass, not_true}
+use Rattle.vt_paint.specs.Controls.{private_mode, ansi_mode, cursor_position, rendition_to, rendition_values, protection_to}
+use Rattle.vt_paint.specs.Controls.{brush_events, sets_events, left_event, right_event, keypad}
+use Rattle.vt_paint.specs.Controls.{sequence_of, ModeRow, mode_rows, spelling_events, spelling_sets_events, save_cursor}
+use Rattle.vt_paint.proofs.Tests.{at_brush, all_brushes, both_pass, not_true}
 use Rattle.vt_paint.specs.Same.{is_blank, same_saved}
 use Rattle.vt_paint.specs.Pieces.{left_of, needs_header, header, glyph_events, piece_of, piece, pieces, is_blank_grid}
-use Rattle.vt_paint.specs.Items.{is_wide, stop_events, made_stops, stops_item, saved_events, saved_item, cells_item}
+use Rattle.vt_paint.specs.Items.{is_wide, width_events, stop_events, made_stops, stops_item, saved_events, saved_item, cells_item}
 use Rattle.vt_paint.specs.Items.{margins_item, origin_item, position_item, wrap_item, row_item, modes_item, shift_item, last_items}
 use Rattle.vt_paint.specs.Repaint.{made_events}
 use Rattle.vt_xterm.specs.Pages.{Screens, on_display, with_page_mode}
@@ -221,20 +222,23 @@ clear-painted : IsPainted (sequence_of (3 ∷ []) 0x67)
 unfolding functions_of function_in
 clear-painted s on = refl
 
-made-stops-painted : (wide : Bool) (stops : List Bool) → ArePainted (made_stops wide stops)
-unfolding made_stops
-made-stops-painted wide stops =
-    painted-more (private_mode 3 true) _ (column-painted true) (painted-more _ _ clear-painted
-    (painted-append (flat_map (λ c. stop_events stops c) (range_with_len 1 132)) _
-    (painted-each (λ c. stop_events stops c) (range_with_len 1 132) (stop-painted stops))
-    (painted-when (not wide) _ (painted-one (private_mode 3 false) (column-painted false)))))
+width-painted : (size : Size) (wide : Bool) → ArePainted (width_events size wide)
+width-painted size wide =
+    painted-when (not (eqb size.narrow size.wide)) _ (painted-one (private_mode 3 wide) (column-painted wide))
 
-stops-painted : (width : ℕ) (stops : List Bool) → ArePainted (stops_item width stops)
+made-stops-painted : (size : Size) (wide : Bool) (stops : List Bool) → ArePainted (made_stops size wide stops)
+unfolding made_stops
+made-stops-painted size wide stops =
+    painted-append (width_events size true) _ (width-painted size true) (painted-more _ _ clear-painted
+    (painted-append (flat_map (λ c. stop_events stops c) (range_with_len 1 size.wide)) _
+    (painted-each (λ c. stop_events stops c) (range_with_len 1 size.wide) (stop-painted stops))
+    (painted-when (not wide) _ (width-painted size false))))
+
+stops-painted : (size : Size) (width : ℕ) (stops : List Bool) → ArePainted (stops_item size width stops)
 unfolding stops_item
-stops-painted width stops =
-    painted-if (pointwise same_bool stops stops_at_power_up) _ _
-    (painted-when (is_wide width) _ (painted-one (private_mode 3 true) (column-painted true)))
-    (made-stops-painted (is_wide width) stops)
+stops-painted size width stops =
+    painted-if (pointwise same_bool stops (stops_of size.wide)) _ _
+    (painted-when (is_wide size width) _ (width-painted size true)) (made-stops-painted size (is_wide size width) stops)
 
 saved-painted : (saved : Saved) → ArePainted (saved_item saved)
 unfolding saved_item saved_events function_in
@@ -263,13 +267,13 @@ cells-painted : (g : Grid) (wrap : Bool) → ArePainted (cells_item g wrap)
 unfolding cells_item pieces
 cells-painted g wrap =
     painted-unless (is_blank_grid g && not wrap) _ (painted-append spelling_sets_events _ spelling-sets-painted
-    (painted-each (λ r. flat_map (λ c. piece g r c) (range_with_len 1 g.width)) (range_with_len 1 24)
+    (painted-each (λ r. flat_map (λ c. piece g r c) (range_with_len 1 g.width)) (range_with_len 1 g.size.rows)
     (λ r. painted-each (λ c. piece g r c) (range_with_len 1 g.width) (piece-painted g r))))
 
-margins-painted : (m : Margins) → ArePainted (margins_item m)
+margins-painted : (rows : ℕ) (m : Margins) → ArePainted (margins_item rows m)
 unfolding margins_item functions_of function_in
-margins-painted m =
-    painted-unless (eqb m.top 1 && eqb m.bottom 24) _ (painted-one (sequence_of (m.top ∷ m.bottom ∷ []) 0x72) (λ s on. refl))
+margins-painted rows m =
+    painted-unless (eqb m.top 1 && eqb m.bottom rows) _ (painted-one (sequence_of (m.top ∷ m.bottom ∷ []) 0x72) (λ s on. refl))
 
 origin-item-painted : (known on : Bool) → ArePainted (origin_item known on)
 unfolding origin_item
@@ -291,7 +295,7 @@ shift-painted (Some slot) =
 last-painted : (known : Bool) (s : Display) → ArePainted (last_items known s)
 unfolding last_items
 last-painted known s =
-    painted-append (margins_item s.margins) _ (margins-painted s.margins)
+    painted-append (margins_item s.grid.size.rows s.margins) _ (margins-painted s.grid.size.rows s.margins)
     (painted-append (origin_item known s.modes.decom) _ (origin-item-painted known s.modes.decom)
     (painted-append (position_item s) _ (painted-one _ (position-painted _ s.cursor.col))
     (painted-append (wrap_item s.grid s.cursor) _ (wrap-painted s.grid s.cursor)
@@ -302,6 +306,6 @@ last-painted known s =
 pub made-painted : (s : Display) → ArePainted (made_events s)
 unfolding made_events
 made-painted s =
-    painted-append (stops_item s.grid.width s.stops) _ (stops-painted s.grid.width s.stops)
+    painted-append (stops_item s.grid.size s.grid.width s.stops) _ (stops-painted s.grid.size s.grid.width s.stops)
     (painted-append (saved_item s.saved) _ (saved-painted s.saved)
     (painted-append (cells_item s.grid s.cursor.wrap) _ (cells-painted s.grid s.cursor.wrap) (last-painted true s)))

@@ -1,7 +1,8 @@
 -- The session that the repaint leads to.
 use Rattle.std.proofs.Common.{◌≡◌, ◌↔◌, ◌≤◌, ◌<◌, Bool, true, false, not, ℕ, List, [], ◌∷◌, ◌++◌, length, All, refl, sym, ap, ◌∙◌}
-use Rattle.std.proofs.Common.{arith, subst}
+use Rattle.std.proofs.Common.{arith, subst, cond, eqb, min}
 use Rattle.std.specs.Str.{IsAscii}
+use Rattle.std.proofs.lemmas.Bool.{eq-eqb}
 use Rattle.std.proofs.lemmas.List.Elements.{All-tail}
 use Rattle.std.proofs.lemmas.Str.Ascii.{All-from_ascii}
 use Rattle.vt_syntax.specs.declared.event.Event.{Event}
@@ -14,31 +15,34 @@ use Rattle.vt_syntax.proofs.Steps.{same_held, same_events}
 use Rattle.vt_syntax.proofs.Spelled.{ascii_bytes, events_steps}
 use Rattle.vt_syntax.proofs.Cutting.{read, escape}
 use Rattle.vt_screen.specs.declared.size.Size.{Size}
-use Rattle.vt_screen.specs.Sizes.{vt220_size, width_of}
-use Rattle.vt_screen.specs.Grid.{columns}
+use Rattle.vt_screen.specs.Sizes.{vt220_size, IsSize}
+use Rattle.vt_screen.specs.Grid.{Grid}
+use Rattle.vt_term.specs.declared.state.Saved.{Saved}
 use Rattle.vt_screen.proofs.Places.{width-bounds}
-use Rattle.vt_term.specs.State.{Display, State, display_at_power_up, power_up}
-use Rattle.vt_term.specs.Sound.{IsSoundDisplay, IsSound}
-use Rattle.vt_term.specs.Pages.{PageState, IsSoundPage, page_at_power_up, with_page}
+use Rattle.vt_term.specs.State.{Display, State, display_of, state_of, power_up, saved_at_power_up}
+use Rattle.vt_term.specs.Sound.{IsSoundDisplayAt, IsSoundAt, IsSound}
+use Rattle.vt_term.specs.Pages.{PageState, IsSoundPageAt, blank_page, fitted, resized, with_page}
 use Rattle.vt_term.specs.Functions.{effect, sequences_of}
 use Rattle.vt_term.specs.Reports.{report, sequence_report}
 use Rattle.vt_term.specs.Play as vt220
 use Rattle.vt_term.specs.Play.{play}
-use Rattle.vt_controls.specs.Controls.{reset_to_initial_state, private_mode}
+use Rattle.vt_paint.specs.Controls.{reset_to_initial_state, private_mode}
 use Rattle.vt_paint.specs.Repaint.{made_events}
-use Rattle.vt_paint.proofs.AfterEvents.{display_after-after_events}
+use Rattle.vt_paint.proofs.AfterEvents.{display_after-after_events, Makes}
+use Rattle.vt_term.proofs.SizeKept.{own-display}
 use Rattle.vt_paint.proofs.Within.{made_within}
 use Rattle.vt_paint.proofs.Whole.{made_leaves}
 use Rattle.bstr.specs.Utf8.{replacement}
 use Rattle.vt_utf8.specs.Decoding.{characters, pending_of, pending_after, given_up}
 use Rattle.vt_utf8.specs.Translation.{translation}
-use Rattle.vt_xterm.specs.Pages.{PagesState, Screens, on_display, with_page_mode, pages_at_power_up}
+use Rattle.vt_xterm.specs.Pages.{PagesState, Screens, on_display, with_page_mode, pages_of}
 use Rattle.vt_xterm.specs.Front.{functions_of, function_in}
 use Rattle.vt_xterm.specs.Play.{Whole, WholePlayed, screens_of, after_events, reports_of, play_bytes, play_character, play_characters}
 use Rattle.vt_xterm.specs.Play.{IsSoundWhole, play_xterm, both, nothing_played, behind, front_at_power_up}
 use Rattle.vt_xterm.proofs.Cuts.{after_events-append, reports_of-append, characters-two, characters-ascii, xterm-two}
 use Rattle.vt_utf8.proofs.Cuts.{pending-append}
-use Rattle.vt_xterm_paint.specs.Repaint.{paste_item, xterm_repaint_events, xterm_repaint, Rebuilds, IsReachedWhole, IsRebuilt, IsPart}
+use Rattle.vt_xterm_paint.specs.Repaint.{other_shown, paste_item, xterm_paint_limit, IsSoundWholeAt, IsRebuiltAt}
+use Rattle.vt_xterm_paint.specs.Repaint.{xterm_repaint_events, xterm_repaint, Rebuilds, IsReachedWhole, IsRebuilt, IsPart}
 use Rattle.vt_xterm_paint.proofs.Painted.{ArePainted, made-painted}
 use Rattle.vt_xterm_paint.proofs.Pending.{escape-characters, escape-pending, part-read}
 use Rattle.vt_xterm_paint.proofs.Spelled.{repaint-within}
@@ -79,49 +83,86 @@ with_pages other alternate = record { other = other; alternate = alternate; resi
 abbrev on_pages : Display → PageState → Bool → Screens
 on_pages s other alternate = record { display = s; pages = with_pages other alternate }
 
-items-lead : (s : Display) (other : PageState) (alternate : Bool) → IsSoundDisplay s
-    → Leads (made_events s) (on_pages display_at_power_up other alternate) (on_pages s other alternate)
-items-lead s other alternate i =
-    let x = on_pages display_at_power_up other alternate in
-    let made : vt220.after_events (made_events s) display_at_power_up ≡ s =
-    sym (display_after-after_events display_at_power_up (made_events s)) ∙ (made_leaves s i).is in
+items-lead : (size : Size) (s : Display) (other : PageState) (alternate : Bool) → IsSoundDisplayAt size s
+    → Leads (made_events s) (on_pages (display_of size) other alternate) (on_pages s other alternate)
+items-lead size s other alternate i =
+    let x = on_pages (display_of size) other alternate in
+    let own = own-display size s i in
+    let leads = subst (λ (z : Size). Makes (made_events s) (display_of z) s) i.of_size (made_leaves s own) in
+    let made : vt220.after_events (made_events s) (display_of size) ≡ s =
+    sym (display_after-after_events (display_of size) (made_events s)) ∙ leads.is in
     record {
       is = after-painted (made_events s) x (made-painted s) refl ∙ ap (λ (t : Display). on_pages t other alternate) made;
-      silent = reports-painted (made_events s) x (made-painted s) refl ∙ (made_within s i).silent display_at_power_up;
+      silent = reports-painted (made_events s) x (made-painted s) refl ∙ (made_within s own).silent (display_of size);
     }
 
 -- ---- what is between the items
 
--- screens whose display has a VT220's size
-abbrev of-vt220 : Screens → Screens
-of-vt220 u = record u { display = record u.display { grid = record u.display.grid { size = vt220_size } } }
-
-start-of : (alternate : Bool) (u : Screens)
-    → Leads (private_mode 40 true ∷ reset_to_initial_state ∷ private_mode 47 (not alternate) ∷ []) (of-vt220 u)
-    (on_pages display_at_power_up page_at_power_up (not alternate))
-unfolding functions_of function_in with_page_mode sequences_of sequence_report
-start-of true u = record { is = refl; silent = refl }
-start-of false u = record { is = refl; silent = refl }
-
-start-leads : (alternate : Bool) (u : Screens) → u.display.grid.size ≡ vt220_size
+start-of : (alternate : Bool) (u : Screens) → min 1 u.display.grid.size.narrow ≡ 1
     → Leads (private_mode 40 true ∷ reset_to_initial_state ∷ private_mode 47 (not alternate) ∷ []) u
-    (on_pages display_at_power_up page_at_power_up (not alternate))
-start-leads alternate u size =
-    let same : of-vt220 u ≡ u =
-    ap (λ (z : Size). record u { display = record u.display { grid = record u.display.grid { size = z } } }) (sym size) in
-    subst (λ (x : Screens).
-    Leads (private_mode 40 true ∷ reset_to_initial_state ∷ private_mode 47 (not alternate) ∷ []) x
-    (on_pages display_at_power_up page_at_power_up (not alternate))) same (start-of alternate u)
-
-exchange-leads : (alternate wide : Bool) (page : PageState) → page.grid.width ≡ columns wide → page.grid.size ≡ vt220_size
-    → Leads (private_mode 47 alternate ∷ private_mode 3 false ∷ [])
-    (on_pages (with_page page display_at_power_up) page_at_power_up (not alternate))
-    (on_pages display_at_power_up page alternate)
+    (on_pages (display_of u.display.grid.size) (blank_page u.display.grid.size) (not alternate))
 unfolding functions_of function_in with_page_mode sequences_of sequence_report
-exchange-leads true true page is size = record { is = rw (is, size) refl; silent = refl }
-exchange-leads true false page is size = record { is = rw (is, size) refl; silent = refl }
-exchange-leads false true page is size = record { is = rw (is, size) refl; silent = refl }
-exchange-leads false false page is size = record { is = rw (is, size) refl; silent = refl }
+start-of true u col = record { is = rw col refl; silent = refl }
+start-of false u col =
+    let narrow = u.display.grid.size.narrow in
+    let fits : eqb narrow narrow ≡ true = eq-eqb narrow narrow refl in
+    record { is = rw (fits, col) refl; silent = refl }
+
+start-leads : (size : Size) (alternate : Bool) (u : Screens) → IsSize size → u.display.grid.size ≡ size
+    → Leads (private_mode 40 true ∷ reset_to_initial_state ∷ private_mode 47 (not alternate) ∷ []) u
+    (on_pages (display_of size) (blank_page size) (not alternate))
+start-leads size alternate u sized is =
+    subst (λ (z : Size). Leads (private_mode 40 true ∷ reset_to_initial_state ∷ private_mode 47 (not alternate) ∷ []) u
+    (on_pages (display_of z) (blank_page z) (not alternate))) is
+    (start-of alternate u (let narrow = ap (λ (z : Size). z.narrow) is in omega (arith, sized.narrow, narrow)))
+
+-- the blank page that fits a screen is blank, and has its size
+record IsFit (size : Size) (page : PageState) : Type 0 where
+  of_size : page.grid.size ≡ size
+  saved : page.saved ≡ saved_at_power_up
+
+blank-fits : (size : Size) (width : ℕ) → IsSize size → IsFit size (fitted width (blank_page size))
+blank-fits size width sized = go (eqb size.narrow width) (eqb width size.wide)
+  where
+    go : (same wide : Bool) → IsFit size (cond same (blank_page size) (resized wide (blank_page size)))
+    go true wide = record { of_size = refl; saved = refl }
+    go false true =
+        let col : min 1 size.wide ≡ 1 = omega (arith, sized.narrow, sized.wide) in
+        record { of_size = refl; saved = rw col refl }
+    go false false =
+        let col : min 1 size.narrow ≡ 1 = omega (arith, sized.narrow) in
+        record { of_size = refl; saved = rw col refl }
+
+exchange-leads : (size : Size) (alternate : Bool) (page : PageState)
+    → Leads (private_mode 47 alternate ∷ [])
+    (on_pages (with_page page (display_of size)) (blank_page size) (not alternate))
+    (on_pages (with_page (fitted page.grid.width (blank_page size)) (display_of size)) page alternate)
+unfolding functions_of function_in with_page_mode sequences_of sequence_report
+exchange-leads size true page = record { is = refl; silent = refl }
+exchange-leads size false page = record { is = refl; silent = refl }
+
+narrow-leads : (size : Size) (alternate : Bool) (page : PageState) (g : Grid) → IsSize size → g.size ≡ size
+    → Leads (private_mode 3 false ∷ [])
+    (on_pages (with_page (record { grid = g; saved = saved_at_power_up }) (display_of size)) page alternate)
+    (on_pages (display_of size) page alternate)
+unfolding functions_of function_in with_page_mode sequences_of sequence_report
+narrow-leads size alternate page g sized is =
+    let col : min 1 size.narrow ≡ 1 = omega (arith, sized.narrow) in record { is = rw (is, col) refl; silent = refl }
+
+between-leads : (size : Size) (alternate : Bool) (page : PageState) → IsSize size
+    → Leads (private_mode 47 alternate ∷ private_mode 3 false ∷ [])
+    (on_pages (with_page page (display_of size)) (blank_page size) (not alternate))
+    (on_pages (display_of size) page alternate)
+between-leads size alternate page sized =
+    let fit = fitted page.grid.width (blank_page size) in
+    let fits = blank-fits size page.grid.width sized in
+    let shown : PageState → Screens = λ p. on_pages (with_page p (display_of size)) page alternate in
+    let made : Saved → PageState = λ saved. record { grid = fit.grid; saved = saved } in
+    let narrow : Leads (private_mode 3 false ∷ []) (shown fit) (on_pages (display_of size) page alternate) =
+    subst (λ (saved : Saved). Leads (private_mode 3 false ∷ []) (shown (made saved)) (on_pages (display_of size) page alternate))
+    (sym fits.saved) (narrow-leads size alternate page fit.grid sized fits.of_size) in
+    then-leads (private_mode 47 alternate ∷ []) (private_mode 3 false ∷ []) _ (shown fit) _ (exchange-leads size alternate page)
+    narrow
 
 end-leads : (s : Display) (pages : PagesState)
     → Leads (private_mode 40 pages.resizes ∷ paste_item pages.brackets) (on_pages s pages.other pages.alternate)
@@ -137,16 +178,16 @@ end-leads s pages = by pages.resizes pages.brackets
     by false false = record { is = refl; silent = refl }
 
 -- the display that shows a sound page is sound
-other-sound : (page : PageState) → IsSoundPage page → IsSoundDisplay display_at_power_up
-    → IsSoundDisplay (with_page page display_at_power_up)
-other-sound page i start =
+other-sound : (size : Size) (page : PageState) → IsSoundPageAt size page → IsSoundDisplayAt size (display_of size)
+    → IsSoundDisplayAt size (with_page page (display_of page.grid.size))
+other-sound size page i start =
     let bounds = width-bounds page.grid.size page.grid.width i.grid.shape.size i.grid.shape.width in
-    record {
+    subst (λ (z : Size). IsSoundDisplayAt size (with_page page (display_of z))) (sym i.of_size) (record {
       of_size = i.of_size;
       grid = i.grid;
       cursor = record {
         row_1 = omega arith;
-        row_last = omega arith;
+        row_last = omega (arith, start.cursor.row_last);
         col_1 = omega arith;
         col_last = omega (arith, bounds.0);
         wrap_last = λ e. absurd (cc e);
@@ -158,31 +199,37 @@ other-sound page i start =
       stops = start.stops;
       saved = i.saved;
       saved_sets = i.saved_sets;
-    }
+    })
 
 -- ---- the whole
 
-all-leads : (w : Whole) (u : Screens) → IsSoundWhole w → IsSoundDisplay display_at_power_up
-    → u.display.grid.size ≡ vt220_size
+all-leads : (size : Size) (w : Whole) (u : Screens) → IsSize size → IsSoundWholeAt size w
+    → IsSoundDisplayAt size (display_of size) → u.display.grid.size ≡ size
     → Leads (xterm_repaint_events w) u (screens_of w)
 unfolding xterm_repaint_events
-all-leads w u i start size =
+all-leads size w u sized i start is =
     let alternate = w.pages.alternate in
     let other = w.pages.other in
-    let hidden = with_page other display_at_power_up in
+    let hidden = with_page other (display_of size) in
+    let blank = blank_page size in
     let s = w.state.display in
+    let own : hidden ≡ other_shown w.pages = ap (λ (z : Size). with_page other (display_of z)) (sym i.other.of_size) in
+    let items = subst (λ (d : Display). Leads (made_events d) (on_pages (display_of size) blank (not alternate))
+    (on_pages d blank (not alternate))) (sym own)
+    (items-lead size (other_shown w.pages) blank (not alternate) (other-sound size other i.other start)) in
+    let events = ap (λ (d : Display). made_events d) own in
+    let hidden-items = subst (λ (es : List Event). Leads es (on_pages (display_of size) blank (not alternate))
+    (on_pages hidden blank (not alternate))) events items in
     then-leads (private_mode 40 true ∷ reset_to_initial_state ∷ private_mode 47 (not alternate) ∷ []) _ u
-    (on_pages display_at_power_up page_at_power_up (not alternate)) (screens_of w)
-    (start-leads alternate u size)
-    (then-leads (made_events hidden) _ (on_pages display_at_power_up page_at_power_up (not alternate))
-    (on_pages hidden page_at_power_up (not alternate)) (screens_of w)
-    (items-lead hidden page_at_power_up (not alternate) (other-sound other i.other start))
-    (then-leads (private_mode 47 alternate ∷ private_mode 3 false ∷ []) _ (on_pages hidden page_at_power_up (not alternate))
-    (on_pages display_at_power_up other alternate) (screens_of w)
-    (exchange-leads alternate i.other.grid.shape.width.0 other
-    (i.other.grid.shape.width.1 ∙ ap (λ z. width_of z i.other.grid.shape.width.0) i.other.of_size) i.other.of_size)
-    (then-leads (made_events s) _ (on_pages display_at_power_up other alternate) (on_pages s other alternate) (screens_of w)
-    (items-lead s other alternate i.state.display)
+    (on_pages (display_of size) blank (not alternate)) (screens_of w)
+    (start-leads size alternate u sized is)
+    (then-leads (made_events (other_shown w.pages)) _ (on_pages (display_of size) blank (not alternate))
+    (on_pages hidden blank (not alternate)) (screens_of w) hidden-items
+    (then-leads (private_mode 47 alternate ∷ private_mode 3 false ∷ []) _ (on_pages hidden blank (not alternate))
+    (on_pages (display_of size) other alternate) (screens_of w)
+    (between-leads size alternate other sized)
+    (then-leads (made_events s) _ (on_pages (display_of size) other alternate) (on_pages s other alternate) (screens_of w)
+    (items-lead size s other alternate i.state.display)
     (end-leads s w.pages))))
 
 -- ---- bytes
@@ -201,28 +248,28 @@ bytes-played es more w u are begins held between leads =
     (rw (events, rest, leads.is) refl, rw events leads.silent)
 
 -- U+FFFD for what was pending
-lost-played : ((s : State) (bytes : List ℕ) → IsSound s → IsSound (play s bytes).state)
-    → ((s : State) (c : ℕ) → IsSound s → 0x80 ≤ c → (play s (translation s c)).reports ≡ [])
-    → (u : Whole) (part : List ℕ) → IsSound u.state
-    → IsSound (play_characters u (given_up part)).whole.state × ((play_characters u (given_up part)).reports ≡ [])
+lost-played : (size : Size) → ((s : State) (bytes : List ℕ) → IsSoundAt size s → IsSoundAt size (play s bytes).state)
+    → ((s : State) (c : ℕ) → IsSoundAt size s → 0x80 ≤ c → (play s (translation s c)).reports ≡ [])
+    → (u : Whole) (part : List ℕ) → IsSoundAt size u.state
+    → IsSoundAt size (play_characters u (given_up part)).whole.state × ((play_characters u (given_up part)).reports ≡ [])
 unfolding play_character
-lost-played kept silent u [] sound = (sound, refl)
-lost-played kept silent u (b ∷ part) sound =
+lost-played size kept silent u [] sound = (sound, refl)
+lost-played size kept silent u (b ∷ part) sound =
     let quiet = silent u.state replacement sound (omega arith) in
     (kept u.state (translation u.state replacement) sound, ap (λ (r : List ℕ). r ++ []) quiet)
 
-module _ (split : SplitLaw) (start : IsSound power_up)
-    (kept : (s : State) (bytes : List ℕ) → IsSound s → IsSound (play s bytes).state)
-    (silent : (s : State) (c : ℕ) → IsSound s → 0x80 ≤ c → (play s (translation s c)).reports ≡ []) where
+module _ (size : Size) (sized : IsSize size) (split : SplitLaw) (start : IsSoundAt size (state_of size))
+    (kept : (s : State) (bytes : List ℕ) → IsSoundAt size s → IsSoundAt size (play s bytes).state)
+    (silent : (s : State) (c : ℕ) → IsSoundAt size s → 0x80 ≤ c → (play s (translation s c)).reports ≡ []) where
   events-rebuild : (es : List Event) (more : List ℕ) (w u : Whole) (part : List ℕ) → All IsEvent es
       → spell_events es ≡ 0x1B ∷ more → All (λ b. b < 0x80) (spell_events es) → w.state.held ≡ Nothing
-      → ((s : Screens) → s.display.grid.size ≡ vt220_size → Leads es s (screens_of w)) → IsSound u.state → pending_of part ≡ part
+      → ((s : Screens) → s.display.grid.size ≡ size → Leads es s (screens_of w)) → IsSoundAt size u.state → pending_of part ≡ part
       → Rebuilds (spell_events es) w [] u part
   unfolding play_xterm
   events-rebuild es more w u part are begins ascii between leads sound is =
       let bytes = spell_events es in
       let lost = play_characters u (given_up part) in
-      let before = lost-played kept silent u part sound in
+      let before = lost-played size kept silent u part sound in
       let small : All (λ b. b < 0x80) (0x1B ∷ more) = subst (λ (t : List ℕ). All (λ b. b < 0x80) t) begins ascii in
       let rest : All (λ b. b < 0x80) more = All-tail (λ b. b < 0x80) 0x1B more small in
       let chars : characters part bytes ≡ given_up part ++ bytes =
@@ -239,59 +286,70 @@ module _ (split : SplitLaw) (start : IsSound power_up)
         pending = ap (λ (t : List ℕ). pending_after part t) begins ∙ escape-pending part more is rest;
       }
 
-  pub rebuilds : (w : Whole) → IsSoundWhole w → w.state.held ≡ Nothing → IsRebuilt w
+  pub rebuilds : (w : Whole) → IsSoundWholeAt size w → w.state.held ≡ Nothing → IsRebuiltAt size w
   unfolding xterm_repaint xterm_repaint_events
   rebuilds w i between u part sound is =
-      let within = repaint-within w (other-sound w.pages.other i.other start.display) i.state.display in
+      let within = repaint-within size w (other-sound size w.pages.other i.other start.display) i.state.display in
       events-rebuild (xterm_repaint_events w) _ w u part within.events refl
-      (All-from_ascii (spell_events (xterm_repaint_events w)) within.ascii) between (λ s size. all-leads w s i start.display size) sound is
+      (All-from_ascii (spell_events (xterm_repaint_events w)) within.ascii) between (λ s is. all-leads size w s sized i start.display is) sound is
 
-  -- the session at power-up is sound, and what is played keeps it so
-  pub reached : IsSoundWhole (behind power_up front_at_power_up)
-      → ((w : Whole) (pending bytes : List ℕ) → IsSoundWhole w → IsSoundWhole (play_xterm w pending bytes).whole)
-      → ((w : Whole) → IsSoundWhole w → IsAscii (xterm_repaint w)) → (w : Whole) → w.state.held ≡ Nothing
-      → IsSoundWhole w ↔ IsReachedWhole w
-  reached power keeps ascii w between = (
-    λ i. (
-      xterm_repaint w,
-      ascii_bytes (xterm_repaint w) (ascii w i),
-      (rebuilds w i between (behind power_up front_at_power_up) [] start refl).whole,
-    ),
-    λ i. subst (λ (x : Whole). IsSoundWhole x) i.2 (keeps (behind power_up front_at_power_up) [] i.0 power),
-  )
+-- a VT220's session
+pub at-vt220 : (w : Whole) → IsSoundWhole w → IsSoundWholeAt vt220_size w
+at-vt220 w i = record { state = i.state; other = i.other }
 
-pub short : (w : Whole) → IsSound power_up → IsSoundWhole w → length (xterm_repaint w) ≤ 187060
+-- the session at power-up is sound, and what is played keeps it so
+pub reached : IsSound power_up → ((w : Whole) → IsSoundWhole w → w.state.held ≡ Nothing → IsRebuilt w)
+    → IsSoundWhole (behind power_up front_at_power_up)
+    → ((w : Whole) (pending bytes : List ℕ) → IsSoundWhole w → IsSoundWhole (play_xterm w pending bytes).whole)
+    → ((w : Whole) → IsSoundWhole w → IsAscii (xterm_repaint w)) → (w : Whole) → w.state.held ≡ Nothing
+    → IsSoundWhole w ↔ IsReachedWhole w
+reached start rebuilds power keeps ascii w between = (
+  λ i. (
+    xterm_repaint w,
+    ascii_bytes (xterm_repaint w) (ascii w i),
+    (rebuilds w i between (behind power_up front_at_power_up) [] start refl).whole,
+  ),
+  λ i. subst (λ (x : Whole). IsSoundWhole x) i.2 (keeps (behind power_up front_at_power_up) [] i.0 power),
+)
+
+pub short : (size : Size) (w : Whole) → IsSoundAt size (state_of size) → IsSoundWholeAt size w
+    → length (xterm_repaint w) ≤ xterm_paint_limit size
 unfolding xterm_repaint
-short w start i =
-    let within = repaint-within w (other-sound w.pages.other i.other start.display) i.state.display in
-    omega (arith, within.short)
+short size w start i =
+    (repaint-within size w (other-sound size w.pages.other i.other start.display) i.state.display).short
 
-pub ascii : (w : Whole) → IsSound power_up → IsSoundWhole w → IsAscii (xterm_repaint w)
+pub ascii : (size : Size) (w : Whole) → IsSoundAt size (state_of size) → IsSoundWholeAt size w → IsAscii (xterm_repaint w)
 unfolding xterm_repaint
-ascii w start i = (repaint-within w (other-sound w.pages.other i.other start.display) i.state.display).ascii
+ascii size w start i =
+    (repaint-within size w (other-sound size w.pages.other i.other start.display) i.state.display).ascii
+
+pub size-of : (size : Size) (w : Whole) → IsSoundWholeAt size w → IsSize size
+size-of size w i = subst (λ (z : Size). IsSize z) i.state.display.of_size i.state.display.grid.shape.size
 
 -- equal repaints are of equal wholes
-abbrev whole-power-up : Whole
-whole-power-up = record { state = power_up; pages = pages_at_power_up }
+abbrev whole-power-up : Size → Whole
+whole-power-up size = record { state = state_of size; pages = pages_of size }
 
-module _ (start : IsSound power_up) (rebuilds : (w : Whole) → IsSoundWhole w → w.state.held ≡ Nothing → IsRebuilt w) where
-  same-repaint : (w v : Whole) → IsSoundWhole w → IsSoundWhole v → w.state.held ≡ Nothing → v.state.held ≡ Nothing
-      → xterm_repaint w ≡ xterm_repaint v → w ≡ v
+module _ (size : Size) (start : IsSoundAt size (state_of size))
+    (rebuilds : (w : Whole) → IsSoundWholeAt size w → w.state.held ≡ Nothing → IsRebuiltAt size w) where
+  same-repaint : (w v : Whole) → IsSoundWholeAt size w → IsSoundWholeAt size v → w.state.held ≡ Nothing
+      → v.state.held ≡ Nothing → xterm_repaint w ≡ xterm_repaint v → w ≡ v
   same-repaint w v i j h k e =
-      sym (rebuilds w i h whole-power-up [] start refl).whole
-      ∙ ap (λ (bytes : List ℕ). (play_xterm whole-power-up [] bytes).whole) e
-      ∙ (rebuilds v j k whole-power-up [] start refl).whole
+      sym (rebuilds w i h (whole-power-up size) [] start refl).whole
+      ∙ ap (λ (bytes : List ℕ). (play_xterm (whole-power-up size) [] bytes).whole) e
+      ∙ (rebuilds v j k (whole-power-up size) [] start refl).whole
 
-  pub same : (w v : Whole) → IsSoundWhole w → IsSoundWhole v → w.state.held ≡ Nothing → v.state.held ≡ Nothing
+  pub same : (w v : Whole) → IsSoundWholeAt size w → IsSoundWholeAt size v → w.state.held ≡ Nothing → v.state.held ≡ Nothing
       → (w ≡ v) ↔ (xterm_repaint w ≡ xterm_repaint v)
   same w v i j h k = (λ e. ap (λ (x : Whole). xterm_repaint x) e, same-repaint w v i j h k)
 
 -- what is pending, after the repaint
-pub rebuilds-pending : ((w : Whole) → IsSoundWhole w → w.state.held ≡ Nothing → IsRebuilt w) → (w u : Whole)
-    → (part left : List ℕ) → IsSoundWhole w → w.state.held ≡ Nothing → IsSound u.state → IsPart part → IsPart left
+pub rebuilds-pending : (size : Size) → ((w : Whole) → IsSoundWholeAt size w → w.state.held ≡ Nothing → IsRebuiltAt size w)
+    → (w u : Whole) (part left : List ℕ) → IsSoundWholeAt size w → w.state.held ≡ Nothing → IsSoundAt size u.state
+    → IsPart part → IsPart left
     → Rebuilds (xterm_repaint w ++ left) w left u part
 unfolding play_xterm
-rebuilds-pending rebuilds w u part left i between sound is rest =
+rebuilds-pending size rebuilds w u part left i between sound is rest =
     let bytes = xterm_repaint w in
     let made = rebuilds w i between u part sound is in
     let two = xterm-two u part bytes left in

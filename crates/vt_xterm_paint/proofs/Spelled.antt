@@ -1,6 +1,6 @@
 -- The repaint is events, short and ASCII.
 use Rattle.std.proofs.Common.{◌≡◌, Bool, true, false, not, cond, leb, ℕ, suc, ◌+◌, ◌≤◌, List, [], ◌∷◌, ◌++◌, length, length-append}
-use Rattle.std.proofs.Common.{All, inr, arith, refl}
+use Rattle.std.proofs.Common.{All, inr, arith, refl, subst, ◌*◌}
 use Rattle.std.specs.Fmt.{digits}
 use Rattle.std.specs.List.{list_all}
 use Rattle.std.specs.Str.{IsAscii}
@@ -13,13 +13,16 @@ use Rattle.std.proofs.lemmas.List.Elements.{All-nil, All-cons, All-append}
 use Rattle.vt_syntax.specs.declared.event.Event.{Event}
 use Rattle.vt_syntax.specs.Spelling.{IsEvent, spell_event, spell_events}
 use Rattle.vt_term.specs.State.{Display}
-use Rattle.vt_term.specs.Sound.{IsSoundDisplay}
-use Rattle.vt_controls.specs.Controls.{private_mode, reset_to_initial_state}
-use Rattle.vt_controls.proofs.Speech.{speaks-ascii}
+use Rattle.vt_term.specs.Sound.{IsSoundDisplayAt}
+use Rattle.vt_paint.specs.Controls.{private_mode, reset_to_initial_state}
+use Rattle.vt_paint.proofs.Speech.{speaks-ascii}
 use Rattle.vt_paint.specs.Repaint.{made_events}
+use Rattle.vt_screen.specs.declared.size.Size.{Size}
+use Rattle.vt_term.proofs.SizeKept.{own-display}
+use Rattle.vt_paint.specs.Limits.{row_limit}
 use Rattle.vt_paint.proofs.Within.{made_within}
 use Rattle.vt_xterm.specs.Play.{Whole}
-use Rattle.vt_xterm_paint.specs.Repaint.{other_shown, paste_item, xterm_repaint_events}
+use Rattle.vt_xterm_paint.specs.Repaint.{other_shown, paste_item, xterm_paint_limit, xterm_repaint_events}
 
 -- events of at most n bytes, which are ASCII
 pub record AreAsciiWithin (n : ℕ) (es : List Event) : Type 0 where
@@ -87,21 +90,34 @@ narrow-within : AreAsciiWithin 5 (private_mode 3 false ∷ [])
 unfolding digits
 narrow-within = one-within (private_mode 3 false) (mode-is 3 false (omega arith)) refl
 
-items-within : (s : Display) → IsSoundDisplay s → AreAsciiWithin 93510 (made_events s)
-items-within s i =
-    let within = made_within s i in
-    record { events = within.events; short = within.short; ascii = speaks-ascii (spell_events (made_events s)) within.speaks }
+at-most : (m n : ℕ) (es : List Event) → m ≤ n → AreAsciiWithin m es → AreAsciiWithin n es
+at-most m n es few h = record { events = h.events; short = omega (arith, h.short, few); ascii = h.ascii }
 
-pub repaint-within : (w : Whole) → IsSoundDisplay (other_shown w.pages) → IsSoundDisplay w.state.display
-    → AreAsciiWithin 187059 (xterm_repaint_events w)
+-- of the items of a page
+abbrev items_limit : Size → ℕ
+items_limit size = size.rows * row_limit size + 10 * size.wide + 318
+
+items-within : (size : Size) (s : Display) → IsSoundDisplayAt size s → AreAsciiWithin (items_limit size) (made_events s)
+items-within size s i =
+    let within = made_within s (own-display size s i) in
+    record {
+      events = within.events;
+      short = subst (λ (z : Size). length (spell_events (made_events s)) ≤ items_limit z) i.of_size within.short;
+      ascii = speaks-ascii (spell_events (made_events s)) within.speaks;
+    }
+
+pub repaint-within : (size : Size) (w : Whole) → IsSoundDisplayAt size (other_shown w.pages)
+    → IsSoundDisplayAt size w.state.display → AreAsciiWithin (xterm_paint_limit size) (xterm_repaint_events w)
 unfolding xterm_repaint_events
-repaint-within w i j =
+repaint-within size w i j =
     let a = w.pages.alternate in
-    then-within 6 187053 (private_mode 40 true ∷ []) _ (allow-within true)
-    (then-within 2 187051 (reset_to_initial_state ∷ []) _ reset-within
-    (then-within 6 187045 (private_mode 47 (not a) ∷ []) _ (page-within (not a))
-    (then-within 93510 93535 (made_events (other_shown w.pages)) _ (items-within (other_shown w.pages) i)
-    (then-within 6 93529 (private_mode 47 a ∷ []) _ (page-within a)
-    (then-within 5 93524 (private_mode 3 false ∷ []) _ narrow-within
-    (then-within 93510 14 (made_events w.state.display) _ (items-within w.state.display j)
-    (then-within 6 8 (private_mode 40 w.pages.resizes ∷ []) _ (allow-within w.pages.resizes) (paste-within w.pages.brackets))))))))
+    at-most _ (xterm_paint_limit size) _ (omega arith)
+    (then-within 6 _ (private_mode 40 true ∷ []) _ (allow-within true)
+    (then-within 2 _ (reset_to_initial_state ∷ []) _ reset-within
+    (then-within 6 _ (private_mode 47 (not a) ∷ []) _ (page-within (not a))
+    (then-within (items_limit size) _ (made_events (other_shown w.pages)) _ (items-within size (other_shown w.pages) i)
+    (then-within 6 _ (private_mode 47 a ∷ []) _ (page-within a)
+    (then-within 5 _ (private_mode 3 false ∷ []) _ narrow-within
+    (then-within (items_limit size) _ (made_events w.state.display) _ (items-within size w.state.display j)
+    (then-within 6 8 (private_mode 40 w.pages.resizes ∷ []) _ (allow-within w.pages.resizes)
+    (paste-within w.pages.brackets)))))))))

@@ -4,5 +4,8 @@
 
 pub mod laws;
 mod paint;
+pub mod sized;
+mod views;
 
-pub use paint::{XTERM_PAINT_LIMIT, repaint_xterm, repaint_xterm_reserved};
+pub use paint::XTERM_PAINT_LIMIT;
+pub use views::{repaint_xterm, repaint_xterm_reserved};

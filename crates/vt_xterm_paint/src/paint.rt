@@ -1,20 +1,23 @@
-//! The repaint.
-ghost use Rattle.std.specs.Prelude.{◌≡◌, ◌↔◌, ◌⊎◌, ◌+◌, ◌≤◌, ◌<◌, ◌++◌, ◌∷◌, ◌≢◌, [], not, IsErrOf, OnOk, OnErr};
+//! The repaint of a session of any size.
+ghost use Rattle.std.specs.Prelude.{◌≡◌, ◌↔◌, ◌⊎◌, ◌+◌, ◌-◌, ◌≤◌, ◌<◌, ◌++◌, ◌∷◌, ◌≢◌, [], not, IsErrOf, OnOk, OnErr};
 ghost use Rattle.std.specs.Prelude.{vec_len, vec_capacity};
 ghost use Rattle.vt_syntax.specs.declared.held.Held.TheVariants.{Nothing};
 ghost use Rattle.vt_syntax.specs.Spelling.{spell_events};
-ghost use Rattle.vt_term.specs.Sound.{IsSound};
-ghost use Rattle.vt_controls.specs.Controls.{private_mode};
-ghost use Rattle.vt_xterm.specs.Play.{IsSoundWhole, behind};
-ghost use Rattle.vt_xterm_paint.specs.Repaint.{other_shown, showing_other, paste_item, xterm_repaint, IsRebuilt};
+ghost use Rattle.vt_screen.specs.Sizes.{IsSize};
+ghost use Rattle.vt_paint.specs.Controls.{private_mode};
+ghost use Rattle.vt_paint.specs.Limits.{paint_limit};
+ghost use Rattle.vt_paint.specs.Repaint.{made_events};
+ghost use Rattle.vt_xterm.specs.Play.{behind};
+ghost use Rattle.vt_xterm_paint.specs.Repaint.{other_shown, showing_other, paste_item, xterm_repaint, xterm_paint_limit};
+ghost use Rattle.vt_xterm_paint.specs.Repaint.{IsSoundWholeAt, IsRebuiltAt};
 
-use crate::laws::rebuilds;
-use vt_controls::{DECCOLM, Function, push_bytes};
-use vt_paint::{PAINT_LIMIT, PaintError, repaint_items_reserved};
-use vt_term::Terminal;
-use vt_xterm::Front;
+use crate::laws::sized_rebuilds;
+use vt_paint::sized::{paint_limit, repaint_items_reserved};
+use vt_paint::{DECCOLM, Function, PAINT_LIMIT, PaintError, push_bytes};
+use vt_term::{Size, SizedTerminal};
+use vt_xterm::SizedFront;
 
-/// The limit of a repaint in bytes: that of a VT220's repaint for each of two pages, and 36 for what is between and behind them.
+/// The limit of a repaint of a VT220's size in bytes: that of a VT220's repaint for each of two pages, and 36 for what is between and behind them.
 pub const XTERM_PAINT_LIMIT: usize = 2 * PAINT_LIMIT + 36;
 
 const _: () = prove!(XTERM_PAINT_LIMIT == 187060);
@@ -60,37 +63,79 @@ fn push_paste(brackets: bool, out: &mut Vec<u8>)
 }
 
 /// States that a terminal and the page that isn't shown are sound, for proofs. `scratch` shows a copy of that page.
-fn soundness(t: &Terminal, front: &Front, scratch: &Terminal)
-    requires { scratch.now.display ≡ other_shown front.now.pages }
-    ensures { IsSoundWhole (behind t.now front.now) }
+fn soundness(t: &SizedTerminal, front: &SizedFront, scratch: &SizedTerminal)
+    requires size { front.now.pages.other.grid.size ≡ t.now.display.grid.size }
+    requires scratch { scratch.now.display ≡ other_shown front.now.pages }
+    ensures { IsSoundWholeAt t.now.display.grid.size (behind t.now front.now) }
 {
     let _ = t.width();
     let _ = scratch.width();
 }
 
-/// Appends the repaint of a session to `out`: the bytes that rebuild a terminal and its pages on any terminal and front. `scratch`
+/// Appends the items of the page that isn't shown, of the size of `t`. `scratch` then shows a copy of it.
+fn push_hidden(
+    t: &SizedTerminal,
+    front: &SizedFront,
+    scratch: &mut SizedTerminal,
+    out: &mut Vec<u8>,
+)
+    requires size { front.now.pages.other.grid.size ≡ t.now.display.grid.size }
+    requires scratch { scratch.old.display.grid.size ≡ t.now.display.grid.size }
+    requires room { vec_len out.old + (paint_limit t.now.display.grid.size - 2) ≤ vec_capacity out.old }
+    ensures sound { IsSoundWholeAt t.now.display.grid.size (behind t.now front.now) }
+    ensures scratch { scratch.new ≡ showing_other front.now.pages }
+    ensures items { out.new.items ≡ out.old.items ++ spell_events (made_events (other_shown front.now.pages)) }
+    ensures bounded { vec_len out.new ≤ vec_len out.old + (paint_limit t.now.display.grid.size - 2) }
+    ensures capacity { vec_capacity out.old ≤ vec_capacity out.new }
+{
+    show_other(front, scratch);
+    soundness(t, front, scratch);
+    repaint_items_reserved(scratch, out);
+}
+
+/// Makes `scratch` show a copy of the page that isn't shown.
+fn show_other(front: &SizedFront, scratch: &mut SizedTerminal)
+    requires { scratch.old.display.grid.size ≡ front.now.pages.other.grid.size }
+    ensures { scratch.new ≡ showing_other front.now.pages }
+{
+    front.show_other(scratch);
+}
+
+/// Returns the limit of a repaint of a session in bytes: that of a repaint for each of two pages, and 36 for what is between and
+/// behind them.
+pub fn xterm_paint_limit(size: Size) -> usize
+    requires { IsSize size }
+    ensures { result ≡ xterm_paint_limit size }
+{
+    2 * paint_limit(size) + 36
+}
+
+/// Appends the repaint of a session to `out`: the bytes that rebuild a terminal and its pages on any terminal and front of their size. `scratch`
 /// then shows a copy of the page that isn't shown.
 ///
-/// It first reserves `XTERM_PAINT_LIMIT` bytes of capacity.
+/// It first reserves `xterm_paint_limit` bytes of capacity.
 ///
 /// # Errors
 ///
 /// Returns `Partial` if the terminal is inside a sequence or the front inside a character, which is checked first. Returns `Memory`
 /// if allocation fails. `scratch` and the contents of `out` are then unchanged.
 pub fn repaint_xterm(
-    t: &Terminal,
-    front: &Front,
-    scratch: &mut Terminal,
+    t: &SizedTerminal,
+    front: &SizedFront,
+    scratch: &mut SizedTerminal,
     out: &mut Vec<u8>,
 ) -> Result<(), PaintError>
+    requires size { front.now.pages.other.grid.size ≡ t.now.display.grid.size }
+    requires scratch { scratch.old.display.grid.size ≡ t.now.display.grid.size }
     ensures items { OnOk result (out.new.items ≡ out.old.items ++ xterm_repaint (behind t.now front.now)) }
-    ensures rebuilds { OnOk result (IsRebuilt (behind t.now front.now)) }
+    ensures rebuilds { OnOk result (IsRebuiltAt t.now.display.grid.size (behind t.now front.now)) }
     ensures partial { IsErrOf result PaintError.Partial ↔ ((t.now.held ≢ Nothing) ⊎ (front.now.pending ≢ [])) }
-    ensures memory { IsErrOf result PaintError.Memory → vec_capacity out.old < vec_len out.old + XTERM_PAINT_LIMIT }
+    ensures memory { IsErrOf result PaintError.Memory
+        → vec_capacity out.old < vec_len out.old + xterm_paint_limit t.now.display.grid.size }
     ensures scratch { OnOk result (scratch.new ≡ showing_other front.now.pages) }
     ensures unchanged { OnErr result (out.new.items ≡ out.old.items) }
     ensures same_scratch { OnErr result (scratch.new ≡ scratch.old) }
-    ensures bounded { vec_len out.new ≤ vec_len out.old + XTERM_PAINT_LIMIT }
+    ensures bounded { vec_len out.new ≤ vec_len out.old + xterm_paint_limit t.now.display.grid.size }
     ensures capacity { vec_capacity out.old ≤ vec_capacity out.new }
 {
     if !t.is_between() {
@@ -99,36 +144,36 @@ pub fn repaint_xterm(
     if !front.pending().is_empty() {
         return Err(PaintError::Partial);
     }
-    out.reserve(XTERM_PAINT_LIMIT)
+    out.reserve(xterm_paint_limit(t.size()))
         .map_err(|_| PaintError::Memory)?;
     repaint_xterm_reserved(t, front, scratch, out);
     Ok(())
 }
 
-/// Appends the repaint of a session between sequences to `out`, which has capacity for `XTERM_PAINT_LIMIT` more bytes. `scratch` then
+/// Appends the repaint of a session between sequences to `out`, which has capacity for `xterm_paint_limit` more bytes. `scratch` then
 /// shows a copy of the page that isn't shown. The pending bytes of UTF-8 are left out. It never fails and allocates nothing.
 pub fn repaint_xterm_reserved(
-    t: &Terminal,
-    front: &Front,
-    scratch: &mut Terminal,
+    t: &SizedTerminal,
+    front: &SizedFront,
+    scratch: &mut SizedTerminal,
     out: &mut Vec<u8>,
 )
     requires between { t.now.held ≡ Nothing }
-    requires room { vec_len out.old + XTERM_PAINT_LIMIT ≤ vec_capacity out.old }
+    requires size { front.now.pages.other.grid.size ≡ t.now.display.grid.size }
+    requires scratch { scratch.old.display.grid.size ≡ t.now.display.grid.size }
+    requires room { vec_len out.old + xterm_paint_limit t.now.display.grid.size ≤ vec_capacity out.old }
     ensures items { out.new.items ≡ out.old.items ++ xterm_repaint (behind t.now front.now) }
-    ensures rebuilds { IsRebuilt (behind t.now front.now) }
+    ensures rebuilds { IsRebuiltAt t.now.display.grid.size (behind t.now front.now) }
     ensures scratch { scratch.new ≡ showing_other front.now.pages }
-    ensures bounded { vec_len out.new ≤ vec_len out.old + XTERM_PAINT_LIMIT }
+    ensures bounded { vec_len out.new ≤ vec_len out.old + xterm_paint_limit t.now.display.grid.size }
     ensures capacity { vec_capacity out.old ≤ vec_capacity out.new }
 {
-    rebuilds();
+    sized_rebuilds();
     let alternate = front.is_alternate();
-    front.show_other(scratch);
-    soundness(t, front, scratch);
     push_resizes(true, out);
     Function::reset().push(out);
     push_page(!alternate, out);
-    repaint_items_reserved(scratch, out);
+    push_hidden(t, front, scratch, out);
     push_page(alternate, out);
     Function::mode(DECCOLM, false).push(out);
     repaint_items_reserved(t, out);

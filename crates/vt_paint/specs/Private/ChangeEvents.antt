@@ -6,13 +6,13 @@ use Rattle.vt_screen.specs.declared.cell.Rendition.{Rendition}
 use Rattle.vt_screen.specs.declared.cell.Brush.{Brush}
 use Rattle.vt_screen.specs.declared.cell.Cell.{Cell}
 use Rattle.vt_screen.specs.Cells.{brush_of}
-use Rattle.vt_screen.specs.Grid.{Grid, cell_at, last_row}
+use Rattle.vt_screen.specs.Grid.{Grid, cell_at}
 use Rattle.vt_term.specs.declared.state.Cursor.{Cursor}
 use Rattle.vt_term.specs.declared.state.Saved.{Saved}
 use Rattle.vt_term.specs.State.{Display, saved_sets}
 use Rattle.vt_screen.specs.Same.{when}
-use Rattle.vt_controls.specs.Controls.{private_mode, cursor_position, rendition_to, all_attributes, protection_to, soft_reset}
-use Rattle.vt_controls.specs.Controls.{brush_events, save_cursor, sets_events, spelling_sets_events}
+use Rattle.vt_paint.specs.Controls.{private_mode, cursor_position, rendition_to, all_attributes, protection_to, soft_reset}
+use Rattle.vt_paint.specs.Controls.{brush_events, save_cursor, sets_events, spelling_sets_events}
 use Rattle.vt_paint.specs.Pieces.{glyph_events}
 use Rattle.vt_paint.specs.Items.{origin_item, wrap_item, last_items}
 use Rattle.vt_paint.specs.Changes.{is_marked}
@@ -49,7 +49,7 @@ abbrev pub changed_rows : List (List Bool) → Grid → ℕ → ℕ → List Eve
 changed_rows marks g r n = flat_map (λ r. changed_row marks g r) (range_with_len r n)
 
 unfoldable pub changed_cells : List (List Bool) → Grid → List Event
-changed_cells marks g = changed_rows marks g 1 last_row
+changed_cells marks g = changed_rows marks g 1 g.size.rows
 
 -- ---- the items, in their order
 

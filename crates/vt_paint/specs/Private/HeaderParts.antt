@@ -3,7 +3,7 @@ use Rattle.std.specs.Prelude.{ℕ, ◌+◌, ◌*◌, ◌==◌, List, [], ◌∷�
 use Rattle.vt_syntax.specs.Spelling.{spell_events}
 use Rattle.vt_screen.specs.declared.cell.Brush.{Brush}
 pub use Rattle.vt_screen.specs.Words.{bit, brush_number, cell_word}
-use Rattle.vt_controls.specs.Controls.{brush_events}
+use Rattle.vt_paint.specs.Controls.{brush_events}
 
 -- CUP up to its column
 unfoldable pub row_part : ℕ → List ℕ

@@ -1,6 +1,6 @@
 -- Elements that are appended to the output.
 use Rattle.std.specs.Prelude.{◌≡◌, ℕ, List, ◌++◌}
-use Rattle.vt_controls.specs.Spoken.{Speaks}
+use Rattle.vt_paint.specs.Spoken.{Speaks}
 
 -- to what was there before, elements of what updates are made of are appended
 pub record Appended (before after : List ℕ) : Type 0 where

@@ -1,8 +1,8 @@
 use Rattle.std.proofs.Common.{◌≡◌, ◌+◌, ◌<◌, ◌++◌, ◌∷◌, [], List, ℕ, length, length-set, take, set, get_or, sym, ap, ◌∙◌, arith}
 use Rattle.std.proofs.Common.{append_assoc}
 use Rattle.std.proofs.lemmas.List.{length-take, take_more, take_more_set, take-set-le}
-use Rattle.vt_controls.proofs.Spelled.{front_of}
-use Rattle.vt_controls.proofs.bytes.put_front.Goals as goal
+use Rattle.vt_paint.proofs.Spelled.{front_of}
+use Rattle.vt_paint.proofs.bytes.put_front.Goals as goal
 
 pub loop-i-preserved : goal.loop-i-preserved
 loop-i-preserved g c =

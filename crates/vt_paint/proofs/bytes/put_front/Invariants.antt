@@ -1,5 +1,5 @@
 use Rattle.std.proofs.Common.{◌≡◌, ℕ, ◌+◌, ◌≤◌, ◌++◌, length, take}
-use Rattle.vt_controls.proofs.bytes.put_front.Given as goal
+use Rattle.vt_paint.proofs.bytes.put_front.Given as goal
 
 abbrev pub invariant-loop-i : goal.invariant-loop-i
 invariant-loop-i g l = record {

@@ -1,7 +1,7 @@
 use Rattle.std.proofs.Common.{◌+◌, ◌++◌, List, ℕ, length, take, sym, ap, ◌∙◌, arith}
 use Rattle.std.proofs.lemmas.Fmt.{decimal_digit}
-use Rattle.vt_controls.proofs.Digits.{two_digits, three_digits}
-use Rattle.vt_controls.proofs.bytes.put_number.Goals as goal
+use Rattle.vt_paint.proofs.Digits.{two_digits, three_digits}
+use Rattle.vt_paint.proofs.bytes.put_number.Goals as goal
 
 pub returns-then-n-lt10-clause-items : goal.returns-then-n-lt10-clause-items
 returns-then-n-lt10-clause-items g c =

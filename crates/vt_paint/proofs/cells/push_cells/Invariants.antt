@@ -4,7 +4,8 @@ use Rattle.vt_syntax.specs.Spelling.{spell_events}
 use Rattle.vt_screen.specs.Grid.{row_of}
 use Rattle.vt_paint.specs.Same.{is_blank}
 use Rattle.vt_screen.specs.Same.{when}
-use Rattle.vt_controls.specs.Controls.{spelling_sets_events}
+use Rattle.vt_paint.specs.Controls.{spelling_sets_events}
+use Rattle.vt_paint.specs.Limits.{row_limit}
 use Rattle.vt_paint.specs.Private.Parts.{rows_from}
 use Rattle.vt_paint.specs.Private.Room.{head_room}
 use Rattle.vt_paint.proofs.cells.push_cells.Given as goal
@@ -16,6 +17,6 @@ invariant-loop-row l = record {
   items : l.out.items
       ≡ l.fn.out.items
       ++ spell_events (when l.shown (spelling_sets_events ++ rows_from l.t.display.grid 1 (l.row - 1)));
-  bounded : vec_len l.out + head_room l.shown ≤ vec_len l.fn.out + 11 + 3828 * (l.row - 1);
+  bounded : vec_len l.out + head_room l.shown ≤ vec_len l.fn.out + 11 + (l.row - 1) * row_limit l.t.display.grid.size;
   capacity : vec_capacity l.fn.out ≤ vec_capacity l.out;
 }

@@ -1,4 +1,4 @@
-use Rattle.std.proofs.Common.{◌≡◌, ◌+◌, false, true, arith, refl, sym, ap, ◌∙◌}
+use Rattle.std.proofs.Common.{◌≡◌, ◌+◌, false, true, length, arith, refl, sym, ap, ◌∙◌}
 use Rattle.vt_screen.specs.Cells.{brush_of}
 use Rattle.vt_screen.specs.Grid.{Grid, row_of, cell_at}
 use Rattle.vt_paint.specs.Same.{is_blank}
@@ -7,7 +7,18 @@ use Rattle.vt_paint.specs.Pieces.{glyph_events}
 use Rattle.vt_paint.proofs.Pushing.{cell-is}
 use Rattle.vt_paint.proofs.RowRuns.{goes_on, first_fresh, blank_fresh, run_fresh, none_written, first_written}
 use Rattle.vt_paint.proofs.RowRuns.{behind_all, more_written, goes_on-shows, goes_on-brush}
+use Rattle.vt_paint.proofs.RowLimits.{some-cells}
 use Rattle.vt_paint.proofs.cells.put_row.Goals as goal
+
+pub push_many-at-requires-clause-room : goal.push_many-at-requires-clause-room
+push_many-at-requires-clause-room c =
+    let fits = some-cells c.args.row c.loop-i.i (length c.args.cells.now) c.loop-i.invariant.within in
+    omega (arith, c.loop-i.invariant.bounded, c.loop-i.invariant.capacity, c.requires.room, fits)
+
+pub returns-clause-bounded : goal.returns-clause-bounded
+returns-clause-bounded c =
+    let fits = some-cells c.args.row c.loop-i.i (length c.args.cells.now) c.loop-i.invariant.within in
+    omega (arith, c.loop-i.invariant.bounded, fits)
 
 pub loop-i-init : goal.loop-i-init
 loop-i-init c = record {
@@ -63,7 +74,7 @@ loop-i-then-not-is_blank-init c =
       fits = omega (
         arith,
         c.push_many-at.ensures.few,
-        c.put_header-at.ensures.bounded,
+        c.put_header-at.ensures.few,
         c.put_glyph-at.ensures.bounded,
       );
       capacity = omega (arith, c.loop-i.invariant.capacity, c.push_many-at.ensures.capacity);

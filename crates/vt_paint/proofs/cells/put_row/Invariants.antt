@@ -3,6 +3,7 @@ use Rattle.vt_syntax.specs.Spelling.{spell_events}
 use Rattle.vt_screen.specs.Cells.{brush_of}
 use Rattle.vt_screen.specs.Grid.{Grid, row_of, cell_at}
 use Rattle.vt_paint.specs.Same.{is_blank}
+use Rattle.vt_paint.specs.Limits.{cell_limit}
 use Rattle.vt_paint.specs.Private.Parts.{pieces_from}
 use Rattle.vt_paint.specs.Private.HeaderParts.{brush_number}
 use Rattle.vt_paint.proofs.RowRuns.{IsFresh}
@@ -15,7 +16,7 @@ invariant-loop-i l = record {
   fresh : (g : Grid) → l.cells ≡ row_of g l.row → l.i < length l.cells → IsFresh g l.row (l.i + 1);
   within : l.i ≤ length l.cells;
   fits : l.at ≤ 2048;
-  bounded : vec_len l.out + l.at ≤ vec_len l.fn.out + 29 * l.i;
+  bounded : vec_len l.out + l.at ≤ vec_len l.fn.out + cell_limit l.row * l.i;
   capacity : vec_capacity l.fn.out ≤ vec_capacity l.out;
 }
 
@@ -28,8 +29,8 @@ invariant-loop-i-then-not-is_blank l = record {
       × (l.run.number ≡ brush_number (brush_of (cell_at g l.row l.i)));
   on : (1 ≤ l.i) × (l.initial.i ≤ l.i);
   within : l.i ≤ length l.cells;
-  fits : l.at + 3 * l.initial.i ≤ 1565 + 3 * l.i;
-  bounded : vec_len l.out + l.at ≤ vec_len l.fn.out + 29 * l.i;
+  fits : l.at + 3 * l.initial.i ≤ 1278 + 3 * l.i;
+  bounded : vec_len l.out + l.at ≤ vec_len l.fn.out + cell_limit l.row * l.i;
   capacity : vec_capacity l.fn.out ≤ vec_capacity l.out;
 }
 

@@ -2,7 +2,7 @@ use Rattle.std.proofs.Common.{◌∷◌, ◌++◌, sym, ap, ◌∙◌}
 use Rattle.vt_syntax.specs.Spelling.{spell_events}
 use Rattle.vt_screen.specs.Cells.{brush_of}
 use Rattle.vt_screen.specs.Same.{when}
-use Rattle.vt_controls.specs.Controls.{cursor_position}
+use Rattle.vt_paint.specs.Controls.{cursor_position}
 use Rattle.vt_paint.specs.Pieces.{glyph_events}
 use Rattle.vt_paint.specs.Private.ChangeEvents.{short_brush_events, change_of}
 use Rattle.vt_paint.proofs.Pushing.{then_events, events, function, events_as}

@@ -1,7 +1,8 @@
-use Rattle.std.proofs.Common.{◌≡◌, ◌+◌, ◌-◌, [], refl, arith}
+use Rattle.std.proofs.Common.{◌≡◌, ◌+◌, ◌-◌, [], refl, ap, arith}
 use Rattle.std.proofs.lemmas.List.{get_or_default}
 use Rattle.vt_paint.specs.Private.ChangeEvents.{changed_row, changed_cells}
 use Rattle.vt_paint.proofs.Pushing.{appended-more}
+use Rattle.vt_screen.specs.declared.size.Size.{Size}
 use Rattle.vt_paint.proofs.changes.push_changed_cells.Goals as goal
 
 pub loop-row-preserved : goal.loop-row-preserved
@@ -24,5 +25,6 @@ loop-row-preserved c =
 pub returns-clause-items : goal.returns-clause-items
 unfolding changed_cells
 returns-clause-items c =
-    let all : c.loop-row.row - 1 ≡ 24 = omega arith in
+    let rows : c.args.t.now.display.grid.size.rows ≡ 24 = ap (λ (z : Size). z.rows) c.requires.size in
+    let all : c.loop-row.row - 1 ≡ c.args.t.now.display.grid.size.rows = omega (arith, rows) in
     rw all at c.loop-row.invariant.items

@@ -1,6 +1,6 @@
 use Rattle.std.proofs.Common.{true}
 use Rattle.vt_term.specs.State.{saved_sets}
-use Rattle.vt_controls.specs.Controls.{cursor_position, brush_events, sets_events, save_cursor}
+use Rattle.vt_paint.specs.Controls.{cursor_position, brush_events, sets_events, save_cursor}
 use Rattle.vt_paint.specs.Items.{origin_item, wrap_item}
 use Rattle.vt_paint.specs.Private.ChangeEvents.{saved_cursor, record_item}
 use Rattle.vt_paint.proofs.Pushing.{then_events, events, function}

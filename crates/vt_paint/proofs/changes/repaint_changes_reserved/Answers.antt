@@ -1,5 +1,5 @@
 use Rattle.std.proofs.Common.{◌≡◌, ◌∙◌, ℕ, List, length, drop, vec_len, sym, ap, subst, rules}
-use Rattle.vt_controls.specs.Spoken.{Speaks}
+use Rattle.vt_paint.specs.Spoken.{Speaks}
 use Rattle.vt_paint.proofs.changes.repaint_changes_reserved.Goals as goal
 
 pub returns-clause-speaks : goal.returns-clause-speaks

@@ -2,7 +2,7 @@ use Rattle.std.proofs.Common.{None, ap, ◌∙◌, codes}
 use Rattle.vt_syntax.specs.Spelling.{spell_event}
 use Rattle.vt_glyph.specs.GraphicSets.{GraphicSets}
 use Rattle.vt_glyph.specs.Invocation.{set_at}
-use Rattle.vt_controls.specs.Controls.{designation, left_event, right_event, sets_events}
+use Rattle.vt_paint.specs.Controls.{designation, left_event, right_event, sets_events}
 use Rattle.vt_paint.proofs.Pushing.{then_events, function}
 use Rattle.vt_paint.proofs.controls.push_sets.Goals as goal
 

@@ -1,6 +1,6 @@
 use Rattle.std.proofs.Common.{◌≡◌, ◌+◌, ◌-◌, false, get_or, arith, ap, ◌∷◌, []}
 use Rattle.vt_screen.specs.Same.{when}
-use Rattle.vt_controls.specs.Controls.{cursor_position, set_tab}
+use Rattle.vt_paint.specs.Controls.{cursor_position, set_tab}
 use Rattle.vt_paint.specs.Items.{stop_events}
 use Rattle.vt_paint.proofs.Pushing.{appended-more}
 use Rattle.vt_paint.proofs.items.push_each_stop.Goals as goal

@@ -1,7 +1,7 @@
 use Rattle.std.proofs.Common.{◌≡◌, ◌+◌, ◌*◌, ◌≤◌, ◌++◌, take, vec_len, vec_capacity}
 use Rattle.std.specs.List.{flat_map}
 use Rattle.vt_syntax.specs.Spelling.{spell_events}
-use Rattle.vt_controls.specs.Controls.{mode_rows}
+use Rattle.vt_paint.specs.Controls.{mode_rows}
 use Rattle.vt_paint.specs.Items.{row_item}
 use Rattle.vt_paint.proofs.items.push_modes.Given as goal
 

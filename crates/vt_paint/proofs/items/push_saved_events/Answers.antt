@@ -3,7 +3,7 @@ use Rattle.vt_syntax.specs.declared.event.Event.TheVariants.{Print}
 use Rattle.vt_glyph.specs.Tables.{space}
 use Rattle.vt_term.specs.State.{saved_sets}
 use Rattle.vt_screen.specs.Same.{when}
-use Rattle.vt_controls.specs.Controls.{private_mode, cursor_position, brush_events, sets_events, save_cursor}
+use Rattle.vt_paint.specs.Controls.{private_mode, cursor_position, brush_events, sets_events, save_cursor}
 use Rattle.vt_paint.specs.Items.{saved_events}
 use Rattle.vt_paint.proofs.Pushing.{then_events, events, function, bytes_where}
 use Rattle.vt_paint.proofs.items.push_saved_events.Goals as goal

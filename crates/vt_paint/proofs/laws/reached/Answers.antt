@@ -1,6 +1,6 @@
-use Rattle.vt_paint.proofs.Canonical.{reached}
+use Rattle.vt_screen.specs.Sizes.{vt220_size}
+use Rattle.vt_paint.proofs.Canonical.{vt220-sized}
 use Rattle.vt_paint.proofs.laws.reached.Goals as goal
 
 pub returns : goal.returns
-returns c =
-    reached c.one_split.ensures c.cuts.ensures.two c.bounded.ensures.ascii c.soundness.ensures.power_up c.soundness.ensures.play
+returns c = λ s. c.sized_reached.ensures vt220_size s vt220-sized

@@ -1,5 +1,5 @@
-use Rattle.vt_paint.proofs.Whole.{rebuilds_all}
+use Rattle.vt_screen.specs.Sizes.{vt220_size}
 use Rattle.vt_paint.proofs.laws.rebuilds.Goals as goal
 
 pub returns : goal.returns
-returns c = rebuilds_all
+returns c = c.sized_rebuilds.ensures vt220_size

@@ -1,8 +1,9 @@
 use Rattle.std.proofs.Common.{refl, ap, ◌∙◌}
-use Rattle.vt_controls.specs.Controls.{brush_events}
+use Rattle.vt_paint.specs.Controls.{brush_events}
 use Rattle.vt_paint.specs.Items.{margins_item, origin_item, position_item, wrap_item, modes_item, shift_item}
 use Rattle.vt_paint.specs.Items.{last_items}
 use Rattle.vt_paint.proofs.Pushing.{then_events, then_both, events_as, sets_events-same}
+use Rattle.vt_screen.specs.declared.size.Size.{Size}
 use Rattle.vt_paint.proofs.paint.push_last.Goals as goal
 
 pub returns-clause-items : goal.returns-clause-items
@@ -11,7 +12,8 @@ returns-clause-items c =
     let s = c.args.t.now.display in
     let known = c.args.known in
     let sets = c.sets-sets.ensures.sets in
-    (then_events (events_as (ap (λ m. margins_item m) c.margins.ensures) c.push_margins.ensures.items)
+    (then_events (events_as (ap (λ (z : Size). margins_item z.rows c.margins.result) c.size.ensures.size
+    ∙ ap (λ m. margins_item s.grid.size.rows m) c.margins.ensures) c.push_margins.ensures.items)
     (then_events (events_as (ap (λ m. origin_item known m.decom) c.modes.ensures) c.push_mode_item.ensures.items)
     (then_both (position_item s) (wrap_item s.grid s.cursor) (events_as refl c.push_cursor.ensures.items)
     (then_events (events_as (ap (λ b. brush_events b) c.brush.ensures) c.push_brush.ensures.items)

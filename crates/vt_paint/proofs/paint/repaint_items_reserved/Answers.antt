@@ -15,5 +15,6 @@ returns-clause-items c =
       c.push_stops.ensures.items,
       c.stops.ensures,
       c.width.ensures.width,
+      c.size.ensures.size,
     )
     (simp (flat_map-append, append_assoc))

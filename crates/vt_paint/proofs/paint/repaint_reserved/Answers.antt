@@ -6,3 +6,7 @@ pub returns-clause-items : goal.returns-clause-items
 unfolding paint
 returns-clause-items c =
     rw (c.repaint_items_reserved.ensures.items, c.push.ensures.items, c.reset.ensures.value) (simp append_assoc)
+
+pub returns-clause-rebuilds : goal.returns-clause-rebuilds
+returns-clause-rebuilds c =
+    c.sized_rebuilds.ensures c.args.t.now.display.grid.size c.args.t.now c.width.ensures.sound c.requires.between

@@ -1,5 +1,5 @@
 use Rattle.std.proofs.Common.{◌≡◌, ℕ, ◌+◌, ◌≤◌, take}
-use Rattle.vt_controls.specs.Spoken.{Speaks}
+use Rattle.vt_paint.specs.Spoken.{Speaks}
 use Rattle.vt_update.proofs.chosen.put_codes.Given as goal
 
 abbrev pub invariant-loop-i : goal.invariant-loop-i

@@ -1,6 +1,6 @@
 use Rattle.std.proofs.Common.{◌≡◌, ◌++◌, List, ℕ, take, length, arith, ap, ◌∙◌}
 use Rattle.std.proofs.Common.{rules, drop, subst, vec_len}
-use Rattle.vt_controls.specs.Spoken.{Speaks}
+use Rattle.vt_paint.specs.Spoken.{Speaks}
 use Rattle.vt_paint.specs.Repaint.{paint}
 use Rattle.vt_update.proofs.Chunks.{taken_back}
 use Rattle.vt_update.proofs.updating.send_changes.Goals as goal

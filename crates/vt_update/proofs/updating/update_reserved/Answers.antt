@@ -1,5 +1,5 @@
 use Rattle.std.proofs.Common.{◌≡◌, List, ℕ, subst, rules, drop, vec_len}
-use Rattle.vt_controls.specs.Spoken.{Speaks}
+use Rattle.vt_paint.specs.Spoken.{Speaks}
 use Rattle.vt_update.specs.Leads.{Updates}
 use Rattle.vt_update.proofs.updating.update_reserved.Goals as goal
 

@@ -1,5 +1,6 @@
-use Rattle.vt_xterm_paint.proofs.Rebuilt.{rebuilds-pending}
+use Rattle.vt_screen.specs.Sizes.{vt220_size}
+use Rattle.vt_xterm_paint.proofs.Rebuilt.{at-vt220}
 use Rattle.vt_xterm_paint.proofs.laws.pending.Goals as goal
 
 pub returns : goal.returns
-returns c = rebuilds-pending c.rebuilds.ensures
+returns c = λ w u part left i. c.sized_pending.ensures vt220_size w u part left (at-vt220 w i)

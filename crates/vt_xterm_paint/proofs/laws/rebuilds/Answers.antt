@@ -1,5 +1,6 @@
-use Rattle.vt_xterm_paint.proofs.Rebuilt.{rebuilds}
+use Rattle.vt_screen.specs.Sizes.{vt220_size}
+use Rattle.vt_xterm_paint.proofs.Rebuilt.{at-vt220}
 use Rattle.vt_xterm_paint.proofs.laws.rebuilds.Goals as goal
 
 pub returns : goal.returns
-returns c = rebuilds c.one_split.ensures c.soundness.ensures.power_up c.soundness.ensures.play c.silence.ensures.silent
+returns c = λ w i. c.sized_rebuilds.ensures vt220_size w (at-vt220 w i)

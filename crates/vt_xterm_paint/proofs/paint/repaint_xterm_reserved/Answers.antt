@@ -11,16 +11,15 @@ returns-clause-items c =
     rw (
       c.push_paste.ensures.items,
       c.push_resizes-2.ensures.items,
-      c.repaint_items_reserved-2.ensures.items,
+      c.repaint_items_reserved.ensures.items,
       c.push-2.ensures.items,
       c.mode.ensures.value,
       c.push_page-2.ensures.items,
-      c.repaint_items_reserved.ensures.items,
+      c.push_hidden.ensures.items,
       c.push_page.ensures.items,
       c.push.ensures.items,
       c.reset.ensures.value,
       c.push_resizes.ensures.items,
-      c.show_other.ensures,
       c.is_alternate-alternate.ensures,
       c.resizes.ensures,
       c.brackets.ensures,
@@ -37,10 +36,11 @@ push_resizes-requires-2 c =
       c.push.ensures,
       c.push_resizes.ensures,
       c.push_page.ensures,
-      c.repaint_items_reserved.ensures,
+      c.push_hidden.ensures.bounded,
+      c.push_hidden.ensures.capacity,
       c.push_page-2.ensures,
       c.push-2.ensures,
-      c.repaint_items_reserved-2.ensures,
+      c.repaint_items_reserved.ensures,
     )
 
 pub push_paste-requires : goal.push_paste-requires
@@ -53,15 +53,18 @@ push_paste-requires c =
       c.push.ensures,
       c.push_resizes.ensures,
       c.push_page.ensures,
-      c.repaint_items_reserved.ensures,
+      c.push_hidden.ensures.bounded,
+      c.push_hidden.ensures.capacity,
       c.push_page-2.ensures,
       c.push-2.ensures,
-      c.repaint_items_reserved-2.ensures,
+      c.repaint_items_reserved.ensures,
       c.push_resizes-2.ensures,
     )
 
 pub returns-clause-rebuilds : goal.returns-clause-rebuilds
-returns-clause-rebuilds c = c.rebuilds.ensures (behind c.args.t.now c.args.front.now) c.soundness.ensures c.requires.between
+returns-clause-rebuilds c =
+    c.sized_rebuilds.ensures c.args.t.now.display.grid.size (behind c.args.t.now c.args.front.now) c.push_hidden.ensures.sound
+    c.requires.between
 
 pub returns-clause-bounded : goal.returns-clause-bounded
 returns-clause-bounded c =
@@ -72,10 +75,10 @@ returns-clause-bounded c =
       c.push.ensures.bounded,
       c.push_resizes.ensures.bounded,
       c.push_page.ensures.bounded,
-      c.repaint_items_reserved.ensures.bounded,
+      c.push_hidden.ensures.bounded,
       c.push_page-2.ensures.bounded,
       c.push-2.ensures.bounded,
-      c.repaint_items_reserved-2.ensures.bounded,
+      c.repaint_items_reserved.ensures.bounded,
       c.push_resizes-2.ensures.bounded,
       c.push_paste.ensures.bounded,
     )

@@ -1,7 +1,7 @@
 use Rattle.std.proofs.Common.{append-nil}
-use Rattle.vt_controls.specs.Spoken.{Escape}
-use Rattle.vt_controls.proofs.Speech.{speaks-one}
-use Rattle.vt_controls.proofs.function.Function.escape.Goals as goal
+use Rattle.vt_paint.specs.Spoken.{Escape}
+use Rattle.vt_paint.proofs.Speech.{speaks-one}
+use Rattle.vt_paint.proofs.function.Function.escape.Goals as goal
 
 pub of-requires-clause-speaks : goal.of-requires-clause-speaks
 of-requires-clause-speaks c =

@@ -1,6 +1,6 @@
 use Rattle.std.proofs.Common.{◌∙◌, arith}
-use Rattle.vt_controls.proofs.Spelled.{mode_spelled, mode_speaks}
-use Rattle.vt_controls.proofs.function.Function.mode.Goals as goal
+use Rattle.vt_paint.proofs.Spelled.{mode_spelled, mode_speaks}
+use Rattle.vt_paint.proofs.function.Function.mode.Goals as goal
 
 pub of-requires-clause-speaks : goal.of-requires-clause-speaks
 of-requires-clause-speaks c =

@@ -1,8 +1,8 @@
 use Rattle.std.proofs.Common.{◌∷◌, [], sym, subst, refl, arith, decimal}
-use Rattle.vt_controls.specs.Spoken.{Sequence, Speaks}
-use Rattle.vt_controls.proofs.Speech.{speaks-one, numbers_spoken, number_is}
-use Rattle.vt_controls.proofs.Spelled.{three_parts}
-use Rattle.vt_controls.proofs.function.Function.numbered.Goals as goal
+use Rattle.vt_paint.specs.Spoken.{Sequence, Speaks}
+use Rattle.vt_paint.proofs.Speech.{speaks-one, numbers_spoken, number_is}
+use Rattle.vt_paint.proofs.Spelled.{three_parts}
+use Rattle.vt_paint.proofs.function.Function.numbered.Goals as goal
 
 pub invariant_of-result : goal.invariant_of-result
 invariant_of-result c =

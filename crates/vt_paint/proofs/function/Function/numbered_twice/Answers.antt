@@ -1,10 +1,10 @@
 use Rattle.std.proofs.Common.{◌∷◌, ◌++◌, [], sym, subst, refl, arith, decimal}
 use Rattle.std.proofs.lemmas.Fmt.{length-decimal-le}
 use Rattle.std.proofs.lemmas.List.{length-take}
-use Rattle.vt_controls.specs.Spoken.{Sequence, Speaks}
-use Rattle.vt_controls.proofs.Speech.{speaks-one, numbers_spoken, two_numbers_are}
-use Rattle.vt_controls.proofs.Spelled.{two_numbers}
-use Rattle.vt_controls.proofs.function.Function.numbered_twice.Goals as goal
+use Rattle.vt_paint.specs.Spoken.{Sequence, Speaks}
+use Rattle.vt_paint.proofs.Speech.{speaks-one, numbers_spoken, two_numbers_are}
+use Rattle.vt_paint.proofs.Spelled.{two_numbers}
+use Rattle.vt_paint.proofs.function.Function.numbered_twice.Goals as goal
 
 pub invariant_of-result : goal.invariant_of-result
 invariant_of-result c =

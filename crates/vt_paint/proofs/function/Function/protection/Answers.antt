@@ -1,5 +1,5 @@
 use Rattle.std.specs.Fmt.{digits}
-use Rattle.vt_controls.proofs.function.Function.protection.Goals as goal
+use Rattle.vt_paint.proofs.function.Function.protection.Goals as goal
 
 pub returns-then-protected-clause-value : goal.returns-then-protected-clause-value
 unfolding digits

@@ -1,10 +1,10 @@
 use Rattle.std.proofs.Common.{◌≡◌, ◌∙◌, ◌||◌, ◌+◌, ◌-◌, List, [], ℕ, Bool, sym, ap, arith, take, drop, true, false}
 use Rattle.std.proofs.lemmas.List.{drop-take}
-use Rattle.vt_controls.specs.Spoken.{are_attributes}
-use Rattle.vt_controls.specs.Named.{newly_set}
-use Rattle.vt_controls.specs.Private.Attributes.{attributes}
-use Rattle.vt_controls.proofs.Spelled.{attributes_behind, text_after_reset, text_alone, change_is}
-use Rattle.vt_controls.proofs.function.Function.rendition_change.Goals as goal
+use Rattle.vt_paint.specs.Spoken.{are_attributes}
+use Rattle.vt_paint.specs.Named.{newly_set}
+use Rattle.vt_paint.specs.Private.Attributes.{attributes}
+use Rattle.vt_paint.proofs.Spelled.{attributes_behind, text_after_reset, text_alone, change_is}
+use Rattle.vt_paint.proofs.function.Function.rendition_change.Goals as goal
 
 pub sequence-requires-2-clause-spoken : goal.sequence-requires-2-clause-spoken
 sequence-requires-2-clause-spoken c =

@@ -1,4 +1,4 @@
-use Rattle.vt_controls.proofs.Speech.{speaks-none}
+use Rattle.vt_paint.proofs.Speech.{speaks-none}
 use Rattle.vt_update.proofs.chosen.Chosen.flush.Goals as goal
 
 pub invariant_of-self-clause-speaks : goal.invariant_of-self-clause-speaks

@@ -1,6 +1,6 @@
 use Rattle.std.proofs.Common.{take, sym, subst}
-use Rattle.vt_controls.specs.Spoken.{Speaks}
-use Rattle.vt_controls.proofs.Speech.{speaks-append}
+use Rattle.vt_paint.specs.Spoken.{Speaks}
+use Rattle.vt_paint.proofs.Speech.{speaks-append}
 use Rattle.vt_update.proofs.chosen.Chosen.put.Goals as goal
 
 pub invariant_of-self-clause-speaks : goal.invariant_of-self-clause-speaks

@@ -3,11 +3,11 @@ use Rattle.std.proofs.Common.{◌≡◌, ℕ, List, ◌++◌, Bool, true, false,
 use Rattle.std.proofs.lemmas.Bool.{and_parts}
 use Rattle.vt_screen.specs.declared.cell.Cell.{Cell}
 use Rattle.vt_screen.specs.Same.{same_bool}
-use Rattle.vt_draw.specs.declared.looks.Looks.{Looks}
-use Rattle.vt_draw.specs.declared.pen.Pen.{Pen}
-use Rattle.vt_draw.specs.Draw.{row_bytes, row_pen}
-use Rattle.vt_draw.specs.Private.Looks.{former, keeps, latter}
-use Rattle.vt_draw.proofs.Same.{row-unwritten, row-pen_kept}
+use Rattle.vt_picture.specs.declared.drawing.looks.Looks.{Looks}
+use Rattle.vt_picture.specs.declared.drawing.pen.Pen.{Pen}
+use Rattle.vt_picture.specs.Draw.{row_bytes, row_pen}
+use Rattle.vt_picture.specs.Private.Looks.{former, keeps, latter}
+use Rattle.vt_picture.proofs.Same.{row-unwritten, row-pen_kept}
 
 not_true : (a : Bool) → not a ≡ true → a ≡ false
 not_true false h = refl

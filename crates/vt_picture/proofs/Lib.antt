@@ -6,3 +6,8 @@ mod Cutting
 mod Numbers
 mod Looked
 mod Alike
+mod DrawnRows
+mod Same
+mod Kept
+mod Window
+mod Shows

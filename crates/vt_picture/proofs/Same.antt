@@ -6,9 +6,9 @@ use Rattle.vt_screen.specs.Cells.{blank}
 use Rattle.vt_screen.specs.Grid.{row_of, last_row}
 use Rattle.vt_screen.specs.Same.{same_bool}
 use Rattle.vt_term.specs.State.{State}
-use Rattle.vt_draw.specs.declared.pen.Pen.{Pen}
-use Rattle.vt_draw.specs.Draw.{Shown, LooksLike, shown, shown_cell, erased, same_look, row_bytes, row_pen, rows_bytes, rows_pen}
-use Rattle.vt_draw.specs.Draw.{first_pen, changes, erase, draw, draw_from}
+use Rattle.vt_picture.specs.declared.drawing.pen.Pen.{Pen}
+use Rattle.vt_picture.specs.Draw.{Shown, LooksLike, shown, shown_cell, erased, same_look, row_bytes, row_pen, rows_bytes, rows_pen}
+use Rattle.vt_picture.specs.Draw.{first_pen, changes, erase, draw, draw_from}
 
 same_number : (n : ℕ) → (n == n) ≡ true
 same_number n = eq-eqb n n refl

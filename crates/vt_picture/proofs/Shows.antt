@@ -12,13 +12,13 @@ use Rattle.vt_screen.specs.Cells.{plain, blank}
 use Rattle.vt_screen.specs.Grid.{row_of}
 use Rattle.vt_screen.proofs.Places.{length-row_of}
 use Rattle.vt_term.specs.State.{State}
-use Rattle.vt_controls.specs.Controls.{cursor_position, private_mode}
-use Rattle.vt_controls.specs.Named.{sequence_named}
+use Rattle.vt_paint.specs.Controls.{cursor_position, private_mode}
+use Rattle.vt_paint.specs.Named.{sequence_named}
 use Rattle.vt_picture.specs.Show.{rendition_sequence}
-use Rattle.vt_draw.specs.Draw.{shown_cell, shown, erased, changes, erase, draw, draw_from}
-use Rattle.vt_draw.specs.Window.{sent_bytes, Window, after, all_after, Shows, Draws}
-use Rattle.vt_draw.specs.Window.Sent.{Position, Attributes, Erase, Cursor}
-use Rattle.vt_draw.proofs.Window.{Leads, leads-then, leads-one, all_after-append, and_false, changes-show}
+use Rattle.vt_picture.specs.Draw.{shown_cell, shown, erased, changes, erase, draw, draw_from}
+use Rattle.vt_picture.specs.Window.{sent_bytes, Window, after, all_after, Shows, Draws}
+use Rattle.vt_picture.specs.Window.Sent.{Position, Attributes, Erase, Cursor}
+use Rattle.vt_picture.proofs.Window.{Leads, leads-then, leads-one, all_after-append, and_false, changes-show}
 
 -- a row of what is shown is as long as one of the screen
 shown-length : (s : State) (r : ℕ) → length ((shown s).cells r) ≡ s.display.grid.width

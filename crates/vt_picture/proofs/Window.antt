@@ -11,14 +11,14 @@ use Rattle.vt_screen.specs.declared.cell.Rendition.{Rendition}
 use Rattle.vt_screen.specs.declared.cell.Cell.{Cell}
 use Rattle.vt_screen.specs.Cells.{plain, blank}
 use Rattle.vt_screen.specs.Same.{when, same_bool, same_rendition}
-use Rattle.vt_controls.specs.Controls.{cursor_position, private_mode}
+use Rattle.vt_paint.specs.Controls.{cursor_position, private_mode}
 use Rattle.vt_picture.specs.Show.{rendition_sequence, change}
-use Rattle.vt_draw.specs.declared.pen.Pen.{Pen}
+use Rattle.vt_picture.specs.declared.drawing.pen.Pen.{Pen}
 use Rattle.vt_screen.specs.Grid.{last_row}
-use Rattle.vt_draw.specs.Draw.{Shown, go, same_look, place_bytes, place_pen, row_bytes, row_pen, rows_bytes, rows_pen}
-use Rattle.vt_draw.specs.Draw.{first_pen, end_bytes, changes}
-use Rattle.vt_draw.specs.Window.{Sent, sent_bytes, Window, write, after, all_after, Looks, Shows, Draws}
-use Rattle.vt_draw.specs.Window.Sent.{Character, Position, Attributes, Cursor}
+use Rattle.vt_picture.specs.Draw.{Shown, go, same_look, place_bytes, place_pen, row_bytes, row_pen, rows_bytes, rows_pen}
+use Rattle.vt_picture.specs.Draw.{first_pen, end_bytes, changes}
+use Rattle.vt_picture.specs.Window.{Sent, sent_bytes, Window, write, after, all_after, Looks, Shows, Draws}
+use Rattle.vt_picture.specs.Window.Sent.{Character, Position, Attributes, Cursor}
 
 -- ---- bytes that lead from one window to another
 

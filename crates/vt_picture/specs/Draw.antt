@@ -9,10 +9,10 @@ use Rattle.vt_screen.specs.Cells.{plain, blank}
 use Rattle.vt_screen.specs.Grid.{row_of, last_row}
 use Rattle.vt_screen.specs.Same.{when, same_bool, same_rendition}
 use Rattle.vt_term.specs.State.{State}
-use Rattle.vt_controls.specs.Controls.{cursor_position, private_mode}
-use Rattle.vt_controls.specs.Named.{sequence_named}
+use Rattle.vt_paint.specs.Controls.{cursor_position, private_mode}
+use Rattle.vt_paint.specs.Named.{sequence_named}
 use Rattle.vt_picture.specs.Show.{rendition_sequence, change}
-use Rattle.vt_draw.specs.declared.pen.Pen.{Pen}
+use Rattle.vt_picture.specs.declared.drawing.pen.Pen.{Pen}
 
 -- ---- what is shown
 

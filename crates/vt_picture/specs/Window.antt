@@ -7,11 +7,11 @@ use Rattle.vt_screen.specs.declared.cell.Rendition.{Rendition}
 use Rattle.vt_screen.specs.declared.cell.Cell.{Cell}
 use Rattle.vt_screen.specs.Cells.{plain, blank}
 use Rattle.vt_screen.specs.Grid.{last_row}
-use Rattle.vt_controls.specs.Controls.{cursor_position, private_mode}
-use Rattle.vt_controls.specs.Named.{sequence_named}
+use Rattle.vt_paint.specs.Controls.{cursor_position, private_mode}
+use Rattle.vt_paint.specs.Named.{sequence_named}
 use Rattle.vt_picture.specs.Show.{rendition_sequence}
-use Rattle.vt_draw.specs.declared.pen.Pen.{Pen}
-use Rattle.vt_draw.specs.Draw.{Shown}
+use Rattle.vt_picture.specs.declared.drawing.pen.Pen.{Pen}
+use Rattle.vt_picture.specs.Draw.{Shown}
 
 -- ---- what is sent
 

@@ -18,7 +18,7 @@ use crate::rows::{
 use crate::runs::fill;
 use crate::squeezing::push_squeezed;
 use std::alloc::AllocError;
-use vt_controls::{push_bytes, push_number};
+use vt_paint::{push_bytes, push_number};
 use vt_screen::{MOST, Size};
 use vt_term::{ROWS, STOPS, SizedTerminal};
 

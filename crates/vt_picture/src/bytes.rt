@@ -2,8 +2,8 @@
 ghost use Rattle.std.specs.Prelude.{◌≡◌, ◌+◌, ◌≤◌, ◌++◌, vec_len, vec_capacity, encode_utf8};
 ghost use Rattle.vt_picture.specs.Picture.{escaped as escaped_glyph};
 
-use vt_controls::push_bytes;
 use vt_glyph::Glyph;
+use vt_paint::push_bytes;
 
 /// Appends a glyph's character in UTF-8. `out` has capacity for four bytes.
 pub fn push_glyph(glyph: Glyph, out: &mut Vec<u8>)

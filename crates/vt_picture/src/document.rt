@@ -10,7 +10,7 @@ use crate::limits::picture_limit;
 use crate::looks::without_blank_end;
 use crate::runs::{fill, height_of, push_rectangle, push_row, width_of};
 use std::alloc::AllocError;
-use vt_controls::{push_bytes, push_number};
+use vt_paint::{push_bytes, push_number};
 use vt_screen::{Cell, MOST};
 use vt_term::{ROWS, STOPS, SizedTerminal};
 

@@ -1,15 +1,19 @@
 //! The bytes that make a terminal of today show a screen.
 ghost use Rattle.std.specs.Prelude.{◌≡◌, ◌+◌, ◌*◌, ◌≤◌, ◌++◌, vec_len, vec_capacity, OnOk, OnErr, IsOk};
 ghost use Rattle.vt_screen.specs.Grid.{row_of, last_row};
-ghost use Rattle.vt_draw.specs.Draw.{shown, draw, draw_from, end_bytes, erase, rows_bytes, rows_pen};
-ghost use Rattle.vt_draw.specs.Private.Looks.{former, latter};
+ghost use Rattle.vt_picture.specs.Draw.{shown, draw, draw_from, end_bytes, erase, rows_bytes, rows_pen};
+ghost use Rattle.vt_picture.specs.Private.Looks.{former, latter};
 
-use crate::looks::Looks;
-use crate::pen::{Pen, push_go};
-use crate::row::push_row;
+mod looks;
+pub mod pen;
+mod row;
+
+use crate::drawing::looks::Looks;
+use crate::drawing::pen::{Pen, push_go};
+use crate::drawing::row::push_row;
+use crate::showing::{push_change, push_rendition};
 use std::alloc::AllocError;
-use vt_controls::Function;
-use vt_picture::{push_change, push_rendition};
+use vt_paint::Function;
 use vt_screen::Rendition;
 use vt_term::{ROWS, STOPS, Terminal};
 
@@ -58,7 +62,7 @@ fn push_end(pen: Pen, was_shown: bool, t: &Terminal, out: &mut Vec<u8>)
 }
 
 /// Appends what resets the attributes, erases the screen, and shows the cursor in its first place.
-#[tactic(auto, unfolding(crate::specs::Draw::erase, vt_controls::specs::Named::byte_named))]
+#[tactic(auto, unfolding(crate::specs::Draw::erase, vt_paint::specs::Named::byte_named))]
 fn push_erase(out: &mut Vec<u8>)
     requires room { vec_len out.old + 42 ≤ vec_capacity out.old }
     ensures items { out.new.items ≡ out.old.items ++ erase }

@@ -1,9 +1,11 @@
-//! The screen for people: as text with its attributes, as a picture, and as a picture that moves.
+//! The screen for people: as text with its attributes, as a picture, and as a picture that moves. Drawing on today's terminals: the
+//! bytes that make one show a screen, given what it shows.
 #![tactic(auto)]
 
 mod animation;
 mod bytes;
 mod document;
+mod drawing;
 pub mod laws;
 mod limits;
 mod looks;
@@ -17,6 +19,8 @@ mod views;
 pub use animation::{ANIMATION_LIMIT, FRAME_LIMIT, Moving, animation_end};
 pub use bytes::push_glyph;
 pub use document::PICTURE_LIMIT;
+pub use drawing::pen::Pen;
+pub use drawing::{DRAW_LIMIT, draw, draw_from, draw_from_reserved, draw_reserved};
 pub use looks::{CursorShape, Theme};
 pub use showing::{SHOW_LIMIT, push_change, push_rendition};
 pub use views::{animation_start, frame, picture, picture_reserved, show, show_reserved};

@@ -12,7 +12,7 @@ ghost use Rattle.vt_picture.specs.Animation.{row_drawn, same_row, seen_at, numbe
 use crate::bytes::push_escaped;
 use crate::looks::{CursorShape, is_empty, same_looks, without_blank_end};
 use crate::runs::{fill, left_of, push_ground, push_run_attributes, top_of, width_of};
-use vt_controls::{push_bytes, push_number, push_when};
+use vt_paint::{push_bytes, push_number, push_when};
 use vt_screen::{Cell, MOST, Rendition, Size};
 use vt_term::SizedTerminal;
 

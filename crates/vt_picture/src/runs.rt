@@ -7,8 +7,8 @@ ghost use Rattle.vt_picture.specs.Picture.{run_length as run_length_of, is_follo
 ghost use Rattle.vt_picture.specs.Picture.{run_attributes, run_start, shown_cell, cells_picture, row_picture};
 
 use crate::bytes::push_escaped;
-use vt_controls::{push_bytes, push_number, push_when};
 use vt_glyph::Glyph;
+use vt_paint::{push_bytes, push_number, push_when};
 use vt_screen::{Cell, MOST, Rendition};
 
 /// Returns the left edge of a column, in units.

@@ -7,7 +7,7 @@ use crate::bytes::push_glyph;
 use crate::limits::show_limit;
 use crate::looks::without_blank_end;
 use std::alloc::AllocError;
-use vt_controls::{push_bytes, push_when};
+use vt_paint::{push_bytes, push_when};
 use vt_screen::{Cell, Rendition};
 use vt_term::{ROWS, STOPS, SizedTerminal};
 

@@ -5,7 +5,7 @@ ghost use Rattle.vt_screen.specs.Same.{when};
 ghost use Rattle.vt_screen.specs.Sizes.{IsSize};
 ghost use Rattle.vt_picture.specs.Animation.{digit, fraction, ratio, stretch, scale, squeezed};
 
-use vt_controls::{push_bytes, push_number};
+use vt_paint::{push_bytes, push_number};
 use vt_screen::{MOST, Size};
 
 /// Appends the digit of a unit, unless nothing is left.

@@ -3,8 +3,8 @@ use Rattle.std.specs.Prelude.{List, Bool, not, ◌&&◌, map, if◌then◌else�
 use Rattle.vt_screen.specs.declared.cell.Cell.{Cell}
 use Rattle.vt_screen.specs.Cells.{blank}
 use Rattle.vt_screen.specs.Same.{same_bool}
-use Rattle.vt_draw.specs.Draw.{shown_cell}
-use Rattle.vt_draw.specs.declared.looks.Looks.{Looks}
+use Rattle.vt_picture.specs.Draw.{shown_cell}
+use Rattle.vt_picture.specs.declared.drawing.looks.Looks.{Looks}
 
 -- after an erase each place of the former screen is blank
 abbrev pub former_cell : Looks → Cell → Cell

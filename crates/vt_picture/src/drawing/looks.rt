@@ -1,7 +1,7 @@
 //! How the cells of two screens are shown.
 ghost use Rattle.std.specs.Prelude.{◌≡◌};
-ghost use Rattle.vt_draw.specs.Draw.{shown_rendition, shown_cell};
-ghost use Rattle.vt_draw.specs.Private.Looks.{former_cell, keeps, latter_cell};
+ghost use Rattle.vt_picture.specs.Draw.{shown_rendition, shown_cell};
+ghost use Rattle.vt_picture.specs.Private.Looks.{former_cell, keeps, latter_cell};
 
 use vt_screen::{Cell, Rendition};
 

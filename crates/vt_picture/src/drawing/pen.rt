@@ -1,14 +1,14 @@
 //! The pen: where the next character is shown, and with which attributes.
 ghost use Rattle.std.specs.Prelude.{◌≡◌, ◌+◌, ◌≤◌, ◌++◌, vec_len, vec_capacity};
-ghost use Rattle.vt_draw.specs.Draw.{go};
+ghost use Rattle.vt_picture.specs.Draw.{go};
 
-use vt_controls::Function;
+use vt_paint::Function;
 use vt_screen::{COLUMNS, Rendition};
 use vt_term::ROWS;
 
 /// Where the next character is shown, and with which attributes.
 #[derive(Clone, Copy)]
-pub(crate) struct Pen {
+pub struct Pen {
     /// The row of the terminal's cursor.
     pub row: usize,
     /// The column of the terminal's cursor. After the last column it is one more than the width.

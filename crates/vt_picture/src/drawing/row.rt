@@ -1,12 +1,13 @@
 //! The places of a row that show something else.
 ghost use Rattle.std.specs.Prelude.{◌≡◌, ◌+◌, ◌*◌, ◌≤◌, ◌++◌, length, vec_len, vec_capacity};
 ghost use Rattle.vt_screen.specs.Grid.{last_row};
-ghost use Rattle.vt_draw.specs.Draw.{place_bytes, place_pen, row_bytes, row_pen};
-ghost use Rattle.vt_draw.specs.Private.Looks.{former_cell, former, latter_cell, latter};
+ghost use Rattle.vt_picture.specs.Draw.{place_bytes, place_pen, row_bytes, row_pen};
+ghost use Rattle.vt_picture.specs.Private.Looks.{former_cell, former, latter_cell, latter};
 
-use crate::looks::Looks;
-use crate::pen::{Pen, push_go};
-use vt_picture::{push_change, push_glyph};
+use crate::bytes::push_glyph;
+use crate::drawing::looks::Looks;
+use crate::drawing::pen::{Pen, push_go};
+use crate::showing::push_change;
 use vt_screen::{COLUMNS, Cell, same_cells};
 
 /// Appends a place if it shows something else. Returns the pen after it.

@@ -1,7 +1,7 @@
 use Rattle.std.proofs.Common.{◌≡◌, true, ◌==◌, append_assoc, arith}
 use Rattle.std.proofs.lemmas.Grind.{common_steps}
-use Rattle.vt_draw.specs.Draw.{draw_from, changes}
-use Rattle.vt_draw.proofs.drawing.draw_from_reserved.Goals as goal
+use Rattle.vt_picture.specs.Draw.{draw_from, changes}
+use Rattle.vt_picture.proofs.drawing.draw_from_reserved.Goals as goal
 
 pub returns-clause-items : goal.returns-clause-items
 unfolding draw_from changes

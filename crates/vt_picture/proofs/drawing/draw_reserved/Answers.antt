@@ -1,6 +1,6 @@
 use Rattle.std.proofs.Common.{append_assoc}
-use Rattle.vt_draw.specs.Draw.{draw, changes}
-use Rattle.vt_draw.proofs.drawing.draw_reserved.Goals as goal
+use Rattle.vt_picture.specs.Draw.{draw, changes}
+use Rattle.vt_picture.proofs.drawing.draw_reserved.Goals as goal
 
 pub returns-clause-items : goal.returns-clause-items
 unfolding draw changes

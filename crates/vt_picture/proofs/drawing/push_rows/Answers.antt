@@ -1,9 +1,9 @@
 use Rattle.std.proofs.Common.{◌≡◌, ◌+◌, ◌-◌, ℕ, suc, append-nil, ap, arith, refl, sym}
 use Rattle.vt_screen.specs.Grid.{row_of}
-use Rattle.vt_draw.specs.Draw.{rows_bytes, rows_pen}
-use Rattle.vt_draw.specs.Private.Looks.{former, latter}
-use Rattle.vt_draw.proofs.Rows.{more_bytes, more_pen}
-use Rattle.vt_draw.proofs.drawing.push_rows.Goals as goal
+use Rattle.vt_picture.specs.Draw.{rows_bytes, rows_pen}
+use Rattle.vt_picture.specs.Private.Looks.{former, latter}
+use Rattle.vt_picture.proofs.DrawnRows.{more_bytes, more_pen}
+use Rattle.vt_picture.proofs.drawing.push_rows.Goals as goal
 
 pub loop-row-init : goal.loop-row-init
 unfolding rows_bytes rows_pen

@@ -1,8 +1,8 @@
 use Rattle.std.proofs.Common.{◌≡◌, ◌+◌, ◌-◌, ◌*◌, ◌≤◌, ◌++◌, vec_len, vec_capacity}
 use Rattle.vt_screen.specs.Grid.{row_of}
-use Rattle.vt_draw.specs.Draw.{rows_bytes, rows_pen}
-use Rattle.vt_draw.specs.Private.Looks.{former, latter}
-use Rattle.vt_draw.proofs.drawing.push_rows.Given as goal
+use Rattle.vt_picture.specs.Draw.{rows_bytes, rows_pen}
+use Rattle.vt_picture.specs.Private.Looks.{former, latter}
+use Rattle.vt_picture.proofs.drawing.push_rows.Given as goal
 
 abbrev pub invariant-loop-row : goal.invariant-loop-row
 invariant-loop-row l = record {

@@ -1,5 +1,5 @@
-use Rattle.vt_draw.proofs.Shows.{whole-shows, from-shows}
-use Rattle.vt_draw.proofs.laws.shows.Goals as goal
+use Rattle.vt_picture.proofs.Shows.{whole-shows, from-shows}
+use Rattle.vt_picture.proofs.laws.shows.Goals as goal
 
 pub returns-clause-whole : goal.returns-clause-whole
 returns-clause-whole c = whole-shows

@@ -1,5 +1,5 @@
-use Rattle.vt_draw.proofs.Same.{row-unwritten, draw_from-none}
-use Rattle.vt_draw.proofs.laws.unwritten.Goals as goal
+use Rattle.vt_picture.proofs.Same.{row-unwritten, draw_from-none}
+use Rattle.vt_picture.proofs.laws.unwritten.Goals as goal
 
 pub returns-clause-row : goal.returns-clause-row
 returns-clause-row c = row-unwritten

@@ -1,7 +1,7 @@
 use Rattle.std.proofs.Common.{◌≡◌, sym, arith}
 use Rattle.std.proofs.lemmas.Grind.{common_steps}
-use Rattle.vt_draw.proofs.Kept.{kept-bytes, kept-pen}
-use Rattle.vt_draw.proofs.row.push_row.Goals as goal
+use Rattle.vt_picture.proofs.Kept.{kept-bytes, kept-pen}
+use Rattle.vt_picture.proofs.drawing.row.push_row.Goals as goal
 
 pub returns-then-same_cells-clause-items : goal.returns-then-same_cells-clause-items
 returns-then-same_cells-clause-items c =

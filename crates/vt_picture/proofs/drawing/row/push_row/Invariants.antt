@@ -1,7 +1,7 @@
 use Rattle.std.proofs.Common.{◌≡◌, ◌+◌, ◌-◌, ◌*◌, ◌≤◌, ◌++◌, drop, length, vec_len, vec_capacity}
-use Rattle.vt_draw.specs.Draw.{row_bytes, row_pen}
-use Rattle.vt_draw.specs.Private.Looks.{former, latter}
-use Rattle.vt_draw.proofs.row.push_row.Given as goal
+use Rattle.vt_picture.specs.Draw.{row_bytes, row_pen}
+use Rattle.vt_picture.specs.Private.Looks.{former, latter}
+use Rattle.vt_picture.proofs.drawing.row.push_row.Given as goal
 
 -- what is left of the row completes it
 abbrev pub invariant-loop-i : goal.invariant-loop-i

@@ -1,8 +1,8 @@
 -- One more row.
 use Rattle.std.proofs.Common.{◌≡◌, ℕ, suc, List, ◌++◌, refl, append_assoc}
 use Rattle.vt_screen.specs.declared.cell.Cell.{Cell}
-use Rattle.vt_draw.specs.declared.pen.Pen.{Pen}
-use Rattle.vt_draw.specs.Draw.{row_bytes, row_pen, rows_bytes, rows_pen}
+use Rattle.vt_picture.specs.declared.drawing.pen.Pen.{Pen}
+use Rattle.vt_picture.specs.Draw.{row_bytes, row_pen, rows_bytes, rows_pen}
 
 -- after those of the rows before it, the bytes of a row
 pub more_bytes : (olds news : ℕ → List Cell) (n row next : ℕ) (first pen : Pen) (before held after : List ℕ)

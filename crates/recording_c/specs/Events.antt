@@ -1,8 +1,8 @@
 -- The events of a recording as C sees them.
 use Rattle.std.specs.Prelude.{◌≡◌, ℕ, List, ◌++◌, length, map, drop, Bool, true, false, Option, Some, None}
-use Rattle.vt_recording.specs.declared.format.Break.{Break}
-use Rattle.vt_recording.specs.declared.format.Part.{Part}
-use Rattle.vt_recording.specs.declared.format.Part.TheVariants as part
+use Rattle.vt_device.specs.declared.fault.Break.{Break}
+use Rattle.vt_device.specs.declared.fault.Part.{Part}
+use Rattle.vt_device.specs.declared.fault.Part.TheVariants as part
 use Rattle.vt_recording.specs.declared.timeline.Event.{Event}
 use Rattle.vt_recording.specs.declared.timeline.EventKind.{EventKind}
 use Rattle.vt_recording.specs.declared.timeline.EventKind.TheVariants.{Output, Input, Marker, Size, Exit}

@@ -7,11 +7,11 @@ use Rattle.std.proofs.lemmas.List.{take-append-drop}
 use Rattle.std.proofs.Math.Seq.{take-add, take-length}
 use Rattle.vt_device.specs.Writing.{IsProperBeginning}
 use Rattle.vt_device.specs.Runs.{Flags, Moves}
-use Rattle.vt_recording.specs.declared.fault.Fault.{Fault}
-use Rattle.vt_recording.specs.declared.fault.Fault.TheVariants.{Memory, Partial, Read, Write, TooLong, Broken, NoTimes}
-use Rattle.vt_output.specs.Output.{IsAfter, IsCutBefore, IsCutAtEnd, IsCutOutput, OutputTable}
-use Rattle.vt_output.specs.Output.{Translation, IsStopped, IsStoppedAtEnd, IsStoppedOutput, TranslatedTable}
-use Rattle.vt_output.proofs.Steps.{behind}
+use Rattle.vt_device.specs.declared.fault.Fault.{Fault}
+use Rattle.vt_device.specs.declared.fault.Fault.TheVariants.{Memory, Partial, Read, Write, TooLong, Broken, NoTimes}
+use Rattle.vt_device.specs.Output.{IsAfter, IsCutBefore, IsCutAtEnd, IsCutOutput, OutputTable}
+use Rattle.vt_device.specs.Output.{Translation, IsStopped, IsStoppedAtEnd, IsStoppedOutput, TranslatedTable}
+use Rattle.vt_device.proofs.Steps.{behind}
 
 abbrev pub Writes : Type 0
 Writes = List ℕ → List ℕ

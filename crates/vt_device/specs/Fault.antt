@@ -1,9 +1,9 @@
 -- The statuses, lines and messages of the faults. (this profile)
 use Rattle.std.specs.Prelude.{ℕ, List, ◌++◌, ◌&&◌, codes, decimal, Bool, false, cond, nat_lt}
-use Rattle.vt_recording.specs.declared.format.Part.{Part}
-use Rattle.vt_recording.specs.declared.format.Part.TheVariants.{Recording, Timing}
-use Rattle.vt_recording.specs.declared.fault.Fault.{Fault}
-use Rattle.vt_recording.specs.declared.fault.Fault.TheVariants.{Memory, Partial, Read, Write, TooLong, Broken, NoTimes}
+use Rattle.vt_device.specs.declared.fault.Part.{Part}
+use Rattle.vt_device.specs.declared.fault.Part.TheVariants.{Recording, Timing}
+use Rattle.vt_device.specs.declared.fault.Fault.{Fault}
+use Rattle.vt_device.specs.declared.fault.Fault.TheVariants.{Memory, Partial, Read, Write, TooLong, Broken, NoTimes}
 
 abbrev pub status_of : Fault → ℕ
 status_of Memory = 1

@@ -1,3 +1,5 @@
 pub mod Runs
 pub mod Watched
 pub mod Writing
+pub mod Fault
+pub mod Output

@@ -2,8 +2,8 @@
 use Rattle.std.specs.Prelude.{◌≡◌, ◌⊎◌, ℕ, ◌≤◌, ◌+◌, ◌++◌, List, [], length, take, ⊤, Bool, true, false, Result, Ok, Err}
 use Rattle.vt_device.specs.Runs.{Flags, AreFlags}
 use Rattle.vt_device.specs.Writing.{IsProperBeginning}
-use Rattle.vt_recording.specs.declared.fault.Fault.{Fault}
-use Rattle.vt_recording.specs.declared.fault.Fault.TheVariants.{Memory, Partial, Read, Write, TooLong, Broken, NoTimes}
+use Rattle.vt_device.specs.declared.fault.Fault.{Fault}
+use Rattle.vt_device.specs.declared.fault.Fault.TheVariants.{Memory, Partial, Read, Write, TooLong, Broken, NoTimes}
 
 -- an output that writes all bytes that come, or at the end, and one that writes none
 abbrev pub all : List ℕ → List ℕ

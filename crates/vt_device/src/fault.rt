@@ -1,11 +1,28 @@
 //! Why a request ends early.
 ghost use Rattle.std.specs.Prelude.{◌≡◌, Some};
-ghost use Rattle.vt_recording.specs.Fault.{status_of, has_front, status_with, line_of, message_of};
+ghost use Rattle.vt_device.specs.Fault.{status_of, has_front, status_with, line_of, message_of};
 
-use crate::format::{Break, Part};
 use std::alloc::AllocError;
 use std::error::Error;
 use std::fmt;
+
+/// A file of a recording.
+#[derive(Clone, Copy, Debug, PartialEq, Eq)]
+pub enum Part {
+    /// The recording.
+    Recording,
+    /// The timing file of script(1).
+    Timing,
+}
+
+/// The place at which a recording breaks its format.
+#[derive(Clone, Copy, Debug, PartialEq, Eq)]
+pub struct Break {
+    /// The file that is broken.
+    pub part: Part,
+    /// The offset in that file, counted from 0.
+    pub at: u64,
+}
 
 /// Why a request ends early. The message is the line that the program prints.
 #[derive(Clone, Copy, Debug, PartialEq, Eq)]
@@ -96,7 +113,7 @@ impl fmt::Display for Fault {
 impl Error for Fault {}
 
 impl From<AllocError> for Fault {
-    ghost use Rattle.vt_recording.specs.declared.fault.Fault.TheVariants.{Memory};
+    ghost use Rattle.vt_device.specs.declared.fault.Fault.TheVariants.{Memory};
 
     ghost from_gives = { λ _ fault. fault ≡ Memory };
 

@@ -4,13 +4,15 @@ ghost use Rattle.std.specs.Bool.{OnTrue};
 ghost use Rattle.std.specs.Io.KnownBytes.{IsAtEnd};
 ghost use Rattle.vt_device.specs.Runs.{Moves};
 ghost use Rattle.vt_device.specs.Writing.{Gives, WriteTable};
-ghost use Rattle.vt_output.specs.Output.{IsAfter, OutputTable, TranslatedTable, ComingTable};
+ghost use Rattle.vt_device.specs.Output.{IsAfter, OutputTable, TranslatedTable, ComingTable};
 
 use crate::decoding::{Decoding, Plain};
+use crate::fault::Fault;
+use crate::source::Source;
+use crate::watched::Watched;
+use crate::writing::write_whole;
 use std::alloc::{AllocError, Global};
 use std::io::{Read, Write};
-use vt_device::{Source, Watched, write_whole};
-use vt_recording::Fault;
 
 /// The bytes that are written as the host's bytes come, and at their end.
 pub trait Output: Drop {

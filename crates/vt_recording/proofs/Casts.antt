@@ -9,7 +9,7 @@ use Rattle.vt_recording.specs.declared.format.Moment.{Moment}
 use Rattle.vt_recording.specs.declared.format.Moment.TheVariants as moment
 use Rattle.vt_recording.specs.Moment.{cut, micros_of}
 use Rattle.vt_recording.specs.Characters.{AreWritten}
-use Rattle.vt_recording.specs.declared.format.Break.{Break}
+use Rattle.vt_device.specs.declared.fault.Break.{Break}
 use Rattle.vt_recording.specs.Taken.{IsOfCast, in_recording}
 use Rattle.vt_recording.specs.Lines.{lines_of, put_before, front_by, front_line}
 use Rattle.json.specs.Json.{Items}

@@ -5,7 +5,7 @@ use Rattle.std.specs.List.{flat_map}
 use Rattle.std.proofs.Math.Seq.{take-append_seam, drop-append_seam}
 use Rattle.std.proofs.lemmas.Bool.Decides.{nat_tests}
 use Rattle.json.specs.Json.{Items}
-use Rattle.vt_recording.specs.declared.format.Break.{Break}
+use Rattle.vt_device.specs.declared.fault.Break.{Break}
 use Rattle.vt_recording.specs.declared.timeline.Event as declared
 use Rattle.vt_recording.specs.Lines.{lines_of, front_by, front_line}
 use Rattle.vt_recording.specs.Timeline.{Event, Timeline, after, ends_at, and_then, told_in, cast_events, cast_by, cast_from, asciicast, unless, told_by, timed_events}

@@ -2,7 +2,7 @@
 use Rattle.std.proofs.Common.{◌≡◌, ◌+◌, ◌≤◌, ◌++◌, ◌∙◌, [], ℕ, List, length, drop, Bool, true, false, Option, Some, None, refl, sym, ap, arith, append-nil, append_assoc, nat_lt}
 use Rattle.std.proofs.lemmas.List.{length-take-le, drop_all, drop-drop}
 use Rattle.std.proofs.lemmas.Bool.Decides.{nat_tests}
-use Rattle.vt_recording.specs.declared.format.Break.{Break}
+use Rattle.vt_device.specs.declared.fault.Break.{Break}
 use Rattle.vt_recording.specs.Lines.{lines_of, front_by, front_line}
 use Rattle.vt_recording.specs.Timing.{Spot, Replay, after, unless, break_in, spot_after, played_in, is_empty, step_in, replay_of}
 use Rattle.vt_recording.proofs.Casts.{feed_at, cut_at, place, lines_cut}

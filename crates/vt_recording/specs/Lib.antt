@@ -3,7 +3,6 @@ pub mod Characters
 pub mod Content
 pub mod Detection
 pub mod Events
-pub mod Fault
 pub mod Gathered
 pub mod Heading
 pub mod Lines

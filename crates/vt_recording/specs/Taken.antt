@@ -4,8 +4,8 @@ use Rattle.vt_recording.specs.declared.format.Format.{Format}
 use Rattle.vt_recording.specs.declared.format.Format.TheVariants as format
 use Rattle.vt_recording.specs.declared.format.Encoding.{Encoding}
 use Rattle.vt_recording.specs.declared.format.Moment.{Moment}
-use Rattle.vt_recording.specs.declared.format.Part.TheVariants as part
-use Rattle.vt_recording.specs.declared.format.Break.{Break}
+use Rattle.vt_device.specs.declared.fault.Part.TheVariants as part
+use Rattle.vt_device.specs.declared.fault.Break.{Break}
 use Rattle.vt_recording.specs.Moment.{micros_of, cut}
 use Rattle.vt_recording.specs.Script.{IsOfScript, first_line}
 use Rattle.vt_recording.specs.Timing.{IsTimedAfter}

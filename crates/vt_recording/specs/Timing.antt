@@ -4,8 +4,8 @@ use Rattle.std.specs.Prelude.{◌≡◌, ℕ, ◌+◌, ◌-◌, ◌^◌, ◌&&�
 use Rattle.std.specs.Prelude.{Option, Some, None, option_map, option_and_then, nat_eq, nat_le, bytes_eq, not}
 use Rattle.std.specs.Option.{option_or}
 use Rattle.std.specs.List.{position}
-use Rattle.vt_recording.specs.declared.format.Break.{Break}
-use Rattle.vt_recording.specs.declared.format.Part.TheVariants as part
+use Rattle.vt_device.specs.declared.fault.Break.{Break}
+use Rattle.vt_device.specs.declared.fault.Part.TheVariants as part
 use Rattle.vt_recording.specs.declared.format.Moment.{Moment}
 use Rattle.vt_recording.specs.Moment.{micros_of, cut}
 use Rattle.vt_recording.specs.Lines.{lines_of}

@@ -1,4 +1,5 @@
 //! The formats of recordings, and the content of one.
+use vt_device::Break;
 
 /// The format of a recording.
 #[derive(Clone, Copy, Debug, PartialEq, Eq)]
@@ -42,24 +43,6 @@ pub enum Moment {
     Event(u64),
     /// The marker of this number, counted from 1.
     Marker(u64),
-}
-
-/// A file of a recording.
-#[derive(Clone, Copy, Debug, PartialEq, Eq)]
-pub enum Part {
-    /// The recording.
-    Recording,
-    /// The timing file of script(1).
-    Timing,
-}
-
-/// The place at which a recording breaks its format.
-#[derive(Clone, Copy, Debug, PartialEq, Eq)]
-pub struct Break {
-    /// The file that is broken.
-    pub part: Part,
-    /// The offset in that file, counted from 0.
-    pub at: u64,
 }
 
 /// The content of a recording.

@@ -4,10 +4,9 @@ ghost use Rattle.std.specs.Io.KnownBytes.{IsAtEnd};
 ghost use Rattle.vt_device.specs.Runs.{Takes};
 ghost use Rattle.vt_recording.specs.Reading.{ReadTable};
 
-use crate::fault::Fault;
 use std::alloc::Global;
 use std::io::Read;
-use vt_device::Watched;
+use vt_device::{Fault, Watched};
 
 /// The most bytes of one read.
 const PIECE: usize = 65536;

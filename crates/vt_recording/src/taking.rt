@@ -8,13 +8,14 @@ ghost use Rattle.vt_recording.specs.Timeline.{IsTimelineOf, IsOfScriptBy, AreFra
 ghost use Rattle.vt_recording.specs.Gathered.{IsRead, timeline_view};
 
 use crate::casting::{asciicast_content, asciicast_timeline};
-use crate::format::{Break, Encoding, Format, Moment, Part, Taken};
+use crate::format::{Encoding, Format, Moment, Taken};
 use crate::moment::{cut, micros_of};
 use crate::script::session_in;
 use crate::timeline::{EventKind, Gathered, Timeline, at_once};
 use crate::timing::{timed_content, timed_timeline};
 use crate::ttyrec::{HEADER, header_of, is_due, time_of};
 use std::alloc::{AllocError, Global};
+use vt_device::{Break, Part};
 
 /// Returns the content of a recording up to a time or a number of bytes, and the place at which it breaks its format, if it does.
 /// An event or a marker doesn't end it: `take_between` finds these. The

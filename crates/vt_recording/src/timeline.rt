@@ -3,9 +3,9 @@ ghost use Rattle.std.specs.Prelude.{◌≡◌, ◌++◌, ◌∷◌, [], List, If
 ghost use Rattle.vt_recording.specs.Timeline as timeline;
 ghost use Rattle.vt_recording.specs.Gathered.{AreGathered, IsRead};
 
-use crate::format::Break;
 use crate::taking::in_recording;
 use std::alloc::{AllocError, Global};
+use vt_device::Break;
 
 /// What an event of a recording is.
 #[derive(Clone, Copy, Debug, PartialEq, Eq)]

@@ -13,7 +13,7 @@ ghost use Rattle.vt_recording.specs.Timeline.{signal_in, unheard_in, told_by, ti
 ghost use Rattle.vt_recording.specs.Gathered.{AreGathered, IsRead};
 
 use crate::asciicast::in_time;
-use crate::format::{Break, Moment, Part, Taken};
+use crate::format::{Moment, Taken};
 use crate::lines::{behind, front_line, stripped};
 use crate::moment::{cut, micros_of};
 use crate::script::session_in;
@@ -21,6 +21,7 @@ use crate::seconds::{micros, number};
 use crate::taking::in_recording;
 use crate::timeline::{EventKind, Gathered, Timeline};
 use std::alloc::{AllocError, Global};
+use vt_device::{Break, Part};
 
 /// A line of a timing file.
 #[derive(Clone, Copy)]

@@ -1,8 +1,8 @@
 use Rattle.std.proofs.Common.{arith}
 use Rattle.std.proofs.lemmas.Grind.{common_steps}
 use Rattle.std.proofs.lemmas.Result.{err_from_is_err_and}
-use Rattle.vt_output.proofs.Steps.{without_memory}
-use Rattle.vt_output.proofs.output.write_by.Goals as goal
+use Rattle.vt_device.proofs.Steps.{without_memory}
+use Rattle.vt_device.proofs.output.write_by.Goals as goal
 
 pub returns-in_err-decoding-clause-answer : goal.returns-in_err-decoding-clause-answer
 returns-in_err-decoding-clause-answer g c =

@@ -1,7 +1,7 @@
 use Rattle.std.proofs.Common.{◌∙◌, arith, length-drop}
 use Rattle.std.proofs.KnownBytes.{Appends-trans}
-use Rattle.vt_output.proofs.OutputSteps.{rest-of, next_turn, taken_all, turn_written, turn_cut}
-use Rattle.vt_output.proofs.output.write_chunk.Goals as goal
+use Rattle.vt_device.proofs.OutputSteps.{rest-of, next_turn, taken_all, turn_written, turn_cut}
+use Rattle.vt_device.proofs.output.write_chunk.Goals as goal
 
 pub loop-at-preserved : goal.loop-at-preserved
 loop-at-preserved g c =

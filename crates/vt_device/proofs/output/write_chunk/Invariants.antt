@@ -1,8 +1,8 @@
 -- The bytes before the place are taken, and what is written of them is written.
 use Rattle.std.proofs.Common.{◌≡◌, ◌+◌, ◌-◌, ◌*◌, ◌≤◌, length, take, false, vec_capacity}
 use Rattle.std.specs.Io.KnownBytes.{Appends}
-use Rattle.vt_output.specs.Output.{IsAfter}
-use Rattle.vt_output.proofs.output.write_chunk.Given as goal
+use Rattle.vt_device.specs.Output.{IsAfter}
+use Rattle.vt_device.proofs.output.write_chunk.Given as goal
 
 abbrev pub invariant-loop-at : goal.invariant-loop-at
 invariant-loop-at g l = record {

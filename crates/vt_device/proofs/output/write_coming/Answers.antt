@@ -5,10 +5,10 @@ use Rattle.std.proofs.lemmas.List.{length-take, take-append-le}
 use Rattle.std.proofs.lemmas.Grind.{common_steps}
 use Rattle.std.proofs.KnownBytes.{Consumes-trans}
 use Rattle.std.proofs.lemmas.Bool.Decides.{nat_tests}
-use Rattle.vt_output.specs.Output.{IsWritten}
-use Rattle.vt_output.proofs.Steps.{Moves-step, Moves-end, counted, passed, within-limit}
-use Rattle.vt_output.proofs.OutputSteps.{come_more, chunk_stopped}
-use Rattle.vt_output.proofs.output.write_coming.Goals as goal
+use Rattle.vt_device.specs.Output.{IsWritten}
+use Rattle.vt_device.proofs.Steps.{Moves-step, Moves-end, counted, passed, within-limit}
+use Rattle.vt_device.proofs.OutputSteps.{come_more, chunk_stopped}
+use Rattle.vt_device.proofs.output.write_coming.Goals as goal
 
 pub loop-left-preserved : goal.loop-left-preserved
 loop-left-preserved g c =

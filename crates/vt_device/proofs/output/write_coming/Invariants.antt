@@ -1,7 +1,7 @@
 use Rattle.std.proofs.Common.{◌≡◌, ◌+◌, ◌*◌, ◌≤◌, [], false, length, vec_capacity}
 use Rattle.vt_device.specs.Runs.{Moves}
-use Rattle.vt_output.proofs.OutputSteps.{HaveCome}
-use Rattle.vt_output.proofs.output.write_coming.Given as goal
+use Rattle.vt_device.proofs.OutputSteps.{HaveCome}
+use Rattle.vt_device.proofs.output.write_coming.Given as goal
 
 abbrev pub invariant-loop-left : goal.invariant-loop-left
 invariant-loop-left g l = record {

@@ -1,9 +1,9 @@
 use Rattle.std.proofs.Common.{arith}
 use Rattle.std.proofs.lemmas.Grind.{common_steps}
 use Rattle.std.proofs.Common.{◌∙◌, sym, inr, refl}
-use Rattle.vt_output.proofs.OutputSteps.{ends_so, there_so}
-use Rattle.vt_output.proofs.Steps.{Moves-write}
-use Rattle.vt_output.proofs.output.write_in_room.Goals as goal
+use Rattle.vt_device.proofs.OutputSteps.{ends_so, there_so}
+use Rattle.vt_device.proofs.Steps.{Moves-write}
+use Rattle.vt_device.proofs.output.write_in_room.Goals as goal
 
 pub returns-then-not-is_there-clause-answer : goal.returns-then-not-is_there-clause-answer
 returns-then-not-is_there-clause-answer g c =

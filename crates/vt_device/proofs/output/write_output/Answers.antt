@@ -1,6 +1,6 @@
 use Rattle.std.proofs.Common.{ℕ, List}
-use Rattle.vt_output.proofs.OutputSteps.{moves_one_way}
-use Rattle.vt_output.proofs.output.write_output.Goals as goal
+use Rattle.vt_device.proofs.OutputSteps.{moves_one_way}
+use Rattle.vt_device.proofs.output.write_output.Goals as goal
 
 pub returns-clause-answer : goal.returns-clause-answer
 returns-clause-answer g c =

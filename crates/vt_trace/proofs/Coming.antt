@@ -10,13 +10,13 @@ use Rattle.vt_syntax.specs.Held.{held_of, held_after, held_from, events_from}
 use Rattle.vt_syntax.specs.Laws.{SplitLaw}
 use Rattle.vt_syntax.specs.Split.{split_of}
 use Rattle.vt_syntax.proofs.Splits.{last_is_rest}
-use Rattle.vt_trace.specs.Names.{names, numbered}
+use Rattle.vt_trace.specs.Names.{Listing, numbered_in}
 use Rattle.vt_trace.specs.Skipped.{code_of, item_kinds, kinds_of}
 use Rattle.vt_trace.specs.Trace.{is_nothing, is_string, open_kind, code_after}
 use Rattle.vt_trace.specs.Runs.{byte_kind}
-use Rattle.vt_trace.specs.Summary.{has_name, is_ignored_kind, times_named, times_named_on, times_ignored, times_ignored_on, times_skipped, counted, all_ignored}
-use Rattle.vt_trace.specs.Summary.{ignored_lines, named_lines, named_line, count_line, event_summary, summary, summary_on}
-use Rattle.vt_trace.specs.Counted.{HasCounted, kinds_from, summary_after}
+use Rattle.vt_trace.specs.Summary.{has_name_by, is_ignored_kind_by, times_named_by, times_ignored_by, times_skipped, counted, all_ignored_by}
+use Rattle.vt_trace.specs.Summary.{ignored_lines, named_lines, named_line, count_line, event_summary_by, summary_by}
+use Rattle.vt_trace.specs.Counted.{HasCountedBy, kinds_from, summary_after}
 use Rattle.vt_trace.specs.declared.summary.Summary.{Summary}
 use Rattle.vt_trace.proofs.Counts.{events_more, held_more, flat_agree}
 use Rattle.vt_trace.proofs.ItemKinds.{kinds_of_byte, code_of_byte, open_rest}
@@ -81,43 +81,43 @@ kinds_more bytes (b ∷ more) code held law is_code is_held =
 
 -- ---- the summary
 
-module _ (s : Summary) (bytes more : List ℕ) (law : SplitLaw) (was : HasCounted bytes s) where
+module _ (d : Listing) (s : Summary) (bytes more : List ℕ) (law : SplitLaw) (was : HasCountedBy d s.rows bytes s) where
   abbrev come : List Event
   come = events_from s.parser more
 
   abbrev kinds_come : List ℕ
   kinds_come = kinds_from s.code s.parser more
 
-  ignored_so : (k : ℕ) → counted (get_or s.ignored.items k 0 + (times_ignored k come + times_skipped k kinds_come))
-      ≡ all_ignored (events_of bytes ++ come) (item_kinds bytes ++ kinds_come) k
-  unfolding times_ignored_on times_skipped
+  ignored_so : (k : ℕ) → counted (get_or s.ignored.items k 0 + (times_ignored_by d.called s.rows k come + times_skipped k kinds_come))
+      ≡ all_ignored_by d.called s.rows (events_of bytes ++ come) (item_kinds bytes ++ kinds_come) k
+  unfolding times_ignored_by times_skipped
   ignored_so k =
-      ap (λ n. counted (n + (times_ignored k come + times_skipped k kinds_come))) (was.counts.of_ignored k)
-      ∙ joined _ _ _ _ _ _ (count_append (is_ignored_kind k) (events_of bytes) come)
+      ap (λ n. counted (n + (times_ignored_by d.called s.rows k come + times_skipped k kinds_come))) (was.counts.of_ignored k)
+      ∙ joined _ _ _ _ _ _ (count_append (is_ignored_kind_by d.called s.rows k) (events_of bytes) come)
       (count_append (λ kind. kind == k) (item_kinds bytes) kinds_come)
 
-  named_so : (k : ℕ) → k < length names → counted (get_or s.named k 0 + times_named (numbered k) come)
-      ≡ counted (times_named (numbered k) (events_of bytes ++ come))
-  unfolding times_named_on
+  named_so : (k : ℕ) → k < length d.listed → counted (get_or s.named k 0 + times_named_by d.called s.rows (numbered_in d k) come)
+      ≡ counted (times_named_by d.called s.rows (numbered_in d k) (events_of bytes ++ come))
+  unfolding times_named_by
   named_so k low =
-      ap (λ n. counted (n + times_named (numbered k) come)) (was.counts.of_named k low)
-      ∙ joined_names _ _ _ (count_append (has_name (numbered k)) (events_of bytes) come)
+      ap (λ n. counted (n + times_named_by d.called s.rows (numbered_in d k) come)) (was.counts.of_named k low)
+      ∙ joined_names _ _ _ (count_append (has_name_by d.called s.rows (numbered_in d k)) (events_of bytes) come)
 
   -- the bytes that come go on
-  pub goes_on : summary_after s more ≡ summary (bytes ++ more)
-  unfolding summary_on
+  pub goes_on : summary_after d s more ≡ summary_by d s.rows (bytes ++ more)
+  unfolding summary_by
   goes_on =
       let events = events_of bytes ++ come in
       let kinds = item_kinds bytes ++ kinds_come in
-      let named_before : ℕ → ℕ = λ n. counted (get_or s.named n 0 + times_named (numbered n) come) in
-      let named_after : ℕ → ℕ = λ n. counted (times_named (numbered n) events) in
+      let named_before : ℕ → ℕ = λ n. counted (get_or s.named n 0 + times_named_by d.called s.rows (numbered_in d n) come) in
+      let named_after : ℕ → ℕ = λ n. counted (times_named_by d.called s.rows (numbered_in d n) events) in
       let ignored_before : ℕ → ℕ =
-      λ k. counted (get_or s.ignored.items k 0 + (times_ignored k come + times_skipped k kinds_come)) in
-      let same : ignored_before ≡ all_ignored events kinds = λ i k. ignored_so k i in
-      ap (λ (f : ℕ → ℕ). ignored_lines f ++ named_lines named_before) same
-      ∙ ap (λ (l : List ℕ). ignored_lines (all_ignored events kinds) ++ l)
-      (flat_agree (named_line named_before) (named_line named_after) 0 (length names)
-      (λ k low high. ap (λ n. count_line n (numbered k)) (named_so k (omega (arith, high)))))
-      ∙ ap (λ (es : List Event). event_summary es kinds) (sym (events_more s.parser bytes more law was.held))
-      ∙ ap (λ (l : List ℕ). event_summary (events_of (bytes ++ more)) l)
+      λ k. counted (get_or s.ignored.items k 0 + (times_ignored_by d.called s.rows k come + times_skipped k kinds_come)) in
+      let same : ignored_before ≡ all_ignored_by d.called s.rows events kinds = λ i k. ignored_so k i in
+      ap (λ (f : ℕ → ℕ). ignored_lines f ++ named_lines d named_before) same
+      ∙ ap (λ (l : List ℕ). ignored_lines (all_ignored_by d.called s.rows events kinds) ++ l)
+      (flat_agree (named_line d named_before) (named_line d named_after) 0 (length d.listed)
+      (λ k low high. ap (λ n. count_line n (numbered_in d k)) (named_so k (omega (arith, high)))))
+      ∙ ap (λ (es : List Event). event_summary_by d s.rows es kinds) (sym (events_more s.parser bytes more law was.held))
+      ∙ ap (λ (l : List ℕ). event_summary_by d s.rows (events_of (bytes ++ more)) l)
       (sym (kinds_more bytes more s.code s.parser law was.code was.held))

@@ -5,7 +5,8 @@ use Rattle.std.specs.Option.{option_to_list}
 use Rattle.vt_utf8.specs.Decoding.{read, characters, pending_after, IsWhole}
 use Rattle.vt_utf8.proofs.Cuts.{characters-append, pending-append, ascii-characters}
 use Rattle.vt_trace.specs.declared.summary.Summary.{Summary}
-use Rattle.vt_trace.specs.Counted.{HasCountedOn}
+use Rattle.vt_trace.specs.Names.{Listing}
+use Rattle.vt_trace.specs.Counted.{HasCountedBy}
 use Rattle.vt_trace.specs.Utf8.{counted_as, counted_bytes}
 use Rattle.vt_trace.specs.Private.Traces.{CountsUtf8}
 use Rattle.vt_trace.proofs.Beyond.{is_ascii, tail_of}
@@ -31,15 +32,15 @@ counted_same (b ∷ bytes) all =
 pub counted-ascii : (bytes : List ℕ) → All (λ b. b < 0x80) bytes → counted_bytes [] bytes ≡ bytes
 counted-ascii bytes all = ap (λ (cs : List ℕ). map counted_as cs) (ascii-characters bytes all) ∙ counted_same bytes all
 
-pub counts_none : (pending : List ℕ) (s : Summary) → CountsUtf8 pending [] pending s s
-counts_none pending s = record {
+pub counts_none : (d : Listing) (pending : List ℕ) (s : Summary) → CountsUtf8 d pending [] pending s s
+counts_none d pending s = record {
   left = refl;
   counted = λ rows front was. rw (append-nil front) was;
 }
 
-pub counts_both : (pending after left a b : List ℕ) (s t u : Summary) → CountsUtf8 pending a after s t → CountsUtf8 after b left t u
-    → CountsUtf8 pending (a ++ b) left s u
-counts_both pending after left a b s t u first second =
+pub counts_both : (d : Listing) (pending after left a b : List ℕ) (s t u : Summary) → CountsUtf8 d pending a after s t → CountsUtf8 d after b left t u
+    → CountsUtf8 d pending (a ++ b) left s u
+counts_both d pending after left a b s t u first second =
     let joined : (front : List ℕ) → (front ++ counted_bytes pending a) ++ counted_bytes after b ≡ front ++ counted_bytes pending (a ++ b) =
     λ front. append_assoc front (counted_bytes pending a) (counted_bytes after b)
     ∙ ap (λ (l : List ℕ). front ++ l) (ap (λ (q : List ℕ). counted_bytes pending a ++ counted_bytes q b) first.left
@@ -49,28 +50,28 @@ counts_both pending after left a b s t u first second =
       counted = λ rows front was. rw (joined front) at (second.counted rows (front ++ counted_bytes pending a) (first.counted rows front was));
     }
 
-pub counts_ascii : (pending bytes : List ℕ) (s u : Summary) → pending ≡ [] → All (λ b. b < 0x80) bytes → pending_after [] bytes ≡ []
-    → ((rows : ℕ) (front : List ℕ) → HasCountedOn rows front s → HasCountedOn rows (front ++ bytes) u) → CountsUtf8 pending bytes pending s u
-counts_ascii pending bytes s u nothing all left counts = rw nothing (record {
+pub counts_ascii : (d : Listing) (pending bytes : List ℕ) (s u : Summary) → pending ≡ [] → All (λ b. b < 0x80) bytes → pending_after [] bytes ≡ []
+    → ((rows : ℕ) (front : List ℕ) → HasCountedBy d rows front s → HasCountedBy d rows (front ++ bytes) u) → CountsUtf8 d pending bytes pending s u
+counts_ascii d pending bytes s u nothing all left counts = rw nothing (record {
   left = sym left;
   counted = λ rows front was. rw (counted-ascii bytes all) (counts rows front was);
 })
 
 -- a whole character
-pub counts_whole : (pending piece : List ℕ) (c n : ℕ) (s u : Summary) → pending ≡ [] → IsWhole piece c n
-    → ((rows : ℕ) (front : List ℕ) → HasCountedOn rows front s → HasCountedOn rows (front ++ counted_as c ∷ []) u) → CountsUtf8 pending (take n piece) pending s u
-counts_whole pending piece c n s u nothing whole counts = rw nothing (record {
+pub counts_whole : (d : Listing) (pending piece : List ℕ) (c n : ℕ) (s u : Summary) → pending ≡ [] → IsWhole piece c n
+    → ((rows : ℕ) (front : List ℕ) → HasCountedBy d rows front s → HasCountedBy d rows (front ++ counted_as c ∷ []) u) → CountsUtf8 d pending (take n piece) pending s u
+counts_whole d pending piece c n s u nothing whole counts = rw nothing (record {
   left = sym whole.pending;
   counted = λ rows front was. rw whole.characters (counts rows front was);
 })
 
 -- a byte, by the characters that it completes, in two parts
-pub counts_byte : (pending : List ℕ) (b : ℕ) (lost last : Option ℕ) (after : List ℕ) (s t u : Summary)
+pub counts_byte : (d : Listing) (pending : List ℕ) (b : ℕ) (lost last : Option ℕ) (after : List ℕ) (s t u : Summary)
     → option_to_list lost ++ option_to_list last ≡ (read pending b).characters → after ≡ (read pending b).pending
-    → ((rows : ℕ) (front : List ℕ) → HasCountedOn rows front s → HasCountedOn rows (front ++ map counted_as (option_to_list lost)) t)
-    → ((rows : ℕ) (front : List ℕ) → HasCountedOn rows front t → HasCountedOn rows (front ++ map counted_as (option_to_list last)) u)
-    → CountsUtf8 pending (b ∷ []) after s u
-counts_byte pending b lost last after s t u are left first second =
+    → ((rows : ℕ) (front : List ℕ) → HasCountedBy d rows front s → HasCountedBy d rows (front ++ map counted_as (option_to_list lost)) t)
+    → ((rows : ℕ) (front : List ℕ) → HasCountedBy d rows front t → HasCountedBy d rows (front ++ map counted_as (option_to_list last)) u)
+    → CountsUtf8 d pending (b ∷ []) after s u
+counts_byte d pending b lost last after s t u are left first second =
     let xs = option_to_list lost in
     let ys = option_to_list last in
     let all : characters pending (b ∷ []) ≡ xs ++ ys = append-nil (read pending b).characters ∙ sym are in
@@ -83,11 +84,11 @@ counts_byte pending b lost last after s t u are left first second =
     }
 
 -- the first byte of a piece
-pub counts_first : (pending piece : List ℕ) (lost last : Option ℕ) (after : List ℕ) (s t u : Summary) → 1 ≤ length piece
+pub counts_first : (d : Listing) (pending piece : List ℕ) (lost last : Option ℕ) (after : List ℕ) (s t u : Summary) → 1 ≤ length piece
     → option_to_list lost ++ option_to_list last ≡ (read pending (slice_index piece 0)).characters
     → after ≡ (read pending (slice_index piece 0)).pending
-    → ((rows : ℕ) (front : List ℕ) → HasCountedOn rows front s → HasCountedOn rows (front ++ map counted_as (option_to_list lost)) t)
-    → ((rows : ℕ) (front : List ℕ) → HasCountedOn rows front t → HasCountedOn rows (front ++ map counted_as (option_to_list last)) u)
-    → CountsUtf8 pending (take 1 piece) after s u
-counts_first pending piece lost last after s t u some are left first second =
-    rw (first_of piece some) (counts_byte pending (slice_index piece 0) lost last after s t u are left first second)
+    → ((rows : ℕ) (front : List ℕ) → HasCountedBy d rows front s → HasCountedBy d rows (front ++ map counted_as (option_to_list lost)) t)
+    → ((rows : ℕ) (front : List ℕ) → HasCountedBy d rows front t → HasCountedBy d rows (front ++ map counted_as (option_to_list last)) u)
+    → CountsUtf8 d pending (take 1 piece) after s u
+counts_first d pending piece lost last after s t u some are left first second =
+    rw (first_of piece some) (counts_byte d pending (slice_index piece 0) lost last after s t u are left first second)

@@ -17,16 +17,16 @@ use Rattle.vt_syntax.specs.Reading.{events_of}
 use Rattle.vt_syntax.specs.Held.{IsHeldPart, events_from, held_from, held_after}
 use Rattle.vt_syntax.specs.Laws.{SplitLaw}
 use Rattle.vt_glyph.proofs.Lists.{all_in_range}
-use Rattle.vt_term.specs.Names.{name_on}
-use Rattle.vt_trace.specs.Names.{names, numbered}
+use Rattle.vt_trace.specs.Lines.{Names}
+use Rattle.vt_trace.specs.Names.{Listing, numbered_in, AreApart}
 use Rattle.std.specs.Option.{option_to_list}
 use Rattle.vt_syntax.specs.Split.{split_of}
 use Rattle.vt_trace.specs.Skipped.{item_kinds, rest_kind, kinds_of}
 use Rattle.vt_trace.specs.Runs.{times_at}
-use Rattle.vt_trace.specs.Summary.{kind_number, has_name_on, is_ignored_kind_on, times_named_on, times_ignored_on, times_skipped, counted}
-use Rattle.vt_trace.specs.Summary.{all_ignored_on}
-use Rattle.vt_trace.specs.Summary.{ignored_lines, named_lines, named_line, count_line, summary_on}
-use Rattle.vt_trace.specs.Counted.{AreCounts, HasCountedOn}
+use Rattle.vt_trace.specs.Summary.{kind_number, has_name_by, is_ignored_kind_by, times_named_by, times_ignored_by, times_skipped, counted}
+use Rattle.vt_trace.specs.Summary.{all_ignored_by}
+use Rattle.vt_trace.specs.Summary.{ignored_lines, named_lines, named_line, count_line, summary_by}
+use Rattle.vt_trace.specs.Counted.{AreCounts, HasCountedBy}
 use Rattle.vt_trace.specs.declared.summary.Summary.{Summary}
 
 -- ---- one more event
@@ -52,14 +52,18 @@ one_more n = omega arith
 
 -- ---- names
 
-abbrev pub are_apart : ℕ → ℕ → Bool
-are_apart m n = eqb m n || not (pointwise nat_eq (numbered m) (numbered n))
+abbrev pub are_apart : Listing → ℕ → ℕ → Bool
+are_apart d m n = eqb m n || not (pointwise nat_eq (numbered_in d m) (numbered_in d n))
+
+-- each is compared with each
+abbrev pub all_apart : Listing → Bool
+all_apart d = list_all (λ m. list_all (are_apart d m) (range_with_len 0 (length d.listed))) (range_with_len 0 (length d.listed))
 
 -- no two are the same
-pub apart : (i j : ℕ) → i < length names → j < length names → i ≢ j → pointwise nat_eq (numbered i) (numbered j) ≡ false
-apart i j low high other =
-    go (eqb i j) (pointwise nat_eq (numbered i) (numbered j)) refl (all_in_range (are_apart i) 0 (length names) j
-    (all_in_range (λ m. list_all (are_apart m) (range_with_len 0 (length names))) 0 (length names) i refl (omega arith) (omega (arith, low)))
+pub apart : (d : Listing) → all_apart d ≡ true → AreApart d
+apart d all i j low high other =
+    go (eqb i j) (pointwise nat_eq (numbered_in d i) (numbered_in d j)) refl (all_in_range (are_apart d i) 0 (length d.listed) j
+    (all_in_range (λ m. list_all (are_apart d m) (range_with_len 0 (length d.listed))) 0 (length d.listed) i all (omega arith) (omega (arith, low)))
     (omega arith) (omega (arith, high)))
   where
     go : (e b : Bool) → eqb i j ≡ e → e || not b ≡ true → b ≡ false
@@ -73,18 +77,21 @@ itself name = (bytes_decides name name).1 refl
 
 -- ---- what one more event adds
 
-pub named_by : (rows : ℕ) (name word : List ℕ) (e : Event) → name_on rows e ≡ Some word → has_name_on rows name e ≡ pointwise nat_eq name word
-named_by rows name word e is = ap (λ (o : Option (List ℕ)). elim o [ None ↦ false | Some other ↦ pointwise nat_eq name other ]) is
+pub named_by : (called : Names) (rows : ℕ) (name word : List ℕ) (e : Event) → called rows e ≡ Some word
+    → has_name_by called rows name e ≡ pointwise nat_eq name word
+named_by called rows name word e is = ap (λ (o : Option (List ℕ)). elim o [ None ↦ false | Some other ↦ pointwise nat_eq name other ]) is
 
-pub not_ignored : (rows : ℕ) (k : ℕ) (e : Event) (word : List ℕ) → name_on rows e ≡ Some word → is_ignored_kind_on rows k e ≡ false
-not_ignored rows k e word is =
+pub not_ignored : (called : Names) (rows : ℕ) (k : ℕ) (e : Event) (word : List ℕ) → called rows e ≡ Some word
+    → is_ignored_kind_by called rows k e ≡ false
+not_ignored called rows k e word is =
     ap (λ (o : Option (List ℕ)). (elim o [ None ↦ true | Some name ↦ false ]) && kind_number e == k) is
 
-pub not_named : (rows : ℕ) (name : List ℕ) (e : Event) → name_on rows e ≡ None → has_name_on rows name e ≡ false
-not_named rows name e is = ap (λ (o : Option (List ℕ)). elim o [ None ↦ false | Some other ↦ pointwise nat_eq name other ]) is
+pub not_named : (called : Names) (rows : ℕ) (name : List ℕ) (e : Event) → called rows e ≡ None → has_name_by called rows name e ≡ false
+not_named called rows name e is = ap (λ (o : Option (List ℕ)). elim o [ None ↦ false | Some other ↦ pointwise nat_eq name other ]) is
 
-pub ignored_by : (rows : ℕ) (k : ℕ) (e : Event) → name_on rows e ≡ None → is_ignored_kind_on rows k e ≡ (kind_number e == k)
-ignored_by rows k e is =
+pub ignored_by : (called : Names) (rows : ℕ) (k : ℕ) (e : Event) → called rows e ≡ None
+    → is_ignored_kind_by called rows k e ≡ (kind_number e == k)
+ignored_by called rows k e is =
     ap (λ (o : Option (List ℕ)). (elim o [ None ↦ true | Some name ↦ false ]) && kind_number e == k) is
 
 -- one more in a table, at the number n of the whole table
@@ -119,16 +126,16 @@ is_equal n k same = go (eqb_tells n k)
     go (inl t) = t.0
     go (inr f) = absurd (f.1 same)
 
-module _ {rows : ℕ} (events : List Event) (kinds ignored named : List ℕ) (counts : AreCounts rows events kinds ignored named) where
+module _ (d : Listing) {rows : ℕ} (events : List Event) (kinds ignored named : List ℕ) (counts : AreCounts d rows events kinds ignored named) where
   -- an item without a function
   pub counts-skipped : (n : ℕ) (more : List ℕ) → n < 13312 → IsSet ignored n more → length more ≡ length ignored
-      → AreCounts rows events (kinds ++ n ∷ []) more named
-  unfolding times_named_on times_ignored_on times_skipped
+      → AreCounts d rows events (kinds ++ n ∷ []) more named
+  unfolding times_named_by times_ignored_by times_skipped
   counts-skipped n more within inside len = record {
     size = len ∙ counts.size;
     of_ignored = λ k.
         let size : length ignored ≡ 13312 = counts.size in
-        let a = count_by (is_ignored_kind_on rows k) events in
+        let a = count_by (is_ignored_kind_by d.called rows k) events in
         let b = count_by (λ m. m == k) kinds in
         set_at ignored more n k (a + b) (a + count_by (λ m. m == k) (kinds ++ n ∷ [])) inside (omega (arith, within, size))
         (counts.of_ignored k)
@@ -139,39 +146,40 @@ module _ {rows : ℕ} (events : List Event) (kinds ignored named : List ℕ) (co
 
   module _ (e : Event) where
     -- an event with a name
-    pub counts-named : (n : ℕ) (more : List ℕ) → name_on rows e ≡ Some (numbered n) → n < length names → length named ≡ length names
-        → more ≡ set named n (min (get_or named n 0 + 1) (2 ^ 64 - 1)) → AreCounts rows (events ++ e ∷ []) kinds ignored more
-    unfolding times_named_on times_ignored_on times_skipped
-    counts-named n more is within len was = record {
+    pub counts-named : (n : ℕ) (more : List ℕ) → AreApart d → d.called rows e ≡ Some (numbered_in d n) → n < length d.listed → n < length named
+        → more ≡ set named n (min (get_or named n 0 + 1) (2 ^ 64 - 1)) → AreCounts d rows (events ++ e ∷ []) kinds ignored more
+    unfolding times_named_by times_ignored_by times_skipped
+    counts-named n more law is within inside was = record {
       size = counts.size;
       of_ignored = λ k. counts.of_ignored k ∙ ap (λ m. counted (m + count_by (λ i. i == k) kinds))
-          (sym (counts_none (is_ignored_kind_on rows k) events e (not_ignored rows k e (numbered n) is)));
-      of_named = λ k low. set_at named more n k (count_by (has_name_on rows (numbered k)) events)
-          (count_by (has_name_on rows (numbered k)) (events ++ e ∷ [])) (λ h. was) (omega (arith, within, len)) (counts.of_named k low)
-          (λ same. counts_one (has_name_on rows (numbered k)) events e
-          (named_by rows (numbered k) (numbered n) e is ∙ ap (λ m. pointwise nat_eq (numbered k) (numbered m)) same ∙ itself (numbered k)))
-          (λ other. counts_none (has_name_on rows (numbered k)) events e
-          (named_by rows (numbered k) (numbered n) e is ∙ apart k n low within (λ h. other (sym h))));
+          (sym (counts_none (is_ignored_kind_by d.called rows k) events e (not_ignored d.called rows k e (numbered_in d n) is)));
+      of_named = λ k low. set_at named more n k (count_by (has_name_by d.called rows (numbered_in d k)) events)
+          (count_by (has_name_by d.called rows (numbered_in d k)) (events ++ e ∷ [])) (λ h. was) inside (counts.of_named k low)
+          (λ same. counts_one (has_name_by d.called rows (numbered_in d k)) events e
+          (named_by d.called rows (numbered_in d k) (numbered_in d n) e is ∙ ap (λ m. pointwise nat_eq (numbered_in d k) (numbered_in d m)) same
+          ∙ itself (numbered_in d k)))
+          (λ other. counts_none (has_name_by d.called rows (numbered_in d k)) events e
+          (named_by d.called rows (numbered_in d k) (numbered_in d n) e is ∙ law k n low within (λ h. other (sym h))));
     }
 
     -- an event that is ignored
-    pub counts-ignored : (n : ℕ) (more : List ℕ) → name_on rows e ≡ None → kind_number e ≡ n
-        → n < 13312 → IsSet ignored n more → length more ≡ length ignored → AreCounts rows (events ++ e ∷ []) kinds more named
-    unfolding times_named_on times_ignored_on times_skipped
+    pub counts-ignored : (n : ℕ) (more : List ℕ) → d.called rows e ≡ None → kind_number e ≡ n
+        → n < 13312 → IsSet ignored n more → length more ≡ length ignored → AreCounts d rows (events ++ e ∷ []) kinds more named
+    unfolding times_named_by times_ignored_by times_skipped
     counts-ignored n more is kind within inside len = record {
       size = len ∙ counts.size;
       of_ignored = λ k.
           let size : length ignored ≡ 13312 = counts.size in
-          let a = count_by (is_ignored_kind_on rows k) events in
+          let a = count_by (is_ignored_kind_by d.called rows k) events in
           let b = count_by (λ m. m == k) kinds in
-          set_at ignored more n k (a + b) (count_by (is_ignored_kind_on rows k) (events ++ e ∷ []) + b) inside (omega (arith, within, size))
+          set_at ignored more n k (a + b) (count_by (is_ignored_kind_by d.called rows k) (events ++ e ∷ []) + b) inside (omega (arith, within, size))
           (counts.of_ignored k)
-          (λ same. let one = counts_one (is_ignored_kind_on rows k) events e
-          (ignored_by rows k e is ∙ ap (λ m. m == k) kind ∙ is_equal n k same) in omega (arith, one))
-          (λ other. let none = counts_none (is_ignored_kind_on rows k) events e
-          (ignored_by rows k e is ∙ ap (λ m. m == k) kind ∙ not_equal n k other) in omega (arith, none));
+          (λ same. let one = counts_one (is_ignored_kind_by d.called rows k) events e
+          (ignored_by d.called rows k e is ∙ ap (λ m. m == k) kind ∙ is_equal n k same) in omega (arith, one))
+          (λ other. let none = counts_none (is_ignored_kind_by d.called rows k) events e
+          (ignored_by d.called rows k e is ∙ ap (λ m. m == k) kind ∙ not_equal n k other) in omega (arith, none));
       of_named = λ k low. counts.of_named k low
-          ∙ ap counted (sym (counts_none (has_name_on rows (numbered k)) events e (not_named rows (numbered k) e is)));
+          ∙ ap counted (sym (counts_none (has_name_by d.called rows (numbered_in d k)) events e (not_named d.called rows (numbered_in d k) e is)));
     }
 
 -- ---- bytes
@@ -190,10 +198,10 @@ pub held_more : (held : Held) (bytes front : List ℕ) → SplitLaw → held ≡
 held_more held bytes front law is =
     law.held_append Nothing bytes front ∙ ap (λ (h : Held). held_from h front) (sym is)
 
-pub counted_more : {rows : ℕ} (s : Summary) (bytes chunk : List ℕ) (at n : ℕ)
-    → HasCountedOn rows ((bytes ++ take at chunk) ++ take n (drop at chunk)) s
-    → HasCountedOn rows (bytes ++ take (at + n) chunk) s
-counted_more s bytes chunk at n was =
+pub counted_more : (d : Listing) {rows : ℕ} (s : Summary) (bytes chunk : List ℕ) (at n : ℕ)
+    → HasCountedBy d rows ((bytes ++ take at chunk) ++ take n (drop at chunk)) s
+    → HasCountedBy d rows (bytes ++ take (at + n) chunk) s
+counted_more d s bytes chunk at n was =
     rw (take-add at n chunk, sym (append_assoc bytes (take at chunk) (take n (drop at chunk)))) was
 
 abbrev none_at : ℕ → ℕ → ℕ
@@ -211,12 +219,12 @@ zeros_long : (n : ℕ) → length (zeros_of n) ≡ n
 zeros_long n = length-replicate n zero
 
 -- no events
-pub none_counted : (rows : ℕ) → AreCounts rows [] [] (replicate 13312 0) (replicate (length names) 0)
-unfolding times_named_on times_ignored_on times_skipped
-none_counted rows = record {
+pub none_counted : (d : Listing) (rows most : ℕ) → AreCounts d rows [] [] (replicate 13312 0) (replicate most 0)
+unfolding times_named_by times_ignored_by times_skipped
+none_counted d rows most = record {
   size = zeros_long 13312;
   of_ignored = λ k. zeros 13312 k;
-  of_named = λ k low. zeros (length names) k;
+  of_named = λ k low. zeros most k;
 }
 
 -- ---- lines
@@ -280,48 +288,48 @@ abbrev pub found_at : List ℕ → ℕ → ℕ
 found_at counts number = get_or counts number 0
 
 -- what is open at the end
-last_counted : {rows : ℕ} (events : List Event) (kinds ignored named : List ℕ) (kind : ℕ) → AreCounts rows events kinds ignored named
+last_counted : (d : Listing) {rows : ℕ} (events : List Event) (kinds ignored named : List ℕ) (kind : ℕ) → AreCounts d rows events kinds ignored named
     → (k : ℕ) (v : Bool) → eqb kind k ≡ v
-    → cond v (counted (get_or ignored k 0 + 1)) (get_or ignored k 0) ≡ all_ignored_on rows events (kinds ++ kind ∷ []) k
+    → cond v (counted (get_or ignored k 0 + 1)) (get_or ignored k 0) ≡ all_ignored_by d.called rows events (kinds ++ kind ∷ []) k
 unfolding times_skipped
-last_counted {rows} events kinds ignored named kind counts k true is =
+last_counted d {rows} events kinds ignored named kind counts k true is =
     let one = counts_one (λ m. m == k) kinds kind is in
     ap (λ n. counted (n + 1)) (counts.of_ignored k)
-    ∙ sym (one_more (times_ignored_on rows k events + count_by (λ m. m == k) kinds))
+    ∙ sym (one_more (times_ignored_by d.called rows k events + count_by (λ m. m == k) kinds))
     ∙ ap (λ n. counted n) (omega (arith, one))
-last_counted {rows} events kinds ignored named kind counts k false is =
-    counts.of_ignored k ∙ ap (λ n. counted (times_ignored_on rows k events + n)) (sym (counts_none (λ m. m == k) kinds kind is))
+last_counted d {rows} events kinds ignored named kind counts k false is =
+    counts.of_ignored k ∙ ap (λ n. counted (times_ignored_by d.called rows k events + n)) (sym (counts_none (λ m. m == k) kinds kind is))
 
-with_last : {rows : ℕ} (events : List Event) (kinds ignored named : List ℕ) (last : Option ℕ) → AreCounts rows events kinds ignored named
-    → (k : ℕ) → times_at ignored last k ≡ all_ignored_on rows events (kinds ++ option_to_list last) k
-with_last {rows} events kinds ignored named None counts k =
-    counts.of_ignored k ∙ ap (λ (l : List ℕ). all_ignored_on rows events l k) (sym (append-nil kinds))
-with_last {rows} events kinds ignored named (Some kind) counts k = last_counted events kinds ignored named kind counts k (eqb kind k) refl
+with_last : (d : Listing) {rows : ℕ} (events : List Event) (kinds ignored named : List ℕ) (last : Option ℕ) → AreCounts d rows events kinds ignored named
+    → (k : ℕ) → times_at ignored last k ≡ all_ignored_by d.called rows events (kinds ++ option_to_list last) k
+with_last d {rows} events kinds ignored named None counts k =
+    counts.of_ignored k ∙ ap (λ (l : List ℕ). all_ignored_by d.called rows events l k) (sym (append-nil kinds))
+with_last d {rows} events kinds ignored named (Some kind) counts k = last_counted d events kinds ignored named kind counts k (eqb kind k) refl
 
-pub same_ignored : {rows : ℕ} (events : List Event) (kinds ignored named : List ℕ) (last : Option ℕ) → AreCounts rows events kinds ignored named
-    → ignored_lines (times_at ignored last) ≡ ignored_lines (all_ignored_on rows events (kinds ++ option_to_list last))
-same_ignored {rows} events kinds ignored named last counts =
-    let same : times_at ignored last ≡ all_ignored_on rows events (kinds ++ option_to_list last) =
-    λ i number. with_last events kinds ignored named last counts number i in
+pub same_ignored : (d : Listing) {rows : ℕ} (events : List Event) (kinds ignored named : List ℕ) (last : Option ℕ) → AreCounts d rows events kinds ignored named
+    → ignored_lines (times_at ignored last) ≡ ignored_lines (all_ignored_by d.called rows events (kinds ++ option_to_list last))
+same_ignored d {rows} events kinds ignored named last counts =
+    let same : times_at ignored last ≡ all_ignored_by d.called rows events (kinds ++ option_to_list last) =
+    λ i number. with_last d events kinds ignored named last counts number i in
     ap ignored_lines same
 
-pub same_named : {rows : ℕ} (events : List Event) (kinds ignored named : List ℕ) → AreCounts rows events kinds ignored named
-    → named_lines (found_at named) ≡ named_lines (λ number. counted (times_named_on rows (numbered number) events))
-same_named {rows} events kinds ignored named counts =
-    flat_agree (named_line (found_at named)) (named_line (λ number. counted (times_named_on rows (numbered number) events))) 0 (length names)
-    (λ k low high. ap (λ n. count_line n (numbered k)) (counts.of_named k (omega (arith, high))))
+pub same_named : (d : Listing) {rows : ℕ} (events : List Event) (kinds ignored named : List ℕ) → AreCounts d rows events kinds ignored named
+    → named_lines d (found_at named) ≡ named_lines d (λ number. counted (times_named_by d.called rows (numbered_in d number) events))
+same_named d {rows} events kinds ignored named counts =
+    flat_agree (named_line d (found_at named)) (named_line d (λ number. counted (times_named_by d.called rows (numbered_in d number) events))) 0 (length d.listed)
+    (λ k low high. ap (λ n. count_line n (numbered_in d k)) (counts.of_named k (omega (arith, high))))
 
-pub summed : {rows : ℕ} (s : Summary) (bytes before first out : List ℕ) (last : Option ℕ) → HasCountedOn rows bytes s
+pub summed : (d : Listing) {rows : ℕ} (s : Summary) (bytes before first out : List ℕ) (last : Option ℕ) → HasCountedBy d rows bytes s
     → option_to_list last ≡ rest_kind (split_of bytes).rest
-    → first ≡ before ++ ignored_lines (times_at s.ignored.items last) → out ≡ first ++ named_lines (found_at s.named)
-    → out ≡ before ++ summary_on rows bytes
-unfolding summary_on
-summed {rows} s bytes before first out last was is one two =
+    → first ≡ before ++ ignored_lines (times_at s.ignored.items last) → out ≡ first ++ named_lines d (found_at s.named)
+    → out ≡ before ++ summary_by d rows bytes
+unfolding summary_by
+summed d {rows} s bytes before first out last was is one two =
     let events = events_of bytes in
-    two ∙ ap (λ (l : List ℕ). l ++ named_lines (found_at s.named)) one
-    ∙ append_assoc before (ignored_lines (times_at s.ignored.items last)) (named_lines (found_at s.named))
-    ∙ ap (λ (l : List ℕ). before ++ (l ++ named_lines (found_at s.named)))
-    (same_ignored events (item_kinds bytes) s.ignored.items s.named last was.counts
-    ∙ ap (λ (l : List ℕ). ignored_lines (all_ignored_on rows events (item_kinds bytes ++ l))) is)
-    ∙ ap (λ (l : List ℕ). before ++ (ignored_lines (all_ignored_on rows events (kinds_of bytes)) ++ l))
-    (same_named events (item_kinds bytes) s.ignored.items s.named was.counts)
+    two ∙ ap (λ (l : List ℕ). l ++ named_lines d (found_at s.named)) one
+    ∙ append_assoc before (ignored_lines (times_at s.ignored.items last)) (named_lines d (found_at s.named))
+    ∙ ap (λ (l : List ℕ). before ++ (l ++ named_lines d (found_at s.named)))
+    (same_ignored d events (item_kinds bytes) s.ignored.items s.named last was.counts
+    ∙ ap (λ (l : List ℕ). ignored_lines (all_ignored_by d.called rows events (item_kinds bytes ++ l))) is)
+    ∙ ap (λ (l : List ℕ). before ++ (ignored_lines (all_ignored_by d.called rows events (kinds_of bytes)) ++ l))
+    (same_named d events (item_kinds bytes) s.ignored.items s.named was.counts)

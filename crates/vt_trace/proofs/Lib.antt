@@ -11,3 +11,4 @@ mod Digits
 pub mod Beyond
 pub mod CountedUtf8
 pub mod ItemKinds
+pub mod Words

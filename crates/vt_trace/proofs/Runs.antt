@@ -18,16 +18,24 @@ use Rattle.vt_glyph.specs.Invocation.{has_no_glyph, HasGlyph}
 use Rattle.vt_term.specs.State.{Display, State}
 use Rattle.vt_term.specs.Reports.{report}
 use Rattle.vt_term.specs.Play.{play, after_events}
+use Rattle.vt_term.specs.Happenings.{happening, happenings}
 use Rattle.vt_term.proofs.Bytes.{nothing-held}
 use Rattle.vt_trace.specs.declared.tracing.Tracer.{Tracer}
-use Rattle.vt_trace.specs.Lines.{shown_byte, shown, event_line_on}
+use Rattle.vt_trace.specs.Lines.{Names, shown_byte, shown, event_line_by}
 use Rattle.vt_trace.specs.Skipped.{is_empty}
 use Rattle.vt_trace.specs.Trace.{begins, item_place, place_of, is_text, text_of, text_begin, text_end, written, written_all, text_after}
 use Rattle.vt_trace.specs.Trace.{between, is_nothing, is_string, cuts_off, ends_silent, item_first, code_after, ended_kind, skipped_lines}
-use Rattle.vt_trace.specs.Trace.{skipped, goes_on, traced, tracer_after, trace, tracer_all}
+use Rattle.vt_trace.specs.Trace.{skipped, goes_on, traced_at, tracer_at}
 use Rattle.vt_trace.specs.Runs.{IsShown, IsItem, is_graphic}
-use Rattle.vt_trace.specs.Observed.{AreRead, Completes, skim, skimmed, skipped_all, held_all}
+use Rattle.vt_trace.specs.Observed.{AreRead, Completes, skim, skimmed, skipped_all, held_all, traced_told, tracer_told}
 use Rattle.vt_trace.proofs.Leaves.{single_leaves, plain_leaves}
+
+-- what is written of bytes by names, and the tracer after them
+abbrev pub traced_by : Names → State → Tracer → List ℕ → List ℕ
+traced_by names s t bytes = traced_told names t (happenings s bytes)
+
+abbrev pub tracer_of : State → Tracer → List ℕ → Tracer
+tracer_of s t bytes = tracer_told t (happenings s bytes)
 
 abbrev made : ℕ → ℕ → Bool → Tracer
 made n m v = between m n v
@@ -77,42 +85,41 @@ skim_between h t b whole inner none =
 
 -- ---- a byte and its event
 
-quiet_line : (s : State) (t : Tracer) (b : ℕ) → events_from s.held (b ∷ []) ≡ [] → traced s t b ≡ skipped t s.held b
-unfolding traced
-quiet_line s t b none =
+quiet_line : (names : Names) (s : State) (t : Tracer) (b : ℕ) → events_from s.held (b ∷ []) ≡ [] → traced_at names t (happening s b) ≡ skipped t s.held b
+quiet_line names s t b none =
     ap (λ (es : List Event). skipped t s.held b
-    ++ written_all (goes_on t s.held b) (place_of t.place (item_place t s.held b) b) es s.display) none
+    ++ written_all names (goes_on t s.held b) (place_of t.place (item_place t s.held b) b) es s.display) none
     ∙ append-nil (skipped t s.held b)
 
 -- the tracer after a byte with these events
 unfoldable pub with_text : Bool → Tracer → Tracer
 with_text v t = record t { in_text = v }
 
-quiet_skim : (s : State) (t : Tracer) (b : ℕ) → events_from s.held (b ∷ []) ≡ [] → tracer_after s t b ≡ skim s.held t b
-unfolding tracer_after with_text
+quiet_skim : (s : State) (t : Tracer) (b : ℕ) → events_from s.held (b ∷ []) ≡ [] → tracer_at t (happening s b) ≡ skim s.held t b
+unfolding with_text
 quiet_skim s t b none =
     ap (λ (es : List Event). with_text (text_after (goes_on t s.held b) es) (skim s.held t b)) none
 
 event_skim : (s : State) (t : Tracer) (b : ℕ) (e : Event) → events_from s.held (b ∷ []) ≡ e ∷ []
-    → tracer_after s t b ≡ with_text (is_text e) (skim s.held t b)
-unfolding tracer_after with_text
+    → tracer_at t (happening s b) ≡ with_text (is_text e) (skim s.held t b)
+unfolding with_text
 event_skim s t b e events =
     ap (λ (es : List Event). with_text (text_after (goes_on t s.held b) es) (skim s.held t b)) events
 
 -- what is written of an event whose bytes led to a tracer
-unfoldable pub told_at : Display → Tracer → ℕ → Event → List ℕ
-told_at d t last e = written d.grid.size.rows t.in_text (place_of (t.place - 1) t.begin last e) e (report e d)
+unfoldable pub told_at : Names → Display → Tracer → ℕ → Event → List ℕ
+told_at names d t last e = written names d.grid.size.rows t.in_text (place_of (t.place - 1) t.begin last e) e (report e d)
 
-event_line_of : (s : State) (t : Tracer) (b : ℕ) (e : Event) → events_from s.held (b ∷ []) ≡ e ∷ []
-    → traced s t b ≡ skipped t s.held b ++ told_at s.display (skim s.held t b) b e
-unfolding traced told_at
-event_line_of s t b e events =
+event_line_of : (names : Names) (s : State) (t : Tracer) (b : ℕ) (e : Event) → events_from s.held (b ∷ []) ≡ e ∷ []
+    → traced_at names t (happening s b) ≡ skipped t s.held b ++ told_at names s.display (skim s.held t b) b e
+unfolding told_at
+event_line_of names s t b e events =
     let here : t.place ≡ t.place + 1 - 1 = omega arith in
     let begin = item_place t s.held b in
     let on = goes_on t s.held b in
-    ap (λ (es : List Event). skipped t s.held b ++ written_all on (place_of t.place begin b) es s.display) events
-    ∙ ap (λ (l : List ℕ). skipped t s.held b ++ l) (append-nil (written s.display.grid.size.rows on (place_of t.place begin b e) e (report e s.display)))
-    ∙ ap (λ n. skipped t s.held b ++ written s.display.grid.size.rows on (place_of n begin b e) e (report e s.display)) here
+    ap (λ (es : List Event). skipped t s.held b ++ written_all names on (place_of t.place begin b) es s.display) events
+    ∙ ap (λ (l : List ℕ). skipped t s.held b ++ l) (append-nil (written names s.display.grid.size.rows on (place_of t.place begin b e) e (report e s.display)))
+    ∙ ap (λ n. skipped t s.held b ++ written names s.display.grid.size.rows on (place_of n begin b e) e (report e s.display)) here
 
 -- ---- texts
 
@@ -152,12 +159,12 @@ glyphs_held law split (b ∷ run) all =
     ∙ ap (λ (h : Held). held_from h run) (glyph_held law b (all 0 0 (omega arith)))
     ∙ glyphs_held law split run (tail_of_all b run all)
 
-text_written : (in_text : Bool) (place b : ℕ) (s : Display) (at : Event → ℕ) → HasGlyph b → at (Print b) ≡ place
-    → written_all in_text at (Print b ∷ []) s ≡ text_of in_text place b
-text_written in_text place b s at i here =
-    ap (λ n. written s.grid.size.rows in_text n (Print b) (report (Print b) s) ++ []) here
-    ∙ append-nil (written s.grid.size.rows in_text place (Print b) (report (Print b) s))
-    ∙ ap (λ (v : Bool). cond v (text_end in_text ++ event_line_on s.grid.size.rows place (Print b)) (text_of in_text place b)) (has-glyph b i)
+text_written : (names : Names) (in_text : Bool) (place b : ℕ) (s : Display) (at : Event → ℕ) → HasGlyph b → at (Print b) ≡ place
+    → written_all names in_text at (Print b ∷ []) s ≡ text_of in_text place b
+text_written names in_text place b s at i here =
+    ap (λ n. written names s.grid.size.rows in_text n (Print b) (report (Print b) s) ++ []) here
+    ∙ append-nil (written names s.grid.size.rows in_text place (Print b) (report (Print b) s))
+    ∙ ap (λ (v : Bool). cond v (text_end in_text ++ event_line_by names s.grid.size.rows place (Print b)) (text_of in_text place b)) (has-glyph b i)
 
 module _ (law : SpellingLaw) (s : State) (t : Tracer) (b : ℕ) (nothing : s.held ≡ Nothing) (i : HasGlyph b) where
   character : events_from s.held (b ∷ []) ≡ Print b ∷ []
@@ -172,17 +179,16 @@ module _ (law : SpellingLaw) (s : State) (t : Tracer) (b : ℕ) (nothing : s.hel
   has_event : ends_silent s.held b ≡ false
   has_event = ap (λ (es : List Event). is_empty es && is_nothing (held_from s.held (b ∷ []))) character
 
-  pub traced_character : traced s t b ≡ text_of t.in_text t.place b
-  unfolding traced
-  traced_character =
-      ap (λ (l : List ℕ). l ++ written_all (goes_on t s.held b) (place_of t.place (item_place t s.held b) b) (events_from s.held (b ∷ [])) s.display)
+  pub traced_character : (names : Names) → traced_at names t (happening s b) ≡ text_of t.in_text t.place b
+  traced_character names =
+      ap (λ (l : List ℕ). l ++ written_all names (goes_on t s.held b) (place_of t.place (item_place t s.held b) b) (events_from s.held (b ∷ [])) s.display)
       (none_skipped t s.held b whole_character has_event)
-      ∙ ap (λ (v : Bool). written_all v (place_of t.place (item_place t s.held b) b) (events_from s.held (b ∷ [])) s.display)
+      ∙ ap (λ (v : Bool). written_all names v (place_of t.place (item_place t s.held b) b) (events_from s.held (b ∷ [])) s.display)
       (still_on t s.held b whole_character has_event)
-      ∙ ap (λ (es : List Event). written_all t.in_text (place_of t.place (item_place t s.held b) b) es s.display) character
-      ∙ text_written t.in_text t.place b s.display (place_of t.place (item_place t s.held b) b) i refl
+      ∙ ap (λ (es : List Event). written_all names t.in_text (place_of t.place (item_place t s.held b) b) es s.display) character
+      ∙ text_written names t.in_text t.place b s.display (place_of t.place (item_place t s.held b) b) i refl
 
-  pub tracer_character : tracer_after s t b ≡ made t.place (t.place + 1) true
+  pub tracer_character : tracer_at t (happening s b) ≡ made t.place (t.place + 1) true
   unfolding with_text
   tracer_character =
       event_skim s t b (Print b) character
@@ -198,45 +204,42 @@ module _ (law : SpellingLaw) (s : State) (t : Tracer) (b : ℕ) (nothing : s.hel
 module _ (law : SpellingLaw) where
   -- a text
   pub tracer_text : (s : State) (t : Tracer) (b : ℕ) (run : List ℕ) → s.held ≡ Nothing → All HasGlyph (b ∷ run)
-      → tracer_all s t (b ∷ run) ≡ made (t.place + length run) (t.place + length run + 1) true
-  unfolding tracer_all
+      → tracer_of s t (b ∷ run) ≡ made (t.place + length run) (t.place + length run + 1) true
   tracer_text s t b [] nothing all =
       tracer_character law s t b nothing (all 0 0 (omega arith))
       ∙ same_tracer t.place (t.place + 0) (t.place + 1) (t.place + 0 + 1) true (omega arith) (omega arith)
   tracer_text s t b (c ∷ run) nothing all =
       let first : HasGlyph b = all 0 0 (omega arith) in
       let u : Tracer = made t.place (t.place + 1) true in
-      ap (λ (u : Tracer). tracer_all (play s (b ∷ [])).state u (c ∷ run)) (tracer_character law s t b nothing first)
+      ap (λ (u : Tracer). tracer_of (play s (b ∷ [])).state u (c ∷ run)) (tracer_character law s t b nothing first)
       ∙ tracer_text (play s (b ∷ [])).state u c run (next_nothing law s t b nothing first) (tail_of_all b (c ∷ run) all)
       ∙ same_tracer (t.place + 1 + length run) (t.place + length (c ∷ run)) (t.place + 1 + length run + 1)
       (t.place + length (c ∷ run) + 1) true (omega arith) (omega arith)
 
   -- on a text that goes on
-  trace_on : (s : State) (t : Tracer) (run : List ℕ) → s.held ≡ Nothing → t.in_text ≡ true → All HasGlyph run
-      → trace s t run ≡ shown run
-  unfolding trace
-  trace_on s t [] nothing text all = refl
-  trace_on s t (b ∷ run) nothing text all =
+  trace_on : (names : Names) (s : State) (t : Tracer) (run : List ℕ) → s.held ≡ Nothing → t.in_text ≡ true → All HasGlyph run
+      → traced_by names s t run ≡ shown run
+  trace_on names s t [] nothing text all = refl
+  trace_on names s t (b ∷ run) nothing text all =
       let first : HasGlyph b = all 0 0 (omega arith) in
       let u : Tracer = made t.place (t.place + 1) true in
-      ap (λ (l : List ℕ). l ++ trace (play s (b ∷ [])).state (tracer_after s t b) run)
-      (traced_character law s t b nothing first ∙ ap (λ (v : Bool). text_of v t.place b) text)
-      ∙ ap (λ (u : Tracer). shown_byte b ++ trace (play s (b ∷ [])).state u run) (tracer_character law s t b nothing first)
+      ap (λ (l : List ℕ). l ++ traced_by names (play s (b ∷ [])).state (tracer_at t (happening s b)) run)
+      (traced_character law s t b nothing first names ∙ ap (λ (v : Bool). text_of v t.place b) text)
+      ∙ ap (λ (u : Tracer). shown_byte b ++ traced_by names (play s (b ∷ [])).state u run) (tracer_character law s t b nothing first)
       ∙ ap (λ (l : List ℕ). shown_byte b ++ l)
-      (trace_on (play s (b ∷ [])).state u run (next_nothing law s t b nothing first) refl (tail_of_all b run all))
+      (trace_on names (play s (b ∷ [])).state u run (next_nothing law s t b nothing first) refl (tail_of_all b run all))
 
-  pub trace_text : (s : State) (t : Tracer) (b : ℕ) (run : List ℕ) → s.held ≡ Nothing → All HasGlyph (b ∷ run)
-      → trace s t (b ∷ run) ≡ text_begin t.in_text t.place ++ shown (b ∷ run)
-  unfolding trace
-  trace_text s t b run nothing all =
+  pub trace_text : (names : Names) (s : State) (t : Tracer) (b : ℕ) (run : List ℕ) → s.held ≡ Nothing → All HasGlyph (b ∷ run)
+      → traced_by names s t (b ∷ run) ≡ text_begin t.in_text t.place ++ shown (b ∷ run)
+  trace_text names s t b run nothing all =
       let first : HasGlyph b = all 0 0 (omega arith) in
       let u : Tracer = made t.place (t.place + 1) true in
-      ap (λ (l : List ℕ). l ++ trace (play s (b ∷ [])).state (tracer_after s t b) run)
-      (traced_character law s t b nothing first)
-      ∙ ap (λ (u : Tracer). text_of t.in_text t.place b ++ trace (play s (b ∷ [])).state u run)
+      ap (λ (l : List ℕ). l ++ traced_by names (play s (b ∷ [])).state (tracer_at t (happening s b)) run)
+      (traced_character law s t b nothing first names)
+      ∙ ap (λ (u : Tracer). text_of t.in_text t.place b ++ traced_by names (play s (b ∷ [])).state u run)
       (tracer_character law s t b nothing first)
       ∙ ap (λ (l : List ℕ). text_of t.in_text t.place b ++ l)
-      (trace_on (play s (b ∷ [])).state u run (next_nothing law s t b nothing first) refl (tail_of_all b run all))
+      (trace_on names (play s (b ∷ [])).state u run (next_nothing law s t b nothing first) refl (tail_of_all b run all))
       ∙ append_assoc (text_begin t.in_text t.place) (shown_byte b) (shown run)
 
 -- ---- events
@@ -346,60 +349,60 @@ module _ (law : SpellingLaw) (split : SplitLaw) where
   rest_held h b rest none = sym (split.held_append h (b ∷ []) rest) ∙ none
 
   -- bytes without an event
-  pub quiet_lines : (s : State) (t : Tracer) (bytes : List ℕ) → events_from s.held bytes ≡ []
-      → trace s t bytes ≡ skipped_all s.held t bytes
-  unfolding trace play
-  quiet_lines s t [] none = refl
-  quiet_lines s t (b ∷ bytes) none =
+  pub quiet_lines : (names : Names) (s : State) (t : Tracer) (bytes : List ℕ) → events_from s.held bytes ≡ []
+      → traced_by names s t bytes ≡ skipped_all s.held t bytes
+  unfolding play
+  quiet_lines names s t [] none = refl
+  quiet_lines names s t (b ∷ bytes) none =
       let next : State = (play s (b ∷ [])).state in
       let here = first_quiet s.held b bytes none in
-      ap (λ (l : List ℕ). l ++ trace next (tracer_after s t b) bytes) (quiet_line s t b here)
-      ∙ ap (λ (u : Tracer). skipped t s.held b ++ trace next u bytes) (quiet_skim s t b here)
+      ap (λ (l : List ℕ). l ++ traced_by names next (tracer_at t (happening s b)) bytes) (quiet_line names s t b here)
+      ∙ ap (λ (u : Tracer). skipped t s.held b ++ traced_by names next u bytes) (quiet_skim s t b here)
       ∙ ap (λ (l : List ℕ). skipped t s.held b ++ l)
-      (quiet_lines next (skim s.held t b) bytes (rest_quiet s.held b bytes none))
+      (quiet_lines names next (skim s.held t b) bytes (rest_quiet s.held b bytes none))
 
   pub quiet_tracer : (s : State) (t : Tracer) (bytes : List ℕ) → events_from s.held bytes ≡ []
-      → tracer_all s t bytes ≡ skimmed s.held t bytes
-  unfolding tracer_all play
+      → tracer_of s t bytes ≡ skimmed s.held t bytes
+  unfolding play
   quiet_tracer s t [] none = refl
   quiet_tracer s t (b ∷ bytes) none =
       let next : State = (play s (b ∷ [])).state in
       let here = first_quiet s.held b bytes none in
-      ap (λ (u : Tracer). tracer_all next u bytes) (quiet_skim s t b here)
+      ap (λ (u : Tracer). tracer_of next u bytes) (quiet_skim s t b here)
       ∙ quiet_tracer next (skim s.held t b) bytes (rest_quiet s.held b bytes none)
 
   -- bytes of which the last completes an event
-  one_lines : (front : List ℕ) (last : ℕ) (e : Event) (s : State) (t : Tracer) → events_from s.held front ≡ []
+  one_lines : (names : Names) (front : List ℕ) (last : ℕ) (e : Event) (s : State) (t : Tracer) → events_from s.held front ≡ []
       → events_from s.held (front ++ last ∷ []) ≡ e ∷ []
-      → trace s t (front ++ last ∷ []) ≡ skipped_all s.held t (front ++ last ∷ [])
-      ++ told_at s.display (skimmed s.held t (front ++ last ∷ [])) last e
-  unfolding trace play
-  one_lines [] last e s t none events =
-      append-nil (traced s t last) ∙ event_line_of s t last e events
-      ∙ ap (λ (l : List ℕ). l ++ told_at s.display (skim s.held t last) last e) (sym (append-nil (skipped t s.held last)))
-  one_lines (b ∷ front) last e s t none events =
+      → traced_by names s t (front ++ last ∷ []) ≡ skipped_all s.held t (front ++ last ∷ [])
+      ++ told_at names s.display (skimmed s.held t (front ++ last ∷ [])) last e
+  unfolding play
+  one_lines names [] last e s t none events =
+      append-nil (traced_at names t (happening s last)) ∙ event_line_of names s t last e events
+      ∙ ap (λ (l : List ℕ). l ++ told_at names s.display (skim s.held t last) last e) (sym (append-nil (skipped t s.held last)))
+  one_lines names (b ∷ front) last e s t none events =
       let next : State = (play s (b ∷ [])).state in
       let u : Tracer = skim s.held t b in
       let rest : List ℕ = front ++ last ∷ [] in
       let here = first_quiet s.held b front none in
-      ap (λ (l : List ℕ). l ++ trace next (tracer_after s t b) rest) (quiet_line s t b here)
-      ∙ ap (λ (w : Tracer). skipped t s.held b ++ trace next w rest) (quiet_skim s t b here)
+      ap (λ (l : List ℕ). l ++ traced_by names next (tracer_at t (happening s b)) rest) (quiet_line names s t b here)
+      ∙ ap (λ (w : Tracer). skipped t s.held b ++ traced_by names next w rest) (quiet_skim s t b here)
       ∙ ap (λ (l : List ℕ). skipped t s.held b ++ l)
-      (one_lines front last e next u (rest_quiet s.held b front none) (rest_event s.held b rest e here events)
-      ∙ ap (λ (d : Display). skipped_all next.held u rest ++ told_at d (skimmed next.held u rest) last e) (quiet_display s b here))
+      (one_lines names front last e next u (rest_quiet s.held b front none) (rest_event s.held b rest e here events)
+      ∙ ap (λ (d : Display). skipped_all next.held u rest ++ told_at names d (skimmed next.held u rest) last e) (quiet_display s b here))
       ∙ sym (append_assoc (skipped t s.held b) (skipped_all next.held u rest)
-      (told_at s.display (skimmed next.held u rest) last e))
+      (told_at names s.display (skimmed next.held u rest) last e))
 
   one_tracer : (front : List ℕ) (last : ℕ) (e : Event) (s : State) (t : Tracer) → events_from s.held front ≡ []
       → events_from s.held (front ++ last ∷ []) ≡ e ∷ []
-      → tracer_all s t (front ++ last ∷ []) ≡ with_text (is_text e) (skimmed s.held t (front ++ last ∷ []))
-  unfolding tracer_all play
+      → tracer_of s t (front ++ last ∷ []) ≡ with_text (is_text e) (skimmed s.held t (front ++ last ∷ []))
+  unfolding play
   one_tracer [] last e s t none events = event_skim s t last e events
   one_tracer (b ∷ front) last e s t none events =
       let next : State = (play s (b ∷ [])).state in
       let rest : List ℕ = front ++ last ∷ [] in
       let here = first_quiet s.held b front none in
-      ap (λ (w : Tracer). tracer_all next w rest) (quiet_skim s t b here)
+      ap (λ (w : Tracer). tracer_of next w rest) (quiet_skim s t b here)
       ∙ one_tracer front last e next (skim s.held t b) (rest_quiet s.held b front none) (rest_event s.held b rest e here events)
 
   -- inside a sequence nothing is skipped
@@ -503,10 +506,10 @@ last_apart xs some =
 -- ---- functions
 
 -- the trace of bytes is written
-pub record IsTraced (s : State) (bytes : List ℕ) (k : Held) (t u : Tracer) (old new : List ℕ) : Type 0 where
+pub record IsTraced (names : Names) (s : State) (bytes : List ℕ) (k : Held) (t u : Tracer) (old new : List ℕ) : Type 0 where
   pub held : k ≡ (play s bytes).state.held
-  pub lines : new ≡ old ++ trace s t bytes
-  pub tracer : u ≡ tracer_all s t bytes
+  pub lines : new ≡ old ++ traced_by names s t bytes
+  pub tracer : u ≡ tracer_of s t bytes
 
 module _ (law : SpellingLaw) (split : SplitLaw) (bytes : List ℕ) (e : Event) (some : 1 ≤ length bytes) where
   abbrev front : List ℕ
@@ -539,12 +542,12 @@ module _ (law : SpellingLaw) (split : SplitLaw) (bytes : List ℕ) (e : Event) (
       }
 
   -- bytes that were read, and then the event
-  pub event_told : (s : State) (h k : Held) (t u : Tracer) (old mid new : List ℕ) (v : Bool)
+  pub event_told : (names : Names) (s : State) (h k : Held) (t u : Tracer) (old mid new : List ℕ) (v : Bool)
       → Completes h bytes e → (Completes h bytes e → AreRead h k t u bytes old mid)
-      → new ≡ mid ++ told_at s.display u last e → v ≡ is_text e
-      → h ≡ s.held → IsTraced s bytes k t (with_text v u) old new
+      → new ≡ mid ++ told_at names s.display u last e → v ≡ is_text e
+      → h ≡ s.held → IsTraced names s bytes k t (with_text v u) old new
   unfolding with_text play
-  event_told s h k t u old mid new v one reads told text is =
+  event_told names s h k t u old mid new v one reads told text is =
       let read = reads one in
       let events : events_from s.held (front ++ last ∷ []) ≡ e ∷ [] =
       ap (λ (l : List ℕ). events_from s.held l) whole ∙ ap (λ (k : Held). events_from k bytes) (sym is) ∙ one.events in
@@ -555,13 +558,13 @@ module _ (law : SpellingLaw) (split : SplitLaw) (bytes : List ℕ) (e : Event) (
       read.tracer ∙ ap (λ (k : Held). skimmed k t bytes) is ∙ ap (λ (l : List ℕ). skimmed s.held t l) (sym whole) in
       record {
         held = read.held ∙ ap (λ (k : Held). held_from k bytes) is;
-        lines = told ∙ ap (λ (l : List ℕ). l ++ told_at s.display u last e) (read.lines ∙ ap (λ (l : List ℕ). old ++ l) skips)
-            ∙ append_assoc old (skipped_all s.held t (front ++ last ∷ [])) (told_at s.display u last e)
-            ∙ ap (λ (w : Tracer). old ++ (skipped_all s.held t (front ++ last ∷ []) ++ told_at s.display w last e)) skims
-            ∙ ap (λ (l : List ℕ). old ++ l) (sym (one_lines law split front last e s t silent events))
-            ∙ ap (λ (l : List ℕ). old ++ trace s t l) whole;
+        lines = told ∙ ap (λ (l : List ℕ). l ++ told_at names s.display u last e) (read.lines ∙ ap (λ (l : List ℕ). old ++ l) skips)
+            ∙ append_assoc old (skipped_all s.held t (front ++ last ∷ [])) (told_at names s.display u last e)
+            ∙ ap (λ (w : Tracer). old ++ (skipped_all s.held t (front ++ last ∷ []) ++ told_at names s.display w last e)) skims
+            ∙ ap (λ (l : List ℕ). old ++ l) (sym (one_lines law split names front last e s t silent events))
+            ∙ ap (λ (l : List ℕ). old ++ traced_by names s t l) whole;
         tracer = ap (λ (w : Bool). with_text w u) text ∙ ap (λ (w : Tracer). with_text (is_text e) w) skims
-            ∙ sym (one_tracer law split front last e s t silent events) ∙ ap (λ (l : List ℕ). tracer_all s t l) whole;
+            ∙ sym (one_tracer law split front last e s t silent events) ∙ ap (λ (l : List ℕ). tracer_of s t l) whole;
       }
 
 -- what is held after bytes, one after another
@@ -572,28 +575,28 @@ held_is split h (b ∷ bytes) part =
     ∙ sym (split.held_append h (b ∷ []) bytes)
 
 -- bytes without an event
-pub part_told : SpellingLaw → SplitLaw → (s : State) (h k : Held) (t u : Tracer) (bytes old new : List ℕ)
-    → events_from s.held bytes ≡ [] → AreRead h k t u bytes old new → h ≡ s.held → IsTraced s bytes k t u old new
+pub part_told : SpellingLaw → SplitLaw → (names : Names) (s : State) (h k : Held) (t u : Tracer) (bytes old new : List ℕ)
+    → events_from s.held bytes ≡ [] → AreRead h k t u bytes old new → h ≡ s.held → IsTraced names s bytes k t u old new
 unfolding play
-part_told law split s h k t u bytes old new none read is = record {
+part_told law split names s h k t u bytes old new none read is = record {
   held = read.held ∙ ap (λ (k : Held). held_from k bytes) is;
   lines = read.lines ∙ ap (λ (k : Held). old ++ skipped_all k t bytes) is
-      ∙ ap (λ (l : List ℕ). old ++ l) (sym (quiet_lines law split s t bytes none));
+      ∙ ap (λ (l : List ℕ). old ++ l) (sym (quiet_lines law split names s t bytes none));
   tracer = read.tracer ∙ ap (λ (k : Held). skimmed k t bytes) is ∙ sym (quiet_tracer law split s t bytes none);
 }
 
 -- characters
-pub run_told : SpellingLaw → SplitLaw → (s : State) (h : Held) (t : Tracer) (run old mid new : List ℕ) → 1 ≤ length run
+pub run_told : SpellingLaw → SplitLaw → (names : Names) (s : State) (h : Held) (t : Tracer) (run old mid new : List ℕ) → 1 ≤ length run
     → All HasGlyph run → s.held ≡ Nothing → mid ≡ old ++ text_begin t.in_text t.place → new ≡ mid ++ shown run
     → h ≡ s.held
-    → IsTraced s run h t (made (t.place + (length run - 1)) (t.place + (length run - 1) + 1) true) old new
+    → IsTraced names s run h t (made (t.place + (length run - 1)) (t.place + (length run - 1) + 1) true) old new
 unfolding play
-run_told law split s h t [] old mid new some all nothing is then_so same = absurd (omega (arith, some))
-run_told law split s h t (b ∷ run) old mid new some all nothing is then_so same = record {
+run_told law split names s h t [] old mid new some all nothing is then_so same = absurd (omega (arith, some))
+run_told law split names s h t (b ∷ run) old mid new some all nothing is then_so same = record {
   held = same ∙ nothing ∙ sym (ap (λ (h : Held). held_from h (b ∷ run)) nothing ∙ glyphs_held law split (b ∷ run) all);
   lines = then_so ∙ ap (λ (l : List ℕ). l ++ shown (b ∷ run)) is
       ∙ append_assoc old (text_begin t.in_text t.place) (shown (b ∷ run))
-      ∙ ap (λ (l : List ℕ). old ++ l) (sym (trace_text law s t b run nothing all));
+      ∙ ap (λ (l : List ℕ). old ++ l) (sym (trace_text law names s t b run nothing all));
   tracer = same_tracer (t.place + (length (b ∷ run) - 1)) (t.place + length run) (t.place + (length (b ∷ run) - 1) + 1)
       (t.place + length run + 1) true (omega arith) (omega arith)
       ∙ sym (tracer_text law s t b run nothing all);

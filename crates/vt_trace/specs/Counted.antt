@@ -7,25 +7,29 @@ use Rattle.vt_syntax.specs.Reading.{events_of}
 use Rattle.vt_syntax.specs.declared.held.Held.{Held}
 use Rattle.vt_syntax.specs.Held.{held_after, held_from, events_from}
 use Rattle.vt_trace.specs.declared.summary.Summary.{Summary}
-use Rattle.vt_trace.specs.Names.{names, numbered}
+use Rattle.vt_trace.specs.Names.{Listing, vt220_listing, numbered_in}
 use Rattle.vt_trace.specs.Skipped.{code_of, item_kinds}
-use Rattle.vt_trace.specs.Summary.{counted, times_named, times_named_on, times_ignored, times_skipped, all_ignored_on, ignored_lines, named_lines}
+use Rattle.vt_trace.specs.Summary.{counted, times_named_by, times_skipped, all_ignored_by, ignored_lines, named_lines, times_ignored_by}
 use Rattle.vt_trace.specs.Trace.{is_nothing, is_string, code_after, open_kind}
 use Rattle.vt_trace.specs.Runs.{byte_kind}
 
--- the counts of what was ignored by the numbers of its kinds, and of the other events by the numbers of their names, on a screen of
--- so many rows
-pub record AreCounts (rows : ℕ) (events : List Event) (kinds : List ℕ) (ignored named : List ℕ) : Type 0 where
+-- the counts of what was ignored by the numbers of its kinds, and of the other events by the numbers of their names in a list, on a
+-- screen of so many rows
+pub record AreCounts (d : Listing) (rows : ℕ) (events : List Event) (kinds : List ℕ) (ignored named : List ℕ) : Type 0 where
   pub size : length ignored ≡ 13312
-  pub of_ignored : (k : ℕ) → get_or ignored k 0 ≡ all_ignored_on rows events kinds k
-  pub of_named : (k : ℕ) → k < length names → get_or named k 0 ≡ counted (times_named_on rows (numbered k) events)
+  pub of_ignored : (k : ℕ) → get_or ignored k 0 ≡ all_ignored_by d.called rows events kinds k
+  pub of_named : (k : ℕ) → k < length d.listed → get_or named k 0 ≡ counted (times_named_by d.called rows (numbered_in d k) events)
 
--- the summary of a screen of so many rows has counted the events and the items of these bytes, and no others
-pub record HasCountedOn (rows : ℕ) (bytes : List ℕ) (s : Summary) : Type 0 where
+-- the summary by these names of a screen of so many rows has counted the events and the items of these bytes, and no others
+pub record HasCountedBy (d : Listing) (rows : ℕ) (bytes : List ℕ) (s : Summary) : Type 0 where
   pub rows_are : s.rows ≡ rows
   pub held : s.parser ≡ held_after bytes
   pub code : s.code ≡ code_of (split_of bytes).rest
-  pub counts : AreCounts rows (events_of bytes) (item_kinds bytes) s.ignored.items s.named
+  pub counts : AreCounts d rows (events_of bytes) (item_kinds bytes) s.ignored.items s.named
+
+-- by a VT220's names
+abbrev pub HasCountedOn : ℕ → List ℕ → Summary → Type 0
+HasCountedOn rows bytes s = HasCountedBy vt220_listing rows bytes s
 
 -- that of a VT220
 abbrev pub HasCounted : List ℕ → Summary → Type 0
@@ -34,12 +38,12 @@ HasCounted bytes s = HasCountedOn last_row bytes s
 -- ---- bytes that come; private contracts alone speak of this
 
 -- there are bytes that the summary has counted
-pub record AreSome (s : Summary) : Type 0 where
+pub record AreSome (d : Listing) (s : Summary) : Type 0 where
   pub bytes : List ℕ
-  pub are_counted : HasCounted bytes s
+  pub are_counted : HasCountedBy d s.rows bytes s
 
-abbrev pub HasCountedSome : Summary → Type 0
-HasCountedSome s = ∥ AreSome s ∥₁
+abbrev pub HasCountedSome : Listing → Summary → Type 0
+HasCountedSome d s = ∥ AreSome d s ∥₁
 
 -- the kinds of the items without a function that bytes end or cut off, and of what is left. Before them this part is held,
 -- and the C1 control `code` opened it if it is a string
@@ -50,9 +54,9 @@ kinds_from code held (b ∷ bytes) =
     ++ kinds_from (code_after code (is_string held) (held_from held (b ∷ [])) b) (held_from held (b ∷ [])) bytes
 
 -- the summary of the bytes that were counted and of these
-abbrev pub summary_after : Summary → List ℕ → List ℕ
-summary_after s bytes =
+abbrev pub summary_after : Listing → Summary → List ℕ → List ℕ
+summary_after d s bytes =
     let events = events_from s.parser bytes in
     let kinds = kinds_from s.code s.parser bytes in
-    ignored_lines (λ number. counted (get_or s.ignored.items number 0 + (times_ignored number events + times_skipped number kinds)))
-    ++ named_lines (λ number. counted (get_or s.named number 0 + times_named (numbered number) events))
+    ignored_lines (λ number. counted (get_or s.ignored.items number 0 + (times_ignored_by d.called s.rows number events + times_skipped number kinds)))
+    ++ named_lines d (λ number. counted (get_or s.named number 0 + times_named_by d.called s.rows (numbered_in d number) events))

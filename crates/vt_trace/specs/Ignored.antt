@@ -7,10 +7,15 @@ use Rattle.vt_term.specs.Functions.{effect}
 use Rattle.vt_term.specs.Reports.{report}
 use Rattle.vt_screen.specs.Grid.{last_row}
 use Rattle.vt_term.specs.Names.{name_on}
+use Rattle.vt_trace.specs.Lines.{Names}
 
 -- an event without a name, on a screen of so many rows
+abbrev pub is_ignored_by : Names → ℕ → Event → Bool
+is_ignored_by called rows event = elim (called rows event) [ None ↦ true | Some name ↦ false ]
+
+-- by a VT220's names
 abbrev pub is_ignored_on : ℕ → Event → Bool
-is_ignored_on rows event = elim (name_on rows event) [ None ↦ true | Some name ↦ false ]
+is_ignored_on rows event = is_ignored_by name_on rows event
 
 -- on a VT220
 abbrev pub is_ignored : Event → Bool

@@ -1,4 +1,5 @@
--- The events that a tracer is told of. The observer of a trace and contracts of private functions cite this, and no public clause does.
+-- The events that a tracer is told of. The observer of a trace, contracts of private functions and of `trace_as` cite this, and no other
+-- public clause does.
 use Rattle.std.specs.Prelude.{◌≡◌, ℕ, ◌+◌, ◌-◌, ◌*◌, ◌^◌, ◌<◌, ◌≤◌, List, [], ◌∷◌, ◌++◌, ⊤, length, take, if◌then◌else◌}
 use Rattle.std.proofs.Common.{refl, sym, ap, ◌∙◌, subst, arith, append_assoc, append-nil, length-append}
 use Rattle.vt_syntax.specs.declared.event.Event.{Event}
@@ -7,8 +8,8 @@ use Rattle.vt_syntax.specs.Held.{events_from, held_from}
 use Rattle.vt_term.specs.Happenings.{Happening}
 use Rattle.vt_term.specs.Observing.{AreJoined}
 use Rattle.vt_trace.specs.declared.tracing.Tracer.{Tracer}
-use Rattle.vt_trace.specs.Trace.{place_of, item_place, is_nothing, is_string, item_first, code_after, skipped, goes_on}
-use Rattle.vt_trace.specs.Trace.{written_all, text_after}
+use Rattle.vt_trace.specs.Lines.{Names}
+use Rattle.vt_trace.specs.Trace.{item_place, is_nothing, is_string, item_first, code_after, skipped, goes_on, traced_at, tracer_at}
 
 -- ---- bytes without their events
 
@@ -56,22 +57,12 @@ pub record Completes (h : Held) (bytes : List ℕ) (event : Event) : Type 0 wher
 
 -- ---- what the tracer was told
 
--- what is written of a happening, as of its byte
-abbrev pub traced_at : Tracer → Happening → List ℕ
-traced_at t h =
-    skipped t h.held h.byte
-    ++ written_all (goes_on t h.held h.byte) (place_of t.place (item_place t h.held h.byte) h.byte) h.events h.before
+-- what is written of happenings
+abbrev pub traced_told : Names → Tracer → List Happening → List ℕ
+traced_told names t [] = []
+traced_told names t (h ∷ hs) = traced_at names t h ++ traced_told names (tracer_at t h) hs
 
--- the tracer after it
-abbrev pub tracer_at : Tracer → Happening → Tracer
-tracer_at t h =
-    let after = skim h.held t h.byte in record after { in_text = text_after after.in_text h.events }
-
--- the same of happenings
-abbrev pub traced_told : Tracer → List Happening → List ℕ
-traced_told t [] = []
-traced_told t (h ∷ hs) = traced_at t h ++ traced_told (tracer_at t h) hs
-
+-- the tracer after them
 abbrev pub tracer_told : Tracer → List Happening → Tracer
 tracer_told t [] = t
 tracer_told t (h ∷ hs) = tracer_told (tracer_at t h) hs
@@ -86,14 +77,14 @@ abbrev pub Follow : Held → List Happening → Type 0
 Follow k [] = ⊤
 Follow k (h ∷ hs) = (k ≡ h.held) × Follow (held_from k (h.byte ∷ [])) hs
 
-pub record IsTold (hs : List Happening) (h k : Held) (t u : Tracer) (old new : List ℕ) : Type 0 where
+pub record IsTold (names : Names) (hs : List Happening) (h k : Held) (t u : Tracer) (old new : List ℕ) : Type 0 where
   pub held : k ≡ held_told h hs
-  pub lines : new ≡ old ++ traced_told t hs
+  pub lines : new ≡ old ++ traced_told names t hs
   pub tracer : u ≡ tracer_told t hs
 
 -- if the copy of what is held was right, it is right again, and the trace is written
-abbrev pub Told : List Happening → (h k : Held) → (t u : Tracer) → (old new : List ℕ) → Type 0
-Told hs h k t u old new = Follow h hs → IsTold hs h k t u old new
+abbrev pub Told : Names → List Happening → (h k : Held) → (t u : Tracer) → (old new : List ℕ) → Type 0
+Told names hs h k t u old new = Follow h hs → IsTold names hs h k t u old new
 
 -- so many happenings more are traced
 pub record AreCounted (n from to len more room capacity : ℕ) : Type 0 where
@@ -101,13 +92,13 @@ pub record AreCounted (n from to len more room capacity : ℕ) : Type 0 where
   pub bounded : more ≤ len + 420 * n
   pub capacity_stays : room ≤ capacity
 
-traced-append : (t : Tracer) (xs ys : List Happening)
-    → traced_told t (xs ++ ys) ≡ traced_told t xs ++ traced_told (tracer_told t xs) ys
-traced-append t [] ys = refl
-traced-append t (x ∷ xs) ys =
-    ap (λ (l : List ℕ). traced_at t x ++ l) (traced-append (tracer_at t x) xs ys)
-    ∙ sym (append_assoc (traced_at t x) (traced_told (tracer_at t x) xs)
-    (traced_told (tracer_told (tracer_at t x) xs) ys))
+traced-append : (names : Names) (t : Tracer) (xs ys : List Happening)
+    → traced_told names t (xs ++ ys) ≡ traced_told names t xs ++ traced_told names (tracer_told t xs) ys
+traced-append names t [] ys = refl
+traced-append names t (x ∷ xs) ys =
+    ap (λ (l : List ℕ). traced_at names t x ++ l) (traced-append names (tracer_at t x) xs ys)
+    ∙ sym (append_assoc (traced_at names t x) (traced_told names (tracer_at t x) xs)
+    (traced_told names (tracer_told (tracer_at t x) xs) ys))
 
 tracer-append : (t : Tracer) (xs ys : List Happening) → tracer_told t (xs ++ ys) ≡ tracer_told (tracer_told t xs) ys
 tracer-append t [] ys = refl
@@ -125,34 +116,34 @@ follow-rest : (k : Held) (xs ys : List Happening) → Follow k (xs ++ ys) → Fo
 follow-rest k [] ys follow = follow
 follow-rest k (x ∷ xs) ys follow = follow-rest (held_from k (x.byte ∷ [])) xs ys follow.1
 
-told-nothing : (h : Held) (t : Tracer) (xs : List ℕ) → Told [] h h t t xs xs
-told-nothing h t xs = λ follow. record { held = refl; lines = sym (append-nil xs); tracer = refl }
+told-nothing : (names : Names) (h : Held) (t : Tracer) (xs : List ℕ) → Told names [] h h t t xs xs
+told-nothing names h t xs = λ follow. record { held = refl; lines = sym (append-nil xs); tracer = refl }
 
-told-more : (hs ks : List Happening) (h k m : Held) (t u v : Tracer) (xs ys zs : List ℕ)
-    → Told hs h k t u xs ys → Told ks k m u v ys zs → Told (hs ++ ks) h m t v xs zs
-told-more hs ks h k m t u v xs ys zs first second = λ follow.
+told-more : (names : Names) (hs ks : List Happening) (h k m : Held) (t u v : Tracer) (xs ys zs : List ℕ)
+    → Told names hs h k t u xs ys → Told names ks k m u v ys zs → Told names (hs ++ ks) h m t v xs zs
+told-more names hs ks h k m t u v xs ys zs first second = λ follow.
     let one = first (follow-front h hs ks follow) in
     let two = second (subst (λ (l : Held). Follow l ks) (sym one.held) (follow-rest h hs ks follow)) in
     record {
       held = two.held ∙ ap (λ (l : Held). held_told l ks) one.held ∙ sym (held-append h hs ks);
-      lines = two.lines ∙ ap (λ (l : List ℕ). l ++ traced_told u ks) one.lines
-          ∙ append_assoc xs (traced_told t hs) (traced_told u ks)
-          ∙ ap (λ (w : Tracer). xs ++ (traced_told t hs ++ traced_told w ks)) one.tracer
-          ∙ ap (λ (l : List ℕ). xs ++ l) (sym (traced-append t hs ks));
+      lines = two.lines ∙ ap (λ (l : List ℕ). l ++ traced_told names u ks) one.lines
+          ∙ append_assoc xs (traced_told names t hs) (traced_told names u ks)
+          ∙ ap (λ (w : Tracer). xs ++ (traced_told names t hs ++ traced_told names w ks)) one.tracer
+          ∙ ap (λ (l : List ℕ). xs ++ l) (sym (traced-append names t hs ks));
       tracer = two.tracer ∙ ap (λ (w : Tracer). tracer_told w ks) one.tracer ∙ sym (tracer-append t hs ks);
     }
 
-pub trace_joined : {O N M : Type 0} (one : O → N) (other : O → M) (held : O → Held) (tracer : O → Tracer)
+pub trace_joined : {O N M : Type 0} (names : Names) (one : O → N) (other : O → M) (held : O → Held) (tracer : O → Tracer)
     (lines : O → List ℕ) (len room : O → ℕ) → AreJoined {O = O}
     (λ o hs p. (one p ≡ one o) × (other p ≡ other o)
-    × Told hs (held o) (held p) (tracer o) (tracer p) (lines o) (lines p)
+    × Told names hs (held o) (held p) (tracer o) (tracer p) (lines o) (lines p)
     × AreCounted (length hs) (tracer o).place (tracer p).place (len o) (len p) (room o) (room p))
     (λ o n. ((tracer o).place + n < 2 ^ 64) × (len o + 420 * n ≤ room o))
-trace_joined one other held tracer lines len room = record {
+trace_joined names one other held tracer lines len room = record {
   nothing = λ o. (
     refl,
     refl,
-    told-nothing (held o) (tracer o) (lines o),
+    told-nothing names (held o) (tracer o) (lines o),
     record { place = omega arith; bounded = omega arith; capacity_stays = omega arith },
   );
   more = λ o p q xs ys first second.
@@ -161,7 +152,7 @@ trace_joined one other held tracer lines len room = record {
       let then_so = second.3 in (
         second.0 ∙ first.0,
         second.1 ∙ first.1,
-        told-more xs ys (held o) (held p) (held q) (tracer o) (tracer p) (tracer q) (lines o) (lines p) (lines q)
+        told-more names xs ys (held o) (held p) (held q) (tracer o) (tracer p) (tracer q) (lines o) (lines p) (lines q)
             first.2 second.2,
         record {
           place = omega (arith, long, was.place, then_so.place);

@@ -8,9 +8,9 @@ use Rattle.vt_syntax.specs.declared.event.Event.TheVariants.{Print, Control, Esc
 use Rattle.vt_syntax.specs.Reading.{events_of}
 use Rattle.vt_screen.specs.Grid.{last_row}
 use Rattle.vt_term.specs.Names.{name_on}
-use Rattle.vt_trace.specs.Names.{names, numbered}
-use Rattle.vt_trace.specs.Ignored.{is_ignored_on}
-use Rattle.vt_trace.specs.Lines.{shown_byte, bytes_column}
+use Rattle.vt_trace.specs.Names.{Listing, vt220_listing, numbered_in}
+use Rattle.vt_trace.specs.Ignored.{is_ignored_by}
+use Rattle.vt_trace.specs.Lines.{Names, shown_byte, bytes_column}
 use Rattle.vt_trace.specs.Skipped.{kind_name, kinds_of}
 
 -- ---- kinds
@@ -47,21 +47,21 @@ IsByteAtMost (Print b) = b ≤ 0xFF
 IsByteAtMost (Control b) = b ≤ 0xFF
 IsByteAtMost _ = Unit {0}
 
--- ---- counts, on a screen of so many rows
+-- ---- counts, by the names of events on a screen of so many rows
 
 -- the event has this name
-abbrev pub has_name_on : ℕ → List ℕ → Event → Bool
-has_name_on rows name event = elim (name_on rows event) [ None ↦ false | Some other ↦ pointwise nat_eq name other ]
+abbrev pub has_name_by : Names → ℕ → List ℕ → Event → Bool
+has_name_by called rows name event = elim (called rows event) [ None ↦ false | Some other ↦ pointwise nat_eq name other ]
 
 -- the event is ignored, and its kind has this number
-abbrev pub is_ignored_kind_on : ℕ → ℕ → Event → Bool
-is_ignored_kind_on rows number event = is_ignored_on rows event && kind_number event == number
+abbrev pub is_ignored_kind_by : Names → ℕ → ℕ → Event → Bool
+is_ignored_kind_by called rows number event = is_ignored_by called rows event && kind_number event == number
 
-unfoldable pub times_named_on : ℕ → List ℕ → List Event → ℕ
-times_named_on rows name events = count_by (has_name_on rows name) events
+unfoldable pub times_named_by : Names → ℕ → List ℕ → List Event → ℕ
+times_named_by called rows name events = count_by (has_name_by called rows name) events
 
-unfoldable pub times_ignored_on : ℕ → ℕ → List Event → ℕ
-times_ignored_on rows number events = count_by (is_ignored_kind_on rows number) events
+unfoldable pub times_ignored_by : Names → ℕ → ℕ → List Event → ℕ
+times_ignored_by called rows number events = count_by (is_ignored_kind_by called rows number) events
 
 -- among kinds of items without a function
 unfoldable pub times_skipped : ℕ → List ℕ → ℕ
@@ -81,8 +81,8 @@ count_line n name = if n == 0 then [] else decimal n ++ (0x09 ∷ (name ++ 0x0A 
 abbrev pub ignored_line : (ℕ → ℕ) → Event → List ℕ
 ignored_line times event = count_line (times (kind_number event)) (codes "ignored " ++ bytes_column event)
 
-abbrev pub named_line : (ℕ → ℕ) → ℕ → List ℕ
-named_line times number = count_line (times number) (numbered number)
+abbrev pub named_line : Listing → (ℕ → ℕ) → ℕ → List ℕ
+named_line d times number = count_line (times number) (numbered_in d number)
 
 -- without one, and with each of these
 abbrev pub optionally : List ℕ → (Option ℕ → List ℕ) → List ℕ
@@ -124,42 +124,46 @@ ignored_lines times =
     ++ optionally markers (λ marker. optionally intermediates (ignored_sequences times marker)))
 
 -- the names in the order of the list of all names
-abbrev pub named_lines : (ℕ → ℕ) → List ℕ
-named_lines times = flat_map (named_line times) (range_with_len 0 (length names))
+abbrev pub named_lines : Listing → (ℕ → ℕ) → List ℕ
+named_lines d times = flat_map (named_line d times) (range_with_len 0 (length d.listed))
 
 -- how often an event was ignored, or an item had no function, whose kind has this number
-abbrev pub all_ignored_on : ℕ → List Event → List ℕ → ℕ → ℕ
-all_ignored_on rows events kinds number = counted (times_ignored_on rows number events + times_skipped number kinds)
+abbrev pub all_ignored_by : Names → ℕ → List Event → List ℕ → ℕ → ℕ
+all_ignored_by called rows events kinds number = counted (times_ignored_by called rows number events + times_skipped number kinds)
 
 -- the summary of events, and of the kinds of items without a function
-abbrev pub event_summary_on : ℕ → List Event → List ℕ → List ℕ
-event_summary_on rows events kinds =
-    ignored_lines (all_ignored_on rows events kinds)
-    ++ named_lines (λ number. counted (times_named_on rows (numbered number) events))
+abbrev pub event_summary_by : Listing → ℕ → List Event → List ℕ → List ℕ
+event_summary_by d rows events kinds =
+    ignored_lines (all_ignored_by d.called rows events kinds)
+    ++ named_lines d (λ number. counted (times_named_by d.called rows (numbered_in d number) events))
 
 -- the summary of a terminal's input
-unfoldable pub summary_on : ℕ → List ℕ → List ℕ
-summary_on rows bytes = event_summary_on rows (events_of bytes) (kinds_of bytes)
+unfoldable pub summary_by : Listing → ℕ → List ℕ → List ℕ
+summary_by d rows bytes = event_summary_by d rows (events_of bytes) (kinds_of bytes)
+
+-- by a VT220's names
+abbrev pub summary_on : ℕ → List ℕ → List ℕ
+summary_on rows bytes = summary_by vt220_listing rows bytes
 
 -- ---- on a VT220
 
 abbrev pub has_name : List ℕ → Event → Bool
-has_name name event = has_name_on last_row name event
+has_name name event = has_name_by name_on last_row name event
 
 abbrev pub is_ignored_kind : ℕ → Event → Bool
-is_ignored_kind number event = is_ignored_kind_on last_row number event
+is_ignored_kind number event = is_ignored_kind_by name_on last_row number event
 
 abbrev pub times_named : List ℕ → List Event → ℕ
-times_named name events = times_named_on last_row name events
+times_named name events = times_named_by name_on last_row name events
 
 abbrev pub times_ignored : ℕ → List Event → ℕ
-times_ignored number events = times_ignored_on last_row number events
+times_ignored number events = times_ignored_by name_on last_row number events
 
 abbrev pub all_ignored : List Event → List ℕ → ℕ → ℕ
-all_ignored events kinds number = all_ignored_on last_row events kinds number
+all_ignored events kinds number = all_ignored_by name_on last_row events kinds number
 
 abbrev pub event_summary : List Event → List ℕ → List ℕ
-event_summary events kinds = event_summary_on last_row events kinds
+event_summary events kinds = event_summary_by vt220_listing last_row events kinds
 
 abbrev pub summary : List ℕ → List ℕ
 summary bytes = summary_on last_row bytes

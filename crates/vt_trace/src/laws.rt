@@ -11,7 +11,6 @@ ghost use Rattle.vt_utf8.specs.Decoding.{pending_after};
 ghost use Rattle.vt_utf8.specs.Play.{play_utf8};
 
 use vt_term::laws::{sized_cuts as play_cuts, sized_soundness};
-use vt_utf8::laws::{sized_cuts as utf8_play_cuts, sized_soundness as utf8_soundness};
 
 /// States at any size that bytes may be cut anywhere: the trace of chunks in turn is that of the chunks joined.
 pub fn sized_cuts()
@@ -42,8 +41,8 @@ pub fn sized_utf8_cuts()
     ensures tracer { (size : Size) (s : State) (t : Tracer) (pending a b : List ℕ) → IsSoundAt size s → tracer_utf8 s t pending (a ++ b)
         ≡ tracer_utf8 (play_utf8 s pending a).state (tracer_utf8 s t pending a) (pending_after pending a) b }
 {
-    utf8_play_cuts();
-    utf8_soundness();
+    play_cuts();
+    sized_soundness();
 }
 
 /// States the same of UTF-8, also if a chunk ends inside a character.

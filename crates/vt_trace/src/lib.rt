@@ -4,6 +4,7 @@
 mod buffer;
 mod bytes;
 mod characters;
+mod dialects;
 mod feeds;
 mod functions;
 mod items;
@@ -19,9 +20,12 @@ mod tracing;
 mod utf8;
 
 pub use bytes::push_shown;
+pub use dialects::Traceable;
 pub use feeds::{trace_reserved, trace_utf8_reserved};
 pub use lines::{LINE_LIMIT, push_line, push_line_on};
-pub use names::{is_ignored, name, name_on};
+pub use names::{Listed, NAMES, Naming, Vt220Names, is_ignored, name, name_on};
+pub use observer::trace_as;
 pub use skipped::{First, SKIPPED_LIMIT};
-pub use summary::{SUMMARY_LIMIT, Summary};
+pub use summary::{IGNORED_LIMIT, SUMMARY_LIMIT, Summary};
 pub use tracing::{TRACE_LIMIT, Tracer, trace_end};
+pub use utf8::trace_dialect;

@@ -1,13 +1,13 @@
 //! The line of an event.
 ghost use Rattle.std.specs.Prelude.{◌≡◌, ◌+◌, ◌≤◌, ◌++◌, [], take, length, vec_len, vec_capacity};
 ghost use Rattle.vt_syntax.specs.Event.{event_of};
-ghost use Rattle.vt_trace.specs.Lines.{values_column, bytes_column, event_line, event_line_on};
+ghost use Rattle.vt_trace.specs.Lines.{values_column, bytes_column, event_line, event_line_by, event_line_on};
 
 use crate::buffer::{
     BUFFER, put, put_bytes, put_number, put_option, put_shown, put_shown_option, put_values,
 };
 use crate::bytes::{push_bytes, push_option, push_shown, push_shown_option};
-use crate::names::name_on;
+use crate::names::{Naming, Vt220Names};
 use vt_syntax::EventKind;
 use vt_term::ROWS;
 
@@ -23,8 +23,26 @@ pub fn push_line_on(rows: usize, place: u64, kind: EventKind, values: &[u16], ou
     ensures bounded { vec_len out.new ≤ vec_len out.old + LINE_LIMIT }
     ensures capacity { vec_capacity out.old ≤ vec_capacity out.new }
 {
+    push_line_by(&Vt220Names, rows, place, kind, values, out);
+}
+
+/// Appends the line of an event by the names of a dialect, on a screen of so many rows, in existing capacity.
+pub(crate) fn push_line_by<N: Naming>(
+    names: &N,
+    rows: usize,
+    place: u64,
+    kind: EventKind,
+    values: &[u16],
+    out: &mut Vec<u8>,
+)
+    requires few { length values.now ≤ 16 }
+    requires room { vec_len out.old + LINE_LIMIT ≤ vec_capacity out.old }
+    ensures items { out.new.items ≡ out.old.items ++ event_line_by N.names rows place (event_of kind values.now) }
+    ensures bounded { vec_len out.new ≤ vec_len out.old + LINE_LIMIT }
+    ensures capacity { vec_capacity out.old ≤ vec_capacity out.new }
+{
     let mut buffer = [0; BUFFER];
-    let end = put_line(rows, place, kind, values, 0, &mut buffer);
+    let end = put_line(names, rows, place, kind, values, 0, &mut buffer);
     push_bytes(&buffer[..end], out);
 }
 
@@ -40,9 +58,10 @@ pub fn push_line(place: u64, kind: EventKind, values: &[u16], out: &mut Vec<u8>)
 }
 
 /// Writes the line of an event on a screen of so many rows that begins at a place.
-#[tactic(auto, unfolding(crate::specs::Lines::event_line_on))]
+#[tactic(auto, unfolding(crate::specs::Lines::event_line_by))]
 #[inline(always)]
-pub(crate) fn put_line(
+pub(crate) fn put_line<N: Naming>(
+    names: &N,
     rows: usize,
     place: u64,
     kind: EventKind,
@@ -52,12 +71,12 @@ pub(crate) fn put_line(
 ) -> usize
     requires few { length values.now ≤ 16 }
     requires room { at + 200 ≤ BUFFER }
-    ensures items { take result buffer.new ≡ take at buffer.old ++ event_line_on rows place (event_of kind values.now) }
+    ensures items { take result buffer.new ≡ take at buffer.old ++ event_line_by N.names rows place (event_of kind values.now) }
     ensures bounded { result ≤ at + LINE_LIMIT }
 {
     let at = put_number(place, at, buffer);
     let at = put(b'\t', at, buffer);
-    let at = match name_on(rows, kind, values) {
+    let at = match names.name_of(rows, kind, values) {
         Some(word) => {
             let at = put_bytes(word.as_bytes(), at, buffer);
             let at = put(b'\t', at, buffer);

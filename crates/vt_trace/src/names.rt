@@ -5,7 +5,8 @@ ghost use Rattle.vt_screen.specs.Grid.{last_row};
 ghost use Rattle.vt_term.specs.Functions.{designation};
 ghost use Rattle.vt_term.specs.Names.{name_of, name_on, name_with, control_name, plain_escape_name, escape_with_name, print_name};
 ghost use Rattle.vt_trace.specs.Ignored.{is_ignored};
-ghost use Rattle.vt_trace.specs.Names.{numbered, word_of, basic_word, sequence_word, slot_begins};
+ghost use Rattle.vt_trace.specs.Lines.{Names};
+ghost use Rattle.vt_trace.specs.Names.{Listing, AreApart, numbered, numbered_in, word_of, basic_word, sequence_word, slot_begins};
 
 use crate::functions::Basic::{self, *};
 use crate::functions::Slot::{self, *};
@@ -25,6 +26,87 @@ pub fn name_on(rows: usize, kind: EventKind, values: &[u16]) -> Option<&'static 
         Some(index) => Some(word_at(index)),
         None => None,
     }
+}
+
+/// What events are called.
+pub trait Naming {
+    /// The names of events on a screen of so many rows. An event without a name is ignored.
+    ghost names: { Names };
+
+    /// Returns the name of an event on a screen of so many rows, and `None` if it is ignored. `values` are those of a control
+    /// sequence.
+    fn name_of(&self, rows: usize, kind: EventKind, values: &[u16]) -> Option<&'static str>
+        ensures word { option_copied result ≡ names rows (event_of kind values.now) }
+        ensures short { IfSome result (λ word. length word.now ≤ 23) };
+}
+
+/// The names of a VT220's functions.
+#[derive(Drop)]
+pub struct Vt220Names;
+
+impl Naming for Vt220Names {
+    ghost use Rattle.vt_term.specs.Names.{name_on};
+
+    ghost names = { name_on };
+
+    #[inline(always)]
+    fn name_of(&self, rows: usize, kind: EventKind, values: &[u16]) -> Option<&'static str> {
+        name_on(rows, kind, values)
+    }
+}
+
+/// The most names that are counted.
+pub const NAMES: usize = 96;
+
+/// A list of the names that events may have, each with a number.
+pub trait Listed {
+    /// What events are called, and these names in the order of a summary.
+    ghost listing: { Listing };
+
+    /// Returns the number of an event's name on a screen of so many rows, and `None` if the event is ignored. `values` are those of a
+    /// control sequence.
+    fn number_of(&self, rows: usize, kind: EventKind, values: &[u16]) -> Option<usize>
+        ensures word { option_map (numbered_in listing) result ≡ listing.called rows (event_of kind values.now) }
+        ensures within { IfSome result (λ number. number < length listing.listed) };
+
+    /// Returns how many names there are.
+    fn count(&self) -> usize
+        ensures { result ≡ length listing.listed };
+
+    /// Returns the name with a number.
+    fn word(&self, number: usize) -> &'static str
+        requires { number < length listing.listed }
+        ensures word { result.now ≡ numbered_in listing number }
+        ensures short { length result.now ≤ 23 };
+
+    /// States that at most `NAMES` names are listed, and that no two are the same.
+    fn apart(&self)
+        ensures few { length listing.listed ≤ 96 }
+        ensures apart { AreApart listing };
+}
+
+impl Listed for Vt220Names {
+    ghost use Rattle.vt_trace.specs.Names.{vt220_listing};
+
+    ghost listing = { vt220_listing };
+
+    #[inline(always)]
+    fn number_of(&self, rows: usize, kind: EventKind, values: &[u16]) -> Option<usize> {
+        index(rows, kind, values)
+    }
+
+    #[inline(always)]
+    fn count(&self) -> usize {
+        FUNCTIONS
+    }
+
+    #[inline(always)]
+    fn word(&self, number: usize) -> &'static str {
+        word_at(number)
+    }
+
+    #[inline(always)]
+    fn apart(&self) {}
 }
 
 /// Returns the name of an event on a VT220, and `None` if it is ignored. `values` are those of a control sequence.

@@ -5,16 +5,18 @@ ghost use Rattle.vt_syntax.specs.Event.{event_of};
 ghost use Rattle.vt_term.specs.Play.{play};
 ghost use Rattle.vt_trace.specs.Lines.{shown};
 ghost use Rattle.vt_trace.specs.Trace.{trace, tracer_all};
-ghost use Rattle.vt_trace.specs.Observed.{AreRead, Completes};
+ghost use Rattle.vt_term.specs.Observing.{Feeds, happenings_of};
+ghost use Rattle.vt_trace.specs.Observed.{AreRead, Completes, traced_told, tracer_told};
 
 use crate::bytes::{push_all_shown, push_bytes};
 use crate::items::{are_shown, is_item};
+use crate::names::{Naming, Vt220Names};
 use crate::skipped::skip_all;
 use crate::tracing::{TRACE_LIMIT, Tracer, is_text, place_of, push_event, push_text_begin};
 use vt_syntax::laws::{one_split, spelled};
 use vt_syntax::{EventKind, Parser, Values};
 use vt_term::laws::sized_happened;
-use vt_term::{Observer, SizedTerminal};
+use vt_term::{Observer, Profile, SizedTerminal};
 
 /// Plays the front of a chunk that isn't empty, and appends its reports and its trace: as many bytes as `out` has capacity
 /// for. Returns how many bytes it played.
@@ -43,6 +45,7 @@ pub(crate) fn trace_front(
     sized_happened();
     let count = piece.len().min((out.capacity() - out.len()) / TRACE_LIMIT);
     let mut observer = Tracing {
+        names: &Vt220Names,
         tracer,
         out,
         parser: terminal.parser(),
@@ -52,9 +55,51 @@ pub(crate) fn trace_front(
     count
 }
 
+/// Does the same for a profile, by the names of its functions: the trace is that of what happens at the bytes.
+pub fn trace_as<P: Profile, N: Naming>(
+    terminal: &mut SizedTerminal,
+    profile: &mut P,
+    names: &N,
+    tracer: &mut Tracer,
+    piece: &[u8],
+    reports: &mut Vec<u8>,
+    out: &mut Vec<u8>,
+) -> usize
+    requires some { 1 ≤ length piece.now }
+    requires place { tracer.old.place + length piece.now < 2 ^ 64 }
+    requires reports_room { vec_len reports.old + 10 * length piece.now ≤ vec_capacity reports.old }
+    requires room { vec_len out.old + TRACE_LIMIT ≤ vec_capacity out.old }
+    requires one_size { P.OneSize (P.screens terminal.old.display profile.old) }
+    ensures some { 1 ≤ result }
+    ensures within { result ≤ length piece.now }
+    ensures fed { Feeds P.machine P.screens terminal.old profile.old (take result piece.now) terminal.new profile.new
+        reports.old.items reports.new.items }
+    ensures lines { out.new.items ≡ out.old.items ++ traced_told N.names tracer.old
+        (happenings_of P.machine P.screens terminal.old profile.old (take result piece.now)) }
+    ensures tracer { tracer.new ≡ tracer_told tracer.old
+        (happenings_of P.machine P.screens terminal.old profile.old (take result piece.now)) }
+    ensures reports_bounded { vec_len reports.new ≤ vec_len reports.old + 10 * result }
+    ensures bounded { vec_len out.new ≤ vec_len out.old + TRACE_LIMIT * result }
+    ensures reports_capacity { vec_capacity reports.old ≤ vec_capacity reports.new }
+    ensures capacity { vec_capacity out.old ≤ vec_capacity out.new }
+{
+    sized_happened();
+    let count = piece.len().min((out.capacity() - out.len()) / TRACE_LIMIT);
+    let mut observer = Tracing {
+        names,
+        tracer,
+        out,
+        parser: terminal.parser(),
+        values: Values::new(),
+    };
+    let _ = terminal.feed_as(profile, &piece[..count], &mut observer, reports);
+    count
+}
+
 /// The observer that writes the trace. It never stops the feed.
 #[derive(Drop)]
-struct Tracing<'a> {
+struct Tracing<'a, N: Naming> {
+    names: &'a N,
     tracer: &'a mut Tracer,
     out: &'a mut Vec<u8>,
     /// A copy of what the terminal holds before the next byte.
@@ -110,12 +155,12 @@ fn push_run(run: &[u8], out: &mut Vec<u8>)
     }
 }
 
-impl Observer for Tracing<'_> {
+impl<N: Naming> Observer for Tracing<'_, N> {
     ghost use Rattle.std.specs.Prelude.{◌≡◌, ◌<◌, ◌≤◌, ◌+◌, ◌*◌, ◌^◌, length, vec_len, vec_capacity, false, ⊤};
     ghost use Rattle.vt_trace.specs.Observed.{Told, AreCounted, trace_joined};
 
     ghost Saw = { λ o hs p. (p.tracer.ghost_name ≡ o.tracer.ghost_name) × (p.out.ghost_name ≡ o.out.ghost_name)
-        × Told hs o.parser p.parser o.tracer.now p.tracer.now o.out.now.items p.out.now.items
+        × Told N.names hs o.parser p.parser o.tracer.now p.tracer.now o.out.now.items p.out.now.items
         × AreCounted (length hs) o.tracer.now.place p.tracer.now.place (vec_len o.out.now) (vec_len p.out.now)
         (vec_capacity o.out.now) (vec_capacity p.out.now) };
 
@@ -129,7 +174,7 @@ impl Observer for Tracing<'_> {
 
     ghost Stops = { false };
 
-    ghost joined = { trace_joined (λ o. o.tracer.ghost_name) (λ o. o.out.ghost_name) (λ o. o.parser) (λ o. o.tracer.now)
+    ghost joined = { trace_joined N.names (λ o. o.tracer.ghost_name) (λ o. o.out.ghost_name) (λ o. o.parser) (λ o. o.tracer.now)
         (λ o. o.out.now.items) (λ o. vec_len o.out.now) (λ o. vec_capacity o.out.now) };
 
     #[inline(always)]
@@ -156,7 +201,15 @@ impl Observer for Tracing<'_> {
             self.out,
         );
         let place = place_of(self.tracer.place - 1, self.tracer.begin, last, kind);
-        push_event(terminal, self.tracer.in_text, place, kind, values, self.out);
+        push_event(
+            self.names,
+            terminal,
+            self.tracer.in_text,
+            place,
+            kind,
+            values,
+            self.out,
+        );
         self.tracer.in_text = is_text(kind);
     }
 

@@ -6,20 +6,20 @@ ghost use Rattle.std.specs.Bool.{OnTrue};
 ghost use Rattle.std.specs.Option.{option_to_list};
 ghost use Rattle.vt_syntax.specs.declared.event.Event.{Event};
 ghost use Rattle.vt_syntax.specs.Event.{event_in, event_of};
-ghost use Rattle.vt_trace.specs.Names.{numbered};
-ghost use Rattle.vt_trace.specs.Summary.{kind_number, inter_number, marker_number, summary_on, count_line, ignored_line, single_line};
+ghost use Rattle.vt_trace.specs.Names.{Listing, numbered_in};
+ghost use Rattle.vt_trace.specs.Summary.{kind_number, inter_number, marker_number, summary_by, summary_on, count_line, ignored_line, single_line};
 ghost use Rattle.vt_trace.specs.Summary.{optionally, intermediates, markers, ignored_bytes, ignored_escapes, ignored_sequences};
 ghost use Rattle.vt_trace.specs.Summary.{ignored_lines, named_lines};
 ghost use Rattle.vt_syntax.specs.Spelling.{IsEvent};
 ghost use Rattle.vt_trace.specs.Trace.{is_nothing, open_kind};
 ghost use Rattle.vt_trace.specs.Runs.{times_at};
-ghost use Rattle.vt_trace.specs.Counted.{AreCounts, HasCounted, HasCountedOn};
+ghost use Rattle.vt_trace.specs.Counted.{AreCounts, HasCounted, HasCountedBy, HasCountedOn};
 
 use crate::bytes::{push_bytes, push_number, push_shown};
-use crate::functions::{FUNCTIONS, word_at};
+use crate::functions::FUNCTIONS;
 use crate::items::is_item;
 use crate::lines::push_kind;
-use crate::names::index;
+use crate::names::{Listed, NAMES, Vt220Names};
 use crate::skipped::{kind_name, open_kind, read};
 use std::alloc::{AllocError, Global};
 use vt_syntax::laws::{one_split, spelled};
@@ -38,7 +38,7 @@ pub struct Summary {
     /// The C1 control that opened the string that is held, and 0 if none is.
     code: u8,
     ignored: Vec<u64>,
-    named: [u64; FUNCTIONS],
+    named: [u64; NAMES],
 }
 
 impl Summary {
@@ -53,6 +53,13 @@ impl Summary {
     pub fn new_on(alloc: Global, rows: usize) -> Result<Summary, AllocError>
         ensures { IfOk result (HasCountedOn rows []) }
     {
+        Summary::new_by::<Vt220Names>(alloc, rows)
+    }
+
+    /// Returns the summary of no bytes by these names, for a screen of so many rows. Allocates its memory. Returns `Err` if that fails.
+    pub fn new_by<L: Listed>(alloc: Global, rows: usize) -> Result<Summary, AllocError>
+        ensures { IfOk result (HasCountedBy L.listing rows []) }
+    {
         one_split();
         let ignored = vec![in alloc; 0u64; KINDS]?;
         Ok(Summary {
@@ -60,7 +67,7 @@ impl Summary {
             parser: Parser::new(),
             code: 0,
             ignored,
-            named: [0; FUNCTIONS],
+            named: [0; NAMES],
         })
     }
 
@@ -69,39 +76,47 @@ impl Summary {
     pub fn count(&mut self, chunk: &[u8])
         ensures { (rows : ℕ) (bytes : List ℕ) → HasCountedOn rows bytes self.old → HasCountedOn rows (bytes ++ chunk.now) self.new }
     {
+        self.count_by(&Vt220Names, chunk)
+    }
+
+    /// Counts the same by these names.
+    pub fn count_by<L: Listed>(&mut self, names: &L, chunk: &[u8])
+        ensures { (rows : ℕ) (bytes : List ℕ) → HasCountedBy L.listing rows bytes self.old
+            → HasCountedBy L.listing rows (bytes ++ chunk.now) self.new }
+    {
         one_split();
         let mut values = Values::new();
         let mut at = 0;
         while at < chunk.len() {
-            at += self.count_front(&chunk[at..], &mut values);
+            at += self.count_front(names, &chunk[at..], &mut values);
         }
     }
 
     /// Counts the front of a chunk that isn't empty: an event, or a byte. Returns how many bytes it read.
-    fn count_front(&mut self, piece: &[u8], values: &mut Values) -> usize
+    fn count_front<L: Listed>(&mut self, names: &L, piece: &[u8], values: &mut Values) -> usize
         requires { 1 ≤ length piece.now }
         ensures some { 1 ≤ result }
         ensures within { result ≤ length piece.now }
-        ensures counted { (rows : ℕ) (bytes : List ℕ) → HasCountedOn rows bytes self.old
-            → HasCountedOn rows (bytes ++ take result piece.now) self.new }
+        ensures counted { (rows : ℕ) (bytes : List ℕ) → HasCountedBy L.listing rows bytes self.old
+            → HasCountedBy L.listing rows (bytes ++ take result piece.now) self.new }
     {
-        let bytes = self.count_item(piece, values);
+        let bytes = self.count_item(names, piece, values);
         if bytes > 0 {
             return bytes;
         }
-        self.count_byte(piece[0], values);
+        self.count_byte(names, piece[0], values);
         1
     }
 
     /// Speed: counts an event between sequences that is whole at the front of a chunk. Returns how many bytes it has, or 0
     /// if there is none.
     #[inline(always)]
-    fn count_item(&mut self, piece: &[u8], values: &mut Values) -> usize
+    fn count_item<L: Listed>(&mut self, names: &L, piece: &[u8], values: &mut Values) -> usize
         requires { 1 ≤ length piece.now }
         ensures within { result ≤ length piece.now }
         ensures none { result ≡ 0 → self.new ≡ self.old }
-        ensures counted { 1 ≤ result → (rows : ℕ) (bytes : List ℕ) → HasCountedOn rows bytes self.old
-            → HasCountedOn rows (bytes ++ take result piece.now) self.new }
+        ensures counted { 1 ≤ result → (rows : ℕ) (bytes : List ℕ) → HasCountedBy L.listing rows bytes self.old
+            → HasCountedBy L.listing rows (bytes ++ take result piece.now) self.new }
     {
         one_split();
         spelled();
@@ -113,6 +128,7 @@ impl Summary {
         if let Some(kind) = taken.event {
             if parser.is_between() && is_item(kind, &piece[..taken.bytes]) {
                 count_kind(
+                    names,
                     self.rows,
                     kind,
                     values.as_slice(),
@@ -126,13 +142,15 @@ impl Summary {
     }
 
     /// Counts the event that a byte completes, and the item without a function that it cuts off or ends.
-    fn count_byte(&mut self, b: u8, values: &mut Values)
-        ensures { (rows : ℕ) (bytes : List ℕ) → HasCountedOn rows bytes self.old → HasCountedOn rows (bytes ++ b ∷ []) self.new }
+    fn count_byte<L: Listed>(&mut self, names: &L, b: u8, values: &mut Values)
+        ensures { (rows : ℕ) (bytes : List ℕ) → HasCountedBy L.listing rows bytes self.old
+            → HasCountedBy L.listing rows (bytes ++ b ∷ []) self.new }
     {
         one_split();
         let step = read(self.code, &mut self.parser, b, values);
         count_skipped(step.skipped(self.code), &mut self.ignored);
         count_event(
+            names,
             self.rows,
             step.event,
             values.as_slice(),
@@ -143,8 +161,11 @@ impl Summary {
     }
 }
 
-/// The most bytes of a summary: 256 single bytes, 6698 kinds of sequences and the names, each with a line.
-pub const SUMMARY_LIMIT: usize = 45 * 256 + 44 * 6698 + 45 * FUNCTIONS;
+/// The most bytes of the lines of what is ignored: 256 single bytes and 6698 kinds of sequences, each with a line.
+pub const IGNORED_LIMIT: usize = 45 * 256 + 44 * 6698;
+
+/// The most bytes of a summary: the lines of what is ignored, and the names, each with a line.
+pub const SUMMARY_LIMIT: usize = IGNORED_LIMIT + 45 * FUNCTIONS;
 
 impl Summary {
     /// Appends the summary of the bytes that were counted, in existing capacity. It counts what is open at their end. It
@@ -156,8 +177,19 @@ impl Summary {
         ensures bounded { vec_len out.new ≤ vec_len out.old + SUMMARY_LIMIT }
         ensures capacity { vec_capacity out.old ≤ vec_capacity out.new }
     {
+        self.push_summary_by(&Vt220Names, out)
+    }
+
+    /// Appends the same by these names.
+    pub fn push_summary_by<L: Listed>(&self, names: &L, out: &mut Vec<u8>)
+        requires { vec_len out.old + (IGNORED_LIMIT + 45 * length L.listing.listed) ≤ vec_capacity out.old }
+        ensures items { (rows : ℕ) (bytes : List ℕ) → HasCountedBy L.listing rows bytes self.now
+            → out.new.items ≡ out.old.items ++ summary_by L.listing rows bytes }
+        ensures bounded { vec_len out.new ≤ vec_len out.old + (IGNORED_LIMIT + 45 * length L.listing.listed) }
+        ensures capacity { vec_capacity out.old ≤ vec_capacity out.new }
+    {
         push_ignored_lines(&self.ignored, self.last(), out);
-        push_named_lines(&self.named, out);
+        push_named_lines(names, &self.named, out);
     }
 
     /// Returns the kind of what is held, if something is.
@@ -174,8 +206,8 @@ impl Summary {
 
 /// Counts an item without a function, if there is one.
 fn count_skipped(kind: Option<u8>, ignored: &mut Vec<u64>)
-    ensures { (rows : ℕ) (events : List Event) (kinds named : List ℕ) → AreCounts rows events kinds ignored.old.items named
-        → AreCounts rows events (kinds ++ option_to_list kind) ignored.new.items named }
+    ensures { (d : Listing) (rows : ℕ) (events : List Event) (kinds named : List ℕ) → AreCounts d rows events kinds ignored.old.items named
+        → AreCounts d rows events (kinds ++ option_to_list kind) ignored.new.items named }
 {
     if let Some(kind) = kind {
         count_ignored(ignored, as_number(kind));
@@ -191,43 +223,47 @@ fn as_number(kind: u8) -> usize
 }
 
 /// Counts an event on a screen of so many rows, if there is one.
-fn count_event(
+fn count_event<L: Listed>(
+    names: &L,
     rows: usize,
     event: Option<EventKind>,
     values: &[u16],
     ignored: &mut Vec<u64>,
-    named: &mut [u64; FUNCTIONS],
+    named: &mut [u64; NAMES],
 )
     requires { IfSome event (λ kind. IsEvent (event_of kind values.now)) }
-    ensures { (events : List Event) (kinds : List ℕ) → AreCounts rows events kinds ignored.old.items named.old
-        → AreCounts rows (events ++ event_in event values.now) kinds ignored.new.items named.new }
+    ensures { (events : List Event) (kinds : List ℕ) → AreCounts L.listing rows events kinds ignored.old.items named.old
+        → AreCounts L.listing rows (events ++ event_in event values.now) kinds ignored.new.items named.new }
 {
     if let Some(kind) = event {
-        count_kind(rows, kind, values, ignored, named);
+        count_kind(names, rows, kind, values, ignored, named);
     }
 }
 
-/// Counts an event on a screen of so many rows.
-fn count_kind(
+/// Counts an event on a screen of so many rows. Speed: inlined, so that only a control sequence reads the number of rows.
+#[inline(always)]
+fn count_kind<L: Listed>(
+    names: &L,
     rows: usize,
     kind: EventKind,
     values: &[u16],
     ignored: &mut Vec<u64>,
-    named: &mut [u64; FUNCTIONS],
+    named: &mut [u64; NAMES],
 )
     requires { IsEvent (event_of kind values.now) }
-    ensures { (events : List Event) (kinds : List ℕ) → AreCounts rows events kinds ignored.old.items named.old
-        → AreCounts rows (events ++ event_of kind values.now ∷ []) kinds ignored.new.items named.new }
+    ensures { (events : List Event) (kinds : List ℕ) → AreCounts L.listing rows events kinds ignored.old.items named.old
+        → AreCounts L.listing rows (events ++ event_of kind values.now ∷ []) kinds ignored.new.items named.new }
 {
-    match index(rows, kind, values) {
+    names.apart();
+    match names.number_of(rows, kind, values) {
         Some(index) => count_named(named, index),
         None => count_ignored(ignored, kind_number(kind)),
     }
 }
 
 /// Counts one more.
-fn count_named(named: &mut [u64; FUNCTIONS], index: usize)
-    requires { index < FUNCTIONS }
+fn count_named(named: &mut [u64; NAMES], index: usize)
+    requires { index < 96 }
     ensures { named.new ≡ set named.old index (min (get_or named.old index 0 + 1) (2 ^ 64 - 1)) }
 {
     named[index] = named[index].saturating_add(1);
@@ -454,22 +490,24 @@ fn count_before(counts: &[u64], number: usize) -> u64
 }
 
 /// Appends the lines of names.
-fn push_named_lines(named: &[u64; FUNCTIONS], out: &mut Vec<u8>)
-    requires { vec_len out.old + 45 * FUNCTIONS ≤ vec_capacity out.old }
-    ensures items { out.new.items ≡ out.old.items ++ named_lines (λ number. get_or named.now number 0) }
-    ensures bounded { vec_len out.new ≤ vec_len out.old + 45 * FUNCTIONS }
+fn push_named_lines<L: Listed>(names: &L, named: &[u64; NAMES], out: &mut Vec<u8>)
+    requires { vec_len out.old + 45 * length L.listing.listed ≤ vec_capacity out.old }
+    ensures items { out.new.items ≡ out.old.items ++ named_lines L.listing (λ number. get_or named.now number 0) }
+    ensures bounded { vec_len out.new ≤ vec_len out.old + 45 * length L.listing.listed }
     ensures capacity { vec_capacity out.old ≤ vec_capacity out.new }
 {
-    for index in 0..FUNCTIONS {
-        push_named(named[index], index, out);
+    names.apart();
+    let most = names.count();
+    for index in 0..most {
+        push_named(names, named[index], index, out);
     }
 }
 
 /// Appends the line of a name, if it occurs.
-fn push_named(count: u64, index: usize, out: &mut Vec<u8>)
-    requires index { index < FUNCTIONS }
+fn push_named<L: Listed>(names: &L, count: u64, index: usize, out: &mut Vec<u8>)
+    requires index { index < length L.listing.listed }
     requires room { vec_len out.old + 45 ≤ vec_capacity out.old }
-    ensures items { out.new.items ≡ out.old.items ++ count_line count (numbered index) }
+    ensures items { out.new.items ≡ out.old.items ++ count_line count (numbered_in L.listing index) }
     ensures bounded { vec_len out.new ≤ vec_len out.old + 45 }
     ensures capacity { vec_capacity out.old ≤ vec_capacity out.new }
 {
@@ -478,6 +516,6 @@ fn push_named(count: u64, index: usize, out: &mut Vec<u8>)
     }
     push_number(count, out);
     push_bytes(b"\t", out);
-    push_bytes(word_at(index).as_bytes(), out);
+    push_bytes(names.word(index).as_bytes(), out);
     push_bytes(b"\n", out);
 }

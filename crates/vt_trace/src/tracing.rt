@@ -9,11 +9,12 @@ ghost use Rattle.vt_term.specs.Play.{play};
 ghost use Rattle.vt_term.specs.Reports.{report};
 ghost use Rattle.vt_trace.specs.Trace.{begins, place_of, is_text, text_begin, text_end, text_of, report_line, written};
 ghost use Rattle.vt_trace.specs.Trace.{tracer_at_start, between, trace, tracer_all, end_lines};
-ghost use Rattle.vt_trace.specs.Lines.{shown, event_line_on};
+ghost use Rattle.vt_trace.specs.Lines.{shown, event_line_by};
 
 use crate::bytes::{push_all_shown, push_bytes, push_number, push_shown};
 use crate::laws::sized_cuts;
-use crate::lines::{push_line, push_line_on};
+use crate::lines::push_line_by;
+use crate::names::Naming;
 use crate::observer::trace_front;
 use crate::skipped::{First, SKIPPED_LIMIT, Step, push_open};
 use arrayvec::ArrayVec;
@@ -236,7 +237,8 @@ fn has_glyph(b: u8) -> bool
 }
 
 /// Appends what is to be written of an event in the present display.
-pub(crate) fn push_event(
+pub(crate) fn push_event<N: Naming>(
+    names: &N,
     terminal: &SizedTerminal,
     in_text: bool,
     place: u64,
@@ -247,24 +249,32 @@ pub(crate) fn push_event(
     requires event { IsEvent (event_of kind values.now) }
     requires room { vec_len out.old + EVENT_LIMIT ≤ vec_capacity out.old }
     ensures items { out.new.items ≡ out.old.items
-        ++ written terminal.now.display.grid.size.rows in_text place (event_of kind values.now) (report (event_of kind values.now) terminal.now.display) }
+        ++ written N.names terminal.now.display.grid.size.rows in_text place (event_of kind values.now) (report (event_of kind values.now) terminal.now.display) }
     ensures bounded { vec_len out.new ≤ vec_len out.old + EVENT_LIMIT }
     ensures capacity { vec_capacity out.old ≤ vec_capacity out.new }
 {
     match kind {
-        EventKind::Print(b) => push_print(in_text, place, b, out),
-        EventKind::Control(_) => push_other(terminal, in_text, place, kind, &[], out),
-        EventKind::Escape { .. } => push_other(terminal, in_text, place, kind, &[], out),
-        EventKind::Sequence { .. } => push_other(terminal, in_text, place, kind, values, out),
+        EventKind::Print(b) => push_print(names, terminal.size().rows, in_text, place, b, out),
+        EventKind::Control(_) => push_other(names, terminal, in_text, place, kind, &[], out),
+        EventKind::Escape { .. } => push_other(names, terminal, in_text, place, kind, &[], out),
+        EventKind::Sequence { .. } => push_other(
+            names, terminal, in_text, place, kind, values, out,
+        ),
     }
 }
 
-/// Appends what is to be written of a graphic byte.
-#[tactic(auto, unfolding(crate::specs::Lines::event_line_on))]
-fn push_print(in_text: bool, place: u64, b: u8, out: &mut Vec<u8>)
+/// Appends what is to be written of a graphic byte on a screen of so many rows.
+fn push_print<N: Naming>(
+    names: &N,
+    rows: usize,
+    in_text: bool,
+    place: u64,
+    b: u8,
+    out: &mut Vec<u8>,
+)
     requires room { vec_len out.old + EVENT_LIMIT ≤ vec_capacity out.old }
-    ensures items { (rows : ℕ) (reports : List ℕ)
-        → out.new.items ≡ out.old.items ++ written rows in_text place (Print b) reports }
+    ensures items { (reports : List ℕ)
+        → out.new.items ≡ out.old.items ++ written N.names rows in_text place (Print b) reports }
     ensures bounded { vec_len out.new ≤ vec_len out.old + EVENT_LIMIT }
     ensures capacity { vec_capacity out.old ≤ vec_capacity out.new }
 {
@@ -272,13 +282,14 @@ fn push_print(in_text: bool, place: u64, b: u8, out: &mut Vec<u8>)
         push_text(in_text, place, b, out);
     } else {
         push_end(in_text, out);
-        push_line(place, EventKind::Print(b), &[], out);
+        push_line_by(names, rows, place, EventKind::Print(b), &[], out);
     }
 }
 
 /// Appends the end of a text, the line of an event and that of its report in the present display.
 #[inline(always)]
-fn push_other(
+fn push_other<N: Naming>(
+    names: &N,
     terminal: &SizedTerminal,
     in_text: bool,
     place: u64,
@@ -289,13 +300,13 @@ fn push_other(
     requires few { length values.now ≤ 16 }
     requires room { vec_len out.old + EVENT_LIMIT ≤ vec_capacity out.old }
     ensures items { out.new.items ≡ out.old.items ++ (text_end in_text
-        ++ (event_line_on terminal.now.display.grid.size.rows place (event_of kind values.now)
+        ++ (event_line_by N.names terminal.now.display.grid.size.rows place (event_of kind values.now)
         ++ report_line place (report (event_of kind values.now) terminal.now.display))) }
     ensures bounded { vec_len out.new ≤ vec_len out.old + EVENT_LIMIT }
     ensures capacity { vec_capacity out.old ≤ vec_capacity out.new }
 {
     push_end(in_text, out);
-    push_line_on(terminal.size().rows, place, kind, values, out);
+    push_line_by(names, terminal.size().rows, place, kind, values, out);
     push_report(terminal, place, kind, values, out);
 }
 

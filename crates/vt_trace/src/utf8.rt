@@ -1,23 +1,21 @@
 //! The trace of UTF-8 that comes in chunks: the host's own bytes, at their places.
 ghost use Rattle.std.specs.Prelude.{◌≡◌, ◌≤◌, ◌<◌, ◌+◌, ◌-◌, ◌*◌, ◌^◌, ◌++◌, [], ◌∷◌, length, take, vec_len, vec_capacity, IfSome, slice_index, true};
 ghost use Rattle.std.specs.Option.{option_to_list};
-ghost use Rattle.vt_term.specs.Play.{play};
 ghost use Rattle.bstr.specs.Utf8.{replacement};
 ghost use Rattle.vt_utf8.specs.Decoding.{pending_after, IsWhole};
-ghost use Rattle.vt_utf8.specs.Translation.{translation};
-ghost use Rattle.vt_utf8.specs.Play.{play_utf8, translated_all};
+ghost use Rattle.vt_utf8.specs.Play.{play_utf8};
 ghost use Rattle.vt_trace.specs.Lines.{shown};
 ghost use Rattle.vt_trace.specs.Trace.{between, text_begin};
-ghost use Rattle.vt_trace.specs.Utf8.{completed, traced_as, tracer_as, trace_utf8, tracer_utf8};
-ghost use Rattle.vt_trace.specs.Private.Traces.{TracesUtf8, beyond_lines, beyond_tracer};
+ghost use Rattle.vt_trace.specs.Utf8.{Traces, after_all, reports_all, completed, traced_as, tracer_as, trace_utf8, tracer_utf8};
+ghost use Rattle.vt_trace.specs.Private.Traces.{beyond_lines, beyond_tracer};
 
 use crate::bytes::push_all_shown;
+use crate::dialects::Traceable;
+use crate::names::{Naming, Vt220Names};
 use crate::skipped::push_open;
-use crate::tracing::{TRACE_LIMIT, Tracer, push_text_begin, trace_reserved};
-use vt_term::SizedTerminal;
-use vt_term::laws::{sized_cuts as played_cuts, sized_soundness as played_soundness};
-use vt_utf8::laws::{ascii, sized_cuts as utf8_cuts, sized_soundness};
-use vt_utf8::sized::feed_beyond_ascii;
+use crate::tracing::{TRACE_LIMIT, Tracer, push_text_begin};
+use vt_term::laws::{sized_cuts, sized_soundness};
+use vt_term::{SizedTerminal, Vt220};
 use vt_utf8::{Decoder, ascii_run, whole_character};
 
 /// Plays the front of a chunk of a host's UTF-8, and appends the reports to `reports` and the trace to `out`. `decoder` keeps
@@ -51,19 +49,51 @@ pub fn trace_utf8_reserved(
     ensures capacity { vec_capacity out.old ≤ vec_capacity out.new }
 {
     let _ = terminal.width();
-    utf8_cuts();
+    sized_cuts();
     sized_soundness();
+    trace_dialect::<Vt220Names, Vt220>(terminal, &mut Vt220, tracer, decoder, chunk, reports, out)
+}
+
+/// Plays the front of a chunk of a host's UTF-8 on a terminal with what it keeps, and appends the reports to `reports` and the trace to
+/// `out`. `decoder` keeps what is pending between chunks. Returns how many bytes it played.
+///
+/// It plays while `out` has capacity for `TRACE_LIMIT` bytes more. `reports` has capacity for ten bytes for each byte of the chunk. It
+/// never fails, and it allocates nothing.
+pub fn trace_dialect<N: Naming, T: Traceable<N>>(
+    terminal: &mut SizedTerminal,
+    kept: &mut T,
+    tracer: &mut Tracer,
+    decoder: &mut Decoder,
+    chunk: &[u8],
+    reports: &mut Vec<u8>,
+    out: &mut Vec<u8>,
+) -> usize
+    requires one_size { T.OneSize (T.whole terminal.old kept.old) }
+    requires place { tracer.old.place + length chunk.now < 2 ^ 64 }
+    requires reports_room { vec_len reports.old + 10 * length chunk.now ≤ vec_capacity reports.old }
+    ensures within { result ≤ length chunk.now }
+    ensures all { result < length chunk.now → vec_capacity out.new < vec_len out.new + TRACE_LIMIT }
+    ensures one_size { T.OneSize (T.whole terminal.new kept.new) }
+    ensures size { T.size (T.whole terminal.new kept.new) ≡ T.size (T.whole terminal.old kept.old) }
+    ensures traced { Traces T.dialect (T.whole terminal.old kept.old) tracer.old decoder.old (take result chunk.now)
+        (T.whole terminal.new kept.new) tracer.new decoder.new reports.old.items reports.new.items out.old.items out.new.items }
+    ensures reports_bounded { vec_len reports.new ≤ vec_len reports.old + 10 * result }
+    ensures bounded { vec_len out.new ≤ vec_len out.old + TRACE_LIMIT * result }
+    ensures reports_capacity { vec_capacity reports.old ≤ vec_capacity reports.new }
+    ensures capacity { vec_capacity out.old ≤ vec_capacity out.new }
+{
     let mut at = 0;
     while at < chunk.len() && out.capacity() - out.len() >= TRACE_LIMIT {
-        at += trace_next(terminal, tracer, decoder, &chunk[at..], reports, out);
+        at += trace_next::<N, T>(terminal, kept, tracer, decoder, &chunk[at..], reports, out);
     }
     at
 }
 
 /// Traces the front of a chunk that isn't empty: the ASCII bytes or the character there if nothing is pending, otherwise a
 /// byte. Returns how many bytes it played.
-fn trace_next(
+fn trace_next<N: Naming, T: Traceable<N>>(
     terminal: &mut SizedTerminal,
+    kept: &mut T,
     tracer: &mut Tracer,
     decoder: &mut Decoder,
     piece: &[u8],
@@ -71,13 +101,16 @@ fn trace_next(
     out: &mut Vec<u8>,
 ) -> usize
     requires some { 1 ≤ length piece.now }
+    requires one_size { T.OneSize (T.whole terminal.old kept.old) }
     requires place { tracer.old.place + length piece.now < 2 ^ 64 }
     requires reports_room { vec_len reports.old + 10 * length piece.now ≤ vec_capacity reports.old }
     requires room { vec_len out.old + TRACE_LIMIT ≤ vec_capacity out.old }
     ensures some { 1 ≤ result }
     ensures within { result ≤ length piece.now }
-    ensures traced { TracesUtf8 terminal.old tracer.old decoder.old (take result piece.now) terminal.new tracer.new
-        decoder.new reports.old.items reports.new.items out.old.items out.new.items }
+    ensures one_size { T.OneSize (T.whole terminal.new kept.new) }
+    ensures size { T.size (T.whole terminal.new kept.new) ≡ T.size (T.whole terminal.old kept.old) }
+    ensures traced { Traces T.dialect (T.whole terminal.old kept.old) tracer.old decoder.old (take result piece.now)
+        (T.whole terminal.new kept.new) tracer.new decoder.new reports.old.items reports.new.items out.old.items out.new.items }
     ensures reports_bounded { vec_len reports.new ≤ vec_len reports.old + 10 * result }
     ensures bounded { vec_len out.new ≤ vec_len out.old + TRACE_LIMIT * result }
     ensures reports_capacity { vec_capacity reports.old ≤ vec_capacity reports.new }
@@ -85,21 +118,22 @@ fn trace_next(
 {
     if decoder.is_empty() {
         if piece[0] < 0x80 {
-            return trace_ascii(terminal, tracer, decoder, piece, reports, out);
+            return trace_ascii::<N, T>(terminal, kept, tracer, decoder, piece, reports, out);
         }
         if let Some((c, size)) = whole_character(&piece[..piece.len().min(4)]) {
-            trace_whole(terminal, tracer, c, &piece[..size], reports, out);
+            trace_whole::<N, T>(terminal, kept, tracer, c, &piece[..size], reports, out);
             return size;
         }
     }
-    trace_byte(terminal, tracer, decoder, piece[0], reports, out);
+    trace_byte::<N, T>(terminal, kept, tracer, decoder, piece[0], reports, out);
     1
 }
 
 /// Traces the ASCII bytes at the front of a chunk that begins with one, with nothing pending. Returns how many it played.
 #[inline(always)]
-fn trace_ascii(
+fn trace_ascii<N: Naming, T: Traceable<N>>(
     terminal: &mut SizedTerminal,
+    kept: &mut T,
     tracer: &mut Tracer,
     decoder: &Decoder,
     piece: &[u8],
@@ -109,28 +143,31 @@ fn trace_ascii(
     requires nothing { decoder.now ≡ [] }
     requires some { 1 ≤ length piece.now }
     requires first { slice_index piece.now 0 < 0x80 }
+    requires one_size { T.OneSize (T.whole terminal.old kept.old) }
     requires place { tracer.old.place + length piece.now < 2 ^ 64 }
     requires reports_room { vec_len reports.old + 10 * length piece.now ≤ vec_capacity reports.old }
     requires room { vec_len out.old + TRACE_LIMIT ≤ vec_capacity out.old }
     ensures some { 1 ≤ result }
     ensures within { result ≤ length piece.now }
-    ensures traced { TracesUtf8 terminal.old tracer.old decoder.now (take result piece.now) terminal.new tracer.new
-        decoder.now reports.old.items reports.new.items out.old.items out.new.items }
+    ensures one_size { T.OneSize (T.whole terminal.new kept.new) }
+    ensures size { T.size (T.whole terminal.new kept.new) ≡ T.size (T.whole terminal.old kept.old) }
+    ensures traced { Traces T.dialect (T.whole terminal.old kept.old) tracer.old decoder.now (take result piece.now)
+        (T.whole terminal.new kept.new) tracer.new decoder.now reports.old.items reports.new.items out.old.items out.new.items }
     ensures reports_bounded { vec_len reports.new ≤ vec_len reports.old + 10 * result }
     ensures bounded { vec_len out.new ≤ vec_len out.old + TRACE_LIMIT * result }
     ensures reports_capacity { vec_capacity reports.old ≤ vec_capacity reports.new }
     ensures capacity { vec_capacity out.old ≤ vec_capacity out.new }
 {
-    ascii();
     let _ = decoder;
     let run = ascii_run(&piece[1..]) + 1;
-    trace_reserved(terminal, tracer, &piece[..run], reports, out)
+    kept.trace_ascii(terminal, tracer, &piece[..run], reports, out)
 }
 
 /// Traces a whole character beyond ASCII, of these bytes, with nothing pending.
 #[inline(always)]
-fn trace_whole(
+fn trace_whole<N: Naming, T: Traceable<N>>(
     terminal: &mut SizedTerminal,
+    kept: &mut T,
     tracer: &mut Tracer,
     c: char,
     bytes: &[u8],
@@ -140,123 +177,143 @@ fn trace_whole(
     requires beyond { 0x80 ≤ c }
     requires whole { IsWhole bytes.now c (length bytes.now) }
     requires short { length bytes.now ≤ 4 }
+    requires one_size { T.OneSize (T.whole terminal.old kept.old) }
     requires place { tracer.old.place + length bytes.now < 2 ^ 64 }
     requires reports_room { vec_len reports.old + 10 ≤ vec_capacity reports.old }
     requires room { vec_len out.old + TRACE_LIMIT ≤ vec_capacity out.old }
-    ensures traced { TracesUtf8 terminal.old tracer.old [] bytes.now terminal.new tracer.new
-        [] reports.old.items reports.new.items out.old.items out.new.items }
+    ensures one_size { T.OneSize (T.whole terminal.new kept.new) }
+    ensures size { T.size (T.whole terminal.new kept.new) ≡ T.size (T.whole terminal.old kept.old) }
+    ensures traced { Traces T.dialect (T.whole terminal.old kept.old) tracer.old [] bytes.now
+        (T.whole terminal.new kept.new) tracer.new [] reports.old.items reports.new.items out.old.items out.new.items }
     ensures reports { reports.new.items ≡ reports.old.items }
     ensures bounded { vec_len out.new ≤ vec_len out.old + TRACE_LIMIT }
     ensures reports_capacity { vec_capacity reports.old ≤ vec_capacity reports.new }
     ensures capacity { vec_capacity out.old ≤ vec_capacity out.new }
 {
     push_beyond(tracer, bytes, out);
-    feed_beyond_ascii(terminal, c, reports);
+    kept.feed_beyond(terminal, c, reports);
 }
 
 /// Traces a byte.
-fn trace_byte(
+fn trace_byte<N: Naming, T: Traceable<N>>(
     terminal: &mut SizedTerminal,
+    kept: &mut T,
     tracer: &mut Tracer,
     decoder: &mut Decoder,
     b: u8,
     reports: &mut Vec<u8>,
     out: &mut Vec<u8>,
 )
+    requires one_size { T.OneSize (T.whole terminal.old kept.old) }
     requires place { tracer.old.place + 1 < 2 ^ 64 }
     requires reports_room { vec_len reports.old + 10 ≤ vec_capacity reports.old }
     requires room { vec_len out.old + TRACE_LIMIT ≤ vec_capacity out.old }
-    ensures traced { TracesUtf8 terminal.old tracer.old decoder.old (b ∷ []) terminal.new tracer.new
-        decoder.new reports.old.items reports.new.items out.old.items out.new.items }
+    ensures one_size { T.OneSize (T.whole terminal.new kept.new) }
+    ensures size { T.size (T.whole terminal.new kept.new) ≡ T.size (T.whole terminal.old kept.old) }
+    ensures traced { Traces T.dialect (T.whole terminal.old kept.old) tracer.old decoder.old (b ∷ [])
+        (T.whole terminal.new kept.new) tracer.new decoder.new reports.old.items reports.new.items out.old.items out.new.items }
     ensures reports_bounded { vec_len reports.new ≤ vec_len reports.old + 10 }
     ensures bounded { vec_len out.new ≤ vec_len out.old + TRACE_LIMIT }
     ensures reports_capacity { vec_capacity reports.old ≤ vec_capacity reports.new }
     ensures capacity { vec_capacity out.old ≤ vec_capacity out.new }
 {
-    let _ = terminal.width();
-    played_cuts();
-    played_soundness();
     let (lost, last) = decoder.push(b);
-    play_lost(terminal, lost, reports);
-    trace_last(terminal, tracer, b, last, reports, out);
+    play_lost::<N, T>(terminal, kept, lost, reports);
+    trace_last::<N, T>(terminal, kept, tracer, b, last, reports, out);
 }
 
 /// Plays U+FFFD if what was pending is ill-formed.
 #[inline(always)]
-fn play_lost(terminal: &mut SizedTerminal, lost: Option<char>, reports: &mut Vec<u8>)
+fn play_lost<N: Naming, T: Traceable<N>>(
+    terminal: &mut SizedTerminal,
+    kept: &mut T,
+    lost: Option<char>,
+    reports: &mut Vec<u8>,
+)
     requires lost { IfSome lost (λ c. c ≡ replacement) }
+    requires one_size { T.OneSize (T.whole terminal.old kept.old) }
     requires room { vec_len reports.old + 10 ≤ vec_capacity reports.old }
-    ensures state { terminal.new ≡ (play terminal.old (translated_all terminal.old (option_to_list lost))).state }
-    ensures silent { (play terminal.old (translated_all terminal.old (option_to_list lost))).reports ≡ [] }
+    ensures one_size { T.OneSize (T.whole terminal.new kept.new) }
+    ensures size { T.size (T.whole terminal.new kept.new) ≡ T.size (T.whole terminal.old kept.old) }
+    ensures state { T.whole terminal.new kept.new
+        ≡ after_all T.dialect (T.whole terminal.old kept.old) (option_to_list lost) }
+    ensures silent { reports_all T.dialect (T.whole terminal.old kept.old) (option_to_list lost) ≡ [] }
     ensures out { reports.new.items ≡ reports.old.items }
     ensures capacity { vec_capacity reports.old ≤ vec_capacity reports.new }
 {
-    let _ = terminal.width();
-    played_cuts();
     if let Some(c) = lost {
-        feed_beyond_ascii(terminal, c, reports);
+        kept.feed_beyond(terminal, c, reports);
     }
 }
 
 /// Plays the character that a byte completes, if it completes one, and appends what is written of the byte.
 #[inline(always)]
-fn trace_last(
+fn trace_last<N: Naming, T: Traceable<N>>(
     terminal: &mut SizedTerminal,
+    kept: &mut T,
     tracer: &mut Tracer,
     b: u8,
     last: Option<char>,
     reports: &mut Vec<u8>,
     out: &mut Vec<u8>,
 )
+    requires one_size { T.OneSize (T.whole terminal.old kept.old) }
     requires place { tracer.old.place + 1 < 2 ^ 64 }
     requires reports_room { vec_len reports.old + 10 ≤ vec_capacity reports.old }
     requires room { vec_len out.old + TRACE_LIMIT ≤ vec_capacity out.old }
-    ensures state { terminal.new ≡ (play terminal.old (translated_all terminal.old (option_to_list last))).state }
+    ensures one_size { T.OneSize (T.whole terminal.new kept.new) }
+    ensures size { T.size (T.whole terminal.new kept.new) ≡ T.size (T.whole terminal.old kept.old) }
+    ensures state { T.whole terminal.new kept.new
+        ≡ after_all T.dialect (T.whole terminal.old kept.old) (option_to_list last) }
     ensures reports { reports.new.items ≡ reports.old.items
-        ++ (play terminal.old (translated_all terminal.old (option_to_list last))).reports }
-    ensures lines { out.new.items
-        ≡ out.old.items ++ traced_as tracer.old b (completed terminal.old (option_to_list last)) }
-    ensures tracer { tracer.new ≡ tracer_as tracer.old b (completed terminal.old (option_to_list last)) }
+        ++ reports_all T.dialect (T.whole terminal.old kept.old) (option_to_list last) }
+    ensures lines { out.new.items ≡ out.old.items
+        ++ traced_as T.dialect.names tracer.old b (completed T.dialect (T.whole terminal.old kept.old) (option_to_list last)) }
+    ensures tracer { tracer.new
+        ≡ tracer_as tracer.old b (completed T.dialect (T.whole terminal.old kept.old) (option_to_list last)) }
     ensures reports_bounded { vec_len reports.new ≤ vec_len reports.old + 10 }
     ensures bounded { vec_len out.new ≤ vec_len out.old + TRACE_LIMIT }
     ensures reports_capacity { vec_capacity reports.old ≤ vec_capacity reports.new }
     ensures capacity { vec_capacity out.old ≤ vec_capacity out.new }
 {
-    let _ = terminal.width();
-    played_cuts();
     match last {
         None => push_beyond(tracer, &[b], out),
-        Some(c) => trace_character(terminal, tracer, b, c, reports, out),
+        Some(c) => trace_character::<N, T>(terminal, kept, tracer, b, c, reports, out),
     }
 }
 
 /// Plays the character that a byte completes, and appends what is written of the byte.
 #[inline(always)]
-fn trace_character(
+fn trace_character<N: Naming, T: Traceable<N>>(
     terminal: &mut SizedTerminal,
+    kept: &mut T,
     tracer: &mut Tracer,
     b: u8,
     c: char,
     reports: &mut Vec<u8>,
     out: &mut Vec<u8>,
 )
+    requires one_size { T.OneSize (T.whole terminal.old kept.old) }
     requires place { tracer.old.place + 1 < 2 ^ 64 }
     requires reports_room { vec_len reports.old + 10 ≤ vec_capacity reports.old }
     requires room { vec_len out.old + TRACE_LIMIT ≤ vec_capacity out.old }
-    ensures state { terminal.new ≡ (play terminal.old (translation terminal.old c)).state }
-    ensures reports { reports.new.items ≡ reports.old.items ++ (play terminal.old (translation terminal.old c)).reports }
-    ensures lines { out.new.items ≡ out.old.items ++ traced_as tracer.old b (completed terminal.old (c ∷ [])) }
-    ensures tracer { tracer.new ≡ tracer_as tracer.old b (completed terminal.old (c ∷ [])) }
+    ensures one_size { T.OneSize (T.whole terminal.new kept.new) }
+    ensures size { T.size (T.whole terminal.new kept.new) ≡ T.size (T.whole terminal.old kept.old) }
+    ensures state { T.whole terminal.new kept.new ≡ T.dialect.after (T.whole terminal.old kept.old) c }
+    ensures reports { reports.new.items ≡ reports.old.items ++ T.dialect.reports (T.whole terminal.old kept.old) c }
+    ensures lines { out.new.items ≡ out.old.items
+        ++ traced_as T.dialect.names tracer.old b (completed T.dialect (T.whole terminal.old kept.old) (c ∷ [])) }
+    ensures tracer { tracer.new ≡ tracer_as tracer.old b (completed T.dialect (T.whole terminal.old kept.old) (c ∷ [])) }
     ensures reports_bounded { vec_len reports.new ≤ vec_len reports.old + 10 }
     ensures bounded { vec_len out.new ≤ vec_len out.old + TRACE_LIMIT }
     ensures reports_capacity { vec_capacity reports.old ≤ vec_capacity reports.new }
     ensures capacity { vec_capacity out.old ≤ vec_capacity out.new }
 {
     if (c as u32) < 0x80 {
-        let _ = trace_reserved(terminal, tracer, &[c as u8], reports, out);
+        let _ = kept.trace_ascii(terminal, tracer, &[c as u8], reports, out);
     } else {
         push_beyond(tracer, &[b], out);
-        feed_beyond_ascii(terminal, c, reports);
+        kept.feed_beyond(terminal, c, reports);
     }
 }
 

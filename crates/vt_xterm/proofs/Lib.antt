@@ -1,7 +1,7 @@
 pub mod Colours
 pub mod Cuts
 mod Terminals
-mod Fed
+pub mod Fed
 mod Times
 pub mod SoundScreens
 pub mod Stays

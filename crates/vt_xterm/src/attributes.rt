@@ -5,8 +5,8 @@ ghost use Rattle.vt_xterm.specs.Attributes.{begins_colour, colour_length, select
 
 use vt_term::SizedTerminal;
 
-/// Returns whether a parameter begins a colour.
-fn begins_colour(p: u16) -> bool
+/// Returns whether a parameter of SGR begins a colour.
+pub fn begins_colour(p: u16) -> bool
     ensures { result ≡ begins_colour p }
 {
     p == 38 || p == 48 || p == 58
@@ -25,7 +25,7 @@ pub(crate) fn has_colour(values: &[u16]) -> bool
 }
 
 /// Returns how many of these parameters, which come after the one that begins a colour, belong to it.
-fn colour_length(params: &[u16]) -> usize
+pub fn colour_length(params: &[u16]) -> usize
     ensures { result ≡ colour_length params.now }
 {
     match params.first() {

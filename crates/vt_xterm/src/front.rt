@@ -13,7 +13,7 @@ use vt_utf8::Decoder;
 
 /// The page that isn't shown, of any size, and which page is.
 #[derive(Drop)]
-pub(crate) struct SizedPages {
+pub struct SizedPages {
     /// The page that isn't shown.
     pub(crate) other: SizedPage,
     /// Whether the alternate page is shown.
@@ -35,7 +35,7 @@ impl Model for SizedPages {
 impl SizedPages {
     /// States that the page that isn't shown is sound, for proofs. It does nothing when it runs.
     #[inline(always)]
-    pub(crate) fn soundness(&self)
+    pub fn soundness(&self)
         ensures { IsSoundSizedPage self.now.other }
     {
         self.other.soundness();
@@ -74,8 +74,10 @@ impl SizedPages {
 /// `new` allocates its memory, and nothing else does.
 #[derive(Drop)]
 pub struct SizedFront {
-    pub(crate) decoder: Decoder,
-    pub(crate) pages: SizedPages,
+    /// What is pending of UTF-8.
+    pub decoder: Decoder,
+    /// The page that isn't shown, and the modes.
+    pub pages: SizedPages,
 }
 
 impl Model for SizedFront {

@@ -2,3 +2,4 @@
 pub use crate::feeding::{
     feed_xterm, feed_xterm_log_reserved, feed_xterm_reserved, xterm_lines_limit,
 };
+pub use crate::front::SizedPages;

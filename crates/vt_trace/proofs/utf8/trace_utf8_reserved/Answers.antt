@@ -1,56 +1,22 @@
-use Rattle.std.proofs.Common.{◌≡◌, ◌+◌, ◌∙◌, take, drop, length, ap, arith, length-drop, length-take}
-use Rattle.std.proofs.Math.Seq.{take-add}
-use Rattle.vt_trace.specs.declared.tracing.Tracer.{Tracer}
-use Rattle.vt_trace.specs.Private.Traces.{TracesUtf8}
-use Rattle.vt_trace.proofs.Traces.{rest-of}
-use Rattle.vt_trace.proofs.Beyond.{place_utf8, traces_nothing, traces_both}
+use Rattle.std.proofs.Common.{◌++◌, ◌∙◌, List, ℕ, ap, take}
+use Rattle.vt_trace.proofs.Beyond.{utf8_state, utf8_reports}
 use Rattle.vt_trace.proofs.utf8.trace_utf8_reserved.Goals as goal
 
-pub loop-at-init : goal.loop-at-init
-loop-at-init c =
-    let size = c.args.terminal.now.display.grid.size in
+pub returns-clause-state : goal.returns-clause-state
+returns-clause-state c =
+    let s = c.args.terminal.now in
+    let size = s.display.grid.size in
     let cuts = c.sized_cuts.ensures in
-    record {
-      within = omega arith;
-      traced = traces_nothing (cuts.none size) (cuts.two size) cuts.pending (c.sized_soundness.ensures size) c.args.terminal.now c.args.tracer.now
-          c.args.decoder.now c.args.reports.now.items c.args.out.now.items c.width.ensures.sound;
-      place = omega arith;
-      reports_bounded = omega arith;
-      bounded = omega arith;
-      reports_capacity = omega arith;
-      capacity = omega arith;
-    }
+    c.trace_dialect.ensures.traced.state
+    ∙ utf8_state (cuts.none size) cuts.two (c.sized_soundness.ensures.play size) s c.args.decoder.now
+    (take c.trace_dialect.result c.args.chunk.now) c.width.ensures.sound
 
--- one more front
-pub loop-at-preserved : goal.loop-at-preserved
-loop-at-preserved c =
-    let size = c.args.terminal.now.display.grid.size in
+pub returns-clause-reports : goal.returns-clause-reports
+returns-clause-reports c =
+    let s = c.args.terminal.now in
+    let size = s.display.grid.size in
     let cuts = c.sized_cuts.ensures in
-    let was = c.loop-at.invariant in
-    let made = c.trace_next-at.ensures in
-    let n = c.trace_next-at.result in
-    let chunk = c.args.chunk.now in
-    let new = c.trace_next-at.new in
-    let rest = rest-of chunk c.loop-at.at in
-    let fits = rw rest at made.within in
-    let inside = simp length-drop at fits in
-    let traced : TracesUtf8 c.args.terminal.now c.args.tracer.now c.args.decoder.now (take (c.loop-at.at + n) chunk) new.terminal
-    new.tracer new.decoder c.args.reports.now.items new.reports.items c.args.out.now.items new.out.items =
-    rw (take-add c.loop-at.at n chunk) (traces_both (cuts.none size) (cuts.two size) cuts.pending (c.sized_soundness.ensures size)
-    c.args.terminal.now c.loop-at.terminal new.terminal c.args.tracer.now c.loop-at.tracer new.tracer c.args.decoder.now
-    c.loop-at.decoder new.decoder (take c.loop-at.at chunk) (take n (drop c.loop-at.at chunk)) c.args.reports.now.items
-    c.loop-at.reports.items new.reports.items c.args.out.now.items c.loop-at.out.items new.out.items c.width.ensures.sound
-    was.traced (rw rest at made.traced)) in
-    let place : new.tracer.place ≡ c.args.tracer.now.place + length (take (c.loop-at.at + n) chunk) =
-    ap (λ (t : Tracer). t.place) traced.tracer ∙ place_utf8 c.args.terminal.now c.args.tracer.now c.args.decoder.now
-    (take (c.loop-at.at + n) chunk) in
-    let len = length-take (c.loop-at.at + n) chunk in
-    record {
-      within = omega (arith, inside);
-      traced = traced;
-      place = omega (arith, place, len, inside);
-      reports_bounded = omega (arith, was.reports_bounded, made.reports_bounded);
-      bounded = omega (arith, was.bounded, made.bounded);
-      reports_capacity = omega (arith, was.reports_capacity, made.reports_capacity);
-      capacity = omega (arith, was.capacity, made.capacity);
-    }
+    c.trace_dialect.ensures.traced.reports
+    ∙ ap (λ (l : List ℕ). c.args.reports.now.items ++ l)
+    (utf8_reports (cuts.none size) cuts.two (c.sized_soundness.ensures.play size) s c.args.decoder.now
+    (take c.trace_dialect.result c.args.chunk.now) c.width.ensures.sound)

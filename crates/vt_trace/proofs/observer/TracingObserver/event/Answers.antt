@@ -14,7 +14,7 @@ use Rattle.vt_trace.proofs.observer.TracingObserver.event.Goals as goal
 
 pub returns : goal.returns
 unfolding told_at with_text
-returns c = λ s sound same events silent.
+returns g c = λ s sound same events silent.
     let a = c.args in
     let o = a.self.now in
     let read = c.read_event.ensures in
@@ -26,9 +26,9 @@ returns c = λ s sound same events silent.
     let d = a.terminal.now.display in
     let last = slice_index bytes (length bytes - 1) in
     let count = length-happenings s bytes in
-    let lines : c.push_event.new.out.items ≡ mid ++ told_at s.display u last e =
-    told.items ∙ ap (λ n. mid ++ written d.grid.size.rows u.in_text n e (report e d)) (c.place_of-place.ensures a.values.now)
-    ∙ ap (λ (d : Display). mid ++ told_at d u last e) (sym same) in (
+    let lines : c.push_event.new.out.items ≡ mid ++ told_at g.N.Naming.names s.display u last e =
+    told.items ∙ ap (λ n. mid ++ written g.N.Naming.names d.grid.size.rows u.in_text n e (report e d)) (c.place_of-place.ensures a.values.now)
+    ∙ ap (λ (d : Display). mid ++ told_at g.N.Naming.names d u last e) (sym same) in (
       refl,
       refl,
       λ follow.
@@ -37,9 +37,9 @@ returns c = λ s sound same events silent.
             events = ap (λ (h : Held). events_from h bytes) is ∙ events;
             silent = ap (λ (h : Held). events_from h (take (length bytes - 1) bytes)) is ∙ silent;
           } in
-          told-traced c.one_split.ensures s o.parser c.read_event.new.parser o.tracer.now (with_text c.is_text-self.result u)
+          told-traced c.one_split.ensures g.N.Naming.names s o.parser c.read_event.new.parser o.tracer.now (with_text c.is_text-self.result u)
           bytes o.out.now.items c.push_event.new.out.items sound.held is
-          (event_told c.spelled.ensures c.one_split.ensures bytes e c.requires.some s o.parser c.read_event.new.parser
+          (event_told c.spelled.ensures c.one_split.ensures bytes e c.requires.some g.N.Naming.names s o.parser c.read_event.new.parser
           o.tracer.now u o.out.now.items mid c.push_event.new.out.items c.is_text-self.result one
           (read.read a.values.now) lines (c.is_text-self.ensures a.values.now) is),
       record {

@@ -15,10 +15,10 @@ use Rattle.vt_trace.proofs.ItemKinds.{kinds_of_byte, code_of_byte}
 use Rattle.vt_trace.proofs.summary.Summary.count_byte.Goals as goal
 
 pub count_event-requires : goal.count_event-requires
-count_event-requires c = rw c.as_slice.ensures.value c.read-step.ensures.in_range
+count_event-requires g c = rw c.as_slice.ensures.value c.read-step.ensures.in_range
 
 pub returns : goal.returns
-returns c = λ rows bytes was.
+returns g c = λ rows bytes was.
     let s = c.args.self.now in
     let held = s.parser in
     let b = c.args.b in
@@ -44,10 +44,10 @@ returns c = λ rows bytes was.
           made.code ∙ ap (λ n. code_after n (is_string held) (held_from held byte) b) was.code
           ∙ ap (λ (h : Held). code_after (code_of (split_of bytes).rest) (is_string h) (held_from h byte) b) was.held
           ∙ sym (code_of_byte bytes b);
-      counts = subst (λ (r : ℕ). AreCounts r (events_of (bytes ++ byte)) (item_kinds (bytes ++ byte))
+      counts = subst (λ (r : ℕ). AreCounts g.L.Listed.listing r (events_of (bytes ++ byte)) (item_kinds (bytes ++ byte))
           c.count_event.new.ignored.items c.count_event.new.named) was.rows_are
           (rw (sym events, sym kinds) (c.count_event.ensures (events_of bytes) (item_kinds bytes ++ option_to_list c.skipped.result)
-          (c.count_skipped.ensures s.rows (events_of bytes) (item_kinds bytes) s.named
-          (subst (λ (r : ℕ). AreCounts r (events_of bytes) (item_kinds bytes) s.ignored.items s.named) (sym was.rows_are)
+          (c.count_skipped.ensures g.L.Listed.listing s.rows (events_of bytes) (item_kinds bytes) s.named
+          (subst (λ (r : ℕ). AreCounts g.L.Listed.listing r (events_of bytes) (item_kinds bytes) s.ignored.items s.named) (sym was.rows_are)
           was.counts))));
     }

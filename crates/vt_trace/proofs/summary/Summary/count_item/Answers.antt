@@ -13,7 +13,7 @@ use Rattle.vt_trace.proofs.ItemKinds.{kinds_of_item, code_of_item}
 use Rattle.vt_trace.proofs.summary.Summary.count_item.Goals as goal
 
 pub returns-then-is_item-clause-counted : goal.returns-then-is_item-clause-counted
-returns-then-is_item-clause-counted c = λ some rows bytes was.
+returns-then-is_item-clause-counted g c = λ some rows bytes was.
     let s = c.args.self.now in
     let piece = c.args.piece.now in
     let n = c.next-taken.result.bytes in
@@ -44,9 +44,9 @@ returns-then-is_item-clause-counted c = λ some rows bytes was.
       held =
           idle ∙ sym (held_more s.parser bytes item split was.held ∙ ap (λ (h : Held). held_from h item) idle ∙ ends);
       code = was.code ∙ code_of_item spell split item bytes between ends;
-      counts = subst (λ (r : ℕ). AreCounts r (events_of (bytes ++ item)) (item_kinds (bytes ++ item)) c.count_kind.new.ignored.items
+      counts = subst (λ (r : ℕ). AreCounts g.L.Listed.listing r (events_of (bytes ++ item)) (item_kinds (bytes ++ item)) c.count_kind.new.ignored.items
           c.count_kind.new.named) was.rows_are
           (rw (events, kinds) (c.count_kind.ensures (events_of bytes) (item_kinds bytes)
-          (subst (λ (r : ℕ). AreCounts r (events_of bytes) (item_kinds bytes) s.ignored.items s.named) (sym was.rows_are)
+          (subst (λ (r : ℕ). AreCounts g.L.Listed.listing r (events_of bytes) (item_kinds bytes) s.ignored.items s.named) (sym was.rows_are)
           was.counts)));
     }

@@ -1,0 +1,4 @@
+pub mod Played
+mod Colours
+mod Same
+mod Listed

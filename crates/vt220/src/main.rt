@@ -3,8 +3,8 @@
 
 ghost use Rattle.std.specs.Prelude.{◌≡◌, ◌⊎◌, IfErr, MatchResult};
 ghost use Rattle.std.specs.Process.{exit_status};
-ghost use Rattle.vt_recording.specs.Fault.{status_of, status_with};
-ghost use Rattle.vt_recording.specs.declared.fault.Fault.TheVariants.{Memory, Write};
+ghost use Rattle.vt_device.specs.Fault.{status_of, status_with};
+ghost use Rattle.vt_device.specs.declared.fault.Fault.TheVariants.{Memory, Write};
 
 mod notes;
 mod peeked;

@@ -64,12 +64,12 @@ fn language_hint(
 ) -> Option<&'static str> {
     if host.terminal == TerminalType::Xterm {
         return match request.word {
-            Word::Pages | Word::Trace | Word::Summary => {
-                Some("recorded for an xterm, and this command plays a VT220")
-            }
+            Word::Pages => Some("recorded for an xterm, and this command plays a VT220"),
             Word::Replay(_)
             | Word::Animation(_)
             | Word::Log
+            | Word::Trace
+            | Word::Summary
             | Word::Events
             | Word::Content
             | Word::Search => None,

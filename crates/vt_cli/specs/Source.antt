@@ -93,9 +93,7 @@ encoding_of (Some name) = encoding_named name
 
 -- the command of this name plays xterm
 abbrev pub plays_xterm : Text → Bool
-plays_xterm command =
-    not (bytes_eq command (codes "pages"))
-    && (not (bytes_eq command (codes "trace")) && not (bytes_eq command (codes "summary")))
+plays_xterm command = not (bytes_eq command (codes "pages"))
 
 -- xterm, for a command and the encoding that was asked for: it reads UTF-8
 abbrev pub xterm_for : (command : Text) → Option Encoding → Result (Option TerminalType) Complaint
@@ -174,23 +172,18 @@ screen_with wide None = Ok (record { wide = wide; size = None })
 screen_with None (Some text) = screen_named text
 screen_with (Some wide) (Some text) = Err TwoSizes
 
--- the command of this name plays a screen of any size
-abbrev pub plays_sizes : Text → Bool
-plays_sizes command =
-    bytes_eq command (codes "text") || (bytes_eq command (codes "reports") || (bytes_eq command (codes "status")
-    || (bytes_eq command (codes "show") || bytes_eq command (codes "picture"))))
-
--- a picture that moves has a VT220's size
-abbrev pub has_one_size : (command : Text) → Option Looks → Bool
-has_one_size command looks = is_some looks || not (plays_sizes command)
+-- the command of this name plays a VT220's screen alone, or none
+abbrev pub has_one_size : (command : Text) → Bool
+has_one_size command =
+    bytes_eq command (codes "pages") || (bytes_eq command (codes "events") || bytes_eq command (codes "content"))
 
 -- a size that isn't a VT220's is for a command that plays it
-abbrev pub screen_for : (command : Text) → Option Looks → Screen → Result Screen Complaint
-screen_for command looks screen = cond (is_some screen.size && has_one_size command looks) (Err OneSize) (Ok screen)
+abbrev pub screen_for : (command : Text) → Screen → Result Screen Complaint
+screen_for command screen = cond (is_some screen.size && has_one_size command) (Err OneSize) (Ok screen)
 
-abbrev pub screen_of : (command : Text) → Option Looks → (columns size : Option Text) → Result Screen Complaint
-screen_of command looks columns size =
-    and_then (λ wide. and_then (λ screen. screen_for command looks screen) (screen_with wide size)) (wide_of columns)
+abbrev pub screen_of : (command : Text) → (columns size : Option Text) → Result Screen Complaint
+screen_of command columns size =
+    and_then (λ wide. and_then (λ screen. screen_for command screen) (screen_with wide size)) (wide_of columns)
 
 -- ---- a picture that moves
 
@@ -264,7 +257,7 @@ source_of command looks format timed from until encoding terminal columns size =
       wide = screen.wide;
       size = screen.size;
       looks = looks;
-    })) (screen_of command looks columns size)) (terminal_of command encoding terminal)) (encoding_of encoding)) (moment_of format timed until))
+    })) (screen_of command columns size)) (terminal_of command encoding terminal)) (encoding_of encoding)) (moment_of format timed until))
     (from_of command format timed from))))
     (named format)
 
@@ -291,7 +284,7 @@ line_of NoColumns = codes "vt220: --columns is 80, 132 or auto" ++ 0x0A ∷ []
 line_of NoSize = codes "vt220: --size is columns and rows, as 120x40: 80 to 255 columns and 2 to 255 rows; or it is auto" ++ 0x0A ∷ []
 line_of TwoSizes = codes "vt220: --size and --columns are given: one of the two is enough" ++ 0x0A ∷ []
 line_of OneSize =
-    codes "vt220: this command plays 80x24 and 132x24 alone" ++ 0x0A ∷ codes "vt220: text, show, status, reports and picture without --animate play any size" ++ 0x0A ∷ []
+    codes "vt220: this command plays 80x24 and 132x24 alone" ++ 0x0A ∷ codes "vt220: all but pages, events and content play any size" ++ 0x0A ∷ []
 line_of OnlyUtf8 = codes "vt220: --terminal xterm reads UTF-8, and not --encoding dec" ++ 0x0A ∷ []
 line_of OnlyPicture = codes "vt220: --animate goes with picture alone" ++ 0x0A ∷ []
 line_of OnlyMoving = codes "vt220: --theme, --cursor and --title go with picture --animate alone" ++ 0x0A ∷ []
@@ -300,4 +293,4 @@ line_of NoSteps =
 line_of NoTheme = codes "vt220: --theme is dark, light, green or amber" ++ 0x0A ∷ []
 line_of NoShape = codes "vt220: --cursor is outline, block, underline or hidden" ++ 0x0A ∷ []
 line_of OnlyVt220 =
-    codes "vt220: pages, trace and summary play no xterm" ++ 0x0A ∷ codes "vt220: text, show, picture, status, reports, repaint, log, search and content do" ++ 0x0A ∷ []
+    codes "vt220: pages plays no xterm" ++ 0x0A ∷ codes "vt220: text, show, picture, status, reports, repaint, log, trace, summary, search and content do" ++ 0x0A ∷ []

@@ -69,6 +69,8 @@ pub struct Request {
     pub title: Option<String>,
     /// The text that a search is for.
     pub pattern: Option<String>,
+    /// Whether a search also looks through the lines that scrolled off.
+    pub log: bool,
     /// Whether a recording may break its format: what came before is enough.
     pub partial: bool,
     /// Whether the notes on standard error are left out.

@@ -5,7 +5,7 @@ ghost use Rattle.clap.specs.Words.{FailsBy, app_of, first_of, first_value, found
 ghost use Rattle.clap.specs.Words.{subcommand_rows_of, with_rule};
 ghost use Rattle.clap.specs.declared.builder.command.Command.TheViews.{out-Command};
 ghost use Rattle.vt_cli.specs.declared.what.What.{What};
-ghost use Rattle.vt_cli.specs.CommandLine.{rule_for, required_argument, arguments, subcommand, subcommand_with, with_name, as_program};
+ghost use Rattle.vt_cli.specs.CommandLine.{rule_for, required_argument, flag_option, arguments, subcommand, subcommand_with, with_name, as_program};
 ghost use Rattle.vt_cli.specs.CommandLine.{vt220, faults_in, found_in, name_of, status_for, is_true, is_set, is_plain};
 ghost use Rattle.vt_cli.specs.CommandLine.{IsNumberOf, AreSettings, IsMemory, IsFault, IsStray, IsRefusal};
 ghost use Rattle.vt_cli.specs.CommandLine.{HasNoSettings};
@@ -109,12 +109,19 @@ enum Takes<'a> {
     Nothing,
 }
 
-/// The argument of `search` that comes before the file.
-const PATTERN: &[(&str, Takes, &str)] = &[(
-    "pattern",
-    Takes::Required("PATTERN"),
-    "The text to find, letter by letter",
-)];
+/// The arguments that `search` alone has. The text comes before the file.
+const SEARCH_ARGUMENTS: &[(&str, Takes, &str)] = &[
+    (
+        "pattern",
+        Takes::Required("PATTERN"),
+        "The text to find, letter by letter",
+    ),
+    (
+        "log",
+        Takes::Nothing,
+        "Also the lines with the text that scrolled off the screen",
+    ),
+];
 
 /// The arguments of each subcommand, each by its name, what it takes, and its help.
 const ARGUMENTS: &[(&str, Takes, &str)] = &[
@@ -229,6 +236,7 @@ takes the text to find before FILE.
   --cursor SHAPE   its cursor: outline, block, underline or hidden [default: outline]
   --title TEXT     its title [default: VT220 screen]
   --full           for events: all that the recording has, with the bytes of its output
+  --log            for search alone: also the lines with the text that scrolled off the screen
   --partial        what came before a recording breaks is enough: that is printed, and no fault
   --quiet          no notes on standard error; faults are printed all the same
 
@@ -247,6 +255,9 @@ Example, a picture that moves, of a recording with times:
 
 Example, when a text was on the screen: from and until, the row and the column:
   vt220 search --format ttyrec 'No space left' demo.tty
+
+Example, and also the lines that scrolled off: log, the time, the line of the log and the column:
+  vt220 search --log --format ttyrec 'No space left' demo.tty
 
 Example, the screen as it stood twelve and a half seconds after the start:
   vt220 text --format ttyrec --until 12.5 demo.tty
@@ -307,11 +318,11 @@ fn subcommand<'a>(alloc: Global, name: &'a str, about: &'a str) -> Result<Comman
 
 /// Returns the subcommand `search`.
 fn search<'a>(alloc: Global) -> Result<Command<'a>, AllocError>
-    ensures app { IfOk result (λ c. app_of c ≡ subcommand_with (codes "search") (required_argument (codes "pattern") ∷ arguments)) }
+    ensures app { IfOk result (λ c. app_of c ≡ subcommand_with (codes "search") (required_argument (codes "pattern") ∷ flag_option (codes "log") ∷ arguments)) }
     ensures local { IfOk result (λ c. (out-Command c).has_globals ≡ false) }
 {
     let command = Command::new(alloc, "search").about(SEARCH);
-    let command = with_arguments(alloc, command, PATTERN)?;
+    let command = with_arguments(alloc, command, SEARCH_ARGUMENTS)?;
     with_arguments(alloc, command, ARGUMENTS)
 }
 

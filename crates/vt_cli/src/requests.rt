@@ -83,6 +83,7 @@ fn request_of(
         size: source.size,
         title: file_of(alloc, matches, "title")?,
         pattern,
+        log: is_set(matches, "log"),
         full: is_set(matches, "full"),
         partial: is_set(matches, "partial"),
         quiet: is_set(matches, "quiet"),
@@ -122,8 +123,10 @@ fn request_among(alloc: Global, matches: &ArgMatches<'_>) -> Result<Request, Ref
 /// `Err` is what to end with if there is no request: the help or the version that was asked for (status 0), a failed
 /// allocation (1), or what is wrong with the arguments (2). Such are also `--timing` with a format other than script, a
 /// moment in seconds with raw, or with script without `--timing`, `--from` with another subcommand than `events` and `content`, and
-/// xterm with dec, or with `pages`, `trace` or `summary`. `--animate` is for `picture`. It and `search` are for a format with times. `--size` doesn't go with `--columns`. A size that isn't a VT220's is for `text`, `show`, `status`, `reports` and a `picture` that doesn't move. The theme is dark, light,
+/// xterm with dec, or with `pages`. `--animate` is for `picture`. It and `search` are for a format with times. `--size` doesn't go with `--columns`. A size that isn't a VT220's
+/// isn't for `pages`, `events` and `content`. The theme is dark, light,
 /// green or amber, and the shape outline, block, underline or hidden. Both and the title need `--animate`.
+/// `search` plays any size, too, and it alone takes `--log`.
 /// (this profile)
 pub fn request(alloc: Global, words: Vec<String>) -> Result<Request, Refused>
     ensures ok { IfOk result (IsRequest words.items) }

@@ -6,7 +6,7 @@ ghost use Rattle.vt_cli.specs.Source.{format_named, named, takes_timing, has_tim
 ghost use Rattle.vt_cli.specs.Source.{encoding_named, encoding_of};
 ghost use Rattle.vt_cli.specs.Source.{theme_named, theme_of, cursor_named, cursor_of, looks_with, may_move, looks_of, looks_in, is_timed, lacks_steps};
 ghost use Rattle.vt_cli.specs.Source.{plays_xterm, xterm_for, terminal_named, terminal_of, wide_named, wide_of};
-ghost use Rattle.vt_cli.specs.Source.{size_of, screen_at, screen_in, screen_named, screen_with, plays_sizes, has_one_size, screen_for, screen_of};
+ghost use Rattle.vt_cli.specs.Source.{size_of, screen_at, screen_in, screen_named, screen_with, has_one_size, screen_for, screen_of};
 
 use crate::command_line::is_set;
 use crate::moment::{moment, place};
@@ -117,7 +117,7 @@ impl Complaint {
             }
             Complaint::OneSize => {
                 "vt220: this command plays 80x24 and 132x24 alone\n\
-                 vt220: text, show, status, reports and picture without --animate play any size\n"
+                 vt220: all but pages, events and content play any size\n"
             }
             Complaint::OnlyUtf8 => "vt220: --terminal xterm reads UTF-8, and not --encoding dec\n",
             Complaint::OnlyPicture => "vt220: --animate goes with picture alone\n",
@@ -131,8 +131,8 @@ impl Complaint {
             Complaint::NoTheme => "vt220: --theme is dark, light, green or amber\n",
             Complaint::NoShape => "vt220: --cursor is outline, block, underline or hidden\n",
             Complaint::OnlyVt220 => {
-                "vt220: pages, trace and summary play no xterm\n\
-                 vt220: text, show, picture, status, reports, repaint, log, search and content do\n"
+                "vt220: pages plays no xterm\n\
+                 vt220: text, show, picture, status, reports, repaint, log, trace, summary, search and content do\n"
             }
         }
     }
@@ -263,7 +263,7 @@ fn encoding_of(name: Option<&str>) -> Result<Option<Encoding>, Complaint>
 fn plays_xterm(command: &str) -> bool
     ensures { result ≡ plays_xterm command.now }
 {
-    !matches!(command, "pages" | "trace" | "summary")
+    !matches!(command, "pages")
 }
 
 /// Returns xterm, for a command and the encoding that was asked for.
@@ -411,39 +411,27 @@ fn screen_with(wide: Option<bool>, size: Option<&str>) -> Result<Screen, Complai
     }
 }
 
-/// Returns whether the command of this name plays a screen of any size.
-fn plays_sizes(command: &str) -> bool
-    ensures { result ≡ plays_sizes command.now }
+/// Returns whether the command of this name plays a VT220's screen alone, or none.
+fn has_one_size(command: &str) -> bool
+    ensures { result ≡ has_one_size command.now }
 {
-    matches!(command, "text" | "reports" | "status" | "show" | "picture")
-}
-
-/// Returns whether a command plays a VT220's screen alone. A picture that moves is such.
-fn has_one_size(command: &str, looks: Option<Looks>) -> bool
-    ensures { result ≡ has_one_size command.now looks }
-{
-    looks.is_some() || !plays_sizes(command)
+    matches!(command, "pages" | "events" | "content")
 }
 
 /// Returns the screen, if the command of this name plays it.
-fn screen_for(command: &str, looks: Option<Looks>, screen: Screen) -> Result<Screen, Complaint>
-    ensures value { result ≡ screen_for command.now looks screen }
+fn screen_for(command: &str, screen: Screen) -> Result<Screen, Complaint>
+    ensures value { result ≡ screen_for command.now screen }
     ensures same { IfOk result (λ s. s ≡ screen) }
 {
-    if screen.size.is_some() && has_one_size(command, looks) {
+    if screen.size.is_some() && has_one_size(command) {
         return Err(Complaint::OneSize);
     }
     Ok(screen)
 }
 
 /// Returns the screen that a number of columns or a size's text asks for. Without both the recording decides.
-fn screen_of(
-    command: &str,
-    looks: Option<Looks>,
-    columns: Option<&str>,
-    size: Option<&str>,
-) -> Result<Screen, Complaint>
-    ensures value { result ≡ screen_of command.now looks (option_map (λ n. n.now) columns.entry) (option_map (λ s. s.now) size.entry) }
+fn screen_of(command: &str, columns: Option<&str>, size: Option<&str>) -> Result<Screen, Complaint>
+    ensures value { result ≡ screen_of command.now (option_map (λ n. n.now) columns.entry) (option_map (λ s. s.now) size.entry) }
     ensures in_range { IfOk result (λ screen. IfSome screen.size (λ size. IsSize size)) }
 {
     let wide = match wide_of(columns) {
@@ -451,7 +439,7 @@ fn screen_of(
         Err(complaint) => return Err(complaint),
     };
     match screen_with(wide, size) {
-        Ok(screen) => screen_for(command, looks, screen),
+        Ok(screen) => screen_for(command, screen),
         Err(complaint) => Err(complaint),
     }
 }
@@ -620,7 +608,7 @@ fn source_of(
         Ok(terminal) => terminal,
         Err(complaint) => return Err(complaint),
     };
-    match screen_of(command, looks, columns, size) {
+    match screen_of(command, columns, size) {
         Ok(screen) => Ok(Source {
             format,
             from,

@@ -4,7 +4,7 @@ use Rattle.std.specs.List.{range_with_len}
 use Rattle.std.proofs.lemmas.List.{drop_all, take_all}
 use Rattle.std.proofs.Math.Seq.{take-add}
 use Rattle.std.proofs.lemmas.List.Sums.{fold_more}
-use Rattle.std.proofs.lemmas.List.FromFn.{get_or-map-range_with_len}
+use Rattle.std.proofs.lemmas.List.FromFn.{get_or-map-range_with_len, length-map-range_with_len}
 use Rattle.std.proofs.lemmas.Grind.{same_number_lists}
 use Rattle.vt_term.specs.State.{Display}
 use Rattle.vt_term.specs.Play.{Played, both}
@@ -18,11 +18,11 @@ use Rattle.vt_replay.specs.Session.{is_empty}
 use Rattle.vt_replay.specs.Animated.{frame_after, numbers_after, numbers_then, next_number, first_numbers, frames, last_time, duration_of, animation}
 
 -- the numbers of all rows
-pub numbered : (f : ℕ → ℕ) (numbers : List ℕ) → length numbers ≡ 24 → ((i : ℕ) → i < 24 → get_or numbers i 0 ≡ f i)
-    → numbers ≡ map f (range_with_len 0 24)
-numbered f numbers long is =
-    same_number_lists numbers (map f (range_with_len 0 24)) long
-    (λ k below. is k (omega (arith, long, below)) ∙ sym (get_or-map-range_with_len f 0 24 k k 0 (omega (arith, long, below)) (omega arith)))
+pub numbered : (f : ℕ → ℕ) (n : ℕ) (numbers : List ℕ) → length numbers ≡ n → ((i : ℕ) → i < n → get_or numbers i 0 ≡ f i)
+    → numbers ≡ map f (range_with_len 0 n)
+numbered f n numbers long is =
+    same_number_lists numbers (map f (range_with_len 0 n)) (long ∙ sym (length-map-range_with_len f 0 n))
+    (λ k below. is k (omega (arith, long, below)) ∙ sym (get_or-map-range_with_len f 0 n k k 0 (omega (arith, long, below)) (omega arith)))
 
 -- the time of the last frame, with a step more
 pub later : (steps : List Event) (k clock now : ℕ) (step : Event) → k < length steps → clock ≡ last_time (take k steps)
@@ -93,19 +93,19 @@ played_more played p q r bytes at n so_far on more =
     ∙ ap (λ (x : Played). x.state) (on more)
 
 -- the numbers of all rows after a frame
-pub numbered_then : (number : ℕ) (numbers bytes after : List ℕ) (before s : Display) → is_empty bytes ≡ false → length after ≡ 24
+pub numbered_then : (number : ℕ) (numbers bytes after : List ℕ) (before s : Display) → is_empty bytes ≡ false → length after ≡ s.grid.size.rows
     → AreNumbered number numbers before s after → after ≡ numbers_after number numbers bytes before s
 unfolding numbers_then
 numbered_then number numbers bytes after before s some long are =
-    numbered (λ i. if same_paper before s then number_after number numbers before s (i + 1) else number_on_screen number s (i + 1)) after long
+    numbered (λ i. if same_paper before s then number_after number numbers before s (i + 1) else number_on_screen number s (i + 1)) s.grid.size.rows after long
     (λ i below. are i (omega (arith, long, below)))
     ∙ sym (ap (λ (empty : Bool). cond empty numbers (numbers_then number numbers before s)) some)
 
 -- the numbers of all rows of the screen at the beginning
-pub numbered_first : (numbers : List ℕ) (s : Display) → length numbers ≡ 24
-    → ((i : ℕ) → i < 24 → get_or numbers i 0 ≡ number_on_screen 0 s (i + 1)) → numbers ≡ first_numbers s
+pub numbered_first : (numbers : List ℕ) (s : Display) → length numbers ≡ s.grid.size.rows
+    → ((i : ℕ) → i < s.grid.size.rows → get_or numbers i 0 ≡ number_on_screen 0 s (i + 1)) → numbers ≡ first_numbers s
 unfolding first_numbers
-numbered_first numbers s long are = numbered (λ i. number_on_screen 0 s (i + 1)) numbers long are
+numbered_first numbers s long are = numbered (λ i. number_on_screen 0 s (i + 1)) s.grid.size.rows numbers long are
 
 -- what is appended in three parts
 pub in_three : (old one two three head frames : List ℕ) (last : List ℕ) → one ≡ old ++ head → two ≡ one ++ frames → three ≡ two ++ last

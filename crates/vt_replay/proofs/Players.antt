@@ -2,7 +2,7 @@
 use Rattle.std.proofs.Common.{◌≡◌, ◌∙◌, ℕ, List, [], ◌++◌, ap, refl}
 use Rattle.vt_term.specs.State.{State, power_up}
 use Rattle.vt_screen.specs.declared.size.Size.{Size}
-use Rattle.vt_term.specs.Sound.{IsSound, IsSoundAt, IsSoundSized}
+use Rattle.vt_term.specs.Sound.{IsSoundAt, IsSoundSized}
 use Rattle.vt_term.specs.Play.{Played, play, both}
 use Rattle.vt_term.specs.Scrolling.{log}
 use Rattle.vt_utf8.specs.Decoding.{pending_after}
@@ -13,7 +13,7 @@ use Rattle.vt_recording.specs.declared.format.Encoding.{Encoding}
 use Rattle.vt_recording.specs.declared.format.Encoding.TheVariants.{Dec, Utf8}
 use Rattle.vt_recording.specs.declared.format.TerminalType.TheVariants.{Vt220}
 use Rattle.vt_replay.specs.Encoding.{decoded}
-use Rattle.vt_output.specs.Output.{IsAfter, always, nothing}
+use Rattle.vt_device.specs.Output.{IsAfter, always, nothing}
 use Rattle.vt_xterm_paint.specs.Repaint.{xterm_repaint}
 use Rattle.vt_replay.specs.Session.{is_between}
 use Rattle.vt_replay.specs.Playing.{language_of, on_terminal, played_as}
@@ -101,34 +101,49 @@ session_after s t front after chunk two parts state pages left = record {
   none = refl;
 }
 
+-- the log, and its screen
+pub plain_log_after : (s t : State) (chunk : List ℕ)
+    → ((s : State) (a b : List ℕ) → play s (a ++ b) ≡ both (play s a) (play (play s a).state b))
+    → ((s : State) (a b : List ℕ) → log s (a ++ b) ≡ log s a ++ log (play s a).state b)
+    → ((size : Size) (s : State) → IsSoundAt size s → log s [] ≡ [])
+    → ((size : Size) (s : State) (bytes : List ℕ) → IsSoundAt size s → IsSoundAt size (play s bytes).state)
+    → IsSoundSized s → t ≡ (play s chunk).state
+    → IsAfter (λ x. log s x) (λ x. text (play s x).state) always chunk (λ x. log t x) (λ x. text (play t x).state) always
+plain_log_after s t chunk two log_two log_none stays sound state = record {
+  on = λ more. rw (state) (log_two s chunk more);
+  end_on = λ more. rw (state) (ap (λ (p : Played). text p.state) (two s chunk more));
+  there_on = λ more. refl;
+  none = log_none s.display.grid.size t (rw (state) (stays s.display.grid.size s chunk sound));
+}
+
 -- the log of UTF-8, and its screen
 pub utf8_log_after : (s t : State) (pending after chunk : List ℕ)
-    → ((s : State) (pending a b : List ℕ) → IsSound s → play_utf8 s pending (a ++ b)
+    → ((size : Size) (s : State) (pending a b : List ℕ) → IsSoundAt size s → play_utf8 s pending (a ++ b)
     ≡ both (play_utf8 s pending a) (play_utf8 (play_utf8 s pending a).state (pending_after pending a) b))
-    → ((s : State) (pending a b : List ℕ) → IsSound s → translated s pending (a ++ b)
+    → ((size : Size) (s : State) (pending a b : List ℕ) → IsSoundAt size s → translated s pending (a ++ b)
     ≡ translated s pending a ++ translated (play_utf8 s pending a).state (pending_after pending a) b)
     → ((s : State) (a b : List ℕ) → log s (a ++ b) ≡ log s a ++ log (play s a).state b)
-    → ((s : State) → IsSound s → log s [] ≡ [])
-    → ((s : State) (bytes : List ℕ) → IsSound s → IsSound (play s bytes).state)
-    → IsSound s → t ≡ (play_utf8 s pending chunk).state → after ≡ pending_after pending chunk
+    → ((size : Size) (s : State) → IsSoundAt size s → log s [] ≡ [])
+    → ((size : Size) (s : State) (bytes : List ℕ) → IsSoundAt size s → IsSoundAt size (play s bytes).state)
+    → IsSoundSized s → t ≡ (play_utf8 s pending chunk).state → after ≡ pending_after pending chunk
     → IsAfter (λ x. log s (translated s pending x)) (λ x. text (play_utf8 s pending x).state) always chunk
     (λ x. log t (translated t after x)) (λ x. text (play_utf8 t after x).state) always
 unfolding play_utf8 translated
 utf8_log_after s t pending after chunk two cut log_two log_none stays sound state left = record {
   on = λ more. rw (state, left)
-      (ap (λ (x : List ℕ). log s x) (cut s pending chunk more sound)
+      (ap (λ (x : List ℕ). log s x) (cut s.display.grid.size s pending chunk more sound)
       ∙ log_two s (translated s pending chunk) (translated (play_utf8 s pending chunk).state (pending_after pending chunk) more));
   end_on = λ more. rw (state, left)
-      (ap (λ (p : Played). text p.state) (two s pending chunk more sound));
+      (ap (λ (p : Played). text p.state) (two s.display.grid.size s pending chunk more sound));
   there_on = λ more. refl;
-  none = log_none t (rw (state) (stays s (translated s pending chunk) sound));
+  none = log_none s.display.grid.size t (rw (state) (stays s.display.grid.size s (translated s pending chunk) sound));
 }
 
 -- no bytes log nothing
-pub utf8_log_none : (s : State) (pending : List ℕ) → ((s : State) → IsSound s → log s [] ≡ []) → IsSound s
-    → log s (translated s pending []) ≡ []
+pub utf8_log_none : (s : State) (pending : List ℕ) → ((size : Size) (s : State) → IsSoundAt size s → log s [] ≡ [])
+    → IsSoundSized s → log s (translated s pending []) ≡ []
 unfolding translated
-utf8_log_none s pending none sound = none s sound
+utf8_log_none s pending none sound = none s.display.grid.size s sound
 
 -- UTF-8 is played as what it is translated to
 pub as_decoded : (encoding : Encoding) (bytes : List ℕ)

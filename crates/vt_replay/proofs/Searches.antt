@@ -13,7 +13,8 @@ use Rattle.vt_recording.proofs.Marks.{front, rest}
 use Rattle.vt_replay.specs.declared.search.Place.{Place}
 use Rattle.vt_replay.specs.declared.search.Found.{Found}
 use Rattle.vt_replay.specs.Session.{is_empty}
-use Rattle.vt_replay.specs.Search.{lines, first_at, first_place, column_of, place_of, found_then, ended, left_open, spans}
+use Rattle.vt_replay.specs.LogSearch.{column_of}
+use Rattle.vt_replay.specs.Search.{lines, first_at, first_place, place_of, found_then, ended, left_open, spans}
 
 -- the last byte of what was appended is taken off
 pub popped : (old text now after : List ℕ) (last : ℕ) → now ≡ old ++ (text ++ last ∷ []) → after ≡ take (length now - 1) now → after ≡ old ++ text
@@ -29,7 +30,7 @@ popped old text now after last is taken =
 abbrev at_column : (row column : ℕ) → Place
 at_column row column = record { row = row; column = column }
 
-module _ (line_of : ℕ → List ℕ) where
+module _ (line_of : ℕ → List ℕ) (rows : ℕ) where
   at_row : (row left at : ℕ)
       → place_of line_of row (suc left) at
       ≡ cond (nat_lt at (length (line_of row))) (record { row = row; column = column_of (take at (line_of row)) })
@@ -37,34 +38,34 @@ module _ (line_of : ℕ → List ℕ) where
   unfolding place_of
   at_row row left at = refl
 
-  at_this_row : (row at : ℕ) (whole : Place) → row ≤ 24 → place_of line_of row (25 - row) at ≡ whole
+  at_this_row : (row at : ℕ) (whole : Place) → row ≤ rows → place_of line_of row (rows + 1 - row) at ≡ whole
       → whole
       ≡ cond (nat_lt at (length (line_of row))) (record { row = row; column = column_of (take at (line_of row)) })
-      (place_of line_of (row + 1) (25 - (row + 1)) (at - length (line_of row)))
+      (place_of line_of (row + 1) (rows + 1 - (row + 1)) (at - length (line_of row)))
   at_this_row row at whole low ahead =
-      let more : 25 - row ≡ suc (25 - (row + 1)) = omega (arith, low) in
-      sym ahead ∙ ap (λ (left : ℕ). place_of line_of row left at) more ∙ at_row row (25 - (row + 1)) at
+      let more : rows + 1 - row ≡ suc (rows + 1 - (row + 1)) = omega (arith, low) in
+      sym ahead ∙ ap (λ (left : ℕ). place_of line_of row left at) more ∙ at_row row (rows + 1 - (row + 1)) at
 
-  pub in_this_row : (row at column : ℕ) (whole : Place) → row ≤ 24 → at < length (line_of row) → column ≡ column_of (take at (line_of row))
-      → place_of line_of row (25 - row) at ≡ whole → record { row = row; column = column } ≡ whole
+  pub in_this_row : (row at column : ℕ) (whole : Place) → row ≤ rows → at < length (line_of row) → column ≡ column_of (take at (line_of row))
+      → place_of line_of row (rows + 1 - row) at ≡ whole → record { row = row; column = column } ≡ whole
   in_this_row row at column whole low here is ahead =
       ap (λ (n : ℕ). at_column row n) is
       ∙ sym (at_this_row row at whole low ahead
       ∙ ap (λ (b : Bool). cond b (record { row = row; column = column_of (take at (line_of row)) })
-      (place_of line_of (row + 1) (25 - (row + 1)) (at - length (line_of row)))) (lt-ltb at (length (line_of row)) here))
+      (place_of line_of (row + 1) (rows + 1 - (row + 1)) (at - length (line_of row)))) (lt-ltb at (length (line_of row)) here))
 
-  pub in_a_later_row : (row at : ℕ) (whole : Place) → row ≤ 24 → length (line_of row) ≤ at → place_of line_of row (25 - row) at ≡ whole
-      → place_of line_of (row + 1) (25 - (row + 1)) (at - length (line_of row)) ≡ whole
+  pub in_a_later_row : (row at : ℕ) (whole : Place) → row ≤ rows → length (line_of row) ≤ at → place_of line_of row (rows + 1 - row) at ≡ whole
+      → place_of line_of (row + 1) (rows + 1 - (row + 1)) (at - length (line_of row)) ≡ whole
   in_a_later_row row at whole low past ahead =
       sym (at_this_row row at whole low ahead
       ∙ ap (λ (b : Bool). cond b (record { row = row; column = column_of (take at (line_of row)) })
-      (place_of line_of (row + 1) (25 - (row + 1)) (at - length (line_of row)))) (le-ltb at (length (line_of row)) past))
+      (place_of line_of (row + 1) (rows + 1 - (row + 1)) (at - length (line_of row)))) (le-ltb at (length (line_of row)) past))
 
-  pub in_no_row : (row at : ℕ) (whole : Place) → 24 < row → place_of line_of row (25 - row) at ≡ whole
+  pub in_no_row : (row at : ℕ) (whole : Place) → rows < row → place_of line_of row (rows + 1 - row) at ≡ whole
       → record { row = row; column = 1 } ≡ whole
   unfolding place_of
   in_no_row row at whole past ahead =
-      let none : 25 - row ≡ 0 = omega (arith, past) in
+      let none : rows + 1 - row ≡ 0 = omega (arith, past) in
       sym (ap (λ (left : ℕ). place_of line_of row left at) none) ∙ ahead
 
 -- the first place of bytes that were searched for in the lines

@@ -11,8 +11,8 @@ use Rattle.vt_picture.specs.Picture.{picture}
 use Rattle.vt_cli.specs.declared.what.What.{What}
 use Rattle.vt_cli.specs.declared.what.What.TheVariants.{Text, Reports, Repaint, Status, Show, Picture}
 use Rattle.vt_device.specs.Runs.{Flags}
-use Rattle.vt_recording.specs.declared.fault.Fault.{Fault}
-use Rattle.vt_output.specs.Output.{OutputTable}
+use Rattle.vt_device.specs.declared.fault.Fault.{Fault}
+use Rattle.vt_device.specs.Output.{OutputTable}
 use Rattle.vt_replay.specs.Status.{status}
 
 -- what of reports goes out while the input is read

@@ -5,8 +5,8 @@ use Rattle.vt_term.specs.Play.{play}
 use Rattle.vt_utf8.specs.Decoding.{pending_after}
 use Rattle.vt_utf8.specs.Play.{translated}
 use Rattle.vt_device.specs.Runs.{Flags}
-use Rattle.vt_output.specs.Output.{OutputTable}
-use Rattle.vt_recording.specs.declared.fault.Fault.{Fault}
+use Rattle.vt_device.specs.Output.{OutputTable}
+use Rattle.vt_device.specs.declared.fault.Fault.{Fault}
 use Rattle.vt_recording.specs.declared.format.Encoding.{Encoding}
 use Rattle.vt_recording.specs.declared.format.Encoding.TheVariants.{Dec, Utf8}
 

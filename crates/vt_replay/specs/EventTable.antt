@@ -7,9 +7,9 @@ use Rattle.vt_recording.specs.declared.format.Format.TheVariants as format
 use Rattle.vt_recording.specs.declared.format.Moment.{Moment}
 use Rattle.vt_recording.specs.declared.format.Moment.TheVariants as moment
 use Rattle.vt_recording.specs.declared.format.Encoding.TheVariants.{Utf8}
-use Rattle.vt_recording.specs.declared.format.Break.{Break}
-use Rattle.vt_recording.specs.declared.format.Part.{Part}
-use Rattle.vt_recording.specs.declared.format.Part.TheVariants.{Recording, Timing}
+use Rattle.vt_device.specs.declared.fault.Break.{Break}
+use Rattle.vt_device.specs.declared.fault.Part.{Part}
+use Rattle.vt_device.specs.declared.fault.Part.TheVariants.{Recording, Timing}
 use Rattle.vt_recording.specs.declared.format.TerminalType.{TerminalType}
 use Rattle.vt_recording.specs.declared.format.TerminalType.TheVariants.{Vt220, Xterm}
 use Rattle.vt_recording.specs.declared.heading.Heading.{Heading}

@@ -1,6 +1,6 @@
 -- For what a host sends: the terminal, the encoding and the width, as a request and the first line of a recording give them.
 -- (this profile)
-use Rattle.std.specs.Prelude.{ℕ, List, [], ◌∷◌, ◌++◌, codes, Bool, false, cond, nat_eq, Option, Some, None, unwrap_or, ◌&&◌, ◌||◌}
+use Rattle.std.specs.Prelude.{ℕ, List, [], ◌∷◌, ◌++◌, codes, Bool, true, false, cond, nat_eq, Option, Some, None, unwrap_or, ◌&&◌, ◌||◌}
 use Rattle.vt_screen.specs.declared.size.Size.{Size}
 use Rattle.vt_screen.specs.Sizes.{vt220_size}
 use Rattle.vt_cli.specs.declared.asked.Request.{Request}
@@ -16,7 +16,6 @@ use Rattle.vt_recording.specs.declared.format.TerminalType.TheVariants.{Vt220, X
 use Rattle.vt_recording.specs.declared.heading.Heading.{Heading}
 use Rattle.vt_recording.specs.Heading.{heading_of}
 use Rattle.vt_replay.specs.declared.host.Host.{Host}
-use Rattle.vt_replay.specs.Sized.{plays_sizes}
 
 -- the terminal that was asked for, otherwise the one that the recording names, otherwise a VT220. Only a VT220 reads dec
 abbrev pub terminal_for : (wanted : Option TerminalType) → Option Encoding → (named : Option TerminalType) → TerminalType
@@ -59,7 +58,12 @@ named_for Search named = named
 
 -- the word plays a screen of any size
 abbrev pub takes_size : Word → Bool
-takes_size (Replay what) = plays_sizes what
+takes_size (Replay what) = true
+takes_size (Animation looks) = true
+takes_size Log = true
+takes_size Trace = true
+takes_size Summary = true
+takes_size Search = true
 takes_size word = false
 
 -- a VT220's screen: 24 rows of 80 or 132 columns

@@ -4,6 +4,7 @@ pub mod Encoding
 pub mod EventTable
 pub mod Host
 pub mod Log
+pub mod LogSearch
 pub mod PageCuts
 pub mod Pages
 pub mod Playing

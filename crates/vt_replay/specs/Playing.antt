@@ -13,10 +13,10 @@ use Rattle.vt_cli.specs.declared.what.What.{What}
 use Rattle.vt_cli.specs.declared.what.What.TheVariants.{Repaint}
 use Rattle.vt_recording.specs.declared.format.TerminalType.{TerminalType}
 use Rattle.vt_recording.specs.declared.format.TerminalType.TheVariants as terminal
-use Rattle.vt_recording.specs.declared.fault.Fault.{Fault}
+use Rattle.vt_device.specs.declared.fault.Fault.{Fault}
 use Rattle.vt_replay.specs.declared.language.Language.{Language}
 use Rattle.vt_replay.specs.declared.language.Language.TheVariants.{Dec, Utf8, Xterm}
-use Rattle.vt_output.specs.Output.{OutputTable, nothing}
+use Rattle.vt_device.specs.Output.{OutputTable, nothing}
 use Rattle.vt_replay.specs.Due.{sent_by, end_by, there_by}
 use Rattle.vt_replay.specs.Session.{session_at, session_repaint, session_is_there}
 
@@ -50,14 +50,14 @@ pub record Due : Type 0 where
 abbrev pub due_by : (played : List ℕ → Played) → What → Due
 due_by played what = record { written = sent_by played what; ending = end_by played what; there = there_by played what }
 
--- a repaint is of a VT220's size. Under TERM=xterm it is of the whole session, everything else of the terminal
-abbrev pub repainted : Language → Due
-repainted Xterm = record { written = nothing; ending = session_repaint; there = session_is_there }
-repainted language = due_by (played_as language) Repaint
+-- under TERM=xterm a repaint is of the whole session, everything else of the terminal
+abbrev pub repainted : Size → Language → Due
+repainted size Xterm = record { written = nothing; ending = session_repaint size; there = session_is_there size }
+repainted size language = due_by (played_at size language) Repaint
 
 -- on a screen of a size
 abbrev pub replayed_at : Size → Language → What → Due
-replayed_at size language Repaint = repainted language
+replayed_at size language Repaint = repainted size language
 replayed_at size language what = due_by (played_at size language) what
 
 -- what each answer of a replay on a screen of a size says of a host's bytes in a language

@@ -1,4 +1,4 @@
--- A search for a text: the spans of time in which it was on the screen. (this profile)
+-- A search for a text: the spans of time in which it was on the screen, and the lines with it that scrolled off. (this profile)
 use Rattle.std.specs.Prelude.{ℕ, zero, suc, ◌+◌, ◌-◌, ◌++◌, [], ◌∷◌, List, max, flat_map, length, take, decimal, Bool, true, false, not, cond, nat_lt}
 use Rattle.std.specs.Prelude.{◌==◌, if◌then◌else◌, codes, encode_utf8_all, slice_index_or, Option, Some, None, option_map, string_bytes}
 use Rattle.std.specs.List.{range_with_len}
@@ -9,7 +9,8 @@ use Rattle.memchr.specs.Find.{matches, first_of}
 use Rattle.vt_glyph.specs.Tables.{space}
 use Rattle.vt_screen.specs.declared.cell.Cell.{Cell}
 use Rattle.vt_screen.specs.Cells.{blank}
-use Rattle.vt_screen.specs.Grid.{row_of, last_row}
+use Rattle.vt_screen.specs.Grid.{row_of}
+use Rattle.vt_screen.specs.declared.size.Size.{Size}
 use Rattle.vt_term.specs.State.{Display}
 use Rattle.vt_term.specs.Text.{glyphs_of, trimmed}
 use Rattle.vt_utf8.specs.Cells.{cells}
@@ -17,15 +18,15 @@ use Rattle.vt_utf8.specs.Similar.{shown}
 use Rattle.vt_recording.specs.declared.format.Format.{Format}
 use Rattle.vt_recording.specs.declared.format.Encoding.{Encoding}
 use Rattle.vt_recording.specs.declared.format.Moment.{Moment}
-use Rattle.vt_recording.specs.declared.format.Break.{Break}
+use Rattle.vt_device.specs.declared.fault.Break.{Break}
 use Rattle.vt_recording.specs.Timeline.{Event}
 use Rattle.vt_recording.specs.Gathered.{events_of}
-use Rattle.vt_recording.specs.Reached.{length_of}
 use Rattle.vt_replay.specs.declared.language.Language.{Language}
 use Rattle.vt_replay.specs.declared.language.Language.TheVariants.{Dec, Utf8, Xterm}
 use Rattle.vt_replay.specs.declared.search.Place.{Place}
 use Rattle.vt_replay.specs.declared.search.Found.{Found}
-use Rattle.vt_replay.specs.Animated.{shown_after}
+use Rattle.vt_replay.specs.Playing.{played_at}
+use Rattle.vt_replay.specs.LogSearch.{column_of, log_found_at}
 use Rattle.vt_replay.specs.EventTable.{time_column}
 use Rattle.vt_replay.specs.Session.{is_empty}
 use Rattle.vt_replay.specs.Steps.{Step, IsStepped}
@@ -74,12 +75,9 @@ line_of utf8 s row = line utf8 (row_of s.grid row)
 
 -- the rows, one after the other
 unfoldable pub lines : (utf8 : Bool) → Display → List ℕ
-lines utf8 s = flat_map (λ row. line_of utf8 s row) (range_with_len 1 last_row)
+lines utf8 s = flat_map (λ row. line_of utf8 s row) (range_with_len 1 s.grid.size.rows)
 
 -- the row and the column, from 1, of a byte of the rows starting at this one, of which so many are left
-abbrev pub column_of : (before : List ℕ) → ℕ
-column_of before = length_of true before + 1
-
 unfoldable pub place_of : (line_of : ℕ → List ℕ) → (row left at : ℕ) → Place
 place_of line_of row zero at = record { row = row; column = 1 }
 place_of line_of row (suc left) at =
@@ -88,7 +86,7 @@ place_of line_of row (suc left) at =
 
 -- the first place of bytes in the rows
 abbrev pub first_at : (utf8 : Bool) → Display → (at : Option ℕ) → Option Place
-first_at utf8 s at = option_map (λ at. place_of (line_of utf8 s) 1 last_row at) at
+first_at utf8 s at = option_map (λ at. place_of (line_of utf8 s) 1 s.grid.size.rows at) at
 
 abbrev pub first_place : (utf8 : Bool) → (wanted : List ℕ) → Display → Option Place
 first_place utf8 wanted s = cond (is_empty wanted) None (first_at utf8 s (first_of (matches (lines utf8 s) wanted 0)))
@@ -132,13 +130,19 @@ spans find clock found (e ∷ events) =
     ended found (max clock e.micros) (find e.text)
     ++ spans (λ bytes. find (e.text ++ bytes)) (max clock e.micros) (found_then found (max clock e.micros) (find e.text)) events
 
--- of steps, which have the bytes of a content. The opening comes before it
-abbrev pub searched : Language → (text opening content : List ℕ) → List Step → List ℕ
-searched language text opening content steps =
-    spans (λ bytes. first_place (is_utf8 language) (wanted language text) (shown_after language (opening ++ bytes))) 0 None (events_of steps content)
+-- of steps, which have the bytes of a content, on a terminal of a size. The opening comes before it
+abbrev pub spans_at : Size → Language → (wanted opening content : List ℕ) → List Step → List ℕ
+spans_at size language wanted opening content steps =
+    spans (λ bytes. first_place (is_utf8 language) wanted (played_at size language (opening ++ bytes)).state.display) 0 None (events_of steps content)
 
--- the lines of a recording up to a moment, and where that breaks its format
-abbrev pub IsSearched : (text opening : List ℕ) → Language → Format → Encoding → (until : Option Moment) → (timing : Option (List ℕ))
-    → (bytes lines : List ℕ) → (broken : Option Break) → (replaced : ℕ) → Type 0
-IsSearched text opening language format encoding until timing bytes lines broken replaced =
-    IsStepped (λ content steps. searched language text opening content steps) format encoding until timing bytes lines broken replaced
+-- what is found: the spans, and after them the lines of the log, if it is asked for
+abbrev pub searched : Size → Language → (log : Bool) → (text opening content : List ℕ) → List Step → List ℕ
+searched size language log text opening content steps =
+    let found = spans_at size language (wanted language text) opening content steps in
+    if log then found ++ log_found_at size language (is_utf8 language) (wanted language text) opening content steps else found
+
+-- in a recording up to a moment, and where that breaks its format
+abbrev pub IsSearched : Size → (log : Bool) → (text opening : List ℕ) → Language → Format → Encoding → (until : Option Moment)
+    → (timing : Option (List ℕ)) → (bytes lines : List ℕ) → (broken : Option Break) → (replaced : ℕ) → Type 0
+IsSearched size log text opening language format encoding until timing bytes lines broken replaced =
+    IsStepped (λ content steps. searched size language log text opening content steps) format encoding until timing bytes lines broken replaced

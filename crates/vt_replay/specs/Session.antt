@@ -1,7 +1,6 @@
 -- What a replay writes of a session under TERM=xterm: of the terminal and the page that isn't shown. (this profile)
 use Rattle.std.specs.Prelude.{ℕ, List, [], ◌∷◌, Bool, true, false, ◌&&◌}
 use Rattle.vt_screen.specs.declared.size.Size.{Size}
-use Rattle.vt_screen.specs.Sizes.{vt220_size}
 use Rattle.vt_term.specs.State.{state_of}
 use Rattle.vt_utf8.specs.Decoding.{pending_after}
 use Rattle.vt_xterm.specs.Play.{Whole, WholePlayed, play_xterm, behind, front_of}
@@ -12,10 +11,6 @@ use Rattle.vt_replay.specs.Due.{is_nothing}
 abbrev pub session_at : Size → List ℕ → WholePlayed
 session_at size bytes = play_xterm (behind (state_of size) (front_of size)) [] bytes
 
--- of a VT220's size
-abbrev pub session : List ℕ → WholePlayed
-session bytes = session_at vt220_size bytes
-
 abbrev pub is_empty : List ℕ → Bool
 is_empty [] = true
 is_empty (b ∷ bytes) = false
@@ -25,9 +20,9 @@ abbrev pub is_between : Whole → (pending : List ℕ) → Bool
 is_between w pending = is_nothing w.state.held && is_empty pending
 
 -- the repaint is of the whole session
-abbrev pub session_repaint : List ℕ → List ℕ
-session_repaint bytes = xterm_repaint (session bytes).whole
+abbrev pub session_repaint : Size → List ℕ → List ℕ
+session_repaint size bytes = xterm_repaint (session_at size bytes).whole
 
 -- it is there between sequences and between characters only
-abbrev pub session_is_there : List ℕ → Bool
-session_is_there bytes = is_between (session bytes).whole (pending_after [] bytes)
+abbrev pub session_is_there : Size → List ℕ → Bool
+session_is_there size bytes = is_between (session_at size bytes).whole (pending_after [] bytes)

@@ -5,9 +5,9 @@ use Rattle.vt_term.specs.State.{State, power_up}
 use Rattle.vt_term.specs.Play.{Played, play, both, joined}
 use Rattle.vt_update.specs.Leads.{silently, Leads}
 use Rattle.vt_device.specs.Runs.{Flags}
-use Rattle.vt_recording.specs.declared.fault.Fault.{Fault}
+use Rattle.vt_device.specs.declared.fault.Fault.{Fault}
 use Rattle.vt_replay.specs.declared.language.Language.TheVariants.{Xterm}
-use Rattle.vt_output.specs.Output.{TranslatedTable, always, all, nothing}
+use Rattle.vt_device.specs.Output.{TranslatedTable, always, all, nothing}
 use Rattle.vt_replay.specs.Playing.{played_as}
 
 -- the same display, and no sequence has begun

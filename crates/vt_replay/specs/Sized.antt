@@ -1,20 +1,17 @@
 -- What is due of a screen of any size. (this profile)
-use Rattle.std.specs.Prelude.{ℕ, Bool, true, false}
+use Rattle.std.specs.Prelude.{ℕ}
 use Rattle.vt_screen.specs.declared.size.Size.{Size}
 use Rattle.vt_term.specs.Text.{text_limit}
+use Rattle.vt_paint.specs.Limits.{paint_limit}
 use Rattle.vt_picture.specs.Limits.{show_limit, picture_limit}
 use Rattle.vt_cli.specs.declared.what.What.{What}
 use Rattle.vt_cli.specs.declared.what.What.TheVariants.{Text, Repaint, Status, Show, Picture}
 use Rattle.vt_replay.specs.declared.status.TheConstants.{STATUS_LIMIT}
 
--- all but a repaint is of a screen of any size
-abbrev pub plays_sizes : What → Bool
-plays_sizes Repaint = false
-plays_sizes _ = true
-
--- the most bytes that are due of them at the end; private contracts alone speak of this
+-- the most bytes that are due at the end; private contracts alone speak of this
 abbrev pub room_at : What → Size → ℕ
 room_at Text size = text_limit size
+room_at Repaint size = paint_limit size
 room_at Status size = STATUS_LIMIT
 room_at Show size = show_limit size
 room_at Picture size = picture_limit size

@@ -1,21 +1,26 @@
 -- The bytes that each word writes. (this profile)
 use Rattle.std.specs.Prelude.{ℕ, List, [], Result}
 use Rattle.vt_device.specs.Runs.{Flags}
-use Rattle.vt_term.specs.State.{power_up}
+use Rattle.vt_term.specs.State.{power_up, state_of}
 use Rattle.vt_replay.specs.Pages.{pages}
 use Rattle.vt_trace.specs.Trace.{trace, tracer_all, tracer_at_start, end_lines}
-use Rattle.vt_trace.specs.Summary.{summary}
-use Rattle.vt_trace.specs.Utf8.{trace_utf8, tracer_utf8, summary_utf8}
+use Rattle.vt_trace.specs.Summary.{summary_on}
+use Rattle.vt_trace.specs.Utf8.{trace_utf8, tracer_utf8, summary_utf8_by, summary_utf8_on}
+use Rattle.vt_xterm.specs.Play.{behind, front_of}
+use Rattle.vt_xterm_trace.specs.Names.{xterm_listing}
+use Rattle.vt_xterm_trace.specs.Trace.{trace_xterm, tracer_xterm}
+use Rattle.vt_replay.specs.declared.language.Language.{Language}
+use Rattle.vt_replay.specs.declared.language.Language.TheVariants as language
 use Rattle.vt_recording.specs.declared.format.TerminalType.{TerminalType}
 use Rattle.vt_recording.specs.declared.format.TerminalType.TheVariants.{Xterm}
 use Rattle.vt_cli.specs.declared.what.Word.{Word}
 use Rattle.vt_cli.specs.declared.what.Word.TheVariants.{Replay, Animation, Log, Pages, Trace, Summary, Events, Content, Search}
-use Rattle.vt_recording.specs.declared.fault.Fault.{Fault}
+use Rattle.vt_device.specs.declared.fault.Fault.{Fault}
 use Rattle.vt_recording.specs.declared.format.Encoding.{Encoding}
 use Rattle.vt_recording.specs.declared.format.Encoding.TheVariants.{Dec, Utf8}
 use Rattle.vt_replay.specs.Encoding.{decoded}
-use Rattle.vt_replay.specs.Log.{screen, lines_in, screen_in}
-use Rattle.vt_output.specs.Output.{OutputTable, always, all, nothing}
+use Rattle.vt_replay.specs.Log.{screen, lines_at, screen_at}
+use Rattle.vt_device.specs.Output.{OutputTable, always, all, nothing}
 use Rattle.vt_screen.specs.declared.size.Size.{Size}
 use Rattle.vt_replay.specs.Playing.{Due, language_of, replayed_at}
 use Rattle.vt_replay.specs.Showing.{ShownTable}
@@ -27,27 +32,25 @@ pages_written bytes = pages power_up bytes
 
 -- ---- trace
 
-abbrev pub trace_written : List ℕ → List ℕ
-trace_written bytes = trace power_up tracer_at_start bytes
+-- on a screen of a size, of the host's bytes in each language: the events have the host's own characters and places
+abbrev pub trace_at : Size → Language → List ℕ → List ℕ
+trace_at size language.Dec bytes = trace (state_of size) tracer_at_start bytes
+trace_at size language.Utf8 bytes = trace_utf8 (state_of size) tracer_at_start [] bytes
+trace_at size language.Xterm bytes = trace_xterm (behind (state_of size) (front_of size)) tracer_at_start [] bytes
 
 -- the end of a text, if the last line is one, and the line of a sequence or string that is still open
-abbrev pub trace_ending : List ℕ → List ℕ
-trace_ending bytes = end_lines (tracer_all power_up tracer_at_start bytes)
-
--- of the host's bytes in each encoding: the events have the host's own characters and places
-abbrev pub trace_in : Encoding → List ℕ → List ℕ
-trace_in Dec bytes = trace_written bytes
-trace_in Utf8 bytes = trace_utf8 power_up tracer_at_start [] bytes
-
-abbrev pub trace_end_in : Encoding → List ℕ → List ℕ
-trace_end_in Dec bytes = trace_ending bytes
-trace_end_in Utf8 bytes = end_lines (tracer_utf8 power_up tracer_at_start [] bytes)
+abbrev pub trace_end_at : Size → Language → List ℕ → List ℕ
+trace_end_at size language.Dec bytes = end_lines (tracer_all (state_of size) tracer_at_start bytes)
+trace_end_at size language.Utf8 bytes = end_lines (tracer_utf8 (state_of size) tracer_at_start [] bytes)
+trace_end_at size language.Xterm bytes = end_lines (tracer_xterm (behind (state_of size) (front_of size)) tracer_at_start [] bytes)
 
 -- ---- summary
 
-abbrev pub summary_in : Encoding → List ℕ → List ℕ
-summary_in Dec bytes = summary bytes
-summary_in Utf8 bytes = summary_utf8 bytes
+-- of the host's bytes in each language. Under TERM=xterm the events have its names
+abbrev pub summary_at : Size → Language → List ℕ → List ℕ
+summary_at size language.Dec bytes = summary_on size.rows bytes
+summary_at size language.Utf8 bytes = summary_utf8_on size.rows bytes
+summary_at size language.Xterm bytes = summary_utf8_by xterm_listing size.rows bytes
 
 -- ---- words
 
@@ -59,16 +62,20 @@ of_decoded encoding written ending = record {
   there = always;
 }
 
--- a row a word, for a terminal of a size and in an encoding. A picture that moves, the table of events and the spans of a search are ready before they are written. A replay and a log play xterm; what content writes then is below
+-- a row a word, for a terminal of a size and in an encoding. A picture that moves, the table of events and the spans of a search are ready before they are written. A replay, a log, a trace and a summary play xterm; what content writes then is below
 abbrev pub due_of : Word → Size → TerminalType → Encoding → Due
 due_of (Replay what) size terminal encoding = replayed_at size (language_of terminal encoding) what
 due_of (Animation looks) size terminal encoding = of_decoded Dec all nothing
 due_of Log size terminal encoding =
     let language = language_of terminal encoding in
-    record { written = lines_in language; ending = screen_in language; there = always }
+    record { written = lines_at size language; ending = screen_at size language; there = always }
 due_of Pages size terminal encoding = of_decoded encoding pages_written screen
-due_of Trace size terminal encoding = record { written = trace_in encoding; ending = trace_end_in encoding; there = always }
-due_of Summary size terminal encoding = record { written = nothing; ending = summary_in encoding; there = always }
+due_of Trace size terminal encoding =
+    let language = language_of terminal encoding in
+    record { written = trace_at size language; ending = trace_end_at size language; there = always }
+due_of Summary size terminal encoding =
+    let language = language_of terminal encoding in
+    record { written = nothing; ending = summary_at size language; there = always }
 due_of Events size terminal encoding = of_decoded Dec all nothing
 due_of Content size terminal encoding = of_decoded encoding all nothing
 due_of Search size terminal encoding = of_decoded Dec all nothing

@@ -1,5 +1,6 @@
 //! A recording as a picture that moves.
 ghost use Rattle.std.specs.Prelude.{◌≡◌, ◌≤◌, ◌<◌, ◌+◌, ◌++◌, ◌∷◌, [], ℕ, List, length, drop, option_map, vec_capacity, IfOk, OnOk};
+ghost use Rattle.vt_screen.specs.Sizes.{IsSize};
 ghost use Rattle.vt_recording.specs.Gathered.{events_of};
 ghost use Rattle.vt_replay.specs.Playing.{language_of};
 ghost use Rattle.vt_replay.specs.Animated.{duration_of, title_of, frame_after, numbers_after, frames, first_numbers, animation, shown_after, IsAnimation};
@@ -9,13 +10,15 @@ ghost use Rattle.vt_picture.specs.Animation.{animation_head, animation_end};
 use crate::events::event_at;
 use crate::host::Host;
 use crate::language::Language;
-use crate::player::{PlainPlayer, Utf8Player, Vt220Player, XtermPlayer};
+use crate::player::{PlainPlayer, Player, Utf8Player, XtermPlayer};
 use crate::steps::steps_taken;
 use std::alloc::{AllocError, Global};
 use vt_cli::{Format, Looks, Moment, Theme};
-use vt_picture::{Moving, animation_end, animation_start, frame};
+use vt_picture::sized::{animation_start, frame};
+use vt_picture::{Moving, animation_end};
 use vt_recording::{Event, Taken};
-use vt_term::{REPORT_LIMIT, ROWS, Terminal};
+use vt_screen::MOST;
+use vt_term::{REPORT_LIMIT, Size, SizedTerminal};
 
 /// The most bytes that are played at once.
 pub(crate) const PIECE: usize = 4096;
@@ -55,9 +58,10 @@ pub(crate) fn is_empty(bytes: &[u8]) -> bool
 }
 
 /// Plays bytes, and drops their reports.
-pub(crate) fn play<P: Vt220Player>(player: &mut P, bytes: &[u8], reports: &mut Vec<u8>)
+pub(crate) fn play<P: Player>(player: &mut P, bytes: &[u8], reports: &mut Vec<u8>)
     requires { 10 ≤ vec_capacity reports.old }
     ensures on { (more : List ℕ) → (P.played player.old (bytes.now ++ more)).state ≡ (P.played player.new more).state }
+    ensures screen { P.screen player.new ≡ P.screen player.old }
     ensures capacity { vec_capacity reports.old ≤ vec_capacity reports.new }
 {
     let most = reports.capacity() / REPORT_LIMIT;
@@ -71,59 +75,67 @@ pub(crate) fn play<P: Vt220Player>(player: &mut P, bytes: &[u8], reports: &mut V
 }
 
 /// Returns a copy of a terminal.
-fn copy_of(alloc: Global, t: &Terminal) -> Result<Terminal, AllocError>
+fn copy_of(alloc: Global, t: &SizedTerminal) -> Result<SizedTerminal, AllocError>
     ensures { IfOk result (λ copy. copy ≡ t.now) }
 {
-    let mut copy = Terminal::new(alloc)?;
+    let mut copy = SizedTerminal::new(alloc, t.size())?;
     copy.copy_from(t);
     Ok(copy)
 }
 
-/// Returns a player after the bytes of an opening.
-pub(crate) fn opened<P: Vt220Player>(
+/// Returns a player on a screen of a size, after the bytes of an opening.
+pub(crate) fn opened<P: Player>(
     alloc: Global,
+    size: Size,
     opening: &[u8],
     reports: &mut Vec<u8>,
 ) -> Result<P, AllocError>
-    requires { 10 ≤ vec_capacity reports.old }
-    ensures on { IfOk result (λ p. (more : List ℕ) → (P.plays (opening.now ++ more)).state ≡ (P.played p more).state) }
+    requires size { IsSize size }
+    requires room { 10 ≤ vec_capacity reports.old }
+    ensures on { IfOk result (λ p. (more : List ℕ) → (P.plays size (opening.now ++ more)).state ≡ (P.played p more).state) }
+    ensures screen { IfOk result (λ p. P.screen p ≡ size) }
     ensures capacity { vec_capacity reports.old ≤ vec_capacity reports.new }
 {
-    let mut player = P::new(alloc)?;
+    let mut player = P::new(alloc, size)?;
     play(&mut player, opening, reports);
     Ok(player)
 }
 
 /// Returns the terminal at the end of all bytes.
-fn terminal_after<P: Vt220Player>(
+fn terminal_after<P: Player>(
     alloc: Global,
+    size: Size,
     opening: &[u8],
     content: &[u8],
     reports: &mut Vec<u8>,
-) -> Result<Terminal, AllocError>
-    requires { 10 ≤ vec_capacity reports.old }
-    ensures state { IfOk result (λ t. t ≡ (P.plays (opening.now ++ content.now)).state) }
+) -> Result<SizedTerminal, AllocError>
+    requires size { IsSize size }
+    requires room { 10 ≤ vec_capacity reports.old }
+    ensures state { IfOk result (λ t. t ≡ (P.plays size (opening.now ++ content.now)).state) }
+    ensures size { IfOk result (λ t. t.display.grid.size ≡ size) }
     ensures capacity { vec_capacity reports.old ≤ vec_capacity reports.new }
 {
-    let mut player = opened::<P>(alloc, opening, reports)?;
+    let mut player = opened::<P>(alloc, size, opening, reports)?;
     play(&mut player, content, reports);
-    copy_of(alloc, player.terminal())
+    copy_of(alloc, player.sized())
 }
 
 /// Plays the bytes of a step and appends its frame, unless it has none.
-fn push_step<P: Vt220Player>(
+fn push_step<P: Player>(
     moving: Moving,
     number: u32,
     micros: u64,
-    numbers: &mut [u64; ROWS],
+    numbers: &mut [u64],
     bytes: &[u8],
     player: &mut P,
     reports: &mut Vec<u8>,
-    before: &mut Terminal,
+    before: &mut SizedTerminal,
     out: &mut Vec<u8>,
 ) -> Result<(), AllocError>
     requires room { 10 ≤ vec_capacity reports.old }
     requires before { before.old ≡ (P.played player.old []).state }
+    requires size { before.old.display.grid.size ≡ P.screen player.old }
+    requires numbers { length numbers.old ≡ (P.screen player.old).rows }
     ensures items { OnOk result (out.new.items ≡ out.old.items
         ++ frame_after moving.cursor moving.duration moving.columns number micros numbers.old bytes.now
         (P.played player.old []).state.display (P.played player.old bytes.now).state.display) }
@@ -131,31 +143,36 @@ fn push_step<P: Vt220Player>(
         (P.played player.old []).state.display (P.played player.old bytes.now).state.display) }
     ensures on { OnOk result ((more : List ℕ) → (P.played player.old (bytes.now ++ more)).state ≡ (P.played player.new more).state) }
     ensures before { OnOk result (before.new ≡ (P.played player.new []).state) }
+    ensures size { before.new.display.grid.size ≡ before.old.display.grid.size }
+    ensures screen { P.screen player.new ≡ P.screen player.old }
+    ensures long { length numbers.new ≡ length numbers.old }
     ensures capacity { vec_capacity reports.old ≤ vec_capacity reports.new }
 {
     if is_empty(bytes) {
         return Ok(());
     }
     play(player, bytes, reports);
-    let t = player.terminal();
+    let t = player.sized();
     frame(moving, number, micros, numbers, before, t, out)?;
     before.copy_from(t);
     Ok(())
 }
 
 /// Plays the steps, and appends a frame for each that has bytes.
-fn push_frames<P: Vt220Player>(
+fn push_frames<P: Player>(
     moving: Moving,
-    numbers: &mut [u64; ROWS],
+    numbers: &mut [u64],
     steps: &[Event],
     content: &[u8],
     player: &mut P,
     reports: &mut Vec<u8>,
-    before: &mut Terminal,
+    before: &mut SizedTerminal,
     out: &mut Vec<u8>,
 ) -> Result<(), AllocError>
     requires room { 10 ≤ vec_capacity reports.old }
     requires before { before.old ≡ (P.played player.old []).state }
+    requires size { before.old.display.grid.size ≡ P.screen player.old }
+    requires numbers { length numbers.old ≡ (P.screen player.old).rows }
     ensures { OnOk result (out.new.items ≡ out.old.items
         ++ frames (λ bytes. (P.played player.old bytes).state.display) moving.cursor moving.duration moving.columns 0 0 numbers.old
         (events_of steps.now content.now)) }
@@ -180,7 +197,7 @@ fn push_frames<P: Vt220Player>(
 }
 
 /// Appends the picture of steps, of which `last` is the terminal at the end.
-fn push_animation<P: Vt220Player>(
+fn push_animation<P: Player>(
     moving: Moving,
     theme: Theme,
     title: &[u8],
@@ -188,48 +205,47 @@ fn push_animation<P: Vt220Player>(
     content: &[u8],
     player: &mut P,
     reports: &mut Vec<u8>,
-    before: &mut Terminal,
-    last: &Terminal,
+    before: &mut SizedTerminal,
+    last: &SizedTerminal,
     out: &mut Vec<u8>,
 ) -> Result<(), AllocError>
     requires room { 10 ≤ vec_capacity reports.old }
     requires before { before.old ≡ (P.played player.old []).state }
-    requires columns { moving.columns ≤ 132 }
+    requires size { before.old.display.grid.size ≡ P.screen player.old }
+    requires last { last.now.display.grid.size ≡ P.screen player.old }
+    requires columns { moving.columns ≤ MOST }
     ensures { OnOk result (out.new.items ≡ out.old.items
         ++ (animation_head theme moving.cursor title.now moving.duration moving.columns before.old.display last.now.display
         ++ (frames (λ bytes. (P.played player.old bytes).state.display) moving.cursor moving.duration moving.columns 0 0
         (first_numbers before.old.display) (events_of steps.now content.now) ++ animation_end))) }
 {
-    let mut numbers = animation_start(theme, moving, title, before, last, out)?;
+    let mut all = [0; MOST];
+    let numbers = &mut all[..before.size().rows];
+    animation_start(theme, moving, title, before, last, numbers, out)?;
     push_frames(
-        moving,
-        &mut numbers,
-        steps,
-        content,
-        player,
-        reports,
-        before,
-        out,
+        moving, numbers, steps, content, player, reports, before, out,
     )?;
     animation_end(out)
 }
 
 /// Returns the picture of steps, which have the bytes of a content, as a player plays them after an opening.
-fn animation_by<P: Vt220Player>(
+fn animation_by<P: Player>(
     alloc: Global,
+    size: Size,
     looks: Looks,
     title: &[u8],
     opening: &[u8],
     content: &[u8],
     steps: &[Event],
 ) -> Result<Vec<u8>, AllocError>
+    requires { IsSize size }
     ensures { IfOk result (λ picture. picture.items
-        ≡ animation (λ bytes. (P.plays bytes).state.display) looks title.now opening.now content.now steps.now) }
+        ≡ animation (λ bytes. (P.plays size bytes).state.display) looks title.now opening.now content.now steps.now) }
 {
     let mut reports = Vec::with_capacity(alloc, PIECE * REPORT_LIMIT)?;
-    let last = terminal_after::<P>(alloc, opening, content, &mut reports)?;
-    let mut player = opened::<P>(alloc, opening, &mut reports)?;
-    let mut before = copy_of(alloc, player.terminal())?;
+    let last = terminal_after::<P>(alloc, size, opening, content, &mut reports)?;
+    let mut player = opened::<P>(alloc, size, opening, &mut reports)?;
+    let mut before = copy_of(alloc, player.sized())?;
     let moving = Moving {
         cursor: looks.cursor,
         duration: duration_of(steps),
@@ -251,9 +267,10 @@ fn animation_by<P: Vt220Player>(
     Ok(picture)
 }
 
-/// Returns the picture of steps, as a terminal shows them on which a language is played.
+/// Returns the picture of steps, as a terminal of a size shows them on which a language is played.
 fn animation_in(
     alloc: Global,
+    size: Size,
     language: Language,
     looks: Looks,
     title: &[u8],
@@ -261,18 +278,19 @@ fn animation_in(
     content: &[u8],
     steps: &[Event],
 ) -> Result<Vec<u8>, AllocError>
+    requires { IsSize size }
     ensures { IfOk result (λ picture. picture.items
-        ≡ animation (shown_after language) looks title.now opening.now content.now steps.now) }
+        ≡ animation (shown_after size language) looks title.now opening.now content.now steps.now) }
 {
     match language {
         Language::Dec => {
-            animation_by::<PlainPlayer<Terminal>>(alloc, looks, title, opening, content, steps)
+            animation_by::<PlainPlayer>(alloc, size, looks, title, opening, content, steps)
         }
         Language::Utf8 => {
-            animation_by::<Utf8Player<Terminal>>(alloc, looks, title, opening, content, steps)
+            animation_by::<Utf8Player>(alloc, size, looks, title, opening, content, steps)
         }
         Language::Xterm => {
-            animation_by::<XtermPlayer<Terminal>>(alloc, looks, title, opening, content, steps)
+            animation_by::<XtermPlayer>(alloc, size, looks, title, opening, content, steps)
         }
     }
 }
@@ -290,7 +308,8 @@ pub(crate) fn animation_taken(
     title: &[u8],
     until: Option<Moment>,
 ) -> Result<Taken, AllocError>
-    ensures { IfOk result (λ t. IsAnimation looks title.now opening.now (language_of host.terminal host.encoding) format host.encoding until (option_map (λ b. b.now) timing.entry) bytes.now t.content.items t.broken t.replaced) }
+    requires { IsSize host.size }
+    ensures { IfOk result (λ t. IsAnimation looks title.now opening.now host.size (language_of host.terminal host.encoding) format host.encoding until (option_map (λ b. b.now) timing.entry) bytes.now t.content.items t.broken t.replaced) }
 {
     let stepped = steps_taken(alloc, bytes, timing, format, host.encoding, until)?;
     let language = Language::of(host.terminal, host.encoding);
@@ -299,6 +318,7 @@ pub(crate) fn animation_taken(
     Ok(Taken {
         content: animation_in(
             alloc,
+            host.size,
             language,
             looks,
             title,

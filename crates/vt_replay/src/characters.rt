@@ -1,88 +1,109 @@
-//! The trace and the summary of a host's bytes in an encoding: of UTF-8 they have the host's own characters and places.
+//! The trace and the summary of a host's bytes in a language: of UTF-8 they have the host's own characters and places.
 ghost use Rattle.std.specs.Prelude.{◌≡◌, ⊤, ◌*◌, ◌/◌, ◌≤◌, [], true, false, vec_capacity};
 ghost use Rattle.std.specs.Io.KnownBytes.{IsAtEnd};
 ghost use Rattle.vt_device.specs.Runs.{Moves};
-ghost use Rattle.vt_output.specs.Output.{OutputTable, always, nothing};
-ghost use Rattle.vt_recording.specs.declared.format.Encoding.TheVariants.{Utf8};
-ghost use Rattle.vt_replay.specs.Words.{trace_in, trace_end_in, summary_in};
+ghost use Rattle.vt_device.specs.Output.{OutputTable, always, nothing};
+ghost use Rattle.vt_replay.specs.declared.language.Language.TheVariants as language;
+ghost use Rattle.vt_replay.specs.Words.{trace_at, trace_end_at, summary_at};
+ghost use Rattle.vt_screen.specs.Sizes.{IsSize};
 ghost use Rattle.vt_trace.specs.Trace.{end_lines};
 ghost use Rattle.vt_trace.specs.Utf8.{trace_utf8, tracer_utf8, counted_bytes};
 ghost use Rattle.vt_trace.specs.Counted.{HasCountedSome, summary_after};
+ghost use Rattle.vt_trace.specs.Names.{vt220_listing};
+ghost use Rattle.vt_xterm.specs.Play.{behind};
+ghost use Rattle.vt_xterm_trace.specs.Names.{xterm_listing};
+ghost use Rattle.vt_xterm_trace.specs.Trace.{trace_xterm, tracer_xterm};
 
+use crate::language::Language;
 use crate::output::front_for;
-use crate::outputs::{SummaryOutput, TraceOutput, WordOutput, write_word};
+use crate::outputs::{SizedWordOutput, SummaryOutput, TraceOutput, write_word_at};
 use std::alloc::{AllocError, Global};
 use std::io::Write;
-use vt_cli::Encoding;
-use vt_device::{Source, Watched};
-use vt_output::Output;
+use vt_device::{Output, Source, Watched};
 use vt_recording::Fault;
 use vt_syntax::laws::one_split;
-use vt_term::{REPORT_LIMIT, Terminal};
-use vt_trace::laws::utf8_cuts;
-use vt_trace::{SUMMARY_LIMIT, Summary, TRACE_LIMIT, Tracer, trace_end, trace_utf8_reserved};
+use vt_term::{REPORT_LIMIT, Size, SizedTerminal};
+use vt_trace::laws::sized_utf8_cuts;
+use vt_trace::sized::trace_utf8_reserved;
+use vt_trace::{IGNORED_LIMIT, SUMMARY_LIMIT, Summary, TRACE_LIMIT, Tracer, trace_end};
 use vt_utf8::Decoder;
+use vt_xterm::SizedFront;
+use vt_xterm_trace::XtermNames;
+use vt_xterm_trace::laws::cuts as xterm_cuts;
+use vt_xterm_trace::sized::trace_xterm_reserved;
 
-/// Writes the trace of a source's bytes in an encoding. The source hasn't failed or ended before. Its places are those of the host's
-/// bytes, and `piece` and `limit` count them.
+/// Writes the trace of a source's bytes in a language, on a screen of a size. The source hasn't failed or ended before. Its
+/// places are those of the host's bytes, and `piece` and `limit` count them.
 ///
 /// `Err` is what `write_log` returns.
 pub(crate) fn write_trace<S: Source, W: Write>(
     alloc: Global,
     reader: &mut S,
     writer: &mut Watched<W>,
-    encoding: Encoding,
+    language: Language,
+    size: Size,
     piece: usize,
     limit: u64,
 ) -> Result<(), Fault>
     requires reader_works { S.failed reader.old ≡ false }
     requires reader_goes_on { S.ended reader.old ≡ false }
     requires writer_works { writer.old.failed ≡ false }
+    requires size_in_range { IsSize size }
     requires piece_in_range { (1 ≤ piece) × (piece ≤ 65536) }
     requires limit_in_range { limit ≤ 1099511627776 }
     ensures answer { Moves (S.remaining reader.old) (S.remaining reader.new) (W.contents writer.old.device)
         (W.contents writer.new.device)
-        (λ b w. OutputTable (trace_in encoding) (trace_end_in encoding) always result piece b w (record { reader_failed = S.failed reader.new; reader_ended = S.ended reader.new; writer_failed = writer.new.failed }) limit) }
+        (λ b w. OutputTable (trace_at size language) (trace_end_at size language) always result piece b w
+        (record { reader_failed = S.failed reader.new; reader_ended = S.ended reader.new; writer_failed = writer.new.failed }) limit) }
     ensures whole { S.ended reader.new ≡ true → IsAtEnd (S.remaining reader.new) }
 {
-    let dec = Encoding::Dec;
-    match encoding {
-        Encoding::Dec => write_word::<TraceOutput, S, W>(alloc, reader, writer, dec, piece, limit),
-        Encoding::Utf8 => {
-            write_word::<Utf8TraceOutput, S, W>(alloc, reader, writer, dec, piece, limit)
+    match language {
+        Language::Dec => write_word_at::<TraceOutput, S, W>(
+            alloc, reader, writer, size, piece, limit,
+        ),
+        Language::Utf8 => {
+            write_word_at::<Utf8TraceOutput, S, W>(alloc, reader, writer, size, piece, limit)
+        }
+        Language::Xterm => {
+            write_word_at::<XtermTraceOutput, S, W>(alloc, reader, writer, size, piece, limit)
         }
     }
 }
 
-/// Writes the summary of a source's bytes in an encoding. The source hasn't failed or ended before. `piece` and `limit` count the
-/// host's bytes.
+/// Writes the summary of a source's bytes in a language, on a screen of a size. The source hasn't failed or ended before. `piece` and
+/// `limit` count the host's bytes.
 ///
 /// `Err` is what `write_log` returns.
 pub(crate) fn write_summary<S: Source, W: Write>(
     alloc: Global,
     reader: &mut S,
     writer: &mut Watched<W>,
-    encoding: Encoding,
+    language: Language,
+    size: Size,
     piece: usize,
     limit: u64,
 ) -> Result<(), Fault>
     requires reader_works { S.failed reader.old ≡ false }
     requires reader_goes_on { S.ended reader.old ≡ false }
     requires writer_works { writer.old.failed ≡ false }
+    requires size_in_range { IsSize size }
     requires piece_in_range { (1 ≤ piece) × (piece ≤ 65536) }
     requires limit_in_range { limit ≤ 1099511627776 }
     ensures answer { Moves (S.remaining reader.old) (S.remaining reader.new) (W.contents writer.old.device)
         (W.contents writer.new.device)
-        (λ b w. OutputTable nothing (summary_in encoding) always result piece b w (record { reader_failed = S.failed reader.new; reader_ended = S.ended reader.new; writer_failed = writer.new.failed }) limit) }
+        (λ b w. OutputTable nothing (summary_at size language) always result piece b w
+        (record { reader_failed = S.failed reader.new; reader_ended = S.ended reader.new; writer_failed = writer.new.failed }) limit) }
     ensures whole { S.ended reader.new ≡ true → IsAtEnd (S.remaining reader.new) }
 {
-    let dec = Encoding::Dec;
-    match encoding {
-        Encoding::Dec => {
-            write_word::<SummaryOutput, S, W>(alloc, reader, writer, dec, piece, limit)
+    match language {
+        Language::Dec => {
+            write_word_at::<SummaryOutput, S, W>(alloc, reader, writer, size, piece, limit)
         }
-        Encoding::Utf8 => {
-            write_word::<Utf8SummaryOutput, S, W>(alloc, reader, writer, dec, piece, limit)
+        Language::Utf8 => {
+            write_word_at::<Utf8SummaryOutput, S, W>(alloc, reader, writer, size, piece, limit)
+        }
+        Language::Xterm => {
+            write_word_at::<XtermSummaryOutput, S, W>(alloc, reader, writer, size, piece, limit)
         }
     }
 }
@@ -90,7 +111,7 @@ pub(crate) fn write_summary<S: Source, W: Write>(
 /// The trace of UTF-8.
 #[derive(Drop)]
 struct Utf8TraceOutput {
-    terminal: Terminal,
+    terminal: SizedTerminal,
     tracer: Tracer,
     decoder: Decoder,
     /// The reports of a chunk, which are dropped: the trace has them.
@@ -116,7 +137,7 @@ impl Output for Utf8TraceOutput {
 
     fn feed(&mut self, chunk: &[u8], out: &mut Vec<u8>) -> usize {
         let _ = self.terminal.width();
-        utf8_cuts();
+        sized_utf8_cuts();
         self.reports.clear();
         let count = front_for(chunk, &self.reports);
         trace_utf8_reserved(
@@ -138,18 +159,84 @@ impl Output for Utf8TraceOutput {
     }
 }
 
-impl WordOutput for Utf8TraceOutput {
-    ghost writes = { trace_in Utf8 };
+impl SizedWordOutput for Utf8TraceOutput {
+    ghost writes = { λ size. trace_at size language.Utf8 };
 
-    ghost ends = { trace_end_in Utf8 };
+    ghost ends = { λ size. trace_end_at size language.Utf8 };
 
-    ghost ready = { always };
-
-    fn new(alloc: Global, piece: usize) -> Result<Utf8TraceOutput, AllocError> {
+    fn new(alloc: Global, size: Size, piece: usize) -> Result<Utf8TraceOutput, AllocError> {
         Ok(Utf8TraceOutput {
             reports: Vec::with_capacity(alloc, REPORT_LIMIT * piece)?,
             decoder: Decoder::new(),
-            terminal: Terminal::new(alloc)?,
+            terminal: SizedTerminal::new(alloc, size)?,
+            tracer: Tracer::new(),
+        })
+    }
+}
+
+/// The trace under TERM=xterm. The terminal and the front have one size.
+#[derive(Drop)]
+struct XtermTraceOutput {
+    terminal: SizedTerminal,
+    front: SizedFront,
+    tracer: Tracer,
+    /// The reports of a chunk, which are dropped: the trace has them.
+    reports: Vec<u8>,
+    ghost one_size: { front.pages.other.grid.size ≡ terminal.display.grid.size },
+}
+
+impl Output for XtermTraceOutput {
+    ghost written = { λ o bytes. trace_xterm (behind o.terminal o.front) o.tracer o.front.pending bytes };
+
+    ghost ending = { λ o bytes. end_lines (tracer_xterm (behind o.terminal o.front) o.tracer o.front.pending bytes) };
+
+    ghost there = { λ o bytes. true };
+
+    ghost most = { λ o. vec_capacity o.reports / 10 };
+
+    ghost counted = { λ o. o.tracer.place };
+
+    ghost reserve = { λ o. 430080 };
+
+    fn capacity(&self) -> usize {
+        1024 * TRACE_LIMIT
+    }
+
+    fn feed(&mut self, chunk: &[u8], out: &mut Vec<u8>) -> usize {
+        xterm_cuts();
+        self.reports.clear();
+        let count = front_for(chunk, &self.reports);
+        trace_xterm_reserved(
+            &mut self.terminal,
+            &mut self.front,
+            &mut self.tracer,
+            &chunk[..count],
+            &mut self.reports,
+            out,
+        )
+    }
+
+    fn is_there(&self) -> bool {
+        true
+    }
+
+    fn end(&mut self, out: &mut Vec<u8>) {
+        xterm_cuts();
+        trace_end(&self.tracer, out)
+    }
+}
+
+impl SizedWordOutput for XtermTraceOutput {
+    ghost writes = { λ size. trace_at size language.Xterm };
+
+    ghost ends = { λ size. trace_end_at size language.Xterm };
+
+    fn new(alloc: Global, size: Size, piece: usize) -> Result<XtermTraceOutput, AllocError> {
+        xterm_cuts();
+        Ok(XtermTraceOutput {
+            reports: Vec::with_capacity(alloc, REPORT_LIMIT * piece)?,
+            front: SizedFront::new(alloc, size)?,
+            terminal: SizedTerminal::new(alloc, size)?,
             tracer: Tracer::new(),
         })
     }
@@ -160,7 +247,7 @@ impl WordOutput for Utf8TraceOutput {
 struct Utf8SummaryOutput {
     counts: Summary,
     decoder: Decoder,
-    ghost some: { HasCountedSome counts },
+    ghost some: { HasCountedSome vt220_listing counts },
 }
 
 impl Output for Utf8SummaryOutput {
@@ -168,7 +255,7 @@ impl Output for Utf8SummaryOutput {
 
     ghost written = { λ o bytes. [] };
 
-    ghost ending = { λ o bytes. summary_after o.counts (counted_bytes o.decoder bytes) };
+    ghost ending = { λ o bytes. summary_after vt220_listing o.counts (counted_bytes o.decoder bytes) };
 
     ghost there = { λ o bytes. true };
 
@@ -199,19 +286,78 @@ impl Output for Utf8SummaryOutput {
     }
 }
 
-impl WordOutput for Utf8SummaryOutput {
-    ghost writes = { nothing };
+impl SizedWordOutput for Utf8SummaryOutput {
+    ghost writes = { λ size. nothing };
 
-    ghost ends = { summary_in Utf8 };
+    ghost ends = { λ size. summary_at size language.Utf8 };
 
-    ghost ready = { always };
-
-    fn new(alloc: Global, piece: usize) -> Result<Utf8SummaryOutput, AllocError> {
+    fn new(alloc: Global, size: Size, piece: usize) -> Result<Utf8SummaryOutput, AllocError> {
         let _ = piece;
         one_split();
         Ok(Utf8SummaryOutput {
             decoder: Decoder::new(),
-            counts: Summary::new(alloc)?,
+            counts: Summary::new_on(alloc, size.rows)?,
+        })
+    }
+}
+
+/// The most bytes of a summary under TERM=xterm.
+const XTERM_SUMMARY_LIMIT: usize = IGNORED_LIMIT + 45 * 89;
+
+/// The summary under TERM=xterm.
+#[derive(Drop)]
+struct XtermSummaryOutput {
+    counts: Summary,
+    decoder: Decoder,
+    ghost some: { HasCountedSome xterm_listing counts },
+}
+
+impl Output for XtermSummaryOutput {
+    ghost written = { λ o bytes. [] };
+
+    ghost ending = { λ o bytes. summary_after xterm_listing o.counts (counted_bytes o.decoder bytes) };
+
+    ghost there = { λ o bytes. true };
+
+    ghost most = { λ o. 65536 };
+
+    ghost counted = { λ o. 0 };
+
+    ghost reserve = { λ o. 310237 };
+
+    fn capacity(&self) -> usize {
+        XTERM_SUMMARY_LIMIT
+    }
+
+    fn feed(&mut self, chunk: &[u8], out: &mut Vec<u8>) -> usize {
+        let _ = out;
+        one_split();
+        self.counts
+            .count_utf8_by(&XtermNames, &mut self.decoder, chunk);
+        chunk.len()
+    }
+
+    fn is_there(&self) -> bool {
+        true
+    }
+
+    fn end(&mut self, out: &mut Vec<u8>) {
+        one_split();
+        self.counts.push_summary_by(&XtermNames, out)
+    }
+}
+
+impl SizedWordOutput for XtermSummaryOutput {
+    ghost writes = { λ size. nothing };
+
+    ghost ends = { λ size. summary_at size language.Xterm };
+
+    fn new(alloc: Global, size: Size, piece: usize) -> Result<XtermSummaryOutput, AllocError> {
+        let _ = piece;
+        one_split();
+        Ok(XtermSummaryOutput {
+            decoder: Decoder::new(),
+            counts: Summary::new_by::<XtermNames>(alloc, size.rows)?,
         })
     }
 }

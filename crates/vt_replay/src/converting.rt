@@ -8,15 +8,15 @@ ghost use Rattle.vt_replay.specs.Playing.{on_terminal};
 ghost use Rattle.vt_replay.specs.Showing.{between, Shows, AreShown};
 
 use crate::decoding::play_silently;
-use crate::player::{Player, Vt220Player, XtermPlayer};
 use std::alloc::{AllocError, Global};
-use vt_output::Decoding;
+use vt_device::Decoding;
 use vt_syntax::laws::spelled;
 use vt_term::laws::{cuts, soundness};
 use vt_term::{REPORT_LIMIT, Terminal};
 use vt_update::laws::leading;
 use vt_update::{UPDATE_LIMIT, update_reserved};
 use vt_xterm::laws::cuts as xterm_cuts;
+use vt_xterm::{Front, feed_xterm_reserved};
 
 /// ESC and CAN: a sequence that has begun is left, and nothing else changes.
 const CANCEL: &[u8] = b"\x1b\x18";
@@ -25,7 +25,8 @@ const CANCEL: &[u8] = b"\x1b\x18";
 /// to what the chunk leaves.
 #[derive(Drop)]
 pub(crate) struct Converter {
-    player: XtermPlayer<Terminal>,
+    terminal: Terminal,
+    front: Front,
     /// The VT220 that gets the updates.
     shown: Terminal,
     /// The state to which the next update leads.
@@ -62,7 +63,7 @@ fn copy_between(terminal: &Terminal, target: &mut Terminal, reports: &mut Vec<u8
 impl Decoding for Converter {
     ghost Translates = { Shows };
 
-    ghost Came = { λ d b x. AreShown (λ more. on_terminal (play_xterm (behind d.player.terminal d.player.front) d.player.front.pending more)) d.shown b x };
+    ghost Came = { λ d b x. AreShown (λ more. on_terminal (play_xterm (behind d.terminal d.front) d.front.pending more)) d.shown b x };
 
     ghost held = { λ d chunk. d.update.items };
 
@@ -75,7 +76,8 @@ impl Decoding for Converter {
         Ok(Converter {
             reports: Vec::with_capacity(alloc, REPORT_LIMIT * piece)?,
             update: Vec::with_capacity(alloc, UPDATE_LIMIT)?,
-            player: XtermPlayer::<Terminal>::new(alloc)?,
+            front: Front::new(alloc)?,
+            terminal: Terminal::new(alloc)?,
             shown: Terminal::new(alloc)?,
             target: Terminal::new(alloc)?,
         })
@@ -85,9 +87,15 @@ impl Decoding for Converter {
         cuts();
         soundness();
         leading();
+        xterm_cuts();
         self.reports.clear();
-        self.player.feed(chunk, &mut self.reports);
-        copy_between(self.player.terminal(), &mut self.target, &mut self.reports);
+        feed_xterm_reserved(
+            &mut self.terminal,
+            &mut self.front,
+            chunk,
+            &mut self.reports,
+        );
+        copy_between(&self.terminal, &mut self.target, &mut self.reports);
         self.update.clear();
         update_reserved(&mut self.shown, &self.target, &mut self.update);
     }

@@ -7,7 +7,7 @@ ghost use Rattle.vt_utf8.specs.Play.{translated, translated_all};
 ghost use Rattle.vt_replay.specs.Encoding.{Decodes};
 
 use std::alloc::{AllocError, Global};
-use vt_output::Decoding;
+use vt_device::Decoding;
 use vt_term::laws::{cuts, soundness};
 use vt_term::{REPORT_LIMIT, Terminal};
 use vt_utf8::laws::{ascii, cuts as utf8_cuts, one_byte};

@@ -7,14 +7,12 @@ ghost use Rattle.vt_replay.specs.Due.{PlayedTable};
 ghost use Rattle.vt_cli.specs.declared.what.What.TheVariants.{Repaint};
 ghost use Rattle.vt_device.specs.Runs.{Moves};
 ghost use Rattle.vt_replay.specs.Playing.{ReplayTable, SizedReplayTable, played_at};
-ghost use Rattle.vt_replay.specs.Sized.{plays_sizes};
+ghost use Rattle.vt_replay.specs.declared.language.Language.TheVariants.{Xterm};
 ghost use Rattle.vt_screen.specs.Sizes.{IsSize};
 
 use crate::language::Language;
 use crate::output::write_output_from;
-use crate::outputs::write_word;
-use crate::player::{PlainPlayer, SizedPlayer, Utf8Player, Vt220Player, XtermPlayer};
-use crate::repainting::RepaintOutput;
+use crate::player::{PlainPlayer, Player, Utf8Player, XtermPlayer};
 use crate::session::SessionOutput;
 use crate::sized::SizedOutput;
 use std::alloc::Global;
@@ -22,7 +20,7 @@ use std::io::{Read, Write};
 use vt_cli::{Encoding, Settings, What};
 use vt_device::{Source, Watched};
 use vt_recording::Fault;
-use vt_term::{Size, SizedTerminal, Terminal};
+use vt_term::{Size, SizedTerminal};
 
 /// Plays the reader's bytes on a new terminal, and writes what is due. Neither device has failed before, and the reader
 /// hasn't ended.
@@ -91,12 +89,13 @@ pub fn run_from<S: Source, W: Write>(
     run_at(alloc, reader, writer, what, language, size, piece, limit)
 }
 
-/// Plays a source's bytes in a language on a new terminal, and writes the repaint, as `run_from` does.
+/// Plays a source's bytes in a language on a new terminal of a size, and writes the repaint, as `run_from` does on a VT220's.
 fn run_repaint<S: Source, W: Write>(
     alloc: Global,
     reader: &mut S,
     writer: &mut Watched<W>,
     language: Language,
+    size: Size,
     piece: usize,
     limit: u64,
 ) -> Result<(), Fault>
@@ -105,30 +104,30 @@ fn run_repaint<S: Source, W: Write>(
     requires writer_works { writer.old.failed ≡ false }
     requires piece_in_range { (1 ≤ piece) × (piece ≤ 65536) }
     requires limit_in_range { limit ≤ 1099511627776 }
+    requires size_in_range { IsSize size }
     ensures answer { Moves (S.remaining reader.old) (S.remaining reader.new) (W.contents writer.old.device)
         (W.contents writer.new.device)
-        (λ b w. ReplayTable language Repaint result piece b w (record { reader_failed = S.failed reader.new; reader_ended = S.ended reader.new; writer_failed = writer.new.failed }) limit) }
+        (λ b w. SizedReplayTable size language Repaint result piece b w (record { reader_failed = S.failed reader.new; reader_ended = S.ended reader.new; writer_failed = writer.new.failed }) limit) }
     ensures whole { S.ended reader.new ≡ true → IsAtEnd (S.remaining reader.new) }
 {
+    let what = What::Repaint;
     match language {
-        Language::Dec => run_repaint_by::<PlainPlayer<Terminal>, S, W>(
-            alloc, reader, writer, piece, limit,
+        Language::Dec => run_by::<PlainPlayer, S, W>(
+            alloc, reader, writer, what, size, piece, limit,
         ),
-        Language::Utf8 => run_repaint_by::<Utf8Player<Terminal>, S, W>(
-            alloc, reader, writer, piece, limit,
+        Language::Utf8 => run_by::<Utf8Player, S, W>(
+            alloc, reader, writer, what, size, piece, limit,
         ),
-        Language::Xterm => {
-            let dec = Encoding::Dec;
-            write_word::<SessionOutput, S, W>(alloc, reader, writer, dec, piece, limit)
-        }
+        Language::Xterm => run_session(alloc, reader, writer, size, piece, limit),
     }
 }
 
-/// Plays a source's bytes by a new player, and writes the repaint.
-fn run_repaint_by<P: Vt220Player, S: Source, W: Write>(
+/// Plays a source's bytes under TERM=xterm on a new terminal of a size, and writes the repaint of the session.
+fn run_session<S: Source, W: Write>(
     alloc: Global,
     reader: &mut S,
     writer: &mut Watched<W>,
+    size: Size,
     piece: usize,
     limit: u64,
 ) -> Result<(), Fault>
@@ -137,18 +136,18 @@ fn run_repaint_by<P: Vt220Player, S: Source, W: Write>(
     requires writer_works { writer.old.failed ≡ false }
     requires piece_in_range { (1 ≤ piece) × (piece ≤ 65536) }
     requires limit_in_range { limit ≤ 1099511627776 }
+    requires size_in_range { IsSize size }
     ensures answer { Moves (S.remaining reader.old) (S.remaining reader.new) (W.contents writer.old.device)
         (W.contents writer.new.device)
-        (λ b w. PlayedTable P.plays Repaint result piece b w (record { reader_failed = S.failed reader.new; reader_ended = S.ended reader.new; writer_failed = writer.new.failed }) limit) }
+        (λ b w. SizedReplayTable size Xterm Repaint result piece b w (record { reader_failed = S.failed reader.new; reader_ended = S.ended reader.new; writer_failed = writer.new.failed }) limit) }
     ensures whole { S.ended reader.new ≡ true → IsAtEnd (S.remaining reader.new) }
 {
-    let mut output = RepaintOutput::new(P::new(alloc)?, piece);
+    let mut output = SessionOutput::new(alloc, size, piece)?;
     let dec = Encoding::Dec;
     write_output_from(alloc, &mut output, dec, reader, writer, piece, limit)
 }
 
-/// Plays a source's bytes in a language on a new terminal of a size, and writes what is due, as `run_from` does on a VT220's. A
-/// repaint is of a VT220's size.
+/// Plays a source's bytes in a language on a new terminal of a size, and writes what is due, as `run_from` does on a VT220's.
 ///
 /// `Err` is what `run_from` returns.
 pub(crate) fn run_at<S: Source, W: Write>(
@@ -178,11 +177,11 @@ pub(crate) fn run_at<S: Source, W: Write>(
         What::Status => run_sized(alloc, reader, writer, what, language, size, piece, limit),
         What::Show => run_sized(alloc, reader, writer, what, language, size, piece, limit),
         What::Picture => run_sized(alloc, reader, writer, what, language, size, piece, limit),
-        What::Repaint => run_repaint(alloc, reader, writer, language, piece, limit),
+        What::Repaint => run_repaint(alloc, reader, writer, language, size, piece, limit),
     }
 }
 
-/// Plays a source's bytes in a language on a new terminal of a size, and writes what is due: all but a repaint.
+/// Plays a source's bytes in a language on a new terminal of a size, and writes what is due of the terminal.
 fn run_sized<S: Source, W: Write>(
     alloc: Global,
     reader: &mut S,
@@ -199,27 +198,26 @@ fn run_sized<S: Source, W: Write>(
     requires piece_in_range { (1 ≤ piece) × (piece ≤ 65536) }
     requires limit_in_range { limit ≤ 1099511627776 }
     requires size_in_range { IsSize size }
-    requires plays { plays_sizes what ≡ true }
     ensures answer { Moves (S.remaining reader.old) (S.remaining reader.new) (W.contents writer.old.device)
         (W.contents writer.new.device)
         (λ b w. PlayedTable (played_at size language) what result piece b w (record { reader_failed = S.failed reader.new; reader_ended = S.ended reader.new; writer_failed = writer.new.failed }) limit) }
     ensures whole { S.ended reader.new ≡ true → IsAtEnd (S.remaining reader.new) }
 {
     match language {
-        Language::Dec => run_by::<PlainPlayer<SizedTerminal>, S, W>(
+        Language::Dec => run_by::<PlainPlayer, S, W>(
             alloc, reader, writer, what, size, piece, limit,
         ),
-        Language::Utf8 => run_by::<Utf8Player<SizedTerminal>, S, W>(
+        Language::Utf8 => run_by::<Utf8Player, S, W>(
             alloc, reader, writer, what, size, piece, limit,
         ),
-        Language::Xterm => run_by::<XtermPlayer<SizedTerminal>, S, W>(
+        Language::Xterm => run_by::<XtermPlayer, S, W>(
             alloc, reader, writer, what, size, piece, limit,
         ),
     }
 }
 
-/// Plays a source's bytes by a new player of a size, and writes what is due: all but a repaint.
-fn run_by<P: SizedPlayer, S: Source, W: Write>(
+/// Plays a source's bytes by a new player of a size, and writes what is due of the terminal.
+fn run_by<P: Player, S: Source, W: Write>(
     alloc: Global,
     reader: &mut S,
     writer: &mut Watched<W>,
@@ -234,7 +232,6 @@ fn run_by<P: SizedPlayer, S: Source, W: Write>(
     requires piece_in_range { (1 ≤ piece) × (piece ≤ 65536) }
     requires limit_in_range { limit ≤ 1099511627776 }
     requires size_in_range { IsSize size }
-    requires plays { plays_sizes what ≡ true }
     ensures answer { Moves (S.remaining reader.old) (S.remaining reader.new) (W.contents writer.old.device)
         (W.contents writer.new.device)
         (λ b w. PlayedTable (P.plays size) what result piece b w (record { reader_failed = S.failed reader.new; reader_ended = S.ended reader.new; writer_failed = writer.new.failed }) limit) }

@@ -5,7 +5,6 @@ ghost use Rattle.vt_replay.specs.Host.{takes_size, is_vt220, size_named, size_fo
 ghost use Rattle.vt_replay.specs.Host.{terminal_for, encoding_of, encoding_for, wide_for, named_for, host_for, plain_host};
 ghost use Rattle.vt_replay.specs.Host.{widening, widening_shown, opening};
 
-use crate::sized::plays_sizes;
 use vt_cli::{Encoding, Format, Request, TerminalType, Word, size_of};
 use vt_recording::Heading;
 use vt_term::Size;
@@ -107,10 +106,15 @@ fn named_for(word: Word, named: Option<TerminalType>) -> Option<TerminalType>
 fn takes_size(word: Word) -> bool
     ensures { result ≡ takes_size word }
 {
-    let Word::Replay(what) = word else {
-        return false;
-    };
-    plays_sizes(what)
+    match word {
+        Word::Replay(_)
+        | Word::Animation(_)
+        | Word::Log
+        | Word::Trace
+        | Word::Summary
+        | Word::Search => { true }
+        _ => false,
+    }
 }
 
 /// Returns whether so many columns and rows are a VT220's screen.

@@ -12,12 +12,12 @@ mod events;
 mod host;
 mod language;
 pub mod laws;
+mod log_search;
 mod logging;
 mod output;
 mod outputs;
 mod pages;
 mod player;
-mod repainting;
 mod requests;
 mod search;
 mod session;
@@ -36,8 +36,7 @@ pub use vt_cli::{
     CursorShape, Encoding, Format, Looks, Moment, Refused, Request, Settings, TerminalType, Theme,
     What, Word, request, settings,
 };
-pub use vt_device::Watched;
-pub use vt_output::{Output, write_output};
+pub use vt_device::{Output, Watched, write_output};
 pub use vt_recording::{
     Break, Compression, DETECTION_LENGTH, Detected, Fault, Heading, Part, detect, heading_of,
     read_recording,

@@ -1,40 +1,47 @@
 //! The log of an input: its lines are written as they scroll off, and its screen at the end.
 ghost use Rattle.std.specs.Prelude.{◌≡◌, ⊤, ◌*◌, ◌/◌, ◌≤◌, true, false, vec_capacity};
 ghost use Rattle.std.specs.Io.KnownBytes.{IsAtEnd};
+ghost use Rattle.vt_screen.specs.Sizes.{IsSize};
 ghost use Rattle.vt_term.specs.Play.{play};
-ghost use Rattle.vt_term.specs.Text.{text};
+ghost use Rattle.vt_term.specs.Text.{text, row_text_limit, text_limit};
 ghost use Rattle.vt_term.specs.Scrolling.{log};
 ghost use Rattle.vt_device.specs.Runs.{Moves};
+ghost use Rattle.vt_xterm.specs.Limits.{xterm_lines_limit};
 ghost use Rattle.vt_xterm.specs.Play.{play_xterm, xterm_log, behind};
-ghost use Rattle.vt_replay.specs.declared.language.Language.TheVariants.{Utf8, Xterm};
+ghost use Rattle.vt_replay.specs.declared.language.Language.TheVariants.{Dec, Utf8, Xterm};
+ghost use Rattle.vt_utf8.specs.Limits.{utf8_lines_limit};
 ghost use Rattle.vt_utf8.specs.Play.{play_utf8, translated};
-ghost use Rattle.vt_replay.specs.Log.{lines, screen, lines_in, screen_in};
-ghost use Rattle.vt_output.specs.Output.{OutputTable, always};
+ghost use Rattle.vt_replay.specs.Log.{lines, screen, lines_in, screen_in, lines_at, screen_at, lines_room};
+ghost use Rattle.vt_device.specs.Output.{OutputTable, always};
 
 use crate::language::Language;
 use crate::output::front_for;
-use crate::outputs::{WordOutput, write_word};
+use crate::outputs::{SizedWordOutput, write_word_at};
 use std::alloc::{AllocError, Global};
 use std::io::{Read, Write};
-use vt_cli::Encoding;
-use vt_device::{Source, Watched};
-use vt_output::Output;
+use vt_device::{Output, Source, Watched};
 use vt_recording::Fault;
-use vt_term::laws::{cuts, log_cuts, soundness};
-use vt_term::{REPORT_LIMIT, ROW_TEXT_LIMIT, TEXT_LIMIT, Terminal};
-use vt_utf8::laws::cuts as utf8_cuts;
-use vt_utf8::{Decoder, UTF8_LINES_LIMIT, feed_utf8_log_reserved};
+use vt_term::laws::{sized_cuts, sized_log_cuts, sized_soundness};
+use vt_term::{REPORT_LIMIT, Size, SizedTerminal};
+use vt_utf8::Decoder;
+use vt_utf8::laws::{sized_cuts as utf8_cuts, sized_soundness as utf8_soundness};
+use vt_utf8::sized::feed_utf8_log_reserved;
+use vt_xterm::SizedFront;
 use vt_xterm::laws::{cuts as xterm_cuts, log_cuts as xterm_log_cuts};
-use vt_xterm::{Front, LINES_LIMIT as XTERM_LINES_LIMIT, feed_xterm_log_reserved};
+use vt_xterm::sized::feed_xterm_log_reserved;
 
-/// The capacity for lines between two writes: 64 lines, more than a screen.
-const LINES_LIMIT: usize = 64 * ROW_TEXT_LIMIT;
-
-const _: () = prove!(TEXT_LIMIT <= LINES_LIMIT);
-
-const _: () = prove!(XTERM_LINES_LIMIT <= LINES_LIMIT);
-
-const _: () = prove!(UTF8_LINES_LIMIT <= LINES_LIMIT);
+/// Returns the capacity for lines between two writes: 64 lines, or twice a screen. The lines of a byte fit, and so does the screen.
+#[tactic(auto, unfolding(crate::specs::Log::lines_room))]
+fn lines_room(terminal: &SizedTerminal) -> usize
+    ensures room { result ≡ lines_room terminal.now.display.grid.size }
+    ensures line { row_text_limit terminal.now.display.grid.size ≤ lines_room terminal.now.display.grid.size }
+    ensures text { text_limit terminal.now.display.grid.size ≤ lines_room terminal.now.display.grid.size }
+    ensures utf8 { utf8_lines_limit terminal.now.display.grid.size ≤ lines_room terminal.now.display.grid.size }
+    ensures xterm { xterm_lines_limit terminal.now.display.grid.size ≤ lines_room terminal.now.display.grid.size }
+{
+    let _ = terminal.size();
+    (64 * terminal.row_text_limit()).max(2 * terminal.text_limit())
+}
 
 /// Plays the reader's bytes on a new terminal, and writes its log: the lines that scroll off the top of the screen, in
 /// order, and after the whole input the text of the screen. Neither device has failed before, and the reader hasn't ended.
@@ -61,8 +68,7 @@ pub fn write_log<R: Read, W: Write>(
         (λ b w. OutputTable lines screen always result piece b w (record { reader_failed = reader.new.failed; reader_ended = reader.new.ended; writer_failed = writer.new.failed }) limit) }
     ensures whole { reader.new.ended ≡ true → IsAtEnd (R.remaining reader.new.device) }
 {
-    let dec = Encoding::Dec;
-    write_word::<LogOutput, Watched<R>, W>(alloc, reader, writer, dec, piece, limit)
+    write_log_from(alloc, reader, writer, Language::Dec, piece, limit)
 }
 
 /// Writes the log of a source's bytes in a language, as `write_log` does of a reader's. The source hasn't failed or ended
@@ -88,22 +94,50 @@ pub fn write_log_from<S: Source, W: Write>(
         (λ b w. OutputTable (lines_in language) (screen_in language) always result piece b w (record { reader_failed = S.failed reader.new; reader_ended = S.ended reader.new; writer_failed = writer.new.failed }) limit) }
     ensures whole { S.ended reader.new ≡ true → IsAtEnd (S.remaining reader.new) }
 {
-    let dec = Encoding::Dec;
+    let size = Size::vt220();
+    write_log_at(alloc, reader, writer, language, size, piece, limit)
+}
+
+/// Writes the log of a source's bytes in a language, on a screen of a size, as `write_log_from` does on a VT220's.
+///
+/// `Err` is what `write_log` returns.
+pub(crate) fn write_log_at<S: Source, W: Write>(
+    alloc: Global,
+    reader: &mut S,
+    writer: &mut Watched<W>,
+    language: Language,
+    size: Size,
+    piece: usize,
+    limit: u64,
+) -> Result<(), Fault>
+    requires reader_works { S.failed reader.old ≡ false }
+    requires reader_goes_on { S.ended reader.old ≡ false }
+    requires writer_works { writer.old.failed ≡ false }
+    requires size_in_range { IsSize size }
+    requires piece_in_range { (1 ≤ piece) × (piece ≤ 65536) }
+    requires limit_in_range { limit ≤ 1099511627776 }
+    ensures answer { Moves (S.remaining reader.old) (S.remaining reader.new) (W.contents writer.old.device)
+        (W.contents writer.new.device)
+        (λ b w. OutputTable (lines_at size language) (screen_at size language) always result piece b w (record { reader_failed = S.failed reader.new; reader_ended = S.ended reader.new; writer_failed = writer.new.failed }) limit) }
+    ensures whole { S.ended reader.new ≡ true → IsAtEnd (S.remaining reader.new) }
+{
     match language {
-        Language::Dec => write_word::<LogOutput, S, W>(alloc, reader, writer, dec, piece, limit),
+        Language::Dec => write_word_at::<LogOutput, S, W>(
+            alloc, reader, writer, size, piece, limit,
+        ),
         Language::Utf8 => {
-            write_word::<Utf8LogOutput, S, W>(alloc, reader, writer, dec, piece, limit)
+            write_word_at::<Utf8LogOutput, S, W>(alloc, reader, writer, size, piece, limit)
         }
         Language::Xterm => {
-            write_word::<XtermLogOutput, S, W>(alloc, reader, writer, dec, piece, limit)
+            write_word_at::<XtermLogOutput, S, W>(alloc, reader, writer, size, piece, limit)
         }
     }
 }
 
 /// The lines that scroll off, and at the end the screen.
 #[derive(Drop)]
-struct LogOutput {
-    terminal: Terminal,
+pub(crate) struct LogOutput {
+    terminal: SizedTerminal,
     /// The reports of a chunk, which are dropped.
     reports: Vec<u8>,
 }
@@ -119,17 +153,17 @@ impl Output for LogOutput {
 
     ghost counted = { λ o. 0 };
 
-    ghost reserve = { λ o. 25408 };
+    ghost reserve = { λ o. lines_room o.terminal.display.grid.size };
 
     fn capacity(&self) -> usize {
-        LINES_LIMIT
+        lines_room(&self.terminal)
     }
 
     fn feed(&mut self, chunk: &[u8], out: &mut Vec<u8>) -> usize {
-        let _ = self.terminal.width();
-        cuts();
-        log_cuts();
-        soundness();
+        let _ = (self.terminal.width(), lines_room(&self.terminal));
+        sized_cuts();
+        sized_log_cuts();
+        sized_soundness();
         self.reports.clear();
         let count = front_for(chunk, &self.reports);
         self.terminal
@@ -141,33 +175,32 @@ impl Output for LogOutput {
     }
 
     fn end(&mut self, out: &mut Vec<u8>) {
-        let _ = self.terminal.width();
-        cuts();
+        let _ = (self.terminal.width(), lines_room(&self.terminal));
+        sized_cuts();
         self.terminal.text_reserved(out)
     }
 }
 
-impl WordOutput for LogOutput {
-    ghost writes = { lines };
+impl SizedWordOutput for LogOutput {
+    ghost writes = { λ size. lines_at size Dec };
 
-    ghost ends = { screen };
+    ghost ends = { λ size. screen_at size Dec };
 
-    ghost ready = { always };
-
-    fn new(alloc: Global, piece: usize) -> Result<LogOutput, AllocError> {
-        log_cuts();
-        soundness();
+    fn new(alloc: Global, size: Size, piece: usize) -> Result<LogOutput, AllocError> {
+        sized_log_cuts();
+        sized_soundness();
+        let terminal = SizedTerminal::new(alloc, size)?;
         Ok(LogOutput {
             reports: Vec::with_capacity(alloc, REPORT_LIMIT * piece)?,
-            terminal: Terminal::new(alloc)?,
+            terminal,
         })
     }
 }
 
 /// The lines that UTF-8 scrolls off, and at the end the screen.
 #[derive(Drop)]
-struct Utf8LogOutput {
-    terminal: Terminal,
+pub(crate) struct Utf8LogOutput {
+    terminal: SizedTerminal,
     decoder: Decoder,
     /// The reports of a chunk, which are dropped.
     reports: Vec<u8>,
@@ -184,17 +217,19 @@ impl Output for Utf8LogOutput {
 
     ghost counted = { λ o. 0 };
 
-    ghost reserve = { λ o. 25408 };
+    ghost reserve = { λ o. lines_room o.terminal.display.grid.size };
 
     fn capacity(&self) -> usize {
-        LINES_LIMIT
+        lines_room(&self.terminal)
     }
 
     fn feed(&mut self, chunk: &[u8], out: &mut Vec<u8>) -> usize {
         let _ = self.terminal.width();
+        let most = lines_room(&self.terminal);
         utf8_cuts();
-        log_cuts();
-        soundness();
+        sized_log_cuts();
+        sized_soundness();
+        utf8_soundness();
         self.reports.clear();
         let count = front_for(chunk, &self.reports);
         feed_utf8_log_reserved(
@@ -203,7 +238,7 @@ impl Output for Utf8LogOutput {
             &chunk[..count],
             &mut self.reports,
             out,
-            LINES_LIMIT,
+            most,
         )
     }
 
@@ -212,38 +247,37 @@ impl Output for Utf8LogOutput {
     }
 
     fn end(&mut self, out: &mut Vec<u8>) {
-        let _ = self.terminal.width();
+        let _ = (self.terminal.width(), lines_room(&self.terminal));
         utf8_cuts();
         self.terminal.text_reserved(out)
     }
 }
 
-impl WordOutput for Utf8LogOutput {
-    ghost writes = { lines_in Utf8 };
+impl SizedWordOutput for Utf8LogOutput {
+    ghost writes = { λ size. lines_at size Utf8 };
 
-    ghost ends = { screen_in Utf8 };
+    ghost ends = { λ size. screen_at size Utf8 };
 
-    ghost ready = { always };
-
-    fn new(alloc: Global, piece: usize) -> Result<Utf8LogOutput, AllocError> {
-        log_cuts();
-        utf8_cuts();
-        soundness();
+    fn new(alloc: Global, size: Size, piece: usize) -> Result<Utf8LogOutput, AllocError> {
+        sized_log_cuts();
+        sized_soundness();
+        let terminal = SizedTerminal::new(alloc, size)?;
         Ok(Utf8LogOutput {
             reports: Vec::with_capacity(alloc, REPORT_LIMIT * piece)?,
             decoder: Decoder::new(),
-            terminal: Terminal::new(alloc)?,
+            terminal,
         })
     }
 }
 
-/// The lines that scroll off under TERM=xterm, and at the end the screen.
+/// The lines that scroll off under TERM=xterm, and at the end the screen. The terminal and the front have one size.
 #[derive(Drop)]
-struct XtermLogOutput {
-    terminal: Terminal,
-    front: Front,
+pub(crate) struct XtermLogOutput {
+    terminal: SizedTerminal,
+    front: SizedFront,
     /// The reports of a chunk, which are dropped.
     reports: Vec<u8>,
+    ghost one_size: { front.pages.other.grid.size ≡ terminal.display.grid.size },
 }
 
 impl Output for XtermLogOutput {
@@ -257,13 +291,14 @@ impl Output for XtermLogOutput {
 
     ghost counted = { λ o. 0 };
 
-    ghost reserve = { λ o. 25408 };
+    ghost reserve = { λ o. lines_room o.terminal.display.grid.size };
 
     fn capacity(&self) -> usize {
-        LINES_LIMIT
+        lines_room(&self.terminal)
     }
 
     fn feed(&mut self, chunk: &[u8], out: &mut Vec<u8>) -> usize {
+        let most = lines_room(&self.terminal);
         xterm_cuts();
         xterm_log_cuts();
         self.reports.clear();
@@ -274,7 +309,7 @@ impl Output for XtermLogOutput {
             &chunk[..count],
             &mut self.reports,
             out,
-            LINES_LIMIT,
+            most,
         )
     }
 
@@ -283,24 +318,23 @@ impl Output for XtermLogOutput {
     }
 
     fn end(&mut self, out: &mut Vec<u8>) {
+        let _ = lines_room(&self.terminal);
         xterm_cuts();
         self.terminal.text_reserved(out)
     }
 }
 
-impl WordOutput for XtermLogOutput {
-    ghost writes = { lines_in Xterm };
+impl SizedWordOutput for XtermLogOutput {
+    ghost writes = { λ size. lines_at size Xterm };
 
-    ghost ends = { screen_in Xterm };
+    ghost ends = { λ size. screen_at size Xterm };
 
-    ghost ready = { always };
-
-    fn new(alloc: Global, piece: usize) -> Result<XtermLogOutput, AllocError> {
+    fn new(alloc: Global, size: Size, piece: usize) -> Result<XtermLogOutput, AllocError> {
         xterm_log_cuts();
         Ok(XtermLogOutput {
             reports: Vec::with_capacity(alloc, REPORT_LIMIT * piece)?,
-            front: Front::new(alloc)?,
-            terminal: Terminal::new(alloc)?,
+            front: SizedFront::new(alloc, size)?,
+            terminal: SizedTerminal::new(alloc, size)?,
         })
     }
 }

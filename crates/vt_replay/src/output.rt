@@ -8,8 +8,7 @@ use crate::decoding::Utf8;
 use std::alloc::Global;
 use std::io::Write;
 use vt_cli::Encoding;
-use vt_device::{Source, Watched};
-use vt_output::{Output, Plain, write_by};
+use vt_device::{Output, Plain, Source, Watched, write_by};
 use vt_recording::Fault;
 use vt_term::REPORT_LIMIT;
 

@@ -4,14 +4,18 @@ ghost use Rattle.std.specs.Io.KnownBytes.{IsAtEnd};
 ghost use Rattle.vt_term.specs.Play.{play};
 ghost use Rattle.vt_term.specs.Text.{text};
 ghost use Rattle.vt_device.specs.Runs.{Moves};
-ghost use Rattle.vt_output.specs.Output.{always, all, nothing};
+ghost use Rattle.vt_device.specs.Output.{OutputTable, always, all, nothing};
 ghost use Rattle.vt_replay.specs.Encoding.{EncodedTable};
 ghost use Rattle.vt_replay.specs.Log.{screen};
 ghost use Rattle.vt_replay.specs.Pages.{pages};
-ghost use Rattle.vt_replay.specs.Words.{pages_written, trace_written, trace_ending};
+ghost use Rattle.vt_recording.specs.declared.format.Encoding.TheVariants.{Dec};
+ghost use Rattle.vt_replay.specs.declared.language.Language.TheVariants as language;
+ghost use Rattle.vt_replay.specs.Words.{pages_written, trace_at, trace_end_at, summary_at};
+ghost use Rattle.vt_screen.specs.declared.size.Size.{Size};
+ghost use Rattle.vt_screen.specs.Sizes.{IsSize};
 ghost use Rattle.vt_trace.specs.Trace.{trace, tracer_all, end_lines};
-ghost use Rattle.vt_trace.specs.Summary.{summary};
 ghost use Rattle.vt_trace.specs.Counted.{HasCountedSome, summary_after};
+ghost use Rattle.vt_trace.specs.Names.{vt220_listing};
 
 use crate::laws::pages_cut;
 use crate::output::{front_for, write_output_from};
@@ -19,14 +23,14 @@ use crate::pages::{PAGE_LIMIT, feed_pages_reserved};
 use std::alloc::{AllocError, Global};
 use std::io::Write;
 use vt_cli::Encoding;
-use vt_device::{Source, Watched};
-use vt_output::Output;
+use vt_device::{Output, Source, Watched};
 use vt_recording::Fault;
 use vt_syntax::laws::one_split;
-use vt_term::laws::{cuts, soundness};
-use vt_term::{REPORT_LIMIT, Terminal};
-use vt_trace::laws::cuts as trace_cuts;
-use vt_trace::{SUMMARY_LIMIT, Summary, TRACE_LIMIT, Tracer, trace_end, trace_reserved};
+use vt_term::laws::{cuts, sized_soundness, soundness};
+use vt_term::{REPORT_LIMIT, Size, SizedTerminal, Terminal};
+use vt_trace::laws::sized_cuts as trace_cuts;
+use vt_trace::sized::trace_reserved;
+use vt_trace::{SUMMARY_LIMIT, Summary, TRACE_LIMIT, Tracer, trace_end};
 
 /// The output of a word of the command line.
 pub(crate) trait WordOutput: Output {
@@ -71,6 +75,51 @@ pub(crate) fn write_word<O: WordOutput, S: Source, W: Write>(
 {
     let mut output = O::new(alloc, piece)?;
     write_output_from(alloc, &mut output, encoding, reader, writer, piece, limit)
+}
+
+/// The output of a word of the command line that plays a screen of any size.
+pub(crate) trait SizedWordOutput: Output {
+    /// The bytes that the word writes of those that come, on a screen of a size.
+    ghost writes: { Size → List ℕ → List ℕ };
+
+    /// The bytes that the word writes at the end of those that come.
+    ghost ends: { Size → List ℕ → List ℕ };
+
+    /// Returns the output before any byte came, with memory for chunks of so many bytes. `Err` means that allocation failed.
+    fn new(alloc: Global, size: Size, piece: usize) -> Result<Self, AllocError>
+        requires piece_in_range { (1 ≤ piece) × (piece ≤ 65536) }
+        requires size_in_range { IsSize size }
+        ensures written { IfOk result (λ o. Self.written o ≡ writes size) }
+        ensures ending { IfOk result (λ o. Self.ending o ≡ ends size) }
+        ensures there { IfOk result (λ o. Self.there o ≡ always) }
+        ensures none { IfOk result (λ o. Self.written o [] ≡ []) }
+        ensures takes { IfOk result (λ o. 1 ≤ Self.most o) }
+        ensures counts { IfOk result (λ o. Self.counted o ≡ 0) };
+}
+
+/// Gives a source's bytes to the output of a word on a screen of a size, and writes what it makes of them.
+pub(crate) fn write_word_at<O: SizedWordOutput, S: Source, W: Write>(
+    alloc: Global,
+    reader: &mut S,
+    writer: &mut Watched<W>,
+    size: Size,
+    piece: usize,
+    limit: u64,
+) -> Result<(), Fault>
+    requires reader_works { S.failed reader.old ≡ false }
+    requires reader_goes_on { S.ended reader.old ≡ false }
+    requires writer_works { writer.old.failed ≡ false }
+    requires size_in_range { IsSize size }
+    requires piece_in_range { (1 ≤ piece) × (piece ≤ 65536) }
+    requires limit_in_range { limit ≤ 1099511627776 }
+    ensures answer { Moves (S.remaining reader.old) (S.remaining reader.new) (W.contents writer.old.device)
+        (W.contents writer.new.device)
+        (λ b w. OutputTable (O.writes size) (O.ends size) always result piece b w (record { reader_failed = S.failed reader.new; reader_ended = S.ended reader.new; writer_failed = writer.new.failed }) limit) }
+    ensures whole { S.ended reader.new ≡ true → IsAtEnd (S.remaining reader.new) }
+{
+    let mut output = O::new(alloc, size, piece)?;
+    let dec = Encoding::Dec;
+    write_output_from(alloc, &mut output, dec, reader, writer, piece, limit)
 }
 
 /// The log with pages.
@@ -139,7 +188,7 @@ impl WordOutput for PageOutput {
 /// The trace.
 #[derive(Drop)]
 pub(crate) struct TraceOutput {
-    terminal: Terminal,
+    terminal: SizedTerminal,
     tracer: Tracer,
     /// The reports of a chunk, which are dropped: the trace has them.
     reports: Vec<u8>,
@@ -164,6 +213,7 @@ impl Output for TraceOutput {
 
     fn feed(&mut self, chunk: &[u8], out: &mut Vec<u8>) -> usize {
         let _ = self.terminal.width();
+        sized_soundness();
         trace_cuts();
         self.reports.clear();
         let count = front_for(chunk, &self.reports);
@@ -185,17 +235,15 @@ impl Output for TraceOutput {
     }
 }
 
-impl WordOutput for TraceOutput {
-    ghost writes = { trace_written };
+impl SizedWordOutput for TraceOutput {
+    ghost writes = { λ size. trace_at size language.Dec };
 
-    ghost ends = { trace_ending };
+    ghost ends = { λ size. trace_end_at size language.Dec };
 
-    ghost ready = { always };
-
-    fn new(alloc: Global, piece: usize) -> Result<TraceOutput, AllocError> {
+    fn new(alloc: Global, size: Size, piece: usize) -> Result<TraceOutput, AllocError> {
         Ok(TraceOutput {
             reports: Vec::with_capacity(alloc, REPORT_LIMIT * piece)?,
-            terminal: Terminal::new(alloc)?,
+            terminal: SizedTerminal::new(alloc, size)?,
             tracer: Tracer::new(),
         })
     }
@@ -205,7 +253,7 @@ impl WordOutput for TraceOutput {
 #[derive(Drop)]
 pub(crate) struct SummaryOutput {
     counts: Summary,
-    ghost some: { HasCountedSome counts },
+    ghost some: { HasCountedSome vt220_listing counts },
 }
 
 impl Output for SummaryOutput {
@@ -213,7 +261,7 @@ impl Output for SummaryOutput {
 
     ghost written = { λ o bytes. [] };
 
-    ghost ending = { λ o bytes. summary_after o.counts bytes };
+    ghost ending = { λ o bytes. summary_after vt220_listing o.counts bytes };
 
     ghost there = { λ o bytes. true };
 
@@ -244,18 +292,16 @@ impl Output for SummaryOutput {
     }
 }
 
-impl WordOutput for SummaryOutput {
-    ghost writes = { nothing };
+impl SizedWordOutput for SummaryOutput {
+    ghost writes = { λ size. nothing };
 
-    ghost ends = { summary };
+    ghost ends = { λ size. summary_at size language.Dec };
 
-    ghost ready = { always };
-
-    fn new(alloc: Global, piece: usize) -> Result<SummaryOutput, AllocError> {
+    fn new(alloc: Global, size: Size, piece: usize) -> Result<SummaryOutput, AllocError> {
         let _ = piece;
         one_split();
         Ok(SummaryOutput {
-            counts: Summary::new(alloc)?,
+            counts: Summary::new_on(alloc, size.rows)?,
         })
     }
 }

@@ -15,14 +15,13 @@ use crate::engine::run_at;
 use crate::events::events_taken;
 use crate::host::{Host, host_for, opening, plain_host};
 use crate::language::Language;
-use crate::logging::write_log_from;
+use crate::logging::write_log_at;
 use crate::outputs::{ContentOutput, PageOutput, write_word};
 use crate::search::{search_taken, text_of};
 use std::alloc::{AllocError, Global};
 use std::io::{Read, Write};
 use vt_cli::{Encoding, Format, Moment, Request, TerminalType, What, Word};
-use vt_device::{Source, Watched};
-use vt_output::write_by;
+use vt_device::{Source, Watched, write_by};
 use vt_recording::{
     Break, Content, Detected, Fault, Taken, detect, heading_of, read_recording, take_between,
 };
@@ -45,20 +44,17 @@ fn carry_out_word<S: Source, W: Write>(
         (λ b w. WordTable result request.now.word host.size host.terminal host.encoding request.now.piece b w (record { reader_failed = S.failed reader.new; reader_ended = S.ended reader.new; writer_failed = writer.new.failed }) request.now.limit) }
     ensures whole { S.ended reader.new ≡ true → IsAtEnd (S.remaining reader.new) }
 {
-    let (piece, limit, encoding) = (request.piece, request.limit, host.encoding);
+    let (piece, limit) = (request.piece, request.limit);
+    let (size, encoding) = (host.size, host.encoding);
     let language = Language::of(host.terminal, encoding);
     match request.word {
-        Word::Replay(what) => {
-            run_at(
-                alloc, reader, writer, what, language, host.size, piece, limit,
-            )
-        }
-        Word::Log => write_log_from(alloc, reader, writer, language, piece, limit),
+        Word::Replay(what) => { run_at(alloc, reader, writer, what, language, size, piece, limit) }
+        Word::Log => write_log_at(alloc, reader, writer, language, size, piece, limit),
         Word::Pages => {
             write_word::<PageOutput, S, W>(alloc, reader, writer, encoding, piece, limit)
         }
-        Word::Trace => write_trace(alloc, reader, writer, encoding, piece, limit),
-        Word::Summary => write_summary(alloc, reader, writer, encoding, piece, limit),
+        Word::Trace => write_trace(alloc, reader, writer, language, size, piece, limit),
+        Word::Summary => write_summary(alloc, reader, writer, language, size, piece, limit),
         Word::Events | Word::Animation(_) | Word::Search => {
             write_word::<ContentOutput, S, W>(alloc, reader, writer, Encoding::Dec, piece, limit)
         }
@@ -177,13 +173,13 @@ pub fn lacks_times(format: Format, timed: bool, until: Option<Moment>) -> bool
 ///
 /// The terminal is the request's, otherwise the one that the first line of a recording by asciinema or by script names,
 /// otherwise a VT220. If the request's encoding is dec, it is a VT220. For an xterm the host sends UTF-8. For a VT220 it sends in
-/// the request's encoding, otherwise in dec, and in a recording by asciinema in UTF-8. Pages, trace and summary play a VT220,
+/// the request's encoding, otherwise in dec, and in a recording by asciinema in UTF-8. Pages play a VT220,
 /// whatever the terminal. Content is the host's bytes, unless the request is for xterm. Then it is bytes with which a VT220 shows the same: an update for each chunk.
 ///
 /// The screen has 132 columns if the request asks for them, or if it leaves the width to a recording whose first line names
 /// 132. Then bytes that set DECCOLM are played first, except for trace and summary.
 ///
-/// All replays but a repaint are of a screen of the size that the request asks for. If it leaves the size to a recording, they are
+/// All replays but a repaint, log, trace and summary are of a screen of the size that the request asks for. If it leaves the size to a recording, they are
 /// of the size that its first line names, if a screen may have that. DECCOLM leaves the width of such a screen, unless it is a VT220's.
 ///
 /// If the format is raw, all of the input is wanted, and 132 columns weren't asked for, the word is carried out on the bytes as they come. Events
@@ -264,6 +260,7 @@ fn taken_for(
     host: Host,
     request: &Request,
 ) -> Result<Taken, AllocError>
+    requires { IsSize host.size }
     ensures { IfOk result (λ t. IsTakenBy request.now.word request.now format host (option_map (λ b. b.now) timing.entry) bytes.now t.content.items t.broken t.replaced) }
 {
     let (from, until) = (request.from, request.until);
@@ -279,7 +276,8 @@ fn taken_for(
         Word::Search => {
             let first = opening(Word::Replay(What::Picture), host);
             let text = text_of(&request.pattern);
-            search_taken(alloc, bytes, timing, format, host, first, text, until)
+            let log = request.log;
+            search_taken(alloc, bytes, timing, format, host, log, first, text, until)
         }
         Word::Replay(_) | Word::Log | Word::Pages | Word::Trace | Word::Summary | Word::Content => {
             take_between(alloc, bytes, timing, format, host.encoding, from, until)

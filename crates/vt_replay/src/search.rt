@@ -1,26 +1,27 @@
 //! A search for a text in a recording: the spans of time in which it was on the screen.
 ghost use Rattle.std.specs.Prelude.{◌≡◌, ◌≤◌, ◌++◌, [], List, ℕ, length, take, encode_utf8_all, option_map, string_bytes, vec_capacity, IfOk, OnOk};
 ghost use Rattle.std.specs.List.{range_with_len};
-ghost use Rattle.vt_screen.specs.Grid.{row_of, last_row};
+ghost use Rattle.vt_screen.specs.Grid.{row_of};
+ghost use Rattle.vt_screen.specs.Sizes.{IsSize};
 ghost use Rattle.vt_term.specs.Text.{glyphs_of, trimmed};
 ghost use Rattle.vt_recording.specs.Gathered.{events_of};
 ghost use Rattle.vt_replay.specs.Playing.{language_of};
-ghost use Rattle.vt_replay.specs.Animated.{shown_after};
-ghost use Rattle.vt_replay.specs.Search.{text_of, in_cells, shown_for, is_utf8, wanted, goes_on, line_end, line_of, lines, column_of, place_of, first_at, first_place};
-ghost use Rattle.vt_replay.specs.Search.{found_then, until_column, span_line, ended, left_open, spans, searched, IsSearched};
+ghost use Rattle.vt_replay.specs.Search.{text_of, in_cells, shown_for, is_utf8, wanted, goes_on, line_end, line_of, lines, place_of, first_at, first_place};
+ghost use Rattle.vt_replay.specs.Search.{found_then, until_column, span_line, ended, left_open, spans, spans_at, searched, IsSearched};
 
 use crate::animated::{PIECE, is_empty, opened, play};
 use crate::events::{event_at, push_decimal, push_time};
 use crate::host::Host;
 use crate::language::Language;
-use crate::player::{PlainPlayer, Utf8Player, Vt220Player, XtermPlayer};
+use crate::log_search::{column_of, push_log_found};
+use crate::player::{PlainPlayer, Player, Utf8Player, XtermPlayer};
 use crate::steps::steps_taken;
 use memchr::memmem;
 use std::alloc::{AllocError, Global};
 use vt_cli::{Format, Moment};
-use vt_recording::{Event, Taken, count_characters};
+use vt_recording::{Event, Taken};
 use vt_screen::Cell;
-use vt_term::{REPORT_LIMIT, ROW_TEXT_LIMIT, ROWS, Terminal};
+use vt_term::{REPORT_LIMIT, Size, SizedTerminal};
 use vt_utf8::{cells, shown_as};
 
 /// A place on the screen, from 1.
@@ -107,12 +108,12 @@ fn goes_on(cells: &[Cell]) -> bool
     }
 }
 
-/// Appends a row, 1 to 24, without the spaces at its end.
-fn push_row(t: &Terminal, row: usize, out: &mut Vec<u8>) -> Result<(), AllocError>
-    requires { (1 ≤ row) × (row ≤ last_row) }
+/// Appends a row, from 1, without the spaces at its end.
+fn push_row(t: &SizedTerminal, row: usize, out: &mut Vec<u8>) -> Result<(), AllocError>
+    requires { (1 ≤ row) × (row ≤ t.now.display.grid.size.rows) }
     ensures { OnOk result (out.new.items ≡ out.old.items ++ encode_utf8_all (trimmed (glyphs_of (row_of t.now.display.grid row)))) }
 {
-    out.reserve(ROW_TEXT_LIMIT)?;
+    out.reserve(t.row_text_limit())?;
     t.row_text_reserved(row, out);
     let _ = out.pop();
     Ok(())
@@ -131,9 +132,9 @@ fn push_line_end(utf8: bool, cells: &[Cell], out: &mut Vec<u8>) -> Result<(), Al
     out.extend_from_slice(b"\n")
 }
 
-/// Appends the line of a row, 1 to 24.
-fn push_line(t: &Terminal, utf8: bool, row: usize, out: &mut Vec<u8>) -> Result<(), AllocError>
-    requires { (1 ≤ row) × (row ≤ last_row) }
+/// Appends the line of a row, from 1.
+fn push_line(t: &SizedTerminal, utf8: bool, row: usize, out: &mut Vec<u8>) -> Result<(), AllocError>
+    requires { (1 ≤ row) × (row ≤ t.now.display.grid.size.rows) }
     ensures { OnOk result (out.new.items ≡ out.old.items ++ line_of utf8 t.now.display row) }
 {
     push_row(t, row, out)?;
@@ -141,29 +142,28 @@ fn push_line(t: &Terminal, utf8: bool, row: usize, out: &mut Vec<u8>) -> Result<
 }
 
 /// Appends the lines of the screen.
-fn push_lines(t: &Terminal, utf8: bool, out: &mut Vec<u8>) -> Result<(), AllocError>
+fn push_lines(t: &SizedTerminal, utf8: bool, out: &mut Vec<u8>) -> Result<(), AllocError>
     ensures { OnOk result (out.new.items ≡ out.old.items ++ lines utf8 t.now.display) }
 {
-    for row in 1..ROWS + 1 {
+    for row in 1..t.size().rows + 1 {
         push_line(t, utf8, row, out)?;
     }
     Ok(())
 }
 
-/// Returns the column that comes after these bytes of a row.
-fn column_of(before: &[u8]) -> usize
-    ensures { result ≡ column_of before.now }
-{
-    count_characters(before) as usize + 1
-}
-
 /// Returns the place of a byte of the lines. `line` is overwritten.
-fn place_of(t: &Terminal, utf8: bool, at: usize, line: &mut Vec<u8>) -> Result<Place, AllocError>
-    ensures { IfOk result (λ place. place ≡ place_of (line_of utf8 t.now.display) 1 last_row at) }
+fn place_of(
+    t: &SizedTerminal,
+    utf8: bool,
+    at: usize,
+    line: &mut Vec<u8>,
+) -> Result<Place, AllocError>
+    ensures { IfOk result (λ place. place ≡ place_of (line_of utf8 t.now.display) 1 t.now.display.grid.size.rows at) }
 {
+    let rows = t.size().rows;
     let mut left = at;
     let mut row = 1;
-    while row <= ROWS {
+    while row <= rows {
         line.clear();
         push_line(t, utf8, row, line)?;
         if left < line.len() {
@@ -180,7 +180,7 @@ fn place_of(t: &Terminal, utf8: bool, at: usize, line: &mut Vec<u8>) -> Result<P
 
 /// Returns the first place of a text on the screen. `scratch` is overwritten.
 fn first_place(
-    t: &Terminal,
+    t: &SizedTerminal,
     utf8: bool,
     wanted: &[u8],
     scratch: &mut Vec<u8>,
@@ -269,7 +269,7 @@ fn push_left_open(found: Option<Found>, out: &mut Vec<u8>) -> Result<(), AllocEr
 }
 
 /// Plays the bytes of a step, and returns the first place of a text on the screen after it.
-fn place_after<P: Vt220Player>(
+fn place_after<P: Player>(
     utf8: bool,
     wanted: &[u8],
     bytes: &[u8],
@@ -283,11 +283,11 @@ fn place_after<P: Vt220Player>(
     ensures capacity { vec_capacity reports.old ≤ vec_capacity reports.new }
 {
     play(player, bytes, reports);
-    first_place(player.terminal(), utf8, wanted, scratch)
+    first_place(player.sized(), utf8, wanted, scratch)
 }
 
 /// Plays the steps, and appends the lines of the spans.
-fn push_spans<P: Vt220Player>(
+fn push_spans<P: Player>(
     utf8: bool,
     wanted: &[u8],
     steps: &[Event],
@@ -320,20 +320,22 @@ fn push_spans<P: Vt220Player>(
 }
 
 /// Returns the lines of the spans of steps, which have the bytes of a content, as a player plays them after an opening.
-fn spans_by<P: Vt220Player>(
+fn spans_by<P: Player>(
     alloc: Global,
+    size: Size,
     utf8: bool,
     wanted: &[u8],
     opening: &[u8],
     content: &[u8],
     steps: &[Event],
 ) -> Result<Vec<u8>, AllocError>
+    requires { IsSize size }
     ensures { IfOk result (λ lines. lines.items
-        ≡ spans (λ bytes. first_place utf8 wanted.now (P.plays (opening.now ++ bytes)).state.display) 0 None
+        ≡ spans (λ bytes. first_place utf8 wanted.now (P.plays size (opening.now ++ bytes)).state.display) 0 None
         (events_of steps.now content.now)) }
 {
     let mut reports = Vec::with_capacity(alloc, PIECE * REPORT_LIMIT)?;
-    let mut player = opened::<P>(alloc, opening, &mut reports)?;
+    let mut player = opened::<P>(alloc, size, opening, &mut reports)?;
     let mut scratch = Vec::new(alloc);
     let mut lines = Vec::new(alloc);
     push_spans(
@@ -349,60 +351,83 @@ fn spans_by<P: Vt220Player>(
     Ok(lines)
 }
 
-/// Returns the lines of the spans of steps, as a terminal shows them on which a language is played.
+/// Returns the lines of the spans of steps, as a terminal of a size shows them on which a language is played.
 fn spans_in(
     alloc: Global,
+    size: Size,
     language: Language,
+    wanted: &[u8],
+    opening: &[u8],
+    content: &[u8],
+    steps: &[Event],
+) -> Result<Vec<u8>, AllocError>
+    requires { IsSize size }
+    ensures { IfOk result (λ lines. lines.items ≡ spans_at size language wanted.now opening.now content.now steps.now) }
+{
+    let utf8 = is_utf8(language);
+    match language {
+        Language::Dec => spans_by::<PlainPlayer>(
+            alloc, size, utf8, wanted, opening, content, steps,
+        ),
+        Language::Utf8 => spans_by::<Utf8Player>(
+            alloc, size, utf8, wanted, opening, content, steps,
+        ),
+        Language::Xterm => spans_by::<XtermPlayer>(
+            alloc, size, utf8, wanted, opening, content, steps,
+        ),
+    }
+}
+
+/// Returns what a search finds in steps: the lines of the spans, and after them those of the log, if it is asked for.
+fn found_in(
+    alloc: Global,
+    host: Host,
+    log: bool,
     text: &str,
     opening: &[u8],
     content: &[u8],
     steps: &[Event],
 ) -> Result<Vec<u8>, AllocError>
-    ensures { IfOk result (λ lines. lines.items ≡ searched language text.now opening.now content.now steps.now) }
+    requires { IsSize host.size }
+    ensures { IfOk result (λ lines. lines.items
+        ≡ searched host.size (language_of host.terminal host.encoding) log text.now opening.now content.now steps.now) }
 {
+    let language = Language::of(host.terminal, host.encoding);
     let shown = as_shown(alloc, language, text)?;
-    let utf8 = is_utf8(language);
     let wanted = shown.as_bytes();
-    match language {
-        Language::Dec => {
-            spans_by::<PlainPlayer<Terminal>>(alloc, utf8, wanted, opening, content, steps)
-        }
-        Language::Utf8 => {
-            spans_by::<Utf8Player<Terminal>>(alloc, utf8, wanted, opening, content, steps)
-        }
-        Language::Xterm => {
-            spans_by::<XtermPlayer<Terminal>>(alloc, utf8, wanted, opening, content, steps)
-        }
+    let mut lines = spans_in(alloc, host.size, language, wanted, opening, content, steps)?;
+    if !log {
+        return Ok(lines);
     }
+    let utf8 = is_utf8(language);
+    push_log_found(
+        alloc, host.size, language, utf8, wanted, opening, content, steps, &mut lines,
+    )?;
+    Ok(lines)
 }
 
-/// Returns the spans of time in which a text was on the screen of a recording up to a moment, in the place of its content: a line for
-/// each. The opening is played before it.
+/// Returns what a search for a text finds in a recording up to a moment, in the place of its content: a line for each span of time in
+/// which the text was on the screen, and if `log` is set a line for each line with it that scrolled off. The opening is played before it.
 pub(crate) fn search_taken(
     alloc: Global,
     bytes: &[u8],
     timing: Option<&[u8]>,
     format: Format,
     host: Host,
+    log: bool,
     opening: &[u8],
     text: &str,
     until: Option<Moment>,
 ) -> Result<Taken, AllocError>
-    ensures { IfOk result (λ t. IsSearched text.now opening.now (language_of host.terminal host.encoding) format host.encoding until (option_map (λ b. b.now) timing.entry) bytes.now t.content.items t.broken t.replaced) }
+    requires { IsSize host.size }
+    ensures { IfOk result (λ t. IsSearched host.size log text.now opening.now (language_of host.terminal host.encoding) format host.encoding until (option_map (λ b. b.now) timing.entry) bytes.now t.content.items t.broken t.replaced) }
 {
     let stepped = steps_taken(alloc, bytes, timing, format, host.encoding, until)?;
-    let language = Language::of(host.terminal, host.encoding);
     let broken = stepped.taken.broken;
     let replaced = stepped.taken.replaced;
+    let content = &stepped.taken.content;
     Ok(Taken {
-        content: spans_in(
-            alloc,
-            language,
-            text,
-            opening,
-            &stepped.taken.content,
-            &stepped.steps,
-        )?,
+        content: found_in(alloc, host, log, text, opening, content, &stepped.steps)?,
         broken,
         replaced,
     })

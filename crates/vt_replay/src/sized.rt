@@ -1,18 +1,20 @@
-//! What is due of a screen of any size: all but the repaint.
+//! What is due of a screen of any size.
 ghost use Rattle.std.specs.Prelude.{◌≡◌, ⊤, ◌+◌, ◌*◌, ◌≤◌, ◌++◌, [], true, false, length, max, vec_len, vec_capacity};
-ghost use Rattle.vt_replay.specs.Due.{due_at_end, is_sent, sent_by, there_by};
-ghost use Rattle.vt_replay.specs.Sized.{plays_sizes, room_at};
+ghost use Rattle.vt_syntax.specs.declared.held.Held.TheVariants.{Nothing};
+ghost use Rattle.vt_replay.specs.Due.{due_at_end, is_sent, is_there, sent_by, there_by};
+ghost use Rattle.vt_replay.specs.Sized.{room_at};
 
 use crate::output::front_for;
-use crate::player::SizedPlayer;
+use crate::player::Player;
 use crate::status::{STATUS_LIMIT, push_status};
 use vt_cli::What;
-use vt_output::Output;
+use vt_device::Output;
+use vt_paint::sized::{paint_limit, repaint_reserved};
 use vt_picture::sized::{picture_limit, picture_reserved, show_limit, show_reserved};
 use vt_term::{REPORT_LIMIT, SizedTerminal};
 
-/// The output that is due of a player on a terminal of any size: its reports as they come, or its text, its status, its text with
-/// attributes or its picture at the end.
+/// The output that is due of a player on a terminal of any size: its reports as they come, or its text, its repaint, its status, its
+/// text with attributes or its picture at the end.
 #[derive(Drop)]
 pub(crate) struct SizedOutput<P: Drop> {
     what: What,
@@ -21,14 +23,12 @@ pub(crate) struct SizedOutput<P: Drop> {
     reported: u64,
     /// The capacity for the reports of one chunk.
     room: usize,
-    ghost plays: { plays_sizes what ≡ true },
 }
 
-impl<P: SizedPlayer> SizedOutput<P> {
+impl<P: Player> SizedOutput<P> {
     /// Returns the output of a player, with capacity for the reports of chunks of so many bytes.
     pub(crate) fn new(player: P, what: What, piece: usize) -> SizedOutput<P>
         requires piece { piece ≤ 65536 }
-        requires plays { plays_sizes what ≡ true }
         ensures what { result.what ≡ what }
         ensures player { result.player ≡ player }
         ensures reported { result.reported ≡ 0 }
@@ -44,7 +44,7 @@ impl<P: SizedPlayer> SizedOutput<P> {
     }
 }
 
-impl<P: SizedPlayer> Output for SizedOutput<P> {
+impl<P: Player> Output for SizedOutput<P> {
     ghost written = { λ o bytes. sent_by (P.played o.player) o.what bytes };
 
     ghost ending = { λ o bytes. due_at_end o.what (P.played o.player bytes).state
@@ -74,7 +74,7 @@ impl<P: SizedPlayer> Output for SizedOutput<P> {
     }
 
     fn is_there(&self) -> bool {
-        true
+        is_due(self.player.sized(), self.what)
     }
 
     fn end(&mut self, out: &mut Vec<u8>) {
@@ -82,12 +82,12 @@ impl<P: SizedPlayer> Output for SizedOutput<P> {
     }
 }
 
-/// Returns whether what is due is so of a screen of any size: all but a repaint.
-pub(crate) fn plays_sizes(what: What) -> bool
-    ensures { result ≡ plays_sizes what }
+/// Returns whether what is asked for is there: a repaint between sequences only, everything else always.
+fn is_due(terminal: &SizedTerminal, what: What) -> bool
+    ensures { result ≡ is_there what terminal.now }
 {
     match what {
-        What::Repaint => false,
+        What::Repaint => terminal.is_between(),
         What::Text | What::Reports | What::Status | What::Show | What::Picture => true,
     }
 }
@@ -109,24 +109,25 @@ fn room_at(terminal: &SizedTerminal, what: What) -> usize
     match what {
         What::Text => terminal.text_limit(),
         What::Reports => 0,
-        What::Repaint => 0,
+        What::Repaint => paint_limit(terminal.size()),
         What::Status => STATUS_LIMIT,
         What::Show => show_limit(terminal.size()),
         What::Picture => picture_limit(terminal.size()),
     }
 }
 
-/// Appends what is due after the whole input: the text, the status, the text with its attributes, the picture, or nothing.
+/// Appends what is due after the whole input: the text, the repaint, the status, the text with its attributes, the picture, or
+/// nothing.
 fn push_sized(terminal: &SizedTerminal, what: What, reported: u64, out: &mut Vec<u8>)
     requires room { vec_len out.old + room_at what terminal.now.display.grid.size ≤ vec_capacity out.old }
-    requires plays { plays_sizes what ≡ true }
+    requires there { is_there what terminal.now ≡ true }
     ensures { out.new.items ≡ out.old.items ++ due_at_end what terminal.now reported }
 {
     match what {
         What::Text => terminal.text_reserved(out),
         What::Status => push_status(terminal, reported, out),
         What::Reports => {}
-        What::Repaint => {}
+        What::Repaint => repaint_reserved(terminal, out),
         What::Show => show_reserved(terminal, out),
         What::Picture => picture_reserved(terminal, out),
     }

@@ -13,6 +13,7 @@ returns-clause-some c = record {
   timing = c.in_ok-timing.ensures ∙ first_value-rows (found_of c.args.matches.now) (codes "timing");
   pattern = c.in_ok-pattern.ensures ∙ first_value-rows (found_of c.args.matches.now) (codes "pattern");
   title = c.in_ok-file_of.ensures ∙ first_value-rows (found_of c.args.matches.now) (codes "title");
+  log = search rules;
   full = search rules;
   partial = search rules;
   quiet = search rules;

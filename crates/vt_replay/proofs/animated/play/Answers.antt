@@ -12,6 +12,7 @@ loop-at-preserved g c =
       within = omega arith;
       some = c.loop-at.invariant.some;
       room = omega (arith, c.clear.ensures.capacity, c.feed.ensures.capacity, c.loop-at.invariant.room);
+      screen = c.feed.ensures.screen ∙ c.loop-at.invariant.screen;
       on = λ more. played_more (g.P.Player.played) _ _ _ c.args.bytes.now at n c.loop-at.invariant.on (rw part at c.feed.ensures.on) more;
       capacity = omega arith;
     }

@@ -1,4 +1,5 @@
-use Rattle.std.proofs.Common.{refl, ap, arith}
+use Rattle.std.proofs.Common.{◌∙◌, refl, sym, ap, arith}
+use Rattle.vt_screen.specs.declared.size.Size.{Size}
 use Rattle.vt_term.specs.State.{State}
 use Rattle.vt_recording.proofs.Marks.{still_within}
 use Rattle.vt_replay.proofs.Frames.{one_more, none_left}
@@ -11,6 +12,8 @@ loop-i-preserved g c =
     record {
       within = rw c.min.ensures (still_within c.event_at-step.result.length c.loop-i.at c.args.content.now kept.within);
       room = omega (arith, fed.capacity, kept.room);
+      size = fed.size ∙ kept.size ∙ sym fed.screen;
+      numbers = fed.long ∙ kept.numbers ∙ ap (λ (s : Size). s.rows) (sym fed.screen);
       before = fed.before;
       ahead =
           rw (c.saturating_add-number.ensures, c.max-clock.ensures)

@@ -8,6 +8,8 @@ abbrev pub invariant-loop-i : goal.invariant-loop-i
 invariant-loop-i g l = record {
   within : l.at ≤ length l.content;
   room : 10 ≤ vec_capacity l.reports;
+  size : l.before.display.grid.size ≡ g.P.Player.screen l.player;
+  numbers : length l.numbers ≡ (g.P.Player.screen l.player).rows;
   before : l.before ≡ (g.P.Player.played l.player []).state;
   ahead : l.out.items
       ++ frames (λ bytes. (g.P.Player.played l.player bytes).state.display) l.moving.cursor l.moving.duration l.moving.columns l.number l.clock l.numbers

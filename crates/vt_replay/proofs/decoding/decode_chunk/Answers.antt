@@ -1,5 +1,5 @@
 use Rattle.std.proofs.Common.{arith, length-drop}
-use Rattle.vt_output.proofs.OutputSteps.{rest-of}
+use Rattle.vt_device.proofs.OutputSteps.{rest-of}
 use Rattle.vt_replay.proofs.Decoded.{decodes-nothing, decodes-more}
 use Rattle.vt_replay.proofs.decoding.decode_chunk.Goals as goal
 

@@ -1,5 +1,5 @@
 use Rattle.std.proofs.lemmas.Result.{err_from_is_err_and}
-use Rattle.vt_output.proofs.Steps.{without_memory}
+use Rattle.vt_device.proofs.Steps.{without_memory}
 use Rattle.vt_replay.proofs.engine.run_by.Goals as goal
 
 pub returns-in_err-new-clause-answer : goal.returns-in_err-new-clause-answer

@@ -1,7 +1,7 @@
 use Rattle.std.proofs.Common.{ℕ, List, []}
 use Rattle.vt_term.specs.State.{power_up}
 use Rattle.vt_utf8.specs.Play.{translated}
-use Rattle.vt_output.proofs.OutputSteps.{moves_one_way}
+use Rattle.vt_device.proofs.OutputSteps.{moves_one_way}
 use Rattle.vt_replay.proofs.output.write_output_from.Goals as goal
 
 pub returns-in-Dec-clause-answer : goal.returns-in-Dec-clause-answer

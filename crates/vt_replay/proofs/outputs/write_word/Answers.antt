@@ -1,5 +1,5 @@
 use Rattle.std.proofs.lemmas.Result.{err_from_is_err_and}
-use Rattle.vt_output.proofs.Steps.{without_memory}
+use Rattle.vt_device.proofs.Steps.{without_memory}
 use Rattle.vt_replay.proofs.outputs.write_word.Goals as goal
 
 pub returns-clause-answer : goal.returns-clause-answer

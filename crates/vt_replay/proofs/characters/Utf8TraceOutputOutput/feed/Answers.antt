@@ -24,7 +24,7 @@ returns-clause-after c =
     ≡ take c.trace_utf8_reserved.result c.args.chunk.now =
     take-take c.trace_utf8_reserved.result c.front_for-count.result c.args.chunk.now short in
     rw (← front)
-    (utf8_trace_after _ _ _ _ _ _ _ c.utf8_cuts.ensures.lines c.utf8_cuts.ensures.tracer c.width.ensures.sound fed.state
+    (utf8_trace_after _ _ _ _ _ _ _ c.sized_utf8_cuts.ensures.lines c.sized_utf8_cuts.ensures.tracer c.width.ensures.sound fed.state
     fed.pending fed.tracer)
 
 pub returns-clause-some : goal.returns-clause-some

@@ -1,9 +1,32 @@
-use Rattle.std.proofs.Common.{arith}
 use Rattle.std.proofs.lemmas.Grind.{common_steps}
+use Rattle.std.proofs.Common.{◌≡◌, ◌≤◌, ap, take, arith}
+use Rattle.std.proofs.lemmas.List.{length-take, take-take}
+use Rattle.vt_screen.specs.declared.size.Size.{Size}
+use Rattle.vt_replay.specs.Log.{lines_room}
+use Rattle.vt_replay.proofs.Players.{plain_log_after, plain_stays}
 use Rattle.vt_replay.proofs.logging.LogOutputOutput.feed.Goals as goal
 
+pub returns-clause-after : goal.returns-clause-after
+returns-clause-after c =
+    let fed = c.feed_log_reserved.ensures in
+    let long = simp length-take at fed.within in
+    let short : c.feed_log_reserved.result ≤ c.front_for-count.result = omega (arith, long) in
+    let front : take c.feed_log_reserved.result (take c.front_for-count.result c.args.chunk.now)
+    ≡ take c.feed_log_reserved.result c.args.chunk.now =
+    take-take c.feed_log_reserved.result c.front_for-count.result c.args.chunk.now short in
+    rw (← front)
+    (plain_log_after _ _ _ c.sized_cuts.ensures.two c.sized_log_cuts.ensures.two c.sized_log_cuts.ensures.none
+    c.sized_soundness.ensures.play c.width.ensures.sound fed.state)
+
+pub returns-clause-reserve : goal.returns-clause-reserve
+returns-clause-reserve c =
+    ap (λ (size : Size). lines_room size)
+    (plain_stays _ _ _ c.sized_soundness.ensures.play c.width.ensures.sound c.feed_log_reserved.ensures.state)
+
 pub returns-clause-some : goal.returns-clause-some
-returns-clause-some c = grind (arith, common_steps)
+returns-clause-some c =
+    let none = c.sized_log_cuts.ensures.none _ c.args.self.now.terminal c.width.ensures.sound in
+    grind (arith, common_steps, none)
 
 pub returns-clause-within : goal.returns-clause-within
 returns-clause-within c = grind (arith, common_steps)
@@ -11,17 +34,11 @@ returns-clause-within c = grind (arith, common_steps)
 pub returns-clause-written : goal.returns-clause-written
 returns-clause-written c = grind (arith, common_steps)
 
-pub returns-clause-after : goal.returns-clause-after
-returns-clause-after c = grind (arith, common_steps)
-
 pub returns-clause-most : goal.returns-clause-most
 returns-clause-most c = grind (arith, common_steps)
 
 pub returns-clause-counted : goal.returns-clause-counted
 returns-clause-counted c = grind (arith, common_steps)
-
-pub returns-clause-reserve : goal.returns-clause-reserve
-returns-clause-reserve c = grind (arith, common_steps)
 
 pub returns-clause-capacity : goal.returns-clause-capacity
 returns-clause-capacity c = grind (arith, common_steps)

@@ -1,7 +1,9 @@
 use Rattle.std.proofs.lemmas.Grind.{common_steps}
-use Rattle.std.proofs.Common.{◌≡◌, ◌≤◌, take, arith}
+use Rattle.std.proofs.Common.{◌≡◌, ◌≤◌, ap, take, arith}
 use Rattle.std.proofs.lemmas.List.{length-take, take-take}
-use Rattle.vt_replay.proofs.Players.{utf8_log_after, utf8_log_none}
+use Rattle.vt_screen.specs.declared.size.Size.{Size}
+use Rattle.vt_replay.specs.Log.{lines_room}
+use Rattle.vt_replay.proofs.Players.{utf8_log_after, utf8_log_none, utf8_stays}
 use Rattle.vt_replay.proofs.logging.Utf8LogOutputOutput.feed.Goals as goal
 
 pub returns-clause-after : goal.returns-clause-after
@@ -13,11 +15,12 @@ returns-clause-after c =
     ≡ take c.feed_utf8_log_reserved.result c.args.chunk.now =
     take-take c.feed_utf8_log_reserved.result c.front_for-count.result c.args.chunk.now short in
     rw (← front)
-    (utf8_log_after _ _ _ _ _ c.cuts.ensures.two c.cuts.ensures.translated c.log_cuts.ensures.two c.log_cuts.ensures.none c.soundness.ensures.play c.width.ensures.sound fed.state fed.pending)
+    (utf8_log_after _ _ _ _ _ c.sized_cuts.ensures.two c.sized_cuts.ensures.translated c.sized_log_cuts.ensures.two
+    c.sized_log_cuts.ensures.none c.sized_soundness.ensures.play c.width.ensures.sound fed.state fed.pending)
 
 pub returns-clause-some : goal.returns-clause-some
 returns-clause-some c =
-    let none = utf8_log_none c.args.self.now.terminal c.args.self.now.decoder c.log_cuts.ensures.none c.width.ensures.sound in
+    let none = utf8_log_none c.args.self.now.terminal c.args.self.now.decoder c.sized_log_cuts.ensures.none c.width.ensures.sound in
     grind (arith, common_steps, none)
 
 pub returns-clause-within : goal.returns-clause-within
@@ -33,7 +36,9 @@ pub returns-clause-counted : goal.returns-clause-counted
 returns-clause-counted c = grind (arith, common_steps)
 
 pub returns-clause-reserve : goal.returns-clause-reserve
-returns-clause-reserve c = grind (arith, common_steps)
+returns-clause-reserve c =
+    ap (λ (size : Size). lines_room size)
+    (utf8_stays _ _ _ _ c.sized_soundness-2.ensures c.width.ensures.sound c.feed_utf8_log_reserved.ensures.state)
 
 pub returns-clause-capacity : goal.returns-clause-capacity
 returns-clause-capacity c = grind (arith, common_steps)

@@ -1,6 +1,8 @@
 use Rattle.std.proofs.lemmas.Grind.{common_steps}
-use Rattle.std.proofs.Common.{◌≡◌, ◌≤◌, take, arith}
+use Rattle.std.proofs.Common.{◌≡◌, ◌≤◌, ap, take, arith}
 use Rattle.std.proofs.lemmas.List.{length-take, take-take}
+use Rattle.vt_screen.specs.declared.size.Size.{Size}
+use Rattle.vt_replay.specs.Log.{lines_room}
 use Rattle.vt_replay.proofs.Players.{xterm_log_after}
 use Rattle.vt_replay.proofs.logging.XtermLogOutputOutput.feed.Goals as goal
 
@@ -31,7 +33,7 @@ pub returns-clause-counted : goal.returns-clause-counted
 returns-clause-counted c = grind (arith, common_steps)
 
 pub returns-clause-reserve : goal.returns-clause-reserve
-returns-clause-reserve c = grind (arith, common_steps)
+returns-clause-reserve c = ap (λ (size : Size). lines_room size) c.feed_xterm_log_reserved.ensures.size
 
 pub returns-clause-capacity : goal.returns-clause-capacity
 returns-clause-capacity c = grind (arith, common_steps)

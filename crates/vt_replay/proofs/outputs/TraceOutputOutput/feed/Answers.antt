@@ -1,8 +1,8 @@
 use Rattle.std.proofs.lemmas.Grind.{common_steps}
-use Rattle.std.proofs.Common.{◌∙◌, ap, arith, take}
-use Rattle.std.proofs.lemmas.List.{length-take}
+use Rattle.std.proofs.Common.{◌≡◌, ◌≤◌, ◌∙◌, ap, arith, take}
+use Rattle.std.proofs.lemmas.List.{length-take, take-take}
 use Rattle.vt_trace.specs.declared.tracing.Tracer.{Tracer}
-use Rattle.vt_replay.proofs.Tracers.{place_after}
+use Rattle.vt_replay.proofs.Tracers.{place_after, no_trace, plain_trace_after}
 use Rattle.vt_replay.proofs.outputs.TraceOutputOutput.feed.Goals as goal
 
 pub returns-clause-counted : goal.returns-clause-counted
@@ -13,7 +13,9 @@ returns-clause-counted c =
     omega (arith, long, c.trace_reserved.ensures.within)
 
 pub returns-clause-some : goal.returns-clause-some
-returns-clause-some c = grind (arith, common_steps)
+returns-clause-some c =
+    let none = no_trace c.args.self.now.terminal c.args.self.now.tracer in
+    grind (arith, common_steps, none)
 
 pub returns-clause-within : goal.returns-clause-within
 returns-clause-within c = grind (arith, common_steps)
@@ -22,7 +24,15 @@ pub returns-clause-written : goal.returns-clause-written
 returns-clause-written c = grind (arith, common_steps)
 
 pub returns-clause-after : goal.returns-clause-after
-returns-clause-after c = grind (arith, common_steps)
+returns-clause-after c =
+    let fed = c.trace_reserved.ensures in
+    let long = simp length-take at fed.within in
+    let short : c.trace_reserved.result ≤ c.front_for-count.result = omega (arith, long) in
+    let front : take c.trace_reserved.result (take c.front_for-count.result c.args.chunk.now)
+    ≡ take c.trace_reserved.result c.args.chunk.now =
+    take-take c.trace_reserved.result c.front_for-count.result c.args.chunk.now short in
+    rw (← front)
+    (plain_trace_after _ _ _ _ _ c.sized_cuts.ensures.lines c.sized_cuts.ensures.tracer c.width.ensures.sound fed.state fed.tracer)
 
 pub returns-clause-most : goal.returns-clause-most
 returns-clause-most c = grind (arith, common_steps)

@@ -2,9 +2,9 @@ use Rattle.vt_replay.proofs.Players.{plain_on, plain_stays}
 use Rattle.vt_replay.proofs.player.PlainPlayerPlayer.feed.Goals as goal
 
 pub returns-clause-on : goal.returns-clause-on
-returns-clause-on g c = λ more.
-    plain_on _ _ c.args.chunk.now more c.sized_cuts.ensures.two c.feed_plain.ensures.state
+returns-clause-on c = λ more.
+    plain_on _ _ c.args.chunk.now more c.sized_cuts.ensures.two c.feed_reserved.ensures.state
 
 pub returns-clause-screen : goal.returns-clause-screen
-returns-clause-screen g c =
-    plain_stays _ _ c.args.chunk.now c.sized_soundness.ensures.play (rw c.sized.ensures at c.width.ensures.sound) c.feed_plain.ensures.state
+returns-clause-screen c =
+    plain_stays _ _ c.args.chunk.now c.sized_soundness.ensures.play c.width.ensures.sound c.feed_reserved.ensures.state

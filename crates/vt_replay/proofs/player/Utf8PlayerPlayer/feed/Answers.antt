@@ -2,10 +2,10 @@ use Rattle.vt_replay.proofs.Players.{utf8_on, utf8_stays}
 use Rattle.vt_replay.proofs.player.Utf8PlayerPlayer.feed.Goals as goal
 
 pub returns-clause-on : goal.returns-clause-on
-returns-clause-on g c = λ more.
-    let fed = c.feed_utf8.ensures in
-    utf8_on _ _ _ _ c.args.chunk.now more c.sized_cuts.ensures.two (rw c.sized.ensures at c.width.ensures.sound) fed.state fed.pending
+returns-clause-on c = λ more.
+    let fed = c.feed_utf8_reserved.ensures in
+    utf8_on _ _ _ _ c.args.chunk.now more c.sized_cuts.ensures.two c.width.ensures.sound fed.state fed.pending
 
 pub returns-clause-screen : goal.returns-clause-screen
-returns-clause-screen g c =
-    utf8_stays _ _ _ c.args.chunk.now c.sized_soundness.ensures (rw c.sized.ensures at c.width.ensures.sound) c.feed_utf8.ensures.state
+returns-clause-screen c =
+    utf8_stays _ _ _ c.args.chunk.now c.sized_soundness.ensures c.width.ensures.sound c.feed_utf8_reserved.ensures.state

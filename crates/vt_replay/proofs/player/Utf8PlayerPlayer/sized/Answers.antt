@@ -1,4 +1,4 @@
 use Rattle.vt_replay.proofs.player.Utf8PlayerPlayer.sized.Goals as goal
 
 pub returns-clause-state : goal.returns-clause-state
-returns-clause-state g c = rw (← c.sized-terminal.ensures) (c.sized_cuts.ensures.none _ _ _ c.width.ensures.sound)
+returns-clause-state c = c.sized_cuts.ensures.none _ _ _ c.width.ensures.sound

@@ -2,6 +2,6 @@ use Rattle.vt_replay.proofs.Players.{xterm_on}
 use Rattle.vt_replay.proofs.player.XtermPlayerPlayer.feed.Goals as goal
 
 pub returns-clause-on : goal.returns-clause-on
-returns-clause-on g c = λ more.
-    let fed = c.feed_xterm.ensures in
+returns-clause-on c = λ more.
+    let fed = c.feed_xterm_reserved.ensures in
     xterm_on _ _ _ _ c.args.chunk.now more c.cuts.ensures.two fed.state fed.pages fed.pending

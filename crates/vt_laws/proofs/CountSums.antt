@@ -17,12 +17,12 @@ use Rattle.vt_glyph.specs.Invocation.{has_no_glyph}
 use Rattle.vt_term.specs.Functions.{Function, FunctionTable, no_function, function_in, controls, plain_escapes, space_escapes}
 use Rattle.vt_term.specs.Functions.{number_sign_escapes, set_name, designation, escape_tables, escape_function}
 use Rattle.vt_term.specs.Functions.{marker_tables, intermediate_tables, sequences_of}
-use Rattle.vt_term.specs.Names.{name_with, name_of, control_name, plain_escape_name, escape_with_name, sequence_name_on}
+use Rattle.vt_term.specs.Names.{name_with, name_on, name_of, control_name, plain_escape_name, escape_with_name, sequence_name_on}
 use Rattle.vt_term.proofs.Tables.{AllRows, looked_up-holds}
 use Rattle.vt_trace.specs.Names.{names, numbered}
 use Rattle.vt_trace.specs.Skipped.{all_kinds}
 use Rattle.vt_screen.specs.Grid.{last_row}
-use Rattle.vt_trace.specs.Summary.{IsByteAtMost, kind_number, has_name, is_ignored_kind, times_named, times_named_on, times_ignored, times_ignored_on, times_skipped}
+use Rattle.vt_trace.specs.Summary.{IsByteAtMost, kind_number, has_name, is_ignored_kind, times_named, times_named_by, times_ignored, times_ignored_by, times_skipped}
 use Rattle.vt_trace.proofs.Tables.{no_some}
 use Rattle.vt_trace.proofs.Counts.{named_by, not_named, not_ignored, ignored_by, not_equal}
 use Rattle.vt_trace.proofs.Coming.{sum_cons, count_cons}
@@ -268,15 +268,15 @@ module _ (size : ℕ) (numbers : List ℕ) where
           + count_by (λ number. has_name (numbered number) event) numbers ≡ 1
       go None none =
           let first = same_fits (λ number. is_ignored_kind number event) (λ number. kind_number event == number)
-          (λ k. ignored_by last_row k event none) (range_with_len 0 size) in
+          (λ k. ignored_by name_on last_row k event none) (range_with_len 0 size) in
           let once = in_range (kind_number event) 0 size (omega arith) (omega (arith, small)) in
           let second = none_fits (λ number. has_name (numbered number) event)
-          (λ n. not_named last_row (numbered n) event none) numbers in
+          (λ n. not_named name_on last_row (numbered n) event none) numbers in
           omega (arith, first, once, second)
       go (Some name) some =
-          let first = none_fits (λ number. is_ignored_kind number event) (λ k. not_ignored last_row k event name some) (range_with_len 0 size) in
+          let first = none_fits (λ number. is_ignored_kind number event) (λ k. not_ignored name_on last_row k event name some) (range_with_len 0 size) in
           let second = same_fits (λ number. has_name (numbered number) event) (λ number. pointwise nat_eq (numbered number) name)
-          (λ n. named_by last_row (numbered n) name event some) numbers in
+          (λ n. named_by name_on last_row (numbered n) name event some) numbers in
           let once = names name some in
           omega (arith, first, second, once)
 
@@ -299,7 +299,7 @@ module _ (size : ℕ) (numbers : List ℕ) where
       → (events : List Event) (kinds : List ℕ) → All IsOfBytes events → list_all (contains all_kinds) kinds ≡ true
       → sum_by (λ number. times_ignored number events + times_skipped number kinds) (range_with_len 0 size)
       + sum_by (λ number. times_named (numbered number) events) numbers ≡ length events + length kinds
-  unfolding times_ignored_on times_named_on
+  unfolding times_ignored_by times_named_by
   all_counted small_kind small names events kinds are all =
       let two = two_sums (λ number. times_ignored number events) (λ number. times_skipped number kinds) (range_with_len 0 size) in
       let sums = both_sums (λ event. IsOfBytes event) (λ number event. is_ignored_kind number event)

@@ -16,3 +16,4 @@ mod Returned
 mod RepeatedGlyphs
 mod Found
 mod PlainTables
+mod XtermIgnored

@@ -9,6 +9,7 @@ use Rattle.vt_syntax.specs.Held.{events_from, held_from}
 use Rattle.vt_syntax.specs.Split.{split_after}
 use Rattle.vt_syntax.specs.Laws.{SplitLaw}
 use Rattle.vt_term.specs.State.{State, power_up}
+use Rattle.vt_term.specs.Names.{name_on}
 use Rattle.vt_term.specs.Play.{play}
 use Rattle.vt_trace.specs.declared.tracing.Tracer.{Tracer}
 use Rattle.vt_trace.specs.Skipped.{skipped_line, kinds_of}
@@ -38,7 +39,7 @@ byte-joined s t b =
     let place = item_place t s.held b in
     let kind = ended_kind t.code s.held b in
     let first = item_first t s.held b in
-    let written = written_all (goes_on t s.held b) (place_of t.place place b) (events_from s.held (b ∷ [])) s.display in
+    let written = written_all name_on (goes_on t s.held b) (place_of t.place place b) (events_from s.held (b ∷ [])) s.display in
     flat_map-append part_bytes (skipped_by t cut ended place kind first) (Other written ∷ [])
     ∙ ap (λ (l : List ℕ). l ++ (written ++ [])) (skipped-joined t cut ended place kind first)
     ∙ ap (λ (l : List ℕ). skipped_lines t cut ended place kind first ++ l) (append-nil written)
@@ -79,7 +80,7 @@ byte-kinds s t b =
     let place = item_place t s.held b in
     let kind = ended_kind t.code s.held b in
     let first = item_first t s.held b in
-    let written = written_all (goes_on t s.held b) (place_of t.place place b) (events_from s.held (b ∷ [])) s.display in
+    let written = written_all name_on (goes_on t s.held b) (place_of t.place place b) (events_from s.held (b ∷ [])) s.display in
     flat_map-append part_kind (skipped_by t cut ended place kind first) (Other written ∷ [])
     ∙ append-nil (flat_map part_kind (skipped_by t cut ended place kind first))
     ∙ skipped-kinds t cut ended place kind first

@@ -2,6 +2,7 @@
 use Rattle.std.specs.Prelude.{ℕ, List, [], ◌∷◌, ◌++◌, Bool, length, ◌==◌, if◌then◌else◌}
 use Rattle.vt_syntax.specs.Held.{events_from}
 use Rattle.vt_term.specs.State.{State}
+use Rattle.vt_term.specs.Names.{name_on}
 use Rattle.vt_term.specs.Play.{play}
 use Rattle.vt_trace.specs.declared.tracing.Tracer.{Tracer}
 use Rattle.vt_trace.specs.Skipped.{skipped_line}
@@ -37,7 +38,7 @@ skipped_by t cut ended place kind first =
 abbrev pub byte_parts : State → Tracer → ℕ → List Part
 byte_parts s t b =
     skipped_by t (cuts_off s.held b) (ends_silent s.held b) (item_place t s.held b) (ended_kind t.code s.held b) (item_first t s.held b)
-    ++ Other (written_all (goes_on t s.held b) (place_of t.place (item_place t s.held b) b) (events_from s.held (b ∷ [])) s.display) ∷ []
+    ++ Other (written_all name_on (goes_on t s.held b) (place_of t.place (item_place t s.held b) b) (events_from s.held (b ∷ [])) s.display) ∷ []
 
 -- at the end of bytes
 abbrev pub end_parts : Tracer → List Part

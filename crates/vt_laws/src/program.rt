@@ -11,7 +11,7 @@ ghost use Rattle.vt_paint.specs.Repaint.{paint};
 ghost use Rattle.vt_picture.specs.Show.{show};
 ghost use Rattle.vt_cli.specs.declared.asked.Request.{Request};
 ghost use Rattle.vt_cli.specs.Request.{IsRequest};
-ghost use Rattle.vt_output.specs.Output.{OutputTable, nothing, always};
+ghost use Rattle.vt_device.specs.Output.{OutputTable, nothing, always};
 ghost use Rattle.vt_replay.specs.declared.requests.Outcome.{Outcome};
 ghost use Rattle.vt_replay.specs.Due.{is_nothing};
 ghost use Rattle.vt_replay.specs.Request.{format_of, OutcomeTable};

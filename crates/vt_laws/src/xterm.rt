@@ -1,10 +1,10 @@
-//! Laws under TERM=xterm that no body cites, over the definitions of vt_xterm alone. A caller cites a law by a call of its function.
-ghost use Rattle.std.specs.Prelude.{◌≡◌, ◌+◌, ℕ, List, [], min, true, false, ◌==◌, ◌&&◌};
+//! Laws under TERM=xterm that no body cites, over the definitions of vt_xterm and vt_xterm_trace alone. A caller cites a law by a call of its function.
+ghost use Rattle.std.specs.Prelude.{◌≡◌, ◌+◌, ℕ, List, [], None, min, true, false, ◌==◌, ◌&&◌};
 ghost use Rattle.std.specs.List.{list_any};
 ghost use Rattle.arrayvec.specs.ArrayVec.{ArrayVec};
 ghost use Rattle.vt_syntax.specs.declared.event.Event.{Event};
 ghost use Rattle.vt_syntax.specs.declared.held.Held.TheVariants.{Nothing};
-ghost use Rattle.vt_screen.specs.Grid.{row_of, scroll_up};
+ghost use Rattle.vt_screen.specs.Grid.{last_row, row_of, scroll_up};
 ghost use Rattle.vt_term.specs.State.{Display, at_place};
 ghost use Rattle.vt_term.specs.Sound.{IsSoundDisplay};
 ghost use Rattle.vt_term.specs.Pages.{page_of, with_page};
@@ -18,6 +18,8 @@ ghost use Rattle.vt_xterm.specs.Pages.{Screens};
 ghost use Rattle.vt_xterm.specs.Front.{xterm_effect, is_page_function, into_alternate, through_alternate};
 ghost use Rattle.vt_xterm.specs.Play.{Whole, IsSoundWhole, play_xterm};
 ghost use Rattle.vt_xterm.specs.Log.{first_rows, page_line_off, xterm_line_off};
+ghost use Rattle.vt_term.specs.Reports.{report};
+ghost use Rattle.vt_xterm_trace.specs.Names.{xterm_names};
 ghost use Rattle.vt_laws.specs.Characters.{events_of_characters};
 ghost use Rattle.vt_laws.specs.Scrolls.{scroll_up_event, repeat_event, is_scrolling, repeat_off};
 
@@ -98,4 +100,12 @@ pub fn repeats()
 {
     places();
     rows();
+}
+
+/// States which events are ignored under TERM=xterm: one without a name leaves the screens as they are, and reports nothing.
+pub fn ignored()
+    ensures { (event : Event) (s : Screens) → IsSoundDisplay s.display → xterm_names last_row event ≡ None
+        → (xterm_effect event s ≡ s) × (report event s.display ≡ []) }
+{
+    played_soundness();
 }

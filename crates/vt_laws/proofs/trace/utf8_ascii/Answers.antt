@@ -1,5 +1,5 @@
 use Rattle.std.proofs.Common.{ap}
-use Rattle.vt_trace.specs.Utf8.{summary_utf8_on}
+use Rattle.vt_trace.specs.Utf8.{summary_utf8_by}
 use Rattle.vt_trace.specs.Summary.{summary}
 use Rattle.vt_trace.proofs.Beyond.{ascii_traced, ascii_tracer}
 use Rattle.vt_trace.proofs.CountedUtf8.{counted-ascii}
@@ -12,5 +12,5 @@ pub returns-clause-tracer : goal.returns-clause-tracer
 returns-clause-tracer c = ascii_tracer
 
 pub returns-clause-summary : goal.returns-clause-summary
-unfolding summary_utf8_on
+unfolding summary_utf8_by
 returns-clause-summary c = λ bytes all. ap summary (counted-ascii bytes all)

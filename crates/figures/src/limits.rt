@@ -1,10 +1,7 @@
-//! Prints the constants of the crates that lib/c/include/vt220.h repeats, each with the header's name.
-#![tactic(auto)]
-
+//! The constants of the crates that lib/c/include/vt220.h repeats.
 use std::io;
-use vt_draw::DRAW_LIMIT;
 use vt_paint::PAINT_LIMIT;
-use vt_picture::{PICTURE_LIMIT, SHOW_LIMIT};
+use vt_picture::{DRAW_LIMIT, PICTURE_LIMIT, SHOW_LIMIT};
 use vt_screen::{COLUMNS, ROWS};
 use vt_term::{REPORT_LIMIT, ROW_TEXT_LIMIT, TEXT_LIMIT};
 use vt_update::UPDATE_LIMIT;
@@ -12,7 +9,8 @@ use vt_utf8::UTF8_LINES_LIMIT;
 use vt_xterm::LINES_LIMIT as XTERM_LINES_LIMIT;
 use vt_xterm_paint::XTERM_PAINT_LIMIT;
 
-fn main(rt: HostRuntime) -> io::Result<()> {
+/// Prints each constant with the header's name.
+pub(crate) fn print_limits(rt: &impl Print) -> io::Result<()> {
     println!(rt; "VT220_ROWS {ROWS}")?;
     println!(rt; "VT220_COLUMNS {COLUMNS}")?;
     println!(rt; "VT220_REPORT_LIMIT {REPORT_LIMIT}")?;

@@ -1,19 +1,25 @@
-//! Plays a recording from standard input frame by frame, as a server would. After each frame that ends between
-//! sequences, one client is sent an update and another a repaint. Prints how many bytes each was sent.
+//! Prints figures: the limits of the crates, and what a server sends.
 //!
-//! `frames N [--time]` plays frames of N bytes. With `--time` it also prints how long an update and a repaint took on
-//! average, in the quickest round of many.
+//! `figures limits` prints the constants of the crates that lib/c/include/vt220.h repeats, each with the header's name.
 //!
-//! `frames N --count CALL` makes only one call after each frame: `show`, `repaint`, `update`, or `nothing`. So a
-//! count of instructions less that of `nothing` is the call's.
+//! `figures N [--time]` plays a recording from standard input in frames of N bytes, as a server would. After each frame
+//! that ends between sequences, one client is sent an update and another a repaint. It prints how many bytes each was
+//! sent. With `--time` it also prints how long an update and a repaint took on average, in the quickest round of many.
+//!
+//! `figures N --count CALL` makes only one call after each frame: `show`, `repaint`, `update`, or `nothing`. So a count of
+//! instructions less that of `nothing` is the call's.
+//!
+//! `figures limits N ..` prints the limits, and then plays the recording.
 #![tactic(auto)]
 
 ghost use Rattle.std.specs.Prelude.{◌≤◌};
 
 mod counted;
+mod limits;
 mod server;
 
 use crate::counted::{Call, count};
+use crate::limits::print_limits;
 use crate::server::Server;
 use std::alloc::Global;
 use std::env::{self, Env};
@@ -64,27 +70,45 @@ fn least_times(
 /// The request that the arguments make.
 #[derive(Clone, Copy)]
 struct Asked {
+    has_limits: bool,
+    plays: bool,
     size: usize,
     is_timed: bool,
     /// The one call that is counted.
     call: Option<Call>,
 }
 
-/// Returns what the arguments ask for. Without a number, or with a word that is none, frames have 1024 bytes.
-fn read_words<R: Env + AllocGlobal>(rt: &R) -> io::Result<Asked> {
-    let words: Vec<String> = env::args(rt)?.collect(rt.alloc())?;
-    let size = match words.get(1) {
+/// Returns what the words after the program's name ask for. Without a number, or with a word that is none, frames have
+/// 1024 bytes.
+fn asked_by(words: &[String]) -> Asked {
+    let has_limits = match words.first() {
+        Some(word) => word.as_str() == "limits",
+        None => false,
+    };
+    let rest = if has_limits { &words[1..] } else { words };
+    let size = match rest.first() {
         Some(word) => word.as_str().parse::<usize>().unwrap_or(1024),
         None => 1024,
     };
-    let call = match words.get(3) {
+    let call = match rest.get(2) {
         Some(word) => Some(Call::named(word.as_str())),
         None => None,
     };
-    Ok(Asked {
+    Asked {
+        has_limits,
+        plays: !has_limits || rest.len() > 0,
         size,
-        is_timed: words.len() > 2,
+        is_timed: rest.len() > 1,
         call,
+    }
+}
+
+/// Returns what the arguments ask for.
+fn read_words<R: Env + AllocGlobal>(rt: &R) -> io::Result<Asked> {
+    let words: Vec<String> = env::args(rt)?.collect(rt.alloc())?;
+    Ok(match words.get(1..) {
+        Some(rest) => asked_by(rest),
+        None => asked_by(&[]),
     })
 }
 
@@ -128,6 +152,12 @@ fn print_counted(
 
 fn main(rt: HostRuntime) -> io::Result<()> {
     let asked = read_words(&rt)?;
+    if asked.has_limits {
+        print_limits(&rt)?;
+    }
+    if !asked.plays {
+        return Ok(());
+    }
     let size = asked.size.max(1);
     let mut recording = Vec::new(rt.alloc());
     rt.reader().read_to_end(&mut recording)?;

@@ -1,8 +1,19 @@
-//! What the tests of the crates share: what is found of a row, and memory that is refused. It knows no terminal.
+//! Tests what no clause says, by the public calls of the crates. No other crate has tests of its own that cross crates.
+//!
+//! They have a separate crate, so that the crates below are proved once.
 #![tactic(auto)]
 
+#[cfg(test)]
+mod devices;
+#[cfg(test)]
+mod parts;
+#[cfg(test)]
 mod rows;
+#[cfg(test)]
 mod scarce;
-
-pub use rows::{Found, compared};
-pub use scarce::{BLOCKS, Growing, Scarce, follows_ok, refusals};
+#[cfg(test)]
+mod terminal;
+#[cfg(test)]
+mod updates;
+#[cfg(test)]
+mod xterm;

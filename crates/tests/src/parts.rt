@@ -1,7 +1,6 @@
 //! Tests what no clause says of glyphs, of the parser, of the screen and of recordings: worked rows, and each public call
 //! once.
 mod casts;
-mod common;
 mod detection;
 mod glyphs;
 mod headings;

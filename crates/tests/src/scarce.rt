@@ -2,7 +2,7 @@
 use std::alloc::{AllocError, Global};
 
 /// The number of blocks that a `Scarce` keeps. No call of the tests grows its memory so often.
-pub const BLOCKS: u32 = 1000;
+pub(crate) const BLOCKS: u32 = 1000;
 
 /// Takes all the memory that the allocator still gives, in blocks that are never touched.
 fn take_all(alloc: Global, ballast: &mut Vec<Vec<u8>>) {
@@ -22,14 +22,14 @@ fn take_all(alloc: Global, ballast: &mut Vec<Vec<u8>>) {
 
 /// Leaves no memory, but keeps blocks that are freed one by one. Each lets one more growth through.
 #[derive(Drop)]
-pub struct Scarce {
+pub(crate) struct Scarce {
     reserve: Vec<Vec<u8>>,
     ballast: Vec<Vec<u8>>,
 }
 
 impl Scarce {
     /// Takes all memory. Fails if there is too little for the blocks themselves.
-    pub fn new(alloc: Global) -> Result<Scarce, AllocError> {
+    pub(crate) fn new(alloc: Global) -> Result<Scarce, AllocError> {
         let mut ballast = Vec::with_capacity(alloc, 100_000)?;
         let mut reserve = Vec::with_capacity(alloc, BLOCKS as usize)?;
         for _ in 0..BLOCKS {
@@ -46,7 +46,7 @@ impl Scarce {
 }
 
 /// A call that grows what it appends to.
-pub trait Growing {
+pub(crate) trait Growing {
     /// Makes the call. Returns whether it had its memory.
     fn has_memory(&mut self) -> bool;
 
@@ -56,7 +56,7 @@ pub trait Growing {
 
 /// Returns how often a call was refused, and how often that has changed something. After each time it is granted one
 /// more growth, until it has its memory.
-pub fn refusals<G: Growing>(alloc: Global, call: &mut G) -> Result<(u32, u32), AllocError> {
+pub(crate) fn refusals<G: Growing>(alloc: Global, call: &mut G) -> Result<(u32, u32), AllocError> {
     let mut scarce = Scarce::new(alloc)?;
     let mut refused = 0u32;
     let mut changed = 0u32;
@@ -74,6 +74,6 @@ pub fn refusals<G: Growing>(alloc: Global, call: &mut G) -> Result<(u32, u32), A
 }
 
 /// Returns whether an output has what was expected after the bytes `ok`.
-pub fn follows_ok(out: &[u8], expected: &[u8]) -> bool {
+pub(crate) fn follows_ok(out: &[u8], expected: &[u8]) -> bool {
     out.get(..2) == Some(b"ok".as_slice()) && out.get(2..) == Some(expected)
 }

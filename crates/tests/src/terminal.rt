@@ -10,6 +10,7 @@ mod modes;
 mod pairs;
 mod readers;
 mod repaint;
+mod repaints_of_sizes;
 mod runs;
 mod sizes;
 mod status;

@@ -2,7 +2,7 @@
 ghost use Rattle.std.specs.Prelude.{◌≤◌};
 
 use super::common::Failed;
-use crate::common::holds;
+use crate::rows::holds;
 use std::alloc::{AllocError, Global};
 use vt_replay::{Fault, Format, Request, Watched, What, Word, carry_out, feed_pages};
 use vt_term::Terminal;
@@ -109,6 +109,7 @@ fn replayed(
         until: None,
         title: None,
         pattern: None,
+        log: false,
         full: false,
         partial: false,
         quiet: false,

@@ -2,7 +2,7 @@
 ghost use Rattle.std.specs.Prelude.{◌≤◌};
 
 use super::common::Failed;
-use crate::common::holds;
+use crate::rows::holds;
 use std::alloc::Global;
 use vt_replay::{Watched, write_log};
 use vt_vectors::{vector, vector_count};

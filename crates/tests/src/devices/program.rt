@@ -2,7 +2,7 @@
 ghost use Rattle.std.specs.Prelude.{◌≡◌, ◌≤◌, false};
 
 use super::common::Failed;
-use crate::common::holds;
+use crate::rows::holds;
 use std::alloc::Global;
 use std::io::Write;
 use vt_replay::{Break, Fault, Part, Watched, What, run};

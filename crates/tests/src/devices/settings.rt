@@ -1,6 +1,6 @@
 //! Tests settings: the piece, the limit and the kind; and a read that is passed on whole.
 use super::common::Failed;
-use crate::common::holds;
+use crate::rows::holds;
 use std::alloc::{AllocError, Global};
 use vt_replay::{Fault, Format, Watched, carry_out, replay, request, settings};
 use vt_vectors::ShortReader;

@@ -2,7 +2,7 @@
 ghost use Rattle.std.specs.Prelude.{◌≤◌};
 
 use super::common::Failed;
-use crate::common::holds;
+use crate::rows::holds;
 use std::alloc::Global;
 use std::io::{Read, Write};
 use vt_vectors::{ShortReader, ShortWriter};

@@ -2,7 +2,7 @@
 ghost use Rattle.std.specs.Prelude.{◌≤◌};
 
 use super::common::Failed;
-use crate::common::holds;
+use crate::rows::holds;
 use std::alloc::Global;
 use std::process::Abort;
 use vt_replay::{
@@ -49,6 +49,7 @@ fn carried_out(
         until: asked.until,
         title: None,
         pattern: None,
+        log: false,
         full: false,
         partial: false,
         quiet: false,

@@ -1,6 +1,6 @@
 //! Recordings by asciinema written by hand, with the content that they have.
-use super::common::holds;
 use super::taking_apart::{Row, are_taken_apart};
+use crate::rows::holds;
 use vt_recording::{Break, Encoding, Format, Moment, Part, json_text};
 
 /// Three events of version 2.

@@ -1,5 +1,5 @@
 //! The formats that beginnings show: beginnings written by hand, and those of files by other programs.
-use super::common::holds;
+use crate::rows::holds;
 use vt_recording::{Compression, Detected, Format, detect};
 
 const RAW: Detected = Detected::Recording(Format::Raw);

@@ -1,5 +1,5 @@
 //! Worked rows, and every glyph.
-use super::common::holds;
+use crate::rows::holds;
 use std::alloc::{AllocError, Global};
 use std::test::Fail;
 use vt_glyph::{Glyph, InUse, Set, Sets, Spelling};

@@ -1,5 +1,5 @@
 //! Headings of recordings: first lines as the formats' descriptions have them, and those that programs wrote.
-use super::common::holds;
+use crate::rows::holds;
 use std::alloc::{AllocError, Global};
 use vt_recording::{Format, Heading, TerminalType, heading_of};
 

@@ -1,6 +1,6 @@
 //! Recordings written by hand, with the content that they have, and runs from end to end.
-use super::common::holds;
 use super::taking_apart::{Row, SHOWN, SHOWN_CONTENT, are_taken_apart};
+use crate::rows::holds;
 use std::alloc::{AllocError, Global};
 use vt_recording::{
     Break, Content, Encoding, Fault, Format, Moment, Part, Source, Watched, read_recording,

@@ -1,7 +1,7 @@
 //! Worked rows, and the edges of the calls.
 ghost use Rattle.std.specs.Prelude.{◌≤◌};
 
-use super::common::holds;
+use crate::rows::holds;
 use std::alloc::{AllocError, Global};
 use std::mem::size_of;
 use vt_glyph::{Glyph, Set, Sets};

@@ -1,5 +1,5 @@
 //! Rows of held parts, events and plain runs.
-use super::common::holds;
+use crate::rows::holds;
 use arrayvec::ArrayVec;
 use std::alloc::{AllocError, Global};
 use vt_syntax::{

@@ -1,5 +1,5 @@
 //! Recordings as their events, written by hand from the formats.
-use super::common::holds;
+use crate::rows::holds;
 use std::alloc::Global;
 use vt_recording::laws::content;
 use vt_recording::{Break, Event, EventKind, Format, Part, timeline_of};

@@ -1,6 +1,6 @@
 //! Recordings by script(1) with a timing file, written by hand, with the content that they have.
-use super::common::holds;
 use super::taking_apart::{Row, SHOWN, SHOWN_CONTENT, are_taken_apart};
+use crate::rows::holds;
 use vt_recording::{Break, Encoding, Format, Moment, Part};
 
 /// A session of ten bytes, which ends at byte 30.

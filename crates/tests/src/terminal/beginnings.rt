@@ -2,7 +2,8 @@
 //! terminal that holds whatever it may.
 ghost use Rattle.std.specs.Prelude.{◌<◌};
 
-use super::common::{Failed, Played, holds};
+use super::common::{Failed, Played};
+use crate::rows::holds;
 use std::alloc::Global;
 use vt_paint::{PaintError, repaint};
 use vt_term::Terminal;

@@ -1,5 +1,6 @@
 //! Which words are taken, and what is said of the others.
-use super::common::{Failed, holds};
+use super::common::Failed;
+use crate::rows::holds;
 use std::alloc::{AllocError, Global};
 use std::process::Abort;
 use vt_replay::{
@@ -162,7 +163,8 @@ fn words_ask_for_a_log(rt: HostRuntime) {
 }
 
 /// The request that the options of a line make: the format (none for auto), the timing file, the moments, the encoding, the terminal,
-/// the title, the text of a search, whether a table is full, whether what came before a break is enough, and whether the notes are left out.
+/// the title, the text of a search, whether the log is searched, whether a table is full, whether what came before a break is enough, and
+/// whether the notes are left out.
 #[derive(Clone, Copy)]
 struct Options {
     format: Option<Format>,
@@ -174,6 +176,7 @@ struct Options {
     wide: Option<bool>,
     title: Option<&'static str>,
     pattern: Option<&'static str>,
+    log: bool,
     full: bool,
     partial: bool,
     quiet: bool,
@@ -190,6 +193,7 @@ const NONE: Options = Options {
     wide: None,
     title: None,
     pattern: None,
+    log: false,
     full: false,
     partial: false,
     quiet: false,
@@ -530,6 +534,15 @@ const SEARCHES: &[Asked] = &[
             ..TTYREC
         },
     ),
+    (
+        "vt220 search --log two --format ttyrec a",
+        Word::Search,
+        Options {
+            pattern: Some("two"),
+            log: true,
+            ..TTYREC
+        },
+    ),
 ];
 
 /// Returns whether a request asks for a recording as these options do.
@@ -547,6 +560,7 @@ fn is_played(found: &Request, options: &Options) -> bool {
         && found.wide == options.wide
         && is_name(&found.title, &options.title)
         && is_name(&found.pattern, &options.pattern)
+        && found.log == options.log
         && found.full == options.full
         && found.partial == options.partial
         && found.quiet == options.quiet
@@ -667,8 +681,8 @@ const MISFITS: [(&str, &str); 33] = [
     ),
     ("vt220 pages --terminal xterm", NO_XTERM),
     ("vt220 pages --terminal=xterm --encoding utf-8", NO_XTERM),
-    ("vt220 trace --terminal xterm", NO_XTERM),
-    ("vt220 summary --terminal xterm --encoding utf-8", NO_XTERM),
+    ("vt220 pages --terminal xterm --size 80x24", NO_XTERM),
+    ("vt220 pages --terminal xterm --columns 132", NO_XTERM),
 ];
 
 /// Lines whose options of a picture that moves don't fit, and what is said of them.
@@ -709,8 +723,8 @@ const NO_TERMINAL: &str = "vt220: --terminal is vt220, xterm or auto\n";
 
 const NO_COLUMNS: &str = "vt220: --columns is 80, 132 or auto\n";
 
-const NO_XTERM: &str = "vt220: pages, trace and summary play no xterm\n\
-     vt220: text, show, picture, status, reports, repaint, log, search and content do\n";
+const NO_XTERM: &str = "vt220: pages plays no xterm\n\
+     vt220: text, show, picture, status, reports, repaint, log, trace, summary, search and content do\n";
 
 const NO_ENCODING: &str = "vt220: --encoding is dec, utf-8 or auto\n";
 

@@ -2,9 +2,6 @@
 ghost use Rattle.std.specs.Prelude.{◌≤◌};
 
 use std::alloc::{AllocError, Global};
-use std::fmt::Debug;
-use std::process::Abort;
-use testing::Found;
 use vt_replay::{Fault, Watched, What, run};
 use vt_term::{Brush, Cursor, Rendition, Terminal};
 
@@ -107,12 +104,6 @@ impl Played {
         self.terminal.same_state(&other.terminal)
             && self.reports.as_slice() == other.reports.as_slice()
     }
-}
-
-/// Asserts what a test has found of a row. A row that doesn't hold is printed by its name or number.
-pub(super) fn holds(rt: &impl Abort, row: impl Debug + Drop, found: impl Found) {
-    let found = found.is_met();
-    assert!(rt; found, "row {row:?}");
 }
 
 /// Returns what a replay of these bytes writes.

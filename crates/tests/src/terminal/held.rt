@@ -1,5 +1,6 @@
 //! Tests what a terminal holds after each of the inputs that end inside a sequence.
-use super::common::{Failed, Played, holds};
+use super::common::{Failed, Played};
+use crate::rows::holds;
 use std::alloc::Global;
 use vt_vectors::{held_sample, held_sample_count};
 

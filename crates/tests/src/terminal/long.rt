@@ -1,7 +1,8 @@
 //! Long inputs: whole, byte by byte, and in pieces of 7.
 ghost use Rattle.std.specs.Prelude.{◌≤◌};
 
-use super::common::{Failed, Played, holds};
+use super::common::{Failed, Played};
+use crate::rows::holds;
 use std::alloc::Global;
 use vt_term::Cursor;
 

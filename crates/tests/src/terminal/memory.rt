@@ -2,9 +2,10 @@
 ghost use Rattle.std.specs.Prelude.{◌+◌, ◌≤◌, vec_len, vec_capacity};
 
 use super::command_line::words_of;
-use super::common::{Failed, LIMIT, Played, holds, replayed};
+use super::common::{Failed, LIMIT, Played, replayed};
+use crate::rows::holds;
+use crate::scarce::{BLOCKS, Growing, Scarce, follows_ok, refusals};
 use std::alloc::{AllocError, Global};
-use testing::{BLOCKS, Growing, Scarce, follows_ok, refusals};
 use vt_paint::{PAINT_LIMIT, PaintError, repaint, repaint_reserved};
 use vt_picture::{PICTURE_LIMIT, SHOW_LIMIT, picture, picture_reserved, show, show_reserved};
 use vt_replay::{Fault, Format, Refused, Request, Watched, What, Word, carry_out, request};
@@ -295,6 +296,7 @@ fn request_is_refused(alloc: Global, input: &[u8], word: Word, what: What) -> Re
             until: None,
             title: None,
             pattern: None,
+            log: false,
             full: false,
             partial: false,
             quiet: false,

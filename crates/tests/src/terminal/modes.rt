@@ -1,5 +1,6 @@
 //! The modes that each input leaves.
-use super::common::{Failed, Played, holds};
+use super::common::{Failed, Played};
+use crate::rows::holds;
 use std::alloc::Global;
 use std::test::Fail;
 use vt_term::{Modes, Terminal};

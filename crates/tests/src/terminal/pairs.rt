@@ -1,5 +1,6 @@
 //! All inputs of two bytes: whole, and byte by byte.
-use super::common::{Failed, Played, holds};
+use super::common::{Failed, Played};
+use crate::rows::holds;
 use std::alloc::Global;
 
 /// Returns whether two bytes leave the same whole and byte by byte.

@@ -1,5 +1,6 @@
 //! Each reader of a terminal.
-use super::common::{Failed, NONE, PLAIN, Played, at, holds};
+use super::common::{Failed, NONE, PLAIN, Played, at};
+use crate::rows::holds;
 use std::alloc::Global;
 use std::process::Abort;
 use std::test::Fail;

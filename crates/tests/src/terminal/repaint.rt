@@ -1,5 +1,6 @@
 //! A repaint that is refused.
-use super::common::{Failed, Played, holds};
+use super::common::{Failed, Played};
+use crate::rows::holds;
 use std::alloc::Global;
 use vt_paint::{PaintError, repaint};
 

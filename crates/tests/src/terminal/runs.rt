@@ -1,6 +1,7 @@
 //! Tests runs of graphic bytes, of each length from each column of the last row: at once, and each byte after a single
 //! shift, so that it is read and written by itself.
-use super::common::{Failed, Played, holds};
+use super::common::{Failed, Played};
+use crate::rows::holds;
 use std::alloc::{AllocError, Global};
 use std::process::Abort;
 use std::test::Fail;

@@ -1,7 +1,7 @@
 //! Terminals of other sizes than a VT220's: what each input shows, and what it reports.
 ghost use Rattle.vt_screen.specs.Sizes.{IsSize};
 
-use super::common::holds;
+use crate::rows::holds;
 use std::alloc::{AllocError, Global};
 use vt_term::{Cursor, Size, SizedTerminal};
 

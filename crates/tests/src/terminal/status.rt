@@ -1,5 +1,6 @@
 //! The status of a replay.
-use super::common::{holds, is_replayed};
+use super::common::is_replayed;
+use crate::rows::holds;
 use vt_replay::What;
 
 /// An input, and the five lines of its status.

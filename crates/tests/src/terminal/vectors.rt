@@ -1,7 +1,8 @@
 //! The terminal meets every vector, alone and through a replay, and no wrong one.
 ghost use Rattle.std.specs.Prelude.{◌≤◌, ◌<◌};
 
-use super::common::{Failed, LIMIT, holds, is_replayed};
+use super::common::{Failed, LIMIT, is_replayed};
+use crate::rows::holds;
 use std::alloc::Global;
 use vt_replay::{Fault, Watched, What, run};
 use vt_vectors::{Mismatch, VECTOR_COUNT, Vector, check, vector, vector_count, vector_name};

@@ -1,5 +1,6 @@
 //! The screen for the eye, against what was written by hand: as text with its attributes, as a picture, and as a picture that moves.
-use super::common::{Failed, Played, holds, is_replayed};
+use super::common::{Failed, Played, is_replayed};
+use crate::rows::holds;
 use std::alloc::{AllocError, Global};
 use vt_picture::{
     CursorShape, Moving, Theme, animation_end, animation_start, frame, picture, show,

@@ -2,8 +2,8 @@
 ghost use Rattle.std.specs.Prelude.{◌≡◌, IfOk};
 ghost use Rattle.vt_screen.specs.Sizes.{IsSize};
 
-use super::common::holds;
 use super::views::{LIGHT_ON_DARK, STYLE, TIMES};
+use crate::rows::holds;
 use std::alloc::{AllocError, Global};
 use vt_picture::sized::{animation_start, frame, picture, show};
 use vt_picture::{CursorShape, Moving, Theme, animation_end};
@@ -12,13 +12,13 @@ use vt_term::{Size, SizedTerminal};
 
 /// A size that a screen may have.
 #[derive(Clone, Copy)]
-struct Fit {
-    size: Size,
+pub(super) struct Fit {
+    pub(super) size: Size,
     ghost is_size: { IsSize size },
 }
 
 /// The fewest rows and columns.
-const SMALLEST: Fit = Fit {
+pub(super) const SMALLEST: Fit = Fit {
     size: Size {
         rows: 2,
         narrow: 80,
@@ -27,7 +27,7 @@ const SMALLEST: Fit = Fit {
 };
 
 /// A window, whose columns DECCOLM doesn't change.
-const WINDOW: Fit = Fit {
+pub(super) const WINDOW: Fit = Fit {
     size: Size {
         rows: 40,
         narrow: 120,
@@ -36,7 +36,7 @@ const WINDOW: Fit = Fit {
 };
 
 /// A screen whose wide width is more than twice the narrow one.
-const OF_TWO_WIDTHS: Fit = Fit {
+pub(super) const OF_TWO_WIDTHS: Fit = Fit {
     size: Size {
         rows: 3,
         narrow: 80,
@@ -45,7 +45,7 @@ const OF_TWO_WIDTHS: Fit = Fit {
 };
 
 /// Returns a terminal of a size that was fed an input.
-fn fed(alloc: Global, fit: Fit, input: &[u8]) -> Result<SizedTerminal, AllocError>
+pub(super) fn fed(alloc: Global, fit: Fit, input: &[u8]) -> Result<SizedTerminal, AllocError>
     ensures { IfOk result (λ t. t.display.grid.size ≡ fit.size) }
 {
     sized_soundness();

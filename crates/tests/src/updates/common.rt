@@ -2,9 +2,6 @@
 ghost use Rattle.std.specs.Prelude.{◌≤◌};
 
 use std::alloc::{AllocError, Global};
-use std::fmt::Debug;
-use std::process::Abort;
-use testing::Found;
 use vt_paint::{PaintError, repaint};
 use vt_term::Terminal;
 use vt_update::{UpdateError, update};
@@ -94,12 +91,6 @@ pub(super) fn repainted(alloc: Global, input: &[u8]) -> Result<Vec<u8>, Failed> 
     let mut out = Vec::new(alloc);
     repaint(&terminal(alloc, input)?, &mut out)?;
     Ok(out)
-}
-
-/// Asserts what a test has found of a row. A row that doesn't hold is printed by its name or number.
-pub(super) fn holds(rt: &impl Abort, row: impl Debug + Drop, found: impl Found) {
-    let found = found.is_met();
-    assert!(rt; found, "row {row:?}");
 }
 
 /// Feeds bytes, so many at a time.

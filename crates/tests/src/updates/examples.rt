@@ -1,7 +1,6 @@
 //! Tests worked examples. The bytes follow from the rule, since nothing shorter does the same.
-use super::common::{
-    Asked, Failed, asked_after_ok, holds, lead, repainted, sends, sends_fewer, terminal,
-};
+use super::common::{Asked, Failed, asked_after_ok, lead, repainted, sends, sends_fewer, terminal};
+use crate::rows::holds;
 use std::alloc::Global;
 use vt_term::Terminal;
 use vt_update::laws::leading;

@@ -1,5 +1,6 @@
 //! Tests a choice that is longer than its capacity.
-use super::common::{Asked, Failed, holds, updated};
+use super::common::{Asked, Failed, updated};
+use crate::rows::holds;
 use std::alloc::Global;
 
 /// Two cells that share neither brush nor set, so that each is written after all of these.

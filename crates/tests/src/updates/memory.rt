@@ -1,7 +1,8 @@
 //! Tests each growth refused. If there is capacity, no memory is asked for.
-use super::common::{Asked, Failed, asked_after_ok, holds, sends, terminal, updated};
+use super::common::{Asked, Failed, asked_after_ok, sends, terminal, updated};
+use crate::rows::holds;
+use crate::scarce::{Growing, Scarce, follows_ok, refusals};
 use std::alloc::{AllocError, Global};
-use testing::{Growing, Scarce, follows_ok, refusals};
 use vt_term::Terminal;
 use vt_update::{UPDATE_LIMIT, UpdateError, update, update_reserved};
 

@@ -1,5 +1,6 @@
 //! Tests the update from the state that each vector leaves to that of each other.
-use super::common::{Failed, holds, lead, terminal};
+use super::common::{Failed, lead, terminal};
+use crate::rows::holds;
 use std::alloc::Global;
 use std::process::Abort;
 use std::test::Fail;

@@ -1,5 +1,6 @@
 //! Tests worked rows of SGR: which attributes are set.
-use crate::common::{fed, holds};
+use super::common::fed;
+use crate::rows::holds;
 use std::alloc::{AllocError, Global};
 use vt_xterm::Front;
 

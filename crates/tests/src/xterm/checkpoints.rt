@@ -1,5 +1,6 @@
 //! Tests repaints of sessions. Played on another terminal and front, they leave what is seen of the first ones.
-use crate::common::{Reader, fed, holds};
+use super::common::{Reader, fed};
+use crate::rows::holds;
 use std::alloc::{AllocError, Global};
 use vt_term::Terminal;
 use vt_xterm::Front;

@@ -2,9 +2,6 @@
 ghost use Rattle.std.specs.Prelude.{◌≤◌};
 
 use std::alloc::{AllocError, Global};
-use std::fmt::Debug;
-use std::process::Abort;
-use testing::Found;
 use vt_term::Terminal;
 use vt_utf8::{Decoder, feed_utf8};
 use vt_xterm::{Front, feed_xterm};
@@ -58,12 +55,6 @@ pub(crate) struct Reader<F: Feed> {
     pub(crate) terminal: Terminal,
     pub(crate) front: F,
     pub(crate) reports: Vec<u8>,
-}
-
-/// Asserts what a test has found of a row. A row that doesn't hold is printed by its name or number.
-pub(crate) fn holds(rt: &impl Abort, row: impl Debug + Drop, found: impl Found) {
-    let found = found.is_met();
-    assert!(rt; found, "row {row:?}");
 }
 
 impl<F: Feed> Reader<F> {

@@ -1,5 +1,6 @@
 //! Tests worked rows: what the screen shows, and where the cursor is.
-use crate::common::{fed, holds, shows};
+use super::common::{fed, shows};
+use crate::rows::holds;
 use std::alloc::{AllocError, Global};
 use std::process::Abort;
 use vt_xterm::Front;

@@ -1,11 +1,12 @@
-//! Tests UTF-8 and the functions of xterm on a screen of 40 rows of 120 columns, by worked rows.
-use crate::common::holds;
+//! Tests UTF-8, the functions of xterm and the repaint of a session on a screen of 40 rows of 120 columns, by worked rows.
+use crate::rows::holds;
 use std::alloc::{AllocError, Global};
 use vt_term::{Size, SizedTerminal};
 use vt_utf8::Decoder;
 use vt_utf8::sized::feed_utf8;
 use vt_xterm::SizedFront;
 use vt_xterm::sized::feed_xterm;
+use vt_xterm_paint::sized::repaint_xterm;
 
 /// The size of a window: DECCOLM doesn't change its columns.
 const WINDOW: Size = Size {
@@ -62,5 +63,59 @@ fn sizes(rt: HostRuntime) {
     }
     for (name, input, place) in &UTF8 {
         holds(&rt, name, utf8_is_at(rt.alloc(), input.as_bytes(), *place));
+    }
+}
+
+/// The brush and the sets at power-up.
+const END: &[u8] = b"\x1b[0m\x1b[0\"q\x1b(B\x1b)B\x1b*<\x1b+<\x0f\x1b}";
+
+/// A session, what is sent before the items of the page that isn't shown, these, what is sent before those of the page that is
+/// shown, these, and what is sent after them. Neither has its end.
+type Session = (&'static str, [&'static [u8]; 5]);
+
+// the second one shows the alternate page, on which DECSC saves nothing
+const SESSIONS: [Session; 2] = [
+    (
+        "",
+        [
+            b"\x1b[?40h\x1bc\x1b[?47h",
+            b"\x1b[1;1H",
+            b"\x1b[?47l\x1b[?3l",
+            b"\x1b[1;1H",
+            b"\x1b[?40l",
+        ],
+    ),
+    (
+        "\x1b[40;120H\x1b[?47h\x1b[?2004h",
+        [
+            b"\x1b[?40h\x1bc\x1b[?47l",
+            b"\x1b[1;1H",
+            b"\x1b[?47h\x1b[?3l",
+            b"\x1b[40;120H",
+            b"\x1b[?40l\x1b[?2004h",
+        ],
+    ),
+];
+
+/// Returns whether a session has the repaint that was written by hand.
+fn is_repainted_by_hand(alloc: Global, session: &Session) -> Result<bool, AllocError> {
+    let (input, [first, hidden, between, shown, last]) = *session;
+    let mut expected = Vec::new(alloc);
+    for part in [first, hidden, END, between, shown, END, last] {
+        expected.extend_from_slice(part)?;
+    }
+    let mut terminal = SizedTerminal::new(alloc, WINDOW)?;
+    let mut front = SizedFront::new(alloc, WINDOW)?;
+    let mut scratch = SizedTerminal::new(alloc, WINDOW)?;
+    let mut out = Vec::new(alloc);
+    feed_xterm(&mut terminal, &mut front, input.as_bytes(), &mut out)?;
+    let is_done = repaint_xterm(&terminal, &front, &mut scratch, &mut out).is_ok();
+    Ok(is_done && out.as_slice() == expected.as_slice())
+}
+
+#[test]
+fn sessions_are_repainted_as_by_hand(rt: HostRuntime) {
+    for session in &SESSIONS {
+        holds(&rt, session.0, is_repainted_by_hand(rt.alloc(), session));
     }
 }

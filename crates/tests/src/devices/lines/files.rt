@@ -2,7 +2,7 @@
 ghost use Rattle.std.specs.Prelude.{◌≤◌};
 
 use super::common::{logged, scrolls_off};
-use crate::common::holds;
+use crate::rows::holds;
 use std::alloc::{AllocError, Global};
 use vt_syntax::EventKind;
 use vt_term::{ROW_TEXT_LIMIT, Terminal};

@@ -2,7 +2,7 @@
 ghost use Rattle.std.specs.Prelude.{◌≤◌};
 
 use super::common::feed_all;
-use crate::common::holds;
+use crate::rows::holds;
 use std::alloc::{AllocError, Global};
 use std::process::Abort;
 use vt_term::Terminal;

@@ -1,7 +1,7 @@
 //! Calls that append in existing capacity take no memory: the capacity is the same afterwards, also if it doesn't suffice.
 ghost use Rattle.std.specs.Prelude.{◌+◌, ◌≤◌, vec_capacity, vec_len};
 
-use crate::common::holds;
+use crate::rows::holds;
 use std::alloc::{AllocError, Global};
 use vt_replay::feed_pages_reserved;
 use vt_term::Terminal;

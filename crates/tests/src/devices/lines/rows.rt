@@ -1,6 +1,6 @@
 //! A worked row for each way in which a line scrolls off, and for each that doesn't. The lines follow from the rule.
 use super::common::scrolls_off;
-use crate::common::holds;
+use crate::rows::holds;
 use std::alloc::Global;
 use std::process::Abort;
 

@@ -1,5 +1,5 @@
 //! The lines of events, by hand. Each event is at place 1234.
-use crate::common::gives;
+use crate::rows::gives;
 use std::alloc::{AllocError, Global};
 use vt_syntax::{Parser, Values};
 use vt_trace::{LINE_LIMIT, push_line};

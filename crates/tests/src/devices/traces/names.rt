@@ -1,5 +1,5 @@
 //! The names of the events of some bytes, for several tests.
-use crate::common::gives;
+use crate::rows::gives;
 use std::alloc::{AllocError, Global};
 use std::process::Abort;
 use vt_syntax::{Parser, Values};

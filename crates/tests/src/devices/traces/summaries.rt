@@ -1,7 +1,7 @@
 //! Summaries of bytes, by hand.
 ghost use Rattle.std.specs.Prelude.{◌≤◌};
 
-use crate::common::gives;
+use crate::rows::gives;
 use std::alloc::{AllocError, Global};
 use vt_trace::{SUMMARY_LIMIT, Summary};
 

@@ -1,7 +1,7 @@
 //! Traces of bytes, by hand.
 ghost use Rattle.std.specs.Prelude.{◌≤◌};
 
-use crate::common::holds;
+use crate::rows::holds;
 use std::alloc::{AllocError, Global};
 use vt_term::Terminal;
 use vt_trace::{SKIPPED_LIMIT, TRACE_LIMIT, Tracer, trace_end, trace_reserved};

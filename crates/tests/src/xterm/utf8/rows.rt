@@ -1,5 +1,6 @@
 //! Worked rows of well-formed UTF-8.
-use crate::common::{fed, holds, shows};
+use crate::rows::holds;
+use crate::xterm::common::{fed, shows};
 use std::alloc::{AllocError, Global};
 use std::process::Abort;
 use vt_utf8::{Decoder, cells, shown_as};

@@ -4,11 +4,9 @@
 #![tactic(auto)]
 
 pub mod cli;
-pub mod controls;
 pub mod device;
 pub mod glyph;
 pub mod laws;
-pub mod output;
 pub mod paint;
 pub mod picture;
 pub mod recording;
@@ -22,3 +20,4 @@ pub mod utf8;
 pub mod vectors;
 pub mod xterm;
 pub mod xterm_paint;
+pub mod xterm_trace;

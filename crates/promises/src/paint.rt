@@ -1,5 +1,9 @@
 //! The calls of vt_paint.
+pub mod bytes;
 pub mod changes;
 pub mod compare;
+pub mod function;
 pub mod laws;
+pub mod modes;
 pub mod paint;
+pub mod views;

@@ -2,6 +2,7 @@
 pub mod animation;
 pub mod bytes;
 pub mod document;
+pub mod drawing;
 pub mod laws;
 pub mod showing;
 pub mod views;

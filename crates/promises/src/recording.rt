@@ -2,7 +2,6 @@
 pub mod asciicast;
 pub mod content;
 pub mod detection;
-pub mod fault;
 pub mod heading;
 pub mod laws;
 pub mod reached;

@@ -5,6 +5,7 @@ pub mod feeds;
 pub mod laws;
 pub mod lines;
 pub mod names;
+pub mod observer;
 pub mod summary;
 pub mod tracing;
 pub mod utf8;

@@ -1,4 +1,5 @@
 //! The calls of vt_xterm.
+pub mod attributes;
 pub mod feeding;
 pub mod feeds;
 pub mod front;

@@ -1,3 +1,5 @@
 pub mod Runs
+pub mod Output
 pub mod Writing
+pub mod Fault
 pub mod Watched

@@ -1,5 +1,9 @@
 pub mod Changes
+pub mod Spoken
+pub mod Controls
+pub mod Named
 pub mod Items
 pub mod Same
 pub mod Pieces
 pub mod Repaint
+pub mod Limits

@@ -1,3 +1,4 @@
+pub mod Attributes
 pub mod Pages
 pub mod Play
 pub mod Front
@@ -5,7 +6,6 @@ pub mod Columns
 pub mod Repeating
 pub mod Tabs
 pub mod Scroll
-pub mod Attributes
 pub mod Log
 pub mod Limits
 pub mod Terminals

@@ -3,3 +3,5 @@ pub mod Animation
 pub mod Looks
 pub mod Limits
 pub mod Show
+pub mod Draw
+pub mod Window

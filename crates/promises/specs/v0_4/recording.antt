@@ -13,4 +13,3 @@ pub mod Characters
 pub mod Gathered
 pub mod Reading
 pub mod Detection
-pub mod Fault

@@ -7,10 +7,10 @@ pub mod Encoding
 pub mod Words
 pub mod Log
 pub mod Pages
-pub mod Sized
 pub mod Host
 pub mod Request
 pub mod EventTable
 pub mod Steps
 pub mod Animated
 pub mod Search
+pub mod LogSearch

@@ -1,8 +1,8 @@
-//! The calls of vt_recording/src/fault.
-ghost use Rattle.promises.specs.v0_4.recording.Fault.{line_of, status_of, status_with};
+//! The calls of vt_device/src/fault.
+ghost use Rattle.promises.specs.v0_4.device.Fault.{line_of, status_of, status_with};
 ghost use Rattle.std.specs.Prelude.{◌≡◌};
 
-use vt_recording::Fault;
+use vt_device::Fault;
 
 /// Promises what `fault.status` promises.
 pub fn fault_status(fault: &Fault) -> u8

@@ -1,16 +1,14 @@
-//! The calls of vt_output/src/output.
-ghost use Rattle.promises.specs.v0_4.output.Output.{OutputTable, TranslatedTable};
+//! The calls of vt_device/src/output.
+ghost use Rattle.promises.specs.v0_4.device.Output.{OutputTable, TranslatedTable};
 ghost use Rattle.std.specs.Io.KnownBytes.{IsAtEnd};
 ghost use Rattle.std.specs.Prelude.{[], false, true, ◌≡◌, ◌≤◌};
 ghost use Rattle.vt_device.specs.Runs.{Moves};
 
 use std::alloc::Global;
 use std::io::{Read, Write};
-use vt_device::{Source, Watched};
-use vt_output::{Decoding, Output};
-use vt_recording::Fault;
+use vt_device::{Decoding, Fault, Output, Source, Watched};
 
-/// Promises what `vt_output::write_output::<O, R, W>` promises.
+/// Promises what `vt_device::write_output::<O, R, W>` promises.
 pub fn write_output<O: Output, R: Read, W: Write>(
     alloc: Global,
     output: &mut O,
@@ -32,10 +30,10 @@ pub fn write_output<O: Output, R: Read, W: Write>(
         (λ b w. OutputTable (O.written output.old) (O.ending output.old) (O.there output.old) result piece b w (record { reader_failed = reader.new.failed; reader_ended = reader.new.ended; writer_failed = writer.new.failed }) limit) }
     ensures whole { reader.new.ended ≡ true → IsAtEnd (R.remaining reader.new.device) }
 {
-    vt_output::write_output::<O, R, W>(alloc, output, reader, writer, piece, limit)
+    vt_device::write_output::<O, R, W>(alloc, output, reader, writer, piece, limit)
 }
 
-/// Promises what `vt_output::write_by::<O, D, S, W>` promises.
+/// Promises what `vt_device::write_by::<O, D, S, W>` promises.
 pub fn write_by<O: Output, D: Decoding, S: Source, W: Write>(
     alloc: Global,
     output: &mut O,
@@ -57,5 +55,5 @@ pub fn write_by<O: Output, D: Decoding, S: Source, W: Write>(
         (λ b w. TranslatedTable D.Translates (O.written output.old) (O.ending output.old) (O.there output.old) result piece b w (record { reader_failed = S.failed reader.new; reader_ended = S.ended reader.new; writer_failed = writer.new.failed }) limit) }
     ensures whole { S.ended reader.new ≡ true → IsAtEnd (S.remaining reader.new) }
 {
-    vt_output::write_by::<O, D, S, W>(alloc, output, reader, writer, piece, limit)
+    vt_device::write_by::<O, D, S, W>(alloc, output, reader, writer, piece, limit)
 }

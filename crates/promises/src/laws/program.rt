@@ -1,5 +1,5 @@
 //! The calls of vt_laws/src/program.
-ghost use Rattle.promises.specs.v0_4.output.Output.{always, nothing, OutputTable};
+ghost use Rattle.promises.specs.v0_4.device.Output.{always, nothing, OutputTable};
 ghost use Rattle.promises.specs.v0_4.paint.Repaint.{paint};
 ghost use Rattle.promises.specs.v0_4.picture.Show.{show};
 ghost use Rattle.promises.specs.v0_4.replay.Due.{is_nothing};

@@ -2,9 +2,10 @@
 ghost use Rattle.arrayvec.specs.ArrayVec.{ArrayVec};
 ghost use Rattle.promises.specs.v0_4.laws.Characters.{events_of_characters};
 ghost use Rattle.promises.specs.v0_4.laws.Scrolls.{is_scrolling, repeat_event, repeat_off, scroll_up_event};
-ghost use Rattle.promises.specs.v0_4.screen.Grid.{row_of, scroll_up};
+ghost use Rattle.promises.specs.v0_4.screen.Grid.{last_row, row_of, scroll_up};
 ghost use Rattle.promises.specs.v0_4.term.Pages.{page_of, with_page};
 ghost use Rattle.promises.specs.v0_4.term.Parameters.{count};
+ghost use Rattle.promises.specs.v0_4.term.Reports.{report};
 ghost use Rattle.promises.specs.v0_4.term.Saving.{restore_cursor, save_cursor};
 ghost use Rattle.promises.specs.v0_4.term.Scrolling.{is_at_end, line_off};
 ghost use Rattle.promises.specs.v0_4.term.Sound.{IsSoundDisplay};
@@ -15,8 +16,9 @@ ghost use Rattle.promises.specs.v0_4.xterm.Front.{into_alternate, is_page_functi
 ghost use Rattle.promises.specs.v0_4.xterm.Log.{first_rows, page_line_off, xterm_line_off};
 ghost use Rattle.promises.specs.v0_4.xterm.Play.{play_xterm};
 ghost use Rattle.promises.specs.v0_4.xterm.Repeating.{repeat, room, times};
+ghost use Rattle.promises.specs.v0_4.xterm_trace.Names.{xterm_names};
 ghost use Rattle.std.specs.List.{list_any};
-ghost use Rattle.std.specs.Prelude.{[], false, List, min, true, ℕ, ◌&&◌, ◌+◌, ◌==◌, ◌≡◌};
+ghost use Rattle.std.specs.Prelude.{[], false, List, min, None, true, ℕ, ◌&&◌, ◌+◌, ◌==◌, ◌≡◌};
 ghost use Rattle.vt_syntax.specs.declared.event.Event.{Event};
 ghost use Rattle.vt_syntax.specs.declared.held.Held.TheVariants.{Nothing};
 ghost use Rattle.vt_term.specs.State.{Display};
@@ -77,4 +79,12 @@ pub fn repeats()
         → repeat n (write_glyph glyph s) ≡ times (min n (room (write_glyph glyph s)) + 1) (write_glyph glyph) s }
 {
     vt_laws::xterm::repeats()
+}
+
+/// Promises what `vt_laws::xterm::ignored` promises.
+pub fn ignored()
+    ensures { (event : Event) (s : Screens) → IsSoundDisplay s.display → xterm_names last_row event ≡ None
+        → (xterm_effect event s ≡ s) × (report event s.display ≡ []) }
+{
+    vt_laws::xterm::ignored()
 }

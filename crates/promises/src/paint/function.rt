@@ -1,16 +1,16 @@
-//! The calls of vt_controls/src/function.
-ghost use Rattle.promises.specs.v0_4.controls.Controls.{all_attributes, clear_all_tabs, cursor_position};
-ghost use Rattle.promises.specs.v0_4.controls.Controls.{designation_of, left_event, margins_to, mode_event};
-ghost use Rattle.promises.specs.v0_4.controls.Controls.{protection_to, reset_to_initial_state, right_event};
-ghost use Rattle.promises.specs.v0_4.controls.Controls.{save_cursor, set_tab, shift_to, soft_reset};
-ghost use Rattle.promises.specs.v0_4.controls.Named.{control_named, no_protection, rendition_change, sequence_named};
-ghost use Rattle.promises.specs.v0_4.controls.Named.{unless_one};
-ghost use Rattle.promises.specs.v0_4.controls.Spoken.{Speaks};
+//! The calls of vt_paint/src/function.
+ghost use Rattle.promises.specs.v0_4.paint.Controls.{all_attributes, clear_all_tabs, cursor_position, designation_of};
+ghost use Rattle.promises.specs.v0_4.paint.Controls.{left_event, margins_to, mode_event, protection_to};
+ghost use Rattle.promises.specs.v0_4.paint.Controls.{reset_to_initial_state, right_event, save_cursor, set_tab};
+ghost use Rattle.promises.specs.v0_4.paint.Controls.{shift_to, soft_reset};
+ghost use Rattle.promises.specs.v0_4.paint.Named.{control_named, no_protection, rendition_change, sequence_named};
+ghost use Rattle.promises.specs.v0_4.paint.Named.{unless_one};
+ghost use Rattle.promises.specs.v0_4.paint.Spoken.{Speaks};
 ghost use Rattle.promises.specs.v0_4.syntax.Spelling.{spell_event};
 ghost use Rattle.std.specs.Prelude.{[], codes, length, take, vec_capacity, vec_len, ◌++◌, ◌+◌, ◌<◌, ◌≡◌, ◌≤◌};
 
-use vt_controls::{ALL_MODES, FUNCTION_LIMIT, Function};
 use vt_glyph::Set;
+use vt_paint::{ALL_MODES, FUNCTION_LIMIT, Function};
 use vt_screen::Rendition;
 
 /// Promises what `function.bytes` promises.
@@ -47,6 +47,7 @@ pub fn function_cursor_to(line: u8, col: u8) -> Function
     ensures value { result ≡ spell_event (cursor_position line col) }
     ensures short { line < 100 → length result ≤ 9 }
     ensures shortest { line < 10 → length result ≤ 8 }
+    ensures bounded { length result ≤ 10 }
 {
     Function::cursor_to(line, col)
 }
@@ -97,6 +98,7 @@ pub fn function_carriage_return() -> Function
 pub fn function_margins_to(top: u8, bottom: u8) -> Function
     ensures value { result ≡ spell_event (margins_to top bottom) }
     ensures short { top < 100 → bottom < 100 → length result ≤ 8 }
+    ensures bounded { length result ≤ 10 }
 {
     Function::margins_to(top, bottom)
 }

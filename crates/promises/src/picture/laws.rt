@@ -1,11 +1,16 @@
 //! The calls of vt_picture/src/laws.
 ghost use Rattle.promises.specs.v0_4.picture.Animation.{cells_shown, is_seen, row_shown, same_paper, same_row};
 ghost use Rattle.promises.specs.v0_4.picture.Animation.{seen_at};
+ghost use Rattle.promises.specs.v0_4.picture.Draw.{draw, draw_from, row_bytes, shown};
 ghost use Rattle.promises.specs.v0_4.picture.Limits.{animation_limit, frame_limit, picture_limit, show_limit};
 ghost use Rattle.promises.specs.v0_4.screen.Sizes.{vt220_size};
-ghost use Rattle.std.specs.Prelude.{true, ℕ, ◌≡◌};
+ghost use Rattle.std.specs.Prelude.{[], List, true, ℕ, ◌≡◌};
+ghost use Rattle.vt_picture.specs.Draw.{LooksLike};
+ghost use Rattle.vt_picture.specs.Window.{Draws, Shows, Window};
+ghost use Rattle.vt_picture.specs.declared.drawing.pen.Pen.{Pen};
 ghost use Rattle.vt_picture.specs.declared.looks.CursorShape.{CursorShape};
-ghost use Rattle.vt_term.specs.State.{Display};
+ghost use Rattle.vt_screen.specs.declared.cell.Cell.{Cell};
+ghost use Rattle.vt_term.specs.State.{Display, State};
 
 use vt_picture::{ANIMATION_LIMIT, FRAME_LIMIT, PICTURE_LIMIT, SHOW_LIMIT};
 
@@ -27,4 +32,28 @@ pub fn vt220_limits()
     ensures animation { animation_limit vt220_size ≡ ANIMATION_LIMIT }
 {
     vt_picture::laws::vt220_limits()
+}
+
+/// Promises what `vt_picture::laws::unwritten` promises.
+pub fn unwritten()
+    ensures row { (row col : ℕ) (cells : List Cell) (pen : Pen) → row_bytes row col cells cells pen ≡ [] }
+    ensures screen { (a b : State) → a.display.grid.width ≡ b.display.grid.width → LooksLike (shown a) (shown b)
+        → draw_from a b ≡ [] }
+{
+    vt_picture::laws::unwritten()
+}
+
+/// Promises what `vt_picture::laws::shows` promises.
+pub fn shows()
+    ensures whole { (s : State) (w : Window) → Draws (draw s) w (shown s) }
+    ensures from { (a b : State) (w : Window) → Shows w (shown a) → Draws (draw_from a b) w (shown b) }
+{
+    vt_picture::laws::shows()
+}
+
+/// Promises what `vt_picture::laws::canonical` promises.
+pub fn canonical()
+    ensures { (a b : State) → LooksLike (shown a) (shown b) → draw a ≡ draw b }
+{
+    vt_picture::laws::canonical()
 }

@@ -6,8 +6,7 @@ ghost use Rattle.vt_device.specs.Runs.{Takes};
 
 use std::alloc::Global;
 use std::io::Read;
-use vt_device::Watched;
-use vt_recording::Fault;
+use vt_device::{Fault, Watched};
 
 /// Promises what `vt_recording::read_recording::<R>` promises.
 pub fn read_recording<R: Read>(

@@ -1,5 +1,5 @@
 //! The calls of vt_replay/src/logging.
-ghost use Rattle.promises.specs.v0_4.output.Output.{always, OutputTable};
+ghost use Rattle.promises.specs.v0_4.device.Output.{always, OutputTable};
 ghost use Rattle.promises.specs.v0_4.replay.Log.{lines, lines_in, screen, screen_in};
 ghost use Rattle.std.specs.Io.KnownBytes.{IsAtEnd};
 ghost use Rattle.std.specs.Prelude.{false, true, ◌≡◌, ◌≤◌};

@@ -7,8 +7,7 @@ ghost use Rattle.vt_device.specs.Runs.{Moves};
 use std::alloc::Global;
 use std::io::Write;
 use vt_cli::Encoding;
-use vt_device::{Source, Watched};
-use vt_output::Output;
+use vt_device::{Output, Source, Watched};
 use vt_recording::Fault;
 
 /// Promises what `vt_replay::front_for` promises.

@@ -1,11 +1,11 @@
 //! The calls of vt_trace/src/summary.
-ghost use Rattle.promises.specs.v0_4.trace.Counted.{HasCounted};
-ghost use Rattle.promises.specs.v0_4.trace.Summary.{summary_on};
-ghost use Rattle.std.specs.Prelude.{[], IfOk, List, vec_capacity, vec_len, ℕ, ◌++◌, ◌+◌, ◌≡◌, ◌≤◌};
-ghost use Rattle.vt_trace.specs.Counted.{HasCountedOn};
+ghost use Rattle.promises.specs.v0_4.trace.Counted.{HasCounted, HasCountedOn};
+ghost use Rattle.promises.specs.v0_4.trace.Summary.{summary_by, summary_on};
+ghost use Rattle.std.specs.Prelude.{[], IfOk, length, List, vec_capacity, vec_len, ℕ, ◌*◌, ◌++◌, ◌+◌, ◌≡◌, ◌≤◌};
+ghost use Rattle.vt_trace.specs.Counted.{HasCountedBy};
 
 use std::alloc::{AllocError, Global};
-use vt_trace::{SUMMARY_LIMIT, Summary};
+use vt_trace::{IGNORED_LIMIT, Listed, SUMMARY_LIMIT, Summary};
 
 /// Promises what `Summary::new` promises.
 pub fn summary_new(alloc: Global) -> Result<Summary, AllocError>
@@ -21,11 +21,26 @@ pub fn summary_new_on(alloc: Global, rows: usize) -> Result<Summary, AllocError>
     Summary::new_on(alloc, rows)
 }
 
+/// Promises what `Summary::new_by::<L>` promises.
+pub fn summary_new_by<L: Listed>(alloc: Global, rows: usize) -> Result<Summary, AllocError>
+    ensures { IfOk result (HasCountedBy L.listing rows []) }
+{
+    Summary::new_by::<L>(alloc, rows)
+}
+
 /// Promises what `summary.count` promises.
 pub fn summary_count(summary: &mut Summary, chunk: &[u8])
     ensures { (rows : ℕ) (bytes : List ℕ) → HasCountedOn rows bytes summary.old → HasCountedOn rows (bytes ++ chunk.now) summary.new }
 {
     summary.count(chunk)
+}
+
+/// Promises what `summary.count_by` promises.
+pub fn summary_count_by<L: Listed>(summary: &mut Summary, names: &L, chunk: &[u8])
+    ensures { (rows : ℕ) (bytes : List ℕ) → HasCountedBy L.listing rows bytes summary.old
+        → HasCountedBy L.listing rows (bytes ++ chunk.now) summary.new }
+{
+    summary.count_by(names, chunk)
 }
 
 /// Promises what `summary.push_summary` promises.
@@ -37,4 +52,15 @@ pub fn summary_push_summary(summary: &Summary, out: &mut Vec<u8>)
     ensures capacity { vec_capacity out.old ≤ vec_capacity out.new }
 {
     summary.push_summary(out)
+}
+
+/// Promises what `summary.push_summary_by` promises.
+pub fn summary_push_summary_by<L: Listed>(summary: &Summary, names: &L, out: &mut Vec<u8>)
+    requires { vec_len out.old + (IGNORED_LIMIT + 45 * length L.listing.listed) ≤ vec_capacity out.old }
+    ensures items { (rows : ℕ) (bytes : List ℕ) → HasCountedBy L.listing rows bytes summary.now
+        → out.new.items ≡ out.old.items ++ summary_by L.listing rows bytes }
+    ensures bounded { vec_len out.new ≤ vec_len out.old + (IGNORED_LIMIT + 45 * length L.listing.listed) }
+    ensures capacity { vec_capacity out.old ≤ vec_capacity out.new }
+{
+    summary.push_summary_by(names, out)
 }

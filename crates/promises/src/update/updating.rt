@@ -1,5 +1,5 @@
 //! The calls of vt_update/src/updating.
-ghost use Rattle.promises.specs.v0_4.controls.Spoken.{Speaks};
+ghost use Rattle.promises.specs.v0_4.paint.Spoken.{Speaks};
 ghost use Rattle.promises.specs.v0_4.paint.Changes.{differing};
 ghost use Rattle.promises.specs.v0_4.paint.Repaint.{paint};
 ghost use Rattle.promises.specs.v0_4.update.Leads.{HasOtherColumns};

@@ -6,7 +6,6 @@ use Rattle.std.specs.Prelude.{List, Option, ℕ, ◌≡◌}
 use Rattle.std.specs.declared.alloc.Global.{Global}
 use Rattle.std.specs.declared.string.String.{String}
 use Rattle.vt_cli.specs.Request as today
-use Rattle.vt_cli.specs.Request.{AreOptions, HasNoRequest, IsFound, word_looks}
 use Rattle.vt_cli.specs.declared.asked.Refused.{Refused}
 use Rattle.vt_cli.specs.declared.asked.Request.{Request}
 
@@ -40,6 +39,7 @@ IsFound-made found r ρ = record {
   timing = ρ.timing;
   title = ρ.title;
   pattern = ρ.pattern;
+  log = ρ.log;
   full = ρ.full;
   partial = ρ.partial;
   quiet = ρ.quiet;
@@ -54,6 +54,7 @@ IsFound-read found r ρ = record {
   timing = ρ.timing;
   title = ρ.title;
   pattern = ρ.pattern;
+  log = ρ.log;
   full = ρ.full;
   partial = ρ.partial;
   quiet = ρ.quiet;

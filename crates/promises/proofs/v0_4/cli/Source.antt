@@ -21,9 +21,6 @@ plays_xterm-same = refl
 pub size_of-same : frozen.size_of ≡ today.size_of
 size_of-same = refl
 
-pub plays_sizes-same : frozen.plays_sizes ≡ today.plays_sizes
-plays_sizes-same = refl
-
 pub has_one_size-same : frozen.has_one_size ≡ today.has_one_size
 has_one_size-same = refl
 

@@ -1,7 +1,7 @@
--- 0.4: vt_recording/specs/Fault is today's.
-use Rattle.promises.specs.v0_4.recording.Fault as frozen
+-- 0.4: vt_device/specs/Fault is today's.
+use Rattle.promises.specs.v0_4.device.Fault as frozen
 use Rattle.std.proofs.Common.{refl, ◌≡◌}
-use Rattle.vt_recording.specs.Fault as today
+use Rattle.vt_device.specs.Fault as today
 
 pub status_of-same : frozen.status_of ≡ today.status_of
 status_of-same = refl

@@ -1,9 +1,9 @@
--- 0.4: vt_output/specs/Output is today's.
-use Rattle.promises.specs.v0_4.output.Output as frozen
+-- 0.4: vt_device/specs/Output is today's.
+use Rattle.promises.specs.v0_4.device.Output as frozen
 use Rattle.std.proofs.Common.{refl, ◌≡◌}
 use Rattle.std.specs.Prelude.{Bool, List, ℕ, ◌≡◌}
-use Rattle.vt_output.specs.Output as today
-use Rattle.vt_output.specs.Output.{IsCutAtEnd, Translation}
+use Rattle.vt_device.specs.Output as today
+use Rattle.vt_device.specs.Output.{IsCutAtEnd, Translation}
 
 pub all-same : frozen.all ≡ today.all
 all-same = refl

@@ -1,5 +1,6 @@
 -- 0.4: vt_laws/specs/Parts is today's.
 use Rattle.promises.proofs.v0_4.syntax.Held.{events_from-same}
+use Rattle.promises.proofs.v0_4.term.Names.{name_on-same}
 use Rattle.promises.proofs.v0_4.term.Play.{play-same}
 use Rattle.promises.proofs.v0_4.trace.Skipped.{skipped_line-same}
 use Rattle.promises.proofs.v0_4.trace.Trace.{ends_silent-same, goes_on-same, tracer_after-same, written_all-same}
@@ -42,7 +43,7 @@ skipped_by-same = refl
 pub byte_parts-same : frozen.byte_parts ≡ today.byte_parts
 byte_parts-same = λ ι s t b.
     skipped_by t (cuts_off s.held b) ((ends_silent-same ι) s.held b) (item_place t s.held b) (ended_kind t.code s.held b) (item_first t s.held b)
-    ++ Other ((written_all-same ι) ((goes_on-same ι) t s.held b) (place_of t.place (item_place t s.held b) b) ((events_from-same ι) s.held (b ∷ [])) s.display) ∷ []
+    ++ Other ((written_all-same ι) (name_on-same ι) ((goes_on-same ι) t s.held b) (place_of t.place (item_place t s.held b) b) ((events_from-same ι) s.held (b ∷ [])) s.display) ∷ []
 
 pub end_parts-same : frozen.end_parts ≡ today.end_parts
 end_parts-same = refl

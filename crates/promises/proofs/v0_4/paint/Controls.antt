@@ -1,9 +1,9 @@
--- 0.4: vt_controls/specs/Controls is today's.
-use Rattle.promises.specs.v0_4.controls.Controls as frozen
+-- 0.4: vt_paint/specs/Controls is today's.
+use Rattle.promises.specs.v0_4.paint.Controls as frozen
 use Rattle.std.proofs.Common.{refl, ◌≡◌}
 use Rattle.std.specs.Prelude.{[], codes, ◌∷◌}
-use Rattle.vt_controls.specs.Controls as today
-use Rattle.vt_controls.specs.Controls.{designation, left_event, protection_to, rendition_to, right_event}
+use Rattle.vt_paint.specs.Controls as today
+use Rattle.vt_paint.specs.Controls.{designation, left_event, protection_to, rendition_to, right_event}
 use Rattle.vt_glyph.specs.Invocation.{set_at}
 
 pub sequence_of-same : frozen.sequence_of ≡ today.sequence_of

@@ -1,24 +1,23 @@
 -- 0.4: vt_paint/specs/Items is today's.
-use Rattle.promises.proofs.v0_4.controls.Controls.{brush_events-same, sets_events-same}
+use Rattle.promises.proofs.v0_4.paint.Controls.{brush_events-same, sets_events-same}
 use Rattle.promises.proofs.v0_4.paint.Pieces.{glyph_events-same, is_blank_grid-same, pieces-same}
 use Rattle.promises.proofs.v0_4.screen.Grid.{cell_at-same}
-use Rattle.promises.proofs.v0_4.term.State.{stops_at_power_up-same}
+use Rattle.promises.proofs.v0_4.term.State.{stops_of-same}
 use Rattle.promises.specs.v0_4.paint.Items as frozen
 use Rattle.std.proofs.Common.{refl, ◌≡◌}
 use Rattle.std.specs.Cmp.Lexicographic.{pointwise}
 use Rattle.std.specs.List.{flat_map, range_with_len}
 use Rattle.std.specs.Prelude.{[], false, if◌then◌else◌, None, not, Option, Some, true, ℕ, ◌&&◌, ◌++◌, ◌==◌, ◌∷◌}
-use Rattle.vt_controls.specs.Controls.{clear_all_tabs, cursor_position, margins_to, mode_rows, private_mode}
-use Rattle.vt_controls.specs.Controls.{save_cursor, set_tab, shift_to, spelling_sets_events}
 use Rattle.vt_glyph.specs.Tables.{space}
+use Rattle.vt_paint.specs.Controls.{clear_all_tabs, cursor_position, margins_to, mode_rows, private_mode, save_cursor}
+use Rattle.vt_paint.specs.Controls.{set_tab, shift_to, spelling_sets_events}
 use Rattle.vt_paint.specs.Items as today
-use Rattle.vt_paint.specs.Items.{is_wide, mode_item, position_item, row_item}
+use Rattle.vt_paint.specs.Items.{is_wide, mode_item, position_item, row_item, width_events}
 use Rattle.vt_paint.specs.Same.{same_saved}
 use Rattle.vt_screen.specs.Cells.{brush_of}
-use Rattle.vt_screen.specs.Grid.{columns, last_row}
 use Rattle.vt_screen.specs.Same.{same_bool, when}
 use Rattle.vt_syntax.specs.declared.event.Event.TheVariants.{Print}
-use Rattle.vt_term.specs.State.{has_stop_at, saved_at_power_up, saved_sets}
+use Rattle.vt_term.specs.State.{bottom_row, has_stop_at, saved_at_power_up, saved_sets}
 
 pub stop_events-same : frozen.stop_events ≡ today.stop_events
 unfolding frozen.stop_events today.stop_events
@@ -27,19 +26,22 @@ stop_events-same = λ ι stops c. when (has_stop_at stops c) (cursor_position 1 
 pub is_wide-same : frozen.is_wide ≡ today.is_wide
 is_wide-same = refl
 
+pub width_events-same : frozen.width_events ≡ today.width_events
+width_events-same = refl
+
 pub made_stops-same : frozen.made_stops ≡ today.made_stops
 unfolding frozen.made_stops today.made_stops
-made_stops-same = λ ι wide stops.
-    private_mode 3 true
-    ∷ clear_all_tabs
-    ∷ (flat_map (λ c. (stop_events-same ι) stops c) (range_with_len 1 (columns true))
-    ++ when (not wide) (private_mode 3 false ∷ []))
+made_stops-same = λ ι size wide stops.
+    width_events size true
+    ++ (clear_all_tabs
+    ∷ (flat_map (λ c. (stop_events-same ι) stops c) (range_with_len 1 size.wide)
+    ++ when (not wide) (width_events size false)))
 
 pub stops_item-same : frozen.stops_item ≡ today.stops_item
 unfolding frozen.stops_item today.stops_item
-stops_item-same = λ ι width stops.
-    if pointwise same_bool stops (stops_at_power_up-same ι) then when (is_wide width) (private_mode 3 true ∷ [])
-    else (made_stops-same ι) (is_wide width) stops
+stops_item-same = λ ι size width stops.
+    if pointwise same_bool stops ((stops_of-same ι) size.wide) then when (is_wide size width) (width_events size true)
+    else (made_stops-same ι) size (is_wide size width) stops
 
 pub saved_events-same : frozen.saved_events ≡ today.saved_events
 unfolding frozen.saved_events today.saved_events
@@ -62,7 +64,7 @@ cells_item-same = λ ι g wrap. if (is_blank_grid-same ι) g && not wrap then []
 
 pub margins_item-same : frozen.margins_item ≡ today.margins_item
 unfolding frozen.margins_item today.margins_item
-margins_item-same = λ ι m. if m.top == 1 && m.bottom == last_row then [] else margins_to m.top m.bottom ∷ []
+margins_item-same = λ ι rows m. if m.top == 1 && m.bottom == rows then [] else margins_to m.top m.bottom ∷ []
 
 pub mode_item-same : frozen.mode_item ≡ today.mode_item
 mode_item-same = refl
@@ -98,7 +100,7 @@ shift_item-same = λ ι x0. shift_item-at x0 ι
 pub last_items-same : frozen.last_items ≡ today.last_items
 unfolding frozen.last_items today.last_items
 last_items-same = λ ι known s.
-    (margins_item-same ι) s.margins
+    (margins_item-same ι) (bottom_row s) s.margins
     ++ ((origin_item-same ι) known s.modes.decom
     ++ (position_item s
     ++ ((wrap_item-same ι) s.grid s.cursor

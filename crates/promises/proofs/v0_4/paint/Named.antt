@@ -1,11 +1,11 @@
--- 0.4: vt_controls/specs/Named is today's.
+-- 0.4: vt_paint/specs/Named is today's.
 use Rattle.promises.proofs.v0_4.term.Functions.{controls-same, plain_sequences-same}
-use Rattle.promises.specs.v0_4.controls.Named as frozen
+use Rattle.promises.specs.v0_4.paint.Named as frozen
 use Rattle.std.proofs.Common.{refl, ◌≡◌}
 use Rattle.std.specs.Prelude.{[], bytes_eq, codes, find, None, option_map, Some, unwrap_or, ℕ, ◌++◌, ◌∷◌}
-use Rattle.vt_controls.specs.Controls.{sequence_of}
-use Rattle.vt_controls.specs.Named as today
-use Rattle.vt_controls.specs.Named.{newly_set, rendition_text, resets}
+use Rattle.vt_paint.specs.Controls.{sequence_of}
+use Rattle.vt_paint.specs.Named as today
+use Rattle.vt_paint.specs.Named.{newly_set, rendition_text, resets}
 use Rattle.vt_syntax.specs.declared.event.Event.TheVariants.{Control, Sequence}
 use Rattle.vt_term.specs.Functions.{Function, quote_sequences}
 

@@ -1,13 +1,13 @@
--- 0.4: vt_controls/specs/Spoken is today's.
+-- 0.4: vt_paint/specs/Spoken is today's.
 use Rattle.promises.proofs.v0_4.term.Modes.{private_modes-same}
-use Rattle.promises.specs.v0_4.controls.Spoken as frozen
+use Rattle.promises.specs.v0_4.paint.Spoken as frozen
 use Rattle.std.proofs.Common.{refl, ◌≡◌}
 use Rattle.std.specs.List.{list_all, list_any}
 use Rattle.std.specs.Prelude.{[], Bool, bytes_eq, codes, decimal, List, map, nat_le, true, ℕ, ◌&&◌, ◌++◌, ◌||◌, ◌∷◌}
 use Rattle.std.specs.Prelude.{◌≡◌}
-use Rattle.vt_controls.specs.Spoken as today
-use Rattle.vt_controls.specs.Spoken.{are_attributes, are_numbers, Character, Control, Element, element_bytes, Escape}
-use Rattle.vt_controls.specs.Spoken.{is_among, is_designation, is_one_of, Sequence, spoken_controls, spoken_escapes}
+use Rattle.vt_paint.specs.Spoken as today
+use Rattle.vt_paint.specs.Spoken.{are_attributes, are_numbers, Character, Control, Element, element_bytes, Escape}
+use Rattle.vt_paint.specs.Spoken.{is_among, is_designation, is_one_of, Sequence, spoken_controls, spoken_escapes}
 use Rattle.vt_term.specs.Modes.{ansi_modes}
 
 pub Element-made : frozen.Element' → today.Element

@@ -8,7 +8,7 @@ use Rattle.vt_recording.specs.Moment.{cut, micros_of}
 use Rattle.vt_recording.specs.Taken as today
 use Rattle.vt_recording.specs.Taken.{in_recording, IsOfBytes, IsOfCast, IsOfScriptBy}
 use Rattle.vt_recording.specs.Ttyrec.{IsOfTtyrec}
-use Rattle.vt_recording.specs.declared.format.Break.{Break}
+use Rattle.vt_device.specs.declared.fault.Break.{Break}
 use Rattle.vt_recording.specs.declared.format.Encoding.{Encoding}
 use Rattle.vt_recording.specs.declared.format.Format.TheVariants as format
 use Rattle.vt_recording.specs.declared.format.Format.{Format}

@@ -8,7 +8,7 @@ use Rattle.vt_recording.specs.Moment.{cut, micros_of}
 use Rattle.vt_recording.specs.Timing as today
 use Rattle.vt_recording.specs.Timing.{break_in, differ, is_empty, played_in, Spot, spot_after, start, step_in, unless}
 use Rattle.vt_recording.specs.Timing.{value_in}
-use Rattle.vt_recording.specs.declared.format.Break.{Break}
+use Rattle.vt_device.specs.declared.fault.Break.{Break}
 use Rattle.vt_recording.specs.declared.format.Moment.{Moment}
 
 pub Step-same : frozen.Step ≡ today.Step

@@ -2,7 +2,7 @@
 use Rattle.promises.proofs.v0_4.picture.Animation.{animation_head-same, frame-same, number_after-same}
 use Rattle.promises.proofs.v0_4.picture.Animation.{number_on_screen-same, same_paper-same}
 use Rattle.promises.proofs.v0_4.recording.Gathered.{events_of-same}
-use Rattle.promises.proofs.v0_4.replay.Playing.{played_as-same}
+use Rattle.promises.proofs.v0_4.replay.Playing.{played_at-same}
 use Rattle.promises.specs.v0_4.replay.Animated as frozen
 use Rattle.std.proofs.Common.{refl, ◌≡◌}
 use Rattle.std.specs.List.{range_with_len}
@@ -14,18 +14,17 @@ use Rattle.vt_replay.specs.Animated as today
 use Rattle.vt_replay.specs.Animated.{duration_of, next_number}
 use Rattle.vt_replay.specs.Session.{is_empty}
 use Rattle.vt_replay.specs.Steps.{IsStepped}
-use Rattle.vt_screen.specs.Grid.{last_row}
 use Rattle.vt_term.specs.State.{Display}
 
 pub first_numbers-same : frozen.first_numbers ≡ today.first_numbers
 unfolding frozen.first_numbers today.first_numbers
-first_numbers-same = λ ι s. map (λ i. (number_on_screen-same ι) 0 s (i + 1)) (range_with_len 0 last_row)
+first_numbers-same = λ ι s. map (λ i. (number_on_screen-same ι) 0 s (i + 1)) (range_with_len 0 s.grid.size.rows)
 
 pub numbers_then-same : frozen.numbers_then ≡ today.numbers_then
 unfolding frozen.numbers_then today.numbers_then
 numbers_then-same = λ ι frame numbers before s.
     map (λ i. if (same_paper-same ι) before s then (number_after-same ι) frame numbers before s (i + 1) else (number_on_screen-same ι) frame s (i + 1))
-    (range_with_len 0 last_row)
+    (range_with_len 0 s.grid.size.rows)
 
 pub frame_after-same : frozen.frame_after ≡ today.frame_after
 frame_after-same = λ ι shape duration columns number micros numbers bytes before s.
@@ -66,9 +65,9 @@ animation-same = λ ι shows looks title opening content steps.
     ++ animation_end)
 
 pub shown_after-same : frozen.shown_after ≡ today.shown_after
-shown_after-same = λ ι language bytes. ((played_as-same ι) language bytes).state.display
+shown_after-same = λ ι size language bytes. ((played_at-same ι) size language bytes).state.display
 
 pub IsAnimation-same : frozen.IsAnimation ≡ today.IsAnimation
-IsAnimation-same = λ ι looks title opening language format encoding until timing bytes picture broken replaced.
-    IsStepped (λ content steps. (animation-same ι) ((shown_after-same ι) language) looks title opening content steps) format encoding until timing bytes picture broken
+IsAnimation-same = λ ι looks title opening size language format encoding until timing bytes picture broken replaced.
+    IsStepped (λ content steps. (animation-same ι) ((shown_after-same ι) size language) looks title opening content steps) format encoding until timing bytes picture broken
     replaced

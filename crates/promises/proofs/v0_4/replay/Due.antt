@@ -9,7 +9,7 @@ use Rattle.std.proofs.Common.{refl, ◌≡◌}
 use Rattle.std.specs.Prelude.{[], length, ℕ}
 use Rattle.vt_cli.specs.declared.what.What.TheVariants.{Picture, Repaint, Reports, Show, Status, Text}
 use Rattle.vt_cli.specs.declared.what.What.{What}
-use Rattle.vt_output.specs.Output.{OutputTable}
+use Rattle.vt_device.specs.Output.{OutputTable}
 use Rattle.vt_replay.specs.Due as today
 use Rattle.vt_replay.specs.Due.{sent_by, there_by}
 use Rattle.vt_term.specs.State.{State}

@@ -4,7 +4,7 @@ use Rattle.promises.proofs.v0_4.utf8.Play.{translated-same}
 use Rattle.promises.specs.v0_4.replay.Encoding as frozen
 use Rattle.std.proofs.Common.{◌≡◌}
 use Rattle.std.specs.Prelude.{[], List, ℕ}
-use Rattle.vt_output.specs.Output.{OutputTable}
+use Rattle.vt_device.specs.Output.{OutputTable}
 use Rattle.vt_recording.specs.declared.format.Encoding.TheVariants.{Dec, Utf8}
 use Rattle.vt_recording.specs.declared.format.Encoding.{Encoding}
 use Rattle.vt_replay.specs.Encoding as today

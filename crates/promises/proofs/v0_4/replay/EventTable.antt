@@ -9,7 +9,7 @@ use Rattle.std.specs.Prelude.{[], Bool, cond, decimal, false, length, List, None
 use Rattle.std.specs.Prelude.{◌++◌, ◌+◌, ◌∷◌, ◌≡◌}
 use Rattle.vt_recording.specs.Reached.{has_characters, nothing_passed}
 use Rattle.vt_recording.specs.Timeline.{Event, is_output}
-use Rattle.vt_recording.specs.declared.format.Break.{Break}
+use Rattle.vt_device.specs.declared.fault.Break.{Break}
 use Rattle.vt_recording.specs.declared.format.Encoding.TheVariants.{Utf8}
 use Rattle.vt_recording.specs.declared.format.Format.{Format}
 use Rattle.vt_recording.specs.declared.format.Moment.TheVariants as moment

@@ -9,7 +9,7 @@ use Rattle.std.proofs.Common.{refl, ◌≡◌}
 use Rattle.std.specs.Prelude.{[], List, ℕ}
 use Rattle.vt_cli.specs.declared.what.What.TheVariants.{Repaint}
 use Rattle.vt_cli.specs.declared.what.What.{What}
-use Rattle.vt_output.specs.Output.{nothing, OutputTable}
+use Rattle.vt_device.specs.Output.{nothing, OutputTable}
 use Rattle.vt_replay.specs.Due.{sent_by, there_by}
 use Rattle.vt_replay.specs.Playing as today
 use Rattle.vt_replay.specs.Playing.{on_terminal}
@@ -52,15 +52,15 @@ Due-read ρ = record {
 pub due_by-same : frozen.due_by ≡ today.due_by
 due_by-same = λ ι played what. record { written = sent_by played what; ending = (end_by-same ι) played what; there = there_by played what }
 
-pub repainted-at : (x0 : Language) → frozen.repainted x0 ≡ today.repainted x0
-repainted-at Xterm = λ ι. record { written = nothing; ending = (session_repaint-same ι); there = (session_is_there-same ι) }
-repainted-at language = λ ι. (due_by-same ι) ((played_as-same ι) language) Repaint
+pub repainted-at : (x0 : Size) (x1 : Language) → frozen.repainted x0 x1 ≡ today.repainted x0 x1
+repainted-at size Xterm = λ ι. record { written = nothing; ending = (session_repaint-same ι) size; there = (session_is_there-same ι) size }
+repainted-at size language = λ ι. (due_by-same ι) ((played_at-same ι) size language) Repaint
 
 pub repainted-same : frozen.repainted ≡ today.repainted
-repainted-same = λ ι x0. repainted-at x0 ι
+repainted-same = λ ι x0 x1. repainted-at x0 x1 ι
 
 pub replayed_at-at : (x0 : Size) (x1 : Language) (x2 : What) → frozen.replayed_at x0 x1 x2 ≡ today.replayed_at x0 x1 x2
-replayed_at-at size language Repaint = λ ι. (repainted-same ι) language
+replayed_at-at size language Repaint = λ ι. (repainted-same ι) size language
 replayed_at-at size language what = λ ι. (due_by-same ι) ((played_at-same ι) size language) what
 
 pub replayed_at-same : frozen.replayed_at ≡ today.replayed_at

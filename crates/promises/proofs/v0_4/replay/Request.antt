@@ -12,15 +12,16 @@ use Rattle.vt_cli.specs.declared.what.What.TheVariants.{Picture}
 use Rattle.vt_cli.specs.declared.what.Word.TheVariants.{Animation, Events, Replay, Search}
 use Rattle.vt_cli.specs.declared.what.Word.{Word}
 use Rattle.vt_device.specs.Runs.{Flags}
+use Rattle.vt_device.specs.declared.fault.Break.{Break}
 use Rattle.vt_recording.specs.Reached.{IsTakenBetween}
-use Rattle.vt_recording.specs.declared.format.Break.{Break}
+use Rattle.vt_recording.specs.declared.format.Format.TheVariants as format
 use Rattle.vt_recording.specs.declared.format.Format.{Format}
 use Rattle.vt_replay.specs.Animated.{title_of}
 use Rattle.vt_replay.specs.EventTable.{IsTableTaken}
 use Rattle.vt_replay.specs.Host.{opening, plain_host}
 use Rattle.vt_replay.specs.Playing.{language_of}
 use Rattle.vt_replay.specs.Request as today
-use Rattle.vt_replay.specs.Request.{ended_of, IsPlayed, IsPrepared, shown_format}
+use Rattle.vt_replay.specs.Request.{shown_format}
 use Rattle.vt_replay.specs.Search.{text_of}
 use Rattle.vt_replay.specs.declared.host.Host.{Host}
 use Rattle.vt_replay.specs.declared.requests.Outcome.{Outcome}
@@ -82,10 +83,10 @@ pub IsTakenBy-at : (x0 : Word) (x1 : Request) (x2 : Format) (x3 : Host) (timing 
 IsTakenBy-at Events r format host timing bytes content broken replaced = λ ι.
     IsTableTaken format r.full r.from r.until timing bytes content broken replaced
 IsTakenBy-at (Animation looks) r format host timing bytes content broken replaced = λ ι.
-    (IsAnimation-same ι) looks (title_of r.title) (opening (Replay Picture) host) (language_of host.terminal host.encoding) format host.encoding r.until
+    (IsAnimation-same ι) looks (title_of r.title) (opening (Replay Picture) host) host.size (language_of host.terminal host.encoding) format host.encoding r.until
     timing bytes content broken replaced
 IsTakenBy-at Search r format host timing bytes content broken replaced = λ ι.
-    (IsSearched-same ι) (text_of r.pattern) (opening (Replay Picture) host) (language_of host.terminal host.encoding) format host.encoding r.until
+    (IsSearched-same ι) host.size r.log (text_of r.pattern) (opening (Replay Picture) host) (language_of host.terminal host.encoding) format host.encoding r.until
     timing bytes content broken replaced
 IsTakenBy-at word r format host timing bytes content broken replaced = λ ι.
     IsTakenBetween format host.encoding r.from r.until timing bytes content broken replaced

@@ -1,6 +1,7 @@
 -- 0.4: vt_replay/specs/Search is today's.
 use Rattle.promises.proofs.v0_4.recording.Gathered.{events_of-same}
-use Rattle.promises.proofs.v0_4.replay.Animated.{shown_after-same}
+use Rattle.promises.proofs.v0_4.replay.LogSearch.{log_found_at-same}
+use Rattle.promises.proofs.v0_4.replay.Playing.{played_at-same}
 use Rattle.promises.proofs.v0_4.screen.Grid.{row_of-same}
 use Rattle.promises.proofs.v0_4.term.Text.{trimmed-same}
 use Rattle.promises.proofs.v0_4.utf8.Cells.{cells-same}
@@ -8,12 +9,11 @@ use Rattle.promises.proofs.v0_4.utf8.Similar.{shown-same}
 use Rattle.promises.specs.v0_4.replay.Search as frozen
 use Rattle.std.proofs.Common.{refl, ◌≡◌}
 use Rattle.std.specs.List.{range_with_len}
-use Rattle.std.specs.Prelude.{[], cond, encode_utf8_all, flat_map, if◌then◌else◌, nat_lt, None, ◌++◌, ◌==◌, ◌∷◌}
+use Rattle.std.specs.Prelude.{[], cond, encode_utf8_all, flat_map, if◌then◌else◌, nat_lt, None, ◌++◌, ◌+◌, ◌==◌, ◌∷◌}
 use Rattle.std.specs.Str.{chars}
 use Rattle.vt_replay.specs.Search as today
 use Rattle.vt_replay.specs.Search.{first_place, in_cells, is_utf8, line_end, spans}
 use Rattle.vt_replay.specs.Steps.{IsStepped}
-use Rattle.vt_screen.specs.Grid.{last_row}
 use Rattle.vt_term.specs.Text.{glyphs_of}
 
 pub text_of-same : frozen.text_of ≡ today.text_of
@@ -45,18 +45,20 @@ line_of-same = λ ι utf8 s row. (line-same ι) utf8 ((row_of-same ι) s.grid ro
 
 pub lines-same : frozen.lines ≡ today.lines
 unfolding frozen.lines today.lines
-lines-same = λ ι utf8 s. flat_map (λ row. (line_of-same ι) utf8 s row) (range_with_len 1 last_row)
-
-pub column_of-same : frozen.column_of ≡ today.column_of
-column_of-same = refl
+lines-same = λ ι utf8 s. flat_map (λ row. (line_of-same ι) utf8 s row) (range_with_len 1 s.grid.size.rows)
 
 pub until_column-same : frozen.until_column ≡ today.until_column
 until_column-same = refl
 
+pub spans_at-same : frozen.spans_at ≡ today.spans_at
+spans_at-same = λ ι size language wanted opening content steps.
+    spans (λ bytes. first_place (is_utf8 language) wanted ((played_at-same ι) size language (opening ++ bytes)).state.display) 0 None ((events_of-same ι) steps content)
+
 pub searched-same : frozen.searched ≡ today.searched
-searched-same = λ ι language text opening content steps.
-    spans (λ bytes. first_place (is_utf8 language) ((wanted-same ι) language text) ((shown_after-same ι) language (opening ++ bytes))) 0 None ((events_of-same ι) steps content)
+searched-same = λ ι size language log text opening content steps.
+    let found = (spans_at-same ι) size language ((wanted-same ι) language text) opening content steps in
+    if log then found ++ (log_found_at-same ι) size language (is_utf8 language) ((wanted-same ι) language text) opening content steps else found
 
 pub IsSearched-same : frozen.IsSearched ≡ today.IsSearched
-IsSearched-same = λ ι text opening language format encoding until timing bytes lines broken replaced.
-    IsStepped (λ content steps. (searched-same ι) language text opening content steps) format encoding until timing bytes lines broken replaced
+IsSearched-same = λ ι size log text opening language format encoding until timing bytes lines broken replaced.
+    IsStepped (λ content steps. (searched-same ι) size language log text opening content steps) format encoding until timing bytes lines broken replaced

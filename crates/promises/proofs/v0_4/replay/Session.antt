@@ -8,14 +8,10 @@ use Rattle.std.proofs.Common.{refl, ◌≡◌}
 use Rattle.std.specs.Prelude.{[]}
 use Rattle.vt_replay.specs.Session as today
 use Rattle.vt_replay.specs.Session.{is_between}
-use Rattle.vt_screen.specs.Sizes.{vt220_size}
 use Rattle.vt_xterm.specs.Play.{behind}
 
 pub session_at-same : frozen.session_at ≡ today.session_at
 session_at-same = λ ι size bytes. (play_xterm-same ι) (behind ((state_of-same ι) size) ((front_of-same ι) size)) [] bytes
-
-pub session-same : frozen.session ≡ today.session
-session-same = λ ι bytes. (session_at-same ι) vt220_size bytes
 
 pub is_empty-same : frozen.is_empty ≡ today.is_empty
 is_empty-same = refl
@@ -24,7 +20,7 @@ pub is_between-same : frozen.is_between ≡ today.is_between
 is_between-same = refl
 
 pub session_repaint-same : frozen.session_repaint ≡ today.session_repaint
-session_repaint-same = λ ι bytes. (xterm_repaint-same ι) ((session-same ι) bytes).whole
+session_repaint-same = λ ι size bytes. (xterm_repaint-same ι) ((session_at-same ι) size bytes).whole
 
 pub session_is_there-same : frozen.session_is_there ≡ today.session_is_there
-session_is_there-same = λ ι bytes. is_between ((session-same ι) bytes).whole ((pending_after-same ι) [] bytes)
+session_is_there-same = λ ι size bytes. is_between ((session_at-same ι) size bytes).whole ((pending_after-same ι) [] bytes)

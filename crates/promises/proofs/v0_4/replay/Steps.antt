@@ -3,7 +3,7 @@ use Rattle.promises.proofs.v0_4.recording.Timeline.{IsTimelineOf-same}
 use Rattle.promises.specs.v0_4.replay.Steps as frozen
 use Rattle.std.proofs.Common.{refl, ◌≡◌}
 use Rattle.std.specs.Prelude.{List, Option, ℕ, ◌≡◌}
-use Rattle.vt_recording.specs.declared.format.Break.{Break}
+use Rattle.vt_device.specs.declared.fault.Break.{Break}
 use Rattle.vt_recording.specs.declared.format.Encoding.{Encoding}
 use Rattle.vt_recording.specs.declared.format.Format.{Format}
 use Rattle.vt_recording.specs.declared.format.Moment.{Moment}

@@ -1,60 +1,64 @@
 -- 0.4: vt_replay/specs/Words is today's.
 use Rattle.promises.proofs.v0_4.replay.Encoding.{decoded-same}
-use Rattle.promises.proofs.v0_4.replay.Log.{lines_in-same, screen-same, screen_in-same}
+use Rattle.promises.proofs.v0_4.replay.Log.{lines_at-same, screen-same, screen_at-same}
 use Rattle.promises.proofs.v0_4.replay.Pages.{pages-same}
 use Rattle.promises.proofs.v0_4.replay.Playing.{replayed_at-same}
-use Rattle.promises.proofs.v0_4.term.State.{power_up-same}
-use Rattle.promises.proofs.v0_4.trace.Summary.{summary-same}
+use Rattle.promises.proofs.v0_4.term.State.{power_up-same, state_of-same}
+use Rattle.promises.proofs.v0_4.trace.Summary.{summary_on-same}
 use Rattle.promises.proofs.v0_4.trace.Trace.{end_lines-same, trace-same, tracer_all-same}
-use Rattle.promises.proofs.v0_4.trace.Utf8.{summary_utf8-same, trace_utf8-same, tracer_utf8-same}
+use Rattle.promises.proofs.v0_4.trace.Utf8.{summary_utf8_by-same, summary_utf8_on-same, trace_utf8-same}
+use Rattle.promises.proofs.v0_4.trace.Utf8.{tracer_utf8-same}
+use Rattle.promises.proofs.v0_4.xterm.Play.{front_of-same}
+use Rattle.promises.proofs.v0_4.xterm_trace.Names.{xterm_listing-same}
+use Rattle.promises.proofs.v0_4.xterm_trace.Trace.{trace_xterm-same, tracer_xterm-same}
 use Rattle.promises.specs.v0_4.replay.Words as frozen
 use Rattle.std.proofs.Common.{◌≡◌}
 use Rattle.std.specs.Prelude.{[], List, Result, ℕ}
 use Rattle.vt_cli.specs.declared.what.Word.TheVariants.{Animation, Content, Events, Log, Pages, Replay, Search}
 use Rattle.vt_cli.specs.declared.what.Word.TheVariants.{Summary, Trace}
 use Rattle.vt_cli.specs.declared.what.Word.{Word}
+use Rattle.vt_device.specs.Output.{all, always, nothing, OutputTable}
 use Rattle.vt_device.specs.Runs.{Flags}
-use Rattle.vt_output.specs.Output.{all, always, nothing, OutputTable}
-use Rattle.vt_recording.specs.declared.fault.Fault.{Fault}
-use Rattle.vt_recording.specs.declared.format.Encoding.TheVariants.{Dec, Utf8}
+use Rattle.vt_device.specs.declared.fault.Fault.{Fault}
+use Rattle.vt_recording.specs.declared.format.Encoding.TheVariants.{Dec}
 use Rattle.vt_recording.specs.declared.format.Encoding.{Encoding}
 use Rattle.vt_recording.specs.declared.format.TerminalType.TheVariants.{Xterm}
 use Rattle.vt_recording.specs.declared.format.TerminalType.{TerminalType}
 use Rattle.vt_replay.specs.Playing.{language_of}
 use Rattle.vt_replay.specs.Showing.{ShownTable}
 use Rattle.vt_replay.specs.Words as today
+use Rattle.vt_replay.specs.declared.language.Language.TheVariants as language
+use Rattle.vt_replay.specs.declared.language.Language.{Language}
 use Rattle.vt_screen.specs.declared.size.Size.{Size}
 use Rattle.vt_trace.specs.Trace.{tracer_at_start}
+use Rattle.vt_xterm.specs.Play.{behind}
 
 pub pages_written-same : frozen.pages_written ≡ today.pages_written
 pages_written-same = λ ι bytes. (pages-same ι) (power_up-same ι) bytes
 
-pub trace_written-same : frozen.trace_written ≡ today.trace_written
-trace_written-same = λ ι bytes. (trace-same ι) (power_up-same ι) tracer_at_start bytes
+pub trace_at-at : (x0 : Size) (x1 : Language) (x2 : List ℕ) → frozen.trace_at x0 x1 x2 ≡ today.trace_at x0 x1 x2
+trace_at-at size language.Dec bytes = λ ι. (trace-same ι) ((state_of-same ι) size) tracer_at_start bytes
+trace_at-at size language.Utf8 bytes = λ ι. (trace_utf8-same ι) ((state_of-same ι) size) tracer_at_start [] bytes
+trace_at-at size language.Xterm bytes = λ ι. (trace_xterm-same ι) (behind ((state_of-same ι) size) ((front_of-same ι) size)) tracer_at_start [] bytes
 
-pub trace_ending-same : frozen.trace_ending ≡ today.trace_ending
-trace_ending-same = λ ι bytes. (end_lines-same ι) ((tracer_all-same ι) (power_up-same ι) tracer_at_start bytes)
+pub trace_at-same : frozen.trace_at ≡ today.trace_at
+trace_at-same = λ ι x0 x1 x2. trace_at-at x0 x1 x2 ι
 
-pub trace_in-at : (x0 : Encoding) (x1 : List ℕ) → frozen.trace_in x0 x1 ≡ today.trace_in x0 x1
-trace_in-at Dec bytes = λ ι. (trace_written-same ι) bytes
-trace_in-at Utf8 bytes = λ ι. (trace_utf8-same ι) (power_up-same ι) tracer_at_start [] bytes
+pub trace_end_at-at : (x0 : Size) (x1 : Language) (x2 : List ℕ) → frozen.trace_end_at x0 x1 x2 ≡ today.trace_end_at x0 x1 x2
+trace_end_at-at size language.Dec bytes = λ ι. (end_lines-same ι) ((tracer_all-same ι) ((state_of-same ι) size) tracer_at_start bytes)
+trace_end_at-at size language.Utf8 bytes = λ ι. (end_lines-same ι) ((tracer_utf8-same ι) ((state_of-same ι) size) tracer_at_start [] bytes)
+trace_end_at-at size language.Xterm bytes = λ ι. (end_lines-same ι) ((tracer_xterm-same ι) (behind ((state_of-same ι) size) ((front_of-same ι) size)) tracer_at_start [] bytes)
 
-pub trace_in-same : frozen.trace_in ≡ today.trace_in
-trace_in-same = λ ι x0 x1. trace_in-at x0 x1 ι
+pub trace_end_at-same : frozen.trace_end_at ≡ today.trace_end_at
+trace_end_at-same = λ ι x0 x1 x2. trace_end_at-at x0 x1 x2 ι
 
-pub trace_end_in-at : (x0 : Encoding) (x1 : List ℕ) → frozen.trace_end_in x0 x1 ≡ today.trace_end_in x0 x1
-trace_end_in-at Dec bytes = λ ι. (trace_ending-same ι) bytes
-trace_end_in-at Utf8 bytes = λ ι. (end_lines-same ι) ((tracer_utf8-same ι) (power_up-same ι) tracer_at_start [] bytes)
+pub summary_at-at : (x0 : Size) (x1 : Language) (x2 : List ℕ) → frozen.summary_at x0 x1 x2 ≡ today.summary_at x0 x1 x2
+summary_at-at size language.Dec bytes = λ ι. (summary_on-same ι) size.rows bytes
+summary_at-at size language.Utf8 bytes = λ ι. (summary_utf8_on-same ι) size.rows bytes
+summary_at-at size language.Xterm bytes = λ ι. (summary_utf8_by-same ι) (xterm_listing-same ι) size.rows bytes
 
-pub trace_end_in-same : frozen.trace_end_in ≡ today.trace_end_in
-trace_end_in-same = λ ι x0 x1. trace_end_in-at x0 x1 ι
-
-pub summary_in-at : (x0 : Encoding) (x1 : List ℕ) → frozen.summary_in x0 x1 ≡ today.summary_in x0 x1
-summary_in-at Dec bytes = λ ι. (summary-same ι) bytes
-summary_in-at Utf8 bytes = λ ι. (summary_utf8-same ι) bytes
-
-pub summary_in-same : frozen.summary_in ≡ today.summary_in
-summary_in-same = λ ι x0 x1. summary_in-at x0 x1 ι
+pub summary_at-same : frozen.summary_at ≡ today.summary_at
+summary_at-same = λ ι x0 x1 x2. summary_at-at x0 x1 x2 ι
 
 pub of_decoded-same : frozen.of_decoded ≡ today.of_decoded
 of_decoded-same = λ ι encoding written ending. record {
@@ -68,10 +72,14 @@ due_of-at (Replay what) size terminal encoding = λ ι. (replayed_at-same ι) si
 due_of-at (Animation looks) size terminal encoding = λ ι. (of_decoded-same ι) Dec all nothing
 due_of-at Log size terminal encoding = λ ι.
     let language = language_of terminal encoding in
-    record { written = (lines_in-same ι) language; ending = (screen_in-same ι) language; there = always }
+    record { written = (lines_at-same ι) size language; ending = (screen_at-same ι) size language; there = always }
 due_of-at Pages size terminal encoding = λ ι. (of_decoded-same ι) encoding (pages_written-same ι) (screen-same ι)
-due_of-at Trace size terminal encoding = λ ι. record { written = (trace_in-same ι) encoding; ending = (trace_end_in-same ι) encoding; there = always }
-due_of-at Summary size terminal encoding = λ ι. record { written = nothing; ending = (summary_in-same ι) encoding; there = always }
+due_of-at Trace size terminal encoding = λ ι.
+    let language = language_of terminal encoding in
+    record { written = (trace_at-same ι) size language; ending = (trace_end_at-same ι) size language; there = always }
+due_of-at Summary size terminal encoding = λ ι.
+    let language = language_of terminal encoding in
+    record { written = nothing; ending = (summary_at-same ι) size language; there = always }
 due_of-at Events size terminal encoding = λ ι. (of_decoded-same ι) Dec all nothing
 due_of-at Content size terminal encoding = λ ι. (of_decoded-same ι) encoding all nothing
 due_of-at Search size terminal encoding = λ ι. (of_decoded-same ι) Dec all nothing

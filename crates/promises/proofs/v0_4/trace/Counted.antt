@@ -2,48 +2,53 @@
 use Rattle.promises.proofs.v0_4.syntax.Held.{held_after-same}
 use Rattle.promises.proofs.v0_4.syntax.Reading.{events_of-same}
 use Rattle.promises.proofs.v0_4.syntax.Split.{split_of-same}
-use Rattle.promises.proofs.v0_4.trace.Names.{names-same, numbered-same}
+use Rattle.promises.proofs.v0_4.trace.Names.{vt220_listing-same}
 use Rattle.promises.proofs.v0_4.trace.Skipped.{item_kinds-same}
-use Rattle.promises.proofs.v0_4.trace.Summary.{all_ignored_on-same, times_named_on-same}
+use Rattle.promises.proofs.v0_4.trace.Summary.{all_ignored_by-same, times_named_by-same}
 use Rattle.promises.specs.v0_4.trace.Counted as frozen
-use Rattle.std.proofs.Common.{refl, ◌≡◌}
+use Rattle.std.proofs.Common.{◌≡◌}
 use Rattle.std.specs.Prelude.{get_or, length, List, ℕ, ◌<◌, ◌≡◌}
+use Rattle.vt_screen.specs.Grid.{last_row}
 use Rattle.vt_syntax.specs.declared.event.Event.{Event}
 use Rattle.vt_trace.specs.Counted as today
-use Rattle.vt_trace.specs.Counted.{AreCounts}
+use Rattle.vt_trace.specs.Counted.{AreCounts, HasCountedBy}
+use Rattle.vt_trace.specs.Names.{Listing, numbered_in}
 use Rattle.vt_trace.specs.Skipped.{code_of}
 use Rattle.vt_trace.specs.Summary.{counted}
 use Rattle.vt_trace.specs.declared.summary.Summary.{Summary}
 
-pub AreCounts-made : (rows : ℕ) (events : List Event) (kinds : List ℕ) (ignored named : List ℕ) → frozen.AreCounts' rows events kinds ignored named → today.AreCounts rows events kinds ignored named
-AreCounts-made rows events kinds ignored named ρ = record {
+pub AreCounts-made : (d : Listing) (rows : ℕ) (events : List Event) (kinds : List ℕ) (ignored named : List ℕ) → frozen.AreCounts' d rows events kinds ignored named → today.AreCounts d rows events kinds ignored named
+AreCounts-made d rows events kinds ignored named ρ = record {
   size = ρ.size;
-  of_ignored = coe 0 1 (ι. (k : ℕ) → get_or ignored k 0 ≡ (all_ignored_on-same ι) rows events kinds k) ρ.of_ignored;
-  of_named = coe 0 1 (ι. (k : ℕ) → k < length (names-same ι) → get_or named k 0 ≡ counted ((times_named_on-same ι) rows ((numbered-same ι) k) events)) ρ.of_named;
+  of_ignored = coe 0 1 (ι. (k : ℕ) → get_or ignored k 0 ≡ (all_ignored_by-same ι) d.called rows events kinds k) ρ.of_ignored;
+  of_named = coe 0 1 (ι. (k : ℕ) → k < length d.listed → get_or named k 0 ≡ counted ((times_named_by-same ι) d.called rows (numbered_in d k) events)) ρ.of_named;
 }
 
-pub AreCounts-read : (rows : ℕ) (events : List Event) (kinds : List ℕ) (ignored named : List ℕ) → today.AreCounts rows events kinds ignored named → frozen.AreCounts' rows events kinds ignored named
-AreCounts-read rows events kinds ignored named ρ = record {
+pub AreCounts-read : (d : Listing) (rows : ℕ) (events : List Event) (kinds : List ℕ) (ignored named : List ℕ) → today.AreCounts d rows events kinds ignored named → frozen.AreCounts' d rows events kinds ignored named
+AreCounts-read d rows events kinds ignored named ρ = record {
   size = ρ.size;
-  of_ignored = coe 1 0 (ι. (k : ℕ) → get_or ignored k 0 ≡ (all_ignored_on-same ι) rows events kinds k) ρ.of_ignored;
-  of_named = coe 1 0 (ι. (k : ℕ) → k < length (names-same ι) → get_or named k 0 ≡ counted ((times_named_on-same ι) rows ((numbered-same ι) k) events)) ρ.of_named;
+  of_ignored = coe 1 0 (ι. (k : ℕ) → get_or ignored k 0 ≡ (all_ignored_by-same ι) d.called rows events kinds k) ρ.of_ignored;
+  of_named = coe 1 0 (ι. (k : ℕ) → k < length d.listed → get_or named k 0 ≡ counted ((times_named_by-same ι) d.called rows (numbered_in d k) events)) ρ.of_named;
 }
 
-pub HasCountedOn-made : (rows : ℕ) (bytes : List ℕ) (s : Summary) → frozen.HasCountedOn' rows bytes s → today.HasCountedOn rows bytes s
-HasCountedOn-made rows bytes s ρ = record {
+pub HasCountedBy-made : (d : Listing) (rows : ℕ) (bytes : List ℕ) (s : Summary) → frozen.HasCountedBy' d rows bytes s → today.HasCountedBy d rows bytes s
+HasCountedBy-made d rows bytes s ρ = record {
   rows_are = ρ.rows_are;
   held = coe 0 1 (ι. s.parser ≡ (held_after-same ι) bytes) ρ.held;
   code = coe 0 1 (ι. s.code ≡ code_of ((split_of-same ι) bytes).rest) ρ.code;
-  counts = coe 0 1 (ι. AreCounts rows ((events_of-same ι) bytes) ((item_kinds-same ι) bytes) s.ignored.items s.named) ρ.counts;
+  counts = coe 0 1 (ι. AreCounts d rows ((events_of-same ι) bytes) ((item_kinds-same ι) bytes) s.ignored.items s.named) ρ.counts;
 }
 
-pub HasCountedOn-read : (rows : ℕ) (bytes : List ℕ) (s : Summary) → today.HasCountedOn rows bytes s → frozen.HasCountedOn' rows bytes s
-HasCountedOn-read rows bytes s ρ = record {
+pub HasCountedBy-read : (d : Listing) (rows : ℕ) (bytes : List ℕ) (s : Summary) → today.HasCountedBy d rows bytes s → frozen.HasCountedBy' d rows bytes s
+HasCountedBy-read d rows bytes s ρ = record {
   rows_are = ρ.rows_are;
   held = coe 1 0 (ι. s.parser ≡ (held_after-same ι) bytes) ρ.held;
   code = coe 1 0 (ι. s.code ≡ code_of ((split_of-same ι) bytes).rest) ρ.code;
-  counts = coe 1 0 (ι. AreCounts rows ((events_of-same ι) bytes) ((item_kinds-same ι) bytes) s.ignored.items s.named) ρ.counts;
+  counts = coe 1 0 (ι. AreCounts d rows ((events_of-same ι) bytes) ((item_kinds-same ι) bytes) s.ignored.items s.named) ρ.counts;
 }
 
+pub HasCountedOn-same : frozen.HasCountedOn ≡ today.HasCountedOn
+HasCountedOn-same = λ ι rows bytes s. HasCountedBy (vt220_listing-same ι) rows bytes s
+
 pub HasCounted-same : frozen.HasCounted ≡ today.HasCounted
-HasCounted-same = refl
+HasCounted-same = λ ι bytes s. (HasCountedOn-same ι) last_row bytes s

@@ -4,14 +4,18 @@ use Rattle.promises.proofs.v0_4.term.Names.{name_on-same}
 use Rattle.promises.proofs.v0_4.term.Reports.{report-same}
 use Rattle.promises.specs.v0_4.trace.Ignored as frozen
 use Rattle.std.proofs.Common.{refl, ◌≡◌}
-use Rattle.std.specs.Prelude.{[], false, None, Some, true, ◌≡◌, ◌≢◌, ◌⊎◌}
+use Rattle.std.specs.Prelude.{[], ◌≡◌, ◌≢◌, ◌⊎◌}
 use Rattle.vt_screen.specs.Grid.{last_row}
 use Rattle.vt_syntax.specs.declared.event.Event.{Event}
 use Rattle.vt_term.specs.State.{Display}
 use Rattle.vt_trace.specs.Ignored as today
+use Rattle.vt_trace.specs.Ignored.{is_ignored_by}
+
+pub is_ignored_by-same : frozen.is_ignored_by ≡ today.is_ignored_by
+is_ignored_by-same = refl
 
 pub is_ignored_on-same : frozen.is_ignored_on ≡ today.is_ignored_on
-is_ignored_on-same = λ ι rows event. elim ((name_on-same ι) rows event) [ None ↦ true | Some name ↦ false ]
+is_ignored_on-same = λ ι rows event. is_ignored_by (name_on-same ι) rows event
 
 pub is_ignored-same : frozen.is_ignored ≡ today.is_ignored
 is_ignored-same = λ ι event. (is_ignored_on-same ι) last_row event

@@ -4,7 +4,7 @@ use Rattle.promises.specs.v0_4.trace.Lines as frozen
 use Rattle.std.proofs.Common.{refl, ◌≡◌}
 use Rattle.std.specs.List.{flat_map}
 use Rattle.std.specs.Option.{option_to_list}
-use Rattle.std.specs.Prelude.{[], codes, if◌then◌else◌, List, None, not, Option, Some, ℕ, ◌%◌, ◌&&◌, ◌++◌, ◌/◌}
+use Rattle.std.specs.Prelude.{[], codes, if◌then◌else◌, List, None, not, Option, Some, ℕ, ◌%◌, ◌&&◌, ◌++◌, ◌+◌, ◌/◌}
 use Rattle.std.specs.Prelude.{◌==◌, ◌∷◌}
 use Rattle.vt_screen.specs.Grid.{last_row}
 use Rattle.vt_syntax.specs.Class.{is_plain}
@@ -53,6 +53,9 @@ bytes_column-same = λ ι x0. bytes_column-at x0 ι
 pub line-same : frozen.line ≡ today.line
 line-same = refl
 
+pub Names-same : frozen.Names ≡ today.Names
+Names-same = refl
+
 pub line_named-at : (x0 : ℕ) (x1 : Event) (x2 : Option (List ℕ)) → frozen.line_named x0 x1 x2 ≡ today.line_named x0 x1 x2
 line_named-at place event (Some name) = λ ι. line place name ((values_column-same ι) event)
 line_named-at place event None = λ ι. line place (codes "ignored") ((bytes_column-same ι) event)
@@ -60,9 +63,12 @@ line_named-at place event None = λ ι. line place (codes "ignored") ((bytes_col
 pub line_named-same : frozen.line_named ≡ today.line_named
 line_named-same = λ ι x0 x1 x2. line_named-at x0 x1 x2 ι
 
+pub event_line_by-same : frozen.event_line_by ≡ today.event_line_by
+unfolding frozen.event_line_by today.event_line_by
+event_line_by-same = λ ι names rows place event. (line_named-same ι) place event (names rows event)
+
 pub event_line_on-same : frozen.event_line_on ≡ today.event_line_on
-unfolding frozen.event_line_on today.event_line_on
-event_line_on-same = λ ι rows place event. (line_named-same ι) place event ((name_on-same ι) rows event)
+event_line_on-same = λ ι rows place event. (event_line_by-same ι) (name_on-same ι) rows place event
 
 pub event_line-same : frozen.event_line ≡ today.event_line
 event_line-same = λ ι place event. (event_line_on-same ι) last_row place event

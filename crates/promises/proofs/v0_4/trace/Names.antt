@@ -1,9 +1,10 @@
 -- 0.4: vt_trace/specs/Names is today's.
 use Rattle.promises.proofs.v0_4.term.Functions.{controls-same, number_sign_escapes-same, plain_escapes-same}
 use Rattle.promises.proofs.v0_4.term.Functions.{plain_sequences-same, private_sequences-same}
+use Rattle.promises.proofs.v0_4.term.Names.{name_on-same}
 use Rattle.promises.specs.v0_4.trace.Names as frozen
 use Rattle.std.proofs.Common.{refl, ◌≡◌}
-use Rattle.std.specs.Prelude.{[], codes, get_or, take, ◌++◌, ◌∷◌}
+use Rattle.std.specs.Prelude.{[], codes, get_or, take, ◌++◌, ◌+◌, ◌∷◌}
 use Rattle.vt_term.specs.Functions.{exclamation_sequences, quote_sequences, space_escapes}
 use Rattle.vt_trace.specs.Names as today
 use Rattle.vt_trace.specs.Names.{designation_names, names_in}
@@ -32,3 +33,21 @@ names-same = λ ι.
 
 pub numbered-same : frozen.numbered ≡ today.numbered
 numbered-same = λ ι number. get_or (names-same ι) number []
+
+pub Listing-made : frozen.Listing' → today.Listing
+Listing-made ρ = record {
+  called = ρ.called;
+  listed = ρ.listed;
+}
+
+pub Listing-read : today.Listing → frozen.Listing'
+Listing-read ρ = record {
+  called = ρ.called;
+  listed = ρ.listed;
+}
+
+pub vt220_listing-same : frozen.vt220_listing ≡ today.vt220_listing
+vt220_listing-same = λ ι. record { called = (name_on-same ι); listed = (names-same ι) }
+
+pub numbered_in-same : frozen.numbered_in ≡ today.numbered_in
+numbered_in-same = refl

@@ -1,22 +1,20 @@
 -- 0.4: vt_trace/specs/Summary is today's.
 use Rattle.promises.proofs.v0_4.syntax.Reading.{events_of-same}
 use Rattle.promises.proofs.v0_4.term.Names.{name_on-same}
-use Rattle.promises.proofs.v0_4.trace.Ignored.{is_ignored_on-same}
 use Rattle.promises.proofs.v0_4.trace.Lines.{bytes_column-same, shown_byte-same}
-use Rattle.promises.proofs.v0_4.trace.Names.{names-same, numbered-same}
+use Rattle.promises.proofs.v0_4.trace.Names.{vt220_listing-same}
 use Rattle.promises.proofs.v0_4.trace.Skipped.{kind_name-same, kinds_of-same}
 use Rattle.promises.specs.v0_4.trace.Summary as frozen
 use Rattle.std.proofs.Common.{refl, ◌≡◌}
-use Rattle.std.specs.Cmp.Lexicographic.{pointwise}
 use Rattle.std.specs.List.{flat_map, range_with_len}
-use Rattle.std.specs.Prelude.{[], codes, count_by, false, length, List, nat_eq, None, Some, ℕ, ◌&&◌, ◌++◌, ◌+◌, ◌==◌}
-use Rattle.std.specs.Prelude.{◌≡◌}
+use Rattle.std.specs.Prelude.{[], codes, count_by, List, None, Some, ℕ, ◌++◌, ◌+◌, ◌==◌, ◌≡◌}
 use Rattle.vt_screen.specs.Grid.{last_row}
 use Rattle.vt_syntax.specs.declared.event.Event.TheVariants.{Control, Escape, Print, Sequence}
 use Rattle.vt_syntax.specs.declared.event.Event.{Event}
+use Rattle.vt_trace.specs.Names.{numbered_in}
 use Rattle.vt_trace.specs.Summary as today
-use Rattle.vt_trace.specs.Summary.{count_line, counted, escape_finals, finals, intermediates, kind_number, markers}
-use Rattle.vt_trace.specs.Summary.{optionally}
+use Rattle.vt_trace.specs.Summary.{count_line, counted, escape_finals, finals, has_name_by, intermediates}
+use Rattle.vt_trace.specs.Summary.{is_ignored_kind_by, kind_number, markers, named_lines, optionally}
 
 pub inter_number-same : frozen.inter_number ≡ today.inter_number
 inter_number-same = refl
@@ -33,19 +31,19 @@ without_values-same = refl
 pub IsByteAtMost-same : frozen.IsByteAtMost ≡ today.IsByteAtMost
 IsByteAtMost-same = refl
 
-pub has_name_on-same : frozen.has_name_on ≡ today.has_name_on
-has_name_on-same = λ ι rows name event. elim ((name_on-same ι) rows event) [ None ↦ false | Some other ↦ pointwise nat_eq name other ]
+pub has_name_by-same : frozen.has_name_by ≡ today.has_name_by
+has_name_by-same = refl
 
-pub is_ignored_kind_on-same : frozen.is_ignored_kind_on ≡ today.is_ignored_kind_on
-is_ignored_kind_on-same = λ ι rows number event. (is_ignored_on-same ι) rows event && kind_number event == number
+pub is_ignored_kind_by-same : frozen.is_ignored_kind_by ≡ today.is_ignored_kind_by
+is_ignored_kind_by-same = refl
 
-pub times_named_on-same : frozen.times_named_on ≡ today.times_named_on
-unfolding frozen.times_named_on today.times_named_on
-times_named_on-same = λ ι rows name events. count_by ((has_name_on-same ι) rows name) events
+pub times_named_by-same : frozen.times_named_by ≡ today.times_named_by
+unfolding frozen.times_named_by today.times_named_by
+times_named_by-same = λ ι called rows name events. count_by (has_name_by called rows name) events
 
-pub times_ignored_on-same : frozen.times_ignored_on ≡ today.times_ignored_on
-unfolding frozen.times_ignored_on today.times_ignored_on
-times_ignored_on-same = λ ι rows number events. count_by ((is_ignored_kind_on-same ι) rows number) events
+pub times_ignored_by-same : frozen.times_ignored_by ≡ today.times_ignored_by
+unfolding frozen.times_ignored_by today.times_ignored_by
+times_ignored_by-same = λ ι called rows number events. count_by (is_ignored_kind_by called rows number) events
 
 pub times_skipped-same : frozen.times_skipped ≡ today.times_skipped
 unfolding frozen.times_skipped today.times_skipped
@@ -61,7 +59,7 @@ pub ignored_line-same : frozen.ignored_line ≡ today.ignored_line
 ignored_line-same = λ ι times event. count_line (times (kind_number event)) (codes "ignored " ++ (bytes_column-same ι) event)
 
 pub named_line-same : frozen.named_line ≡ today.named_line
-named_line-same = λ ι times number. count_line (times number) ((numbered-same ι) number)
+named_line-same = refl
 
 pub optionally-same : frozen.optionally ≡ today.optionally
 optionally-same = refl
@@ -98,25 +96,28 @@ ignored_lines-same = λ ι times.
     ++ optionally markers (λ marker. optionally intermediates ((ignored_sequences-same ι) times marker)))
 
 pub named_lines-same : frozen.named_lines ≡ today.named_lines
-named_lines-same = λ ι times. flat_map ((named_line-same ι) times) (range_with_len 0 (length (names-same ι)))
+named_lines-same = refl
 
-pub all_ignored_on-same : frozen.all_ignored_on ≡ today.all_ignored_on
-all_ignored_on-same = λ ι rows events kinds number. counted ((times_ignored_on-same ι) rows number events + (times_skipped-same ι) number kinds)
+pub all_ignored_by-same : frozen.all_ignored_by ≡ today.all_ignored_by
+all_ignored_by-same = λ ι called rows events kinds number. counted ((times_ignored_by-same ι) called rows number events + (times_skipped-same ι) number kinds)
 
-pub event_summary_on-same : frozen.event_summary_on ≡ today.event_summary_on
-event_summary_on-same = λ ι rows events kinds.
-    (ignored_lines-same ι) ((all_ignored_on-same ι) rows events kinds)
-    ++ (named_lines-same ι) (λ number. counted ((times_named_on-same ι) rows ((numbered-same ι) number) events))
+pub event_summary_by-same : frozen.event_summary_by ≡ today.event_summary_by
+event_summary_by-same = λ ι d rows events kinds.
+    (ignored_lines-same ι) ((all_ignored_by-same ι) d.called rows events kinds)
+    ++ named_lines d (λ number. counted ((times_named_by-same ι) d.called rows (numbered_in d number) events))
+
+pub summary_by-same : frozen.summary_by ≡ today.summary_by
+unfolding frozen.summary_by today.summary_by
+summary_by-same = λ ι d rows bytes. (event_summary_by-same ι) d rows ((events_of-same ι) bytes) ((kinds_of-same ι) bytes)
 
 pub summary_on-same : frozen.summary_on ≡ today.summary_on
-unfolding frozen.summary_on today.summary_on
-summary_on-same = λ ι rows bytes. (event_summary_on-same ι) rows ((events_of-same ι) bytes) ((kinds_of-same ι) bytes)
+summary_on-same = λ ι rows bytes. (summary_by-same ι) (vt220_listing-same ι) rows bytes
 
 pub times_named-same : frozen.times_named ≡ today.times_named
-times_named-same = λ ι name events. (times_named_on-same ι) last_row name events
+times_named-same = λ ι name events. (times_named_by-same ι) (name_on-same ι) last_row name events
 
 pub times_ignored-same : frozen.times_ignored ≡ today.times_ignored
-times_ignored-same = λ ι number events. (times_ignored_on-same ι) last_row number events
+times_ignored-same = λ ι number events. (times_ignored_by-same ι) (name_on-same ι) last_row number events
 
 pub summary-same : frozen.summary ≡ today.summary
 summary-same = λ ι bytes. (summary_on-same ι) last_row bytes

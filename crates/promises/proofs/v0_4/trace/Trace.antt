@@ -2,9 +2,11 @@
 use Rattle.promises.proofs.v0_4.syntax.Held.{events_from-same, held_after-same, held_from-same}
 use Rattle.promises.proofs.v0_4.syntax.Split.{split_of-same}
 use Rattle.promises.proofs.v0_4.term.Functions.{effect-same}
+use Rattle.promises.proofs.v0_4.term.Happenings.{happening-same}
+use Rattle.promises.proofs.v0_4.term.Names.{name_on-same}
 use Rattle.promises.proofs.v0_4.term.Play.{play-same}
 use Rattle.promises.proofs.v0_4.term.Reports.{report-same}
-use Rattle.promises.proofs.v0_4.trace.Lines.{event_line_on-same, shown-same, shown_byte-same}
+use Rattle.promises.proofs.v0_4.trace.Lines.{event_line_by-same, shown-same, shown_byte-same}
 use Rattle.promises.proofs.v0_4.trace.Skipped.{skipped_line-same}
 use Rattle.promises.specs.v0_4.trace.Trace as frozen
 use Rattle.std.proofs.Common.{refl, ◌≡◌}
@@ -16,7 +18,7 @@ use Rattle.vt_syntax.specs.Items.{item_bytes, rest_bytes}
 use Rattle.vt_syntax.specs.declared.event.Event.TheVariants.{Print}
 use Rattle.vt_syntax.specs.declared.event.Event.{Event}
 use Rattle.vt_term.specs.State.{Display, State}
-use Rattle.vt_trace.specs.Lines.{line}
+use Rattle.vt_trace.specs.Lines.{line, Names}
 use Rattle.vt_trace.specs.Skipped.{code_of, is_empty}
 use Rattle.vt_trace.specs.Trace as today
 use Rattle.vt_trace.specs.Trace.{code_after, cuts_off, ended_kind, is_nothing, is_string, is_text, item_first}
@@ -57,13 +59,14 @@ report_line-at place (b ∷ bytes) = λ ι. line place (codes "report") ((shown-
 pub report_line-same : frozen.report_line ≡ today.report_line
 report_line-same = λ ι x0 x1. report_line-at x0 x1 ι
 
-pub written-at : (x0 : ℕ) (x1 : Bool) (x2 : ℕ) (x3 : Event) (x4 : List ℕ) → frozen.written x0 x1 x2 x3 x4 ≡ today.written x0 x1 x2 x3 x4
-written-at rows in_text place (Print b) reports = λ ι.
-    if has_no_glyph b then text_end in_text ++ (event_line_on-same ι) rows place (Print b) else (text_of-same ι) in_text place b
-written-at rows in_text place event reports = λ ι. text_end in_text ++ ((event_line_on-same ι) rows place event ++ (report_line-same ι) place reports)
+pub written-at : (x0 : Names) (x1 : ℕ) (x2 : Bool) (x3 : ℕ) (x4 : Event) (x5 : List ℕ) → frozen.written x0 x1 x2 x3 x4 x5 ≡ today.written x0 x1 x2 x3 x4 x5
+written-at names rows in_text place (Print b) reports = λ ι.
+    if has_no_glyph b then text_end in_text ++ (event_line_by-same ι) names rows place (Print b) else (text_of-same ι) in_text place b
+written-at names rows in_text place event reports = λ ι.
+    text_end in_text ++ ((event_line_by-same ι) names rows place event ++ (report_line-same ι) place reports)
 
 pub written-same : frozen.written ≡ today.written
-written-same = λ ι x0 x1 x2 x3 x4. written-at x0 x1 x2 x3 x4 ι
+written-same = λ ι x0 x1 x2 x3 x4 x5. written-at x0 x1 x2 x3 x4 x5 ι
 
 pub is_nothing-same : frozen.is_nothing ≡ today.is_nothing
 is_nothing-same = refl
@@ -109,13 +112,14 @@ pub end_lines-same : frozen.end_lines ≡ today.end_lines
 unfolding frozen.end_lines today.end_lines
 end_lines-same = λ ι t. if length t.first.items == 0 then text_end t.in_text else (open_lines-same ι) t
 
-pub written_all-at : (x0 : Bool) (x1 : (Event → ℕ)) (x2 : List Event) (x3 : Display) → frozen.written_all x0 x1 x2 x3 ≡ today.written_all x0 x1 x2 x3
-written_all-at in_text place_at [] s = λ ι. []
-written_all-at in_text place_at (event ∷ events) s = λ ι.
-    (written-same ι) s.grid.size.rows in_text (place_at event) event ((report-same ι) event s) ++ (written_all-at (is_text event) place_at events ((effect-same ι) event s) ι)
+pub written_all-at : (x0 : Names) (x1 : Bool) (x2 : (Event → ℕ)) (x3 : List Event) (x4 : Display) → frozen.written_all x0 x1 x2 x3 x4 ≡ today.written_all x0 x1 x2 x3 x4
+written_all-at names in_text place_at [] s = λ ι. []
+written_all-at names in_text place_at (event ∷ events) s = λ ι.
+    (written-same ι) names s.grid.size.rows in_text (place_at event) event ((report-same ι) event s)
+    ++ (written_all-at names (is_text event) place_at events ((effect-same ι) event s) ι)
 
 pub written_all-same : frozen.written_all ≡ today.written_all
-written_all-same = λ ι x0 x1 x2 x3. written_all-at x0 x1 x2 x3 ι
+written_all-same = λ ι x0 x1 x2 x3 x4. written_all-at x0 x1 x2 x3 x4 ι
 
 pub text_after-at : (x0 : Bool) (x1 : List Event) → frozen.text_after x0 x1 ≡ today.text_after x0 x1
 text_after-at in_text [] = λ ι. in_text
@@ -124,21 +128,27 @@ text_after-at in_text (event ∷ events) = λ ι. (text_after-at (is_text event)
 pub text_after-same : frozen.text_after ≡ today.text_after
 text_after-same = λ ι x0 x1. text_after-at x0 x1 ι
 
+pub traced_at-same : frozen.traced_at ≡ today.traced_at
+traced_at-same = λ ι names t h.
+    (skipped-same ι) t h.held h.byte
+    ++ (written_all-same ι) names ((goes_on-same ι) t h.held h.byte) (place_of t.place (item_place t h.held h.byte) h.byte) h.events h.before
+
+pub tracer_at-same : frozen.tracer_at ≡ today.tracer_at
+tracer_at-same = λ ι t h. record {
+  place = t.place + 1;
+  begin = item_place t h.held h.byte;
+  in_text = (text_after-same ι) ((goes_on-same ι) t h.held h.byte) h.events;
+  code = code_after t.code (is_string h.held) ((held_from-same ι) h.held (h.byte ∷ [])) h.byte;
+  first = record { items = if is_nothing ((held_from-same ι) h.held (h.byte ∷ [])) then [] else item_first t h.held h.byte };
+}
+
 pub traced-same : frozen.traced ≡ today.traced
 unfolding frozen.traced today.traced
-traced-same = λ ι s t b.
-    (skipped-same ι) t s.held b
-    ++ (written_all-same ι) ((goes_on-same ι) t s.held b) (place_of t.place (item_place t s.held b) b) ((events_from-same ι) s.held (b ∷ [])) s.display
+traced-same = λ ι s t b. (traced_at-same ι) (name_on-same ι) t ((happening-same ι) s b)
 
 pub tracer_after-same : frozen.tracer_after ≡ today.tracer_after
 unfolding frozen.tracer_after today.tracer_after
-tracer_after-same = λ ι s t b. record {
-  place = t.place + 1;
-  begin = item_place t s.held b;
-  in_text = (text_after-same ι) ((goes_on-same ι) t s.held b) ((events_from-same ι) s.held (b ∷ []));
-  code = code_after t.code (is_string s.held) ((held_from-same ι) s.held (b ∷ [])) b;
-  first = record { items = if is_nothing ((held_from-same ι) s.held (b ∷ [])) then [] else item_first t s.held b };
-}
+tracer_after-same = λ ι s t b. (tracer_at-same ι) t ((happening-same ι) s b)
 
 pub trace-at : (x0 : State) (x1 : Tracer) (x2 : List ℕ) → frozen.trace x0 x1 x2 ≡ today.trace x0 x1 x2
 unfolding frozen.trace today.trace

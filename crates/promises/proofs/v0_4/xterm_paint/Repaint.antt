@@ -1,27 +1,30 @@
 -- 0.4: vt_xterm_paint/specs/Repaint is today's.
+use Rattle.promises.proofs.v0_4.paint.Limits.{paint_limit-same}
 use Rattle.promises.proofs.v0_4.paint.Repaint.{made_events-same}
-use Rattle.promises.proofs.v0_4.term.State.{display_at_power_up-same, power_up-same}
+use Rattle.promises.proofs.v0_4.term.State.{display_of-same, power_up-same, state_of-same}
 use Rattle.promises.proofs.v0_4.utf8.Decoding.{pending_after-same, pending_of-same}
 use Rattle.promises.proofs.v0_4.xterm.Play.{front_at_power_up-same, play_xterm-same}
 use Rattle.promises.specs.v0_4.xterm_paint.Repaint as frozen
 use Rattle.std.proofs.Common.{refl, ◌≡◌}
-use Rattle.std.specs.Prelude.{[], All, false, List, not, true, ℕ, ◌++◌, ◌∷◌, ◌≡◌, ◌≤◌}
-use Rattle.vt_controls.specs.Controls.{private_mode, reset_to_initial_state}
+use Rattle.std.specs.Prelude.{[], All, false, List, not, true, ℕ, ◌*◌, ◌++◌, ◌+◌, ◌∷◌, ◌≡◌, ◌≤◌}
+use Rattle.vt_paint.specs.Controls.{private_mode, reset_to_initial_state}
+use Rattle.vt_screen.specs.Sizes.{vt220_size}
+use Rattle.vt_screen.specs.declared.size.Size.{Size}
 use Rattle.vt_syntax.specs.Spelling.{spell_events}
 use Rattle.vt_term.specs.Pages.{with_page}
-use Rattle.vt_term.specs.Sound.{IsSound}
+use Rattle.vt_term.specs.Sound.{IsSoundAt}
 use Rattle.vt_xterm.specs.Play.{behind, Whole}
 use Rattle.vt_xterm_paint.specs.Repaint as today
 use Rattle.vt_xterm_paint.specs.Repaint.{paste_item, Rebuilds}
 
 pub other_shown-same : frozen.other_shown ≡ today.other_shown
-other_shown-same = λ ι pages. with_page pages.other (display_at_power_up-same ι)
+other_shown-same = λ ι pages. with_page pages.other ((display_of-same ι) pages.other.grid.size)
 
 pub paste_item-same : frozen.paste_item ≡ today.paste_item
 paste_item-same = refl
 
 pub showing_other-same : frozen.showing_other ≡ today.showing_other
-showing_other-same = λ ι pages. record (power_up-same ι) { display = (other_shown-same ι) pages }
+showing_other-same = λ ι pages. record ((state_of-same ι) pages.other.grid.size) { display = (other_shown-same ι) pages }
 
 pub xterm_repaint_events-same : frozen.xterm_repaint_events ≡ today.xterm_repaint_events
 unfolding frozen.xterm_repaint_events today.xterm_repaint_events
@@ -39,6 +42,21 @@ xterm_repaint_events-same = λ ι w.
 pub xterm_repaint-same : frozen.xterm_repaint ≡ today.xterm_repaint
 unfolding frozen.xterm_repaint today.xterm_repaint
 xterm_repaint-same = λ ι w. spell_events ((xterm_repaint_events-same ι) w)
+
+pub xterm_paint_limit-same : frozen.xterm_paint_limit ≡ today.xterm_paint_limit
+xterm_paint_limit-same = λ ι size. 2 * (paint_limit-same ι) size + 36
+
+pub IsSoundWholeAt-made : (size : Size) (w : Whole) → frozen.IsSoundWholeAt' size w → today.IsSoundWholeAt size w
+IsSoundWholeAt-made size w ρ = record {
+  state = ρ.state;
+  other = ρ.other;
+}
+
+pub IsSoundWholeAt-read : (size : Size) (w : Whole) → today.IsSoundWholeAt size w → frozen.IsSoundWholeAt' size w
+IsSoundWholeAt-read size w ρ = record {
+  state = ρ.state;
+  other = ρ.other;
+}
 
 pub Rebuilds-made : (bytes : List ℕ) (w : Whole) (left : List ℕ) (u : Whole) (part : List ℕ) → frozen.Rebuilds' bytes w left u part → today.Rebuilds bytes w left u part
 Rebuilds-made bytes w left u part ρ = record {
@@ -61,5 +79,8 @@ pub IsReachedWhole-same : frozen.IsReachedWhole ≡ today.IsReachedWhole
 IsReachedWhole-same = λ ι w.
     (bytes : List ℕ) × All (λ b. b ≤ 0xFF) bytes × (((play_xterm-same ι) (behind (power_up-same ι) (front_at_power_up-same ι)) [] bytes).whole ≡ w)
 
+pub IsRebuiltAt-same : frozen.IsRebuiltAt ≡ today.IsRebuiltAt
+IsRebuiltAt-same = λ ι size w. (u : Whole) (part : List ℕ) → IsSoundAt size u.state → (IsPart-same ι) part → Rebuilds ((xterm_repaint-same ι) w) w [] u part
+
 pub IsRebuilt-same : frozen.IsRebuilt ≡ today.IsRebuilt
-IsRebuilt-same = λ ι w. (u : Whole) (part : List ℕ) → IsSound u.state → (IsPart-same ι) part → Rebuilds ((xterm_repaint-same ι) w) w [] u part
+IsRebuilt-same = λ ι w. (IsRebuiltAt-same ι) vt220_size w

@@ -111,7 +111,7 @@ with_events a = with_word (with_word (with_word (with_word a Trace) Summary) Eve
 
 -- with that for a text, which comes before the file
 abbrev pub with_search : App → App
-with_search a = with_subcommand a (subcommand_with (word_name Search) (required_argument (codes "pattern") ∷ arguments)).top
+with_search a = with_subcommand a (subcommand_with (word_name Search) (required_argument (codes "pattern") ∷ flag_option (codes "log") ∷ arguments)).top
 
 -- a subcommand is required, and it has a version
 abbrev pub as_program : App → App

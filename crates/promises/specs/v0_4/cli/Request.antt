@@ -36,6 +36,7 @@ pub record IsFound' (found : Option (Text × List Row)) (r : Request) : Type 0 w
   pub timing : option_map (λ f. string_bytes f) r.timing ≡ first_of (codes "timing") matches
   pub title : option_map (λ t. string_bytes t) r.title ≡ first_of (codes "title") matches
   pub pattern : option_map (λ t. string_bytes t) r.pattern ≡ first_of (codes "pattern") matches
+  pub log : r.log ≡ is_set (codes "log") matches
   pub full : r.full ≡ is_set (codes "full") matches
   pub partial : r.partial ≡ is_set (codes "partial") matches
   pub quiet : r.quiet ≡ is_set (codes "quiet") matches

@@ -38,9 +38,7 @@ takes_start command = bytes_eq command (codes "events") || bytes_eq command (cod
 
 -- the command of this name plays xterm
 abbrev pub plays_xterm : Text → Bool
-plays_xterm command =
-    not (bytes_eq command (codes "pages"))
-    && (not (bytes_eq command (codes "trace")) && not (bytes_eq command (codes "summary")))
+plays_xterm command = not (bytes_eq command (codes "pages"))
 
 -- the size of so many rows of so many columns, if a screen may have it. Its narrow and its wide screen are of one width
 abbrev pub size_of : (columns rows : ℕ) → Option Size
@@ -48,15 +46,10 @@ size_of columns rows =
     cond (nat_lt 79 columns && (nat_lt columns 256 && (nat_lt 1 rows && nat_lt rows 256)))
     (Some (record { rows = rows; narrow = columns; wide = columns })) None
 
--- the command of this name plays a screen of any size
-abbrev pub plays_sizes : Text → Bool
-plays_sizes command =
-    bytes_eq command (codes "text") || (bytes_eq command (codes "reports") || (bytes_eq command (codes "status")
-    || (bytes_eq command (codes "show") || bytes_eq command (codes "picture"))))
-
--- a picture that moves has a VT220's size
-abbrev pub has_one_size : (command : Text) → Option Looks → Bool
-has_one_size command looks = is_some looks || not (plays_sizes command)
+-- the command of this name plays a VT220's screen alone, or none
+abbrev pub has_one_size : (command : Text) → Bool
+has_one_size command =
+    bytes_eq command (codes "pages") || (bytes_eq command (codes "events") || bytes_eq command (codes "content"))
 
 -- the command of this name writes a picture that may move
 abbrev pub may_move : Text → Bool

@@ -1,5 +1,6 @@
 -- 0.4: vt_laws/specs/Parts.
 use Rattle.promises.specs.v0_4.syntax.Held.{events_from}
+use Rattle.promises.specs.v0_4.term.Names.{name_on}
 use Rattle.promises.specs.v0_4.term.Play.{play}
 use Rattle.promises.specs.v0_4.trace.Skipped.{skipped_line}
 use Rattle.promises.specs.v0_4.trace.Trace.{cuts_off, ended_kind, ends_silent, goes_on, item_first, item_place}
@@ -38,7 +39,7 @@ skipped_by t cut ended place kind first =
 abbrev pub byte_parts : State → Tracer → ℕ → List Part
 byte_parts s t b =
     skipped_by t (cuts_off s.held b) (ends_silent s.held b) (item_place t s.held b) (ended_kind t.code s.held b) (item_first t s.held b)
-    ++ Other (written_all (goes_on t s.held b) (place_of t.place (item_place t s.held b) b) (events_from s.held (b ∷ [])) s.display) ∷ []
+    ++ Other (written_all name_on (goes_on t s.held b) (place_of t.place (item_place t s.held b) b) (events_from s.held (b ∷ [])) s.display) ∷ []
 
 -- at the end of bytes
 abbrev pub end_parts : Tracer → List Part

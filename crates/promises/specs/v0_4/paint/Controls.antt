@@ -1,4 +1,4 @@
--- 0.4: vt_controls/specs/Controls.
+-- 0.4: vt_paint/specs/Controls.
 use Rattle.promises.specs.v0_4.glyph.Designation.{final_of}
 use Rattle.promises.specs.v0_4.glyph.Invocation.{set_at}
 use Rattle.promises.specs.v0_4.screen.Same.{when}

@@ -1,21 +1,22 @@
 -- 0.4: vt_paint/specs/Items.
-use Rattle.promises.specs.v0_4.controls.Controls.{brush_events, clear_all_tabs, cursor_position, margins_to}
-use Rattle.promises.specs.v0_4.controls.Controls.{mode_rows, ModeRow, private_mode, save_cursor, set_tab, sets_events}
-use Rattle.promises.specs.v0_4.controls.Controls.{shift_to, spelling_sets_events}
 use Rattle.promises.specs.v0_4.glyph.Tables.{space}
+use Rattle.promises.specs.v0_4.paint.Controls.{ModeRow, private_mode, save_cursor, set_tab, sets_events, shift_to}
+use Rattle.promises.specs.v0_4.paint.Controls.{brush_events, clear_all_tabs, cursor_position, margins_to, mode_rows}
+use Rattle.promises.specs.v0_4.paint.Controls.{spelling_sets_events}
 use Rattle.promises.specs.v0_4.paint.Pieces.{glyph_events, is_blank_grid, pieces}
 use Rattle.promises.specs.v0_4.paint.Same.{same_saved}
 use Rattle.promises.specs.v0_4.screen.Cells.{brush_of}
-use Rattle.promises.specs.v0_4.screen.Grid.{cell_at, columns, last_row}
+use Rattle.promises.specs.v0_4.screen.Grid.{cell_at}
 use Rattle.promises.specs.v0_4.screen.Same.{same_bool, when}
 use Rattle.promises.specs.v0_4.term.Answers.{line_of_cursor}
-use Rattle.promises.specs.v0_4.term.State.{has_stop_at, modes_at_power_up, saved_at_power_up, saved_sets}
-use Rattle.promises.specs.v0_4.term.State.{stops_at_power_up}
+use Rattle.promises.specs.v0_4.term.State.{bottom_row, has_stop_at, modes_at_power_up, saved_at_power_up, saved_sets}
+use Rattle.promises.specs.v0_4.term.State.{stops_of}
 use Rattle.std.specs.Cmp.Lexicographic.{pointwise}
 use Rattle.std.specs.List.{flat_map, range_with_len}
 use Rattle.std.specs.Prelude.{[], Bool, false, if◌then◌else◌, List, None, not, Option, Some, true, ℕ, ◌&&◌, ◌++◌}
 use Rattle.std.specs.Prelude.{◌==◌, ◌∷◌}
 use Rattle.vt_screen.specs.Grid.{Grid}
+use Rattle.vt_screen.specs.declared.size.Size.{Size}
 use Rattle.vt_syntax.specs.declared.event.Event.TheVariants.{Print}
 use Rattle.vt_syntax.specs.declared.event.Event.{Event}
 use Rattle.vt_term.specs.State.{Display}
@@ -25,24 +26,29 @@ use Rattle.vt_term.specs.declared.state.Modes.{Modes}
 use Rattle.vt_term.specs.declared.state.Saved.{Saved}
 
 -- 2. If the stops differ from power-up, they are made on a wide screen, which has all their columns. The width of the
--- state follows. If the stops don't differ, a wide screen is selected if the state has one.
+-- state follows. If the stops don't differ, a wide screen is selected if the state has one. A size whose two widths are equal needs
+-- no DECCOLM.
 unfoldable pub stop_events : List Bool → ℕ → List Event
 stop_events stops c = when (has_stop_at stops c) (cursor_position 1 c ∷ set_tab ∷ [])
 
-abbrev pub is_wide : ℕ → Bool
-is_wide width = width == columns true
+abbrev pub is_wide : Size → ℕ → Bool
+is_wide size width = width == size.wide
 
-unfoldable pub made_stops : Bool → List Bool → List Event
-made_stops wide stops =
-    private_mode 3 true
-    ∷ clear_all_tabs
-    ∷ (flat_map (λ c. stop_events stops c) (range_with_len 1 (columns true))
-    ++ when (not wide) (private_mode 3 false ∷ []))
+-- DECCOLM, if it changes the width
+abbrev pub width_events : Size → Bool → List Event
+width_events size wide = when (not (size.narrow == size.wide)) (private_mode 3 wide ∷ [])
 
-unfoldable pub stops_item : ℕ → List Bool → List Event
-stops_item width stops =
-    if pointwise same_bool stops stops_at_power_up then when (is_wide width) (private_mode 3 true ∷ [])
-    else made_stops (is_wide width) stops
+unfoldable pub made_stops : Size → Bool → List Bool → List Event
+made_stops size wide stops =
+    width_events size true
+    ++ (clear_all_tabs
+    ∷ (flat_map (λ c. stop_events stops c) (range_with_len 1 size.wide)
+    ++ when (not wide) (width_events size false)))
+
+unfoldable pub stops_item : Size → ℕ → List Bool → List Event
+stops_item size width stops =
+    if pointwise same_bool stops (stops_of size.wide) then when (is_wide size width) (width_events size true)
+    else made_stops size (is_wide size width) stops
 
 -- 3. If the saved record differs from power-up, the cursor is moved to its position. A space in the last column sets
 -- the wrap flag, and DECSC saves, under DECOM if that was saved.
@@ -63,9 +69,9 @@ saved_item saved = when (not (same_saved saved saved_at_power_up)) (saved_events
 unfoldable pub cells_item : Grid → Bool → List Event
 cells_item g wrap = if is_blank_grid g && not wrap then [] else spelling_sets_events ++ pieces g
 
--- 5. Margins that aren't the full ones.
-unfoldable pub margins_item : Margins → List Event
-margins_item m = if m.top == 1 && m.bottom == last_row then [] else margins_to m.top m.bottom ∷ []
+-- 5. Margins that aren't the full ones of so many rows.
+unfoldable pub margins_item : ℕ → Margins → List Event
+margins_item rows m = if m.top == 1 && m.bottom == rows then [] else margins_to m.top m.bottom ∷ []
 
 -- A mode is set or reset, unless it is known to be as at power-up, as after RIS, and is to stay so.
 abbrev pub mode_item : Bool → Bool → (Bool → Event) → Bool → List Event
@@ -99,7 +105,7 @@ shift_item (Some slot) = shift_to slot ∷ []
 -- 5 to 11, when the width, the stops, the saved record and the cells are made
 unfoldable pub last_items : Bool → Display → List Event
 last_items known s =
-    margins_item s.margins
+    margins_item (bottom_row s) s.margins
     ++ (origin_item known s.modes.decom
     ++ (position_item s
     ++ (wrap_item s.grid s.cursor

@@ -1,5 +1,5 @@
--- 0.4: vt_controls/specs/Named.
-use Rattle.promises.specs.v0_4.controls.Controls.{rendition_values, sequence_of}
+-- 0.4: vt_paint/specs/Named.
+use Rattle.promises.specs.v0_4.paint.Controls.{rendition_values, sequence_of}
 use Rattle.promises.specs.v0_4.screen.Same.{when}
 use Rattle.promises.specs.v0_4.term.Functions.{controls, FunctionTable, plain_sequences, quote_sequences}
 use Rattle.std.specs.List.{join_with_byte}

@@ -1,9 +1,9 @@
 -- 0.4: vt_paint/specs/Pieces.
-use Rattle.promises.specs.v0_4.controls.Controls.{brush_events, cursor_position, spelling_events}
 use Rattle.promises.specs.v0_4.glyph.Spell.{spelling_of}
+use Rattle.promises.specs.v0_4.paint.Controls.{brush_events, cursor_position, spelling_events}
 use Rattle.promises.specs.v0_4.paint.Same.{is_blank}
 use Rattle.promises.specs.v0_4.screen.Cells.{blank, brush_of}
-use Rattle.promises.specs.v0_4.screen.Grid.{cell_at, last_row, row_of}
+use Rattle.promises.specs.v0_4.screen.Grid.{cell_at, row_of}
 use Rattle.promises.specs.v0_4.screen.Same.{same_brush, when}
 use Rattle.std.specs.List.{flat_map, list_all, range_with_len}
 use Rattle.std.specs.Prelude.{Bool, if◌then◌else◌, List, not, ℕ, ◌++◌, ◌-◌, ◌==◌, ◌||◌, ◌∷◌}
@@ -36,8 +36,8 @@ piece g r c = piece_of r c (left_of g r c) (cell_at g r c)
 
 -- the pieces of all cells, by row and column
 unfoldable pub pieces : Grid → List Event
-pieces g = flat_map (λ r. flat_map (λ c. piece g r c) (range_with_len 1 g.width)) (range_with_len 1 last_row)
+pieces g = flat_map (λ r. flat_map (λ c. piece g r c) (range_with_len 1 g.width)) (range_with_len 1 g.size.rows)
 
 -- every cell of every row is blank
 unfoldable pub is_blank_grid : Grid → Bool
-is_blank_grid g = list_all (λ r. list_all is_blank (row_of g r)) (range_with_len 1 last_row)
+is_blank_grid g = list_all (λ r. list_all is_blank (row_of g r)) (range_with_len 1 g.size.rows)

@@ -1,10 +1,10 @@
--- 0.4: vt_controls/specs/Spoken.
+-- 0.4: vt_paint/specs/Spoken.
 use Rattle.promises.specs.v0_4.glyph.Designation.{finals}
 use Rattle.promises.specs.v0_4.term.Modes.{ansi_modes, private_modes}
 use Rattle.std.specs.List.{flat_map, list_all, list_any}
 use Rattle.std.specs.Prelude.{[], Bool, bytes_eq, codes, decimal, false, List, map, nat_le, true, ℕ, ◌&&◌, ◌++◌, ◌==◌}
 use Rattle.std.specs.Prelude.{◌||◌, ◌∷◌, ◌≡◌}
-use Rattle.vt_controls.specs.Spoken.{are_attributes, AreElements, Character, Control, Element, Escape, Sequence}
+use Rattle.vt_paint.specs.Spoken.{are_attributes, AreElements, Character, Control, Element, Escape, Sequence}
 
 -- a graphic character; a control of one byte; ESC and what follows it; CSI, the parameters, and what ends it
 pub data Element' : Type 0 where

@@ -6,7 +6,7 @@ use Rattle.std.specs.Prelude.{[], Bool, cond, drop, false, length, List, nat_le,
 use Rattle.std.specs.Prelude.{true, ℕ, ◌&&◌, ◌+◌, ◌∷◌, ◌≡◌}
 use Rattle.vt_recording.specs.Reached.{IsAmong}
 use Rattle.vt_recording.specs.Timeline.{Event, Timeline}
-use Rattle.vt_recording.specs.declared.format.Break.{Break}
+use Rattle.vt_device.specs.declared.fault.Break.{Break}
 use Rattle.vt_recording.specs.declared.format.Encoding.TheVariants.{Dec}
 use Rattle.vt_recording.specs.declared.format.Encoding.{Encoding}
 use Rattle.vt_recording.specs.declared.format.Format.TheVariants.{Asciicast}

@@ -17,7 +17,7 @@ use Rattle.vt_recording.specs.Script.{EndsAt}
 use Rattle.vt_recording.specs.Timeline.{AreFrames, Event, IsTimed, Timeline}
 use Rattle.vt_recording.specs.Timing.{Spot}
 use Rattle.vt_recording.specs.Ttyrec.{IsWhole, Piece}
-use Rattle.vt_recording.specs.declared.format.Break.{Break}
+use Rattle.vt_device.specs.declared.fault.Break.{Break}
 use Rattle.vt_recording.specs.declared.format.Encoding.{Encoding}
 use Rattle.vt_recording.specs.declared.format.Format.TheVariants as format
 use Rattle.vt_recording.specs.declared.format.Format.{Format}

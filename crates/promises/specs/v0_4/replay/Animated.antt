@@ -2,35 +2,35 @@
 use Rattle.promises.specs.v0_4.picture.Animation.{animation_end, animation_head, frame, number_after}
 use Rattle.promises.specs.v0_4.picture.Animation.{number_on_screen, same_paper}
 use Rattle.promises.specs.v0_4.recording.Gathered.{events_of}
-use Rattle.promises.specs.v0_4.replay.Playing.{played_as}
+use Rattle.promises.specs.v0_4.replay.Playing.{played_at}
 use Rattle.promises.specs.v0_4.replay.Session.{is_empty}
 use Rattle.promises.specs.v0_4.replay.Steps.{Step}
-use Rattle.promises.specs.v0_4.screen.Grid.{last_row}
 use Rattle.std.specs.List.{range_with_len}
 use Rattle.std.specs.Prelude.{[], codes, cond, fold, if◌then◌else◌, List, map, max, min, None, Option, Some}
 use Rattle.std.specs.Prelude.{string_bytes, ℕ, ◌++◌, ◌+◌, ◌-◌, ◌^◌, ◌∷◌}
 use Rattle.std.specs.declared.alloc.Global.{Global}
 use Rattle.std.specs.declared.string.String.{String}
 use Rattle.vt_cli.specs.declared.what.Looks.{Looks}
+use Rattle.vt_device.specs.declared.fault.Break.{Break}
 use Rattle.vt_picture.specs.declared.looks.CursorShape.{CursorShape}
 use Rattle.vt_recording.specs.Timeline.{Event}
-use Rattle.vt_recording.specs.declared.format.Break.{Break}
 use Rattle.vt_recording.specs.declared.format.Encoding.{Encoding}
 use Rattle.vt_recording.specs.declared.format.Format.{Format}
 use Rattle.vt_recording.specs.declared.format.Moment.{Moment}
 use Rattle.vt_replay.specs.Steps.{IsStepped}
 use Rattle.vt_replay.specs.declared.language.Language.{Language}
+use Rattle.vt_screen.specs.declared.size.Size.{Size}
 use Rattle.vt_term.specs.State.{Display}
 
 -- those of the screen at the beginning
 unfoldable pub first_numbers : Display → List ℕ
-first_numbers s = map (λ i. number_on_screen 0 s (i + 1)) (range_with_len 0 last_row)
+first_numbers s = map (λ i. number_on_screen 0 s (i + 1)) (range_with_len 0 s.grid.size.rows)
 
 -- those after a frame
 unfoldable pub numbers_then : (frame : ℕ) → (numbers : List ℕ) → Display → Display → List ℕ
 numbers_then frame numbers before s =
     map (λ i. if same_paper before s then number_after frame numbers before s (i + 1) else number_on_screen frame s (i + 1))
-    (range_with_len 0 last_row)
+    (range_with_len 0 s.grid.size.rows)
 
 -- the frame after bytes, unless there are none
 abbrev pub frame_after : CursorShape → (duration columns number micros : ℕ) → (numbers bytes : List ℕ) → Display → Display → List ℕ
@@ -75,13 +75,13 @@ animation shows looks title opening content steps =
     ++ (frames (λ bytes. shows (opening ++ bytes)) looks.cursor duration last.grid.width 0 0 (first_numbers first) (events_of steps content)
     ++ animation_end)
 
--- what the terminal shows after a host's bytes in a language
-abbrev pub shown_after : Language → List ℕ → Display
-shown_after language bytes = (played_as language bytes).state.display
+-- what a terminal of a size shows after a host's bytes in a language
+abbrev pub shown_after : Size → Language → List ℕ → Display
+shown_after size language bytes = (played_at size language bytes).state.display
 
 -- the picture of a recording up to a moment, and where that breaks its format
-abbrev pub IsAnimation : Looks → (title opening : List ℕ) → Language → Format → Encoding → (until : Option Moment) → (timing : Option (List ℕ))
+abbrev pub IsAnimation : Looks → (title opening : List ℕ) → Size → Language → Format → Encoding → (until : Option Moment) → (timing : Option (List ℕ))
     → (bytes picture : List ℕ) → (broken : Option Break) → (replaced : ℕ) → Type 0
-IsAnimation looks title opening language format encoding until timing bytes picture broken replaced =
-    IsStepped (λ content steps. animation (shown_after language) looks title opening content steps) format encoding until timing bytes picture broken
+IsAnimation looks title opening size language format encoding until timing bytes picture broken replaced =
+    IsStepped (λ content steps. animation (shown_after size language) looks title opening content steps) format encoding until timing bytes picture broken
     replaced

@@ -1,5 +1,5 @@
 -- 0.4: vt_replay/specs/Due.
-use Rattle.promises.specs.v0_4.output.Output.{OutputTable}
+use Rattle.promises.specs.v0_4.device.Output.{OutputTable}
 use Rattle.promises.specs.v0_4.paint.Repaint.{paint}
 use Rattle.promises.specs.v0_4.picture.Picture.{picture}
 use Rattle.promises.specs.v0_4.picture.Show.{show}
@@ -9,7 +9,7 @@ use Rattle.std.specs.Prelude.{[], Bool, false, length, List, Result, true, ℕ}
 use Rattle.vt_cli.specs.declared.what.What.TheVariants.{Picture, Repaint, Reports, Show, Status, Text}
 use Rattle.vt_cli.specs.declared.what.What.{What}
 use Rattle.vt_device.specs.Runs.{Flags}
-use Rattle.vt_recording.specs.declared.fault.Fault.{Fault}
+use Rattle.vt_device.specs.declared.fault.Fault.{Fault}
 use Rattle.vt_syntax.specs.declared.held.Held.TheVariants.{Nothing}
 use Rattle.vt_syntax.specs.declared.held.Held.{Held}
 use Rattle.vt_term.specs.Play.{Played}

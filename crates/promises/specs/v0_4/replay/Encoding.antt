@@ -1,10 +1,10 @@
 -- 0.4: vt_replay/specs/Encoding.
-use Rattle.promises.specs.v0_4.output.Output.{OutputTable}
+use Rattle.promises.specs.v0_4.device.Output.{OutputTable}
 use Rattle.promises.specs.v0_4.term.State.{power_up}
 use Rattle.promises.specs.v0_4.utf8.Play.{translated}
 use Rattle.std.specs.Prelude.{[], Bool, List, Result, ℕ}
 use Rattle.vt_device.specs.Runs.{Flags}
-use Rattle.vt_recording.specs.declared.fault.Fault.{Fault}
+use Rattle.vt_device.specs.declared.fault.Fault.{Fault}
 use Rattle.vt_recording.specs.declared.format.Encoding.TheVariants.{Dec, Utf8}
 use Rattle.vt_recording.specs.declared.format.Encoding.{Encoding}
 

@@ -6,14 +6,14 @@ use Rattle.promises.specs.v0_4.trace.Lines.{shown}
 use Rattle.std.specs.Prelude.{Option, Some, true, ℕ, ◌%◌, ◌&&◌, ◌++◌, ◌+◌, ◌/◌, ◌∷◌, ◌≡◌}
 use Rattle.std.specs.Prelude.{[], Bool, codes, cond, decimal, false, is_some, length, List, nat_le, nat_lt, None, not}
 use Rattle.vt_recording.specs.Timeline.{Event, Timeline}
-use Rattle.vt_recording.specs.declared.format.Break.{Break}
+use Rattle.vt_device.specs.declared.fault.Break.{Break}
 use Rattle.vt_recording.specs.declared.format.Encoding.TheVariants.{Utf8}
 use Rattle.vt_recording.specs.declared.format.Format.TheVariants as format
 use Rattle.vt_recording.specs.declared.format.Format.{Format}
 use Rattle.vt_recording.specs.declared.format.Moment.TheVariants as moment
 use Rattle.vt_recording.specs.declared.format.Moment.{Moment}
-use Rattle.vt_recording.specs.declared.format.Part.TheVariants.{Recording, Timing}
-use Rattle.vt_recording.specs.declared.format.Part.{Part}
+use Rattle.vt_device.specs.declared.fault.Part.TheVariants.{Recording, Timing}
+use Rattle.vt_device.specs.declared.fault.Part.{Part}
 use Rattle.vt_recording.specs.declared.format.TerminalType.TheVariants.{Vt220, Xterm}
 use Rattle.vt_recording.specs.declared.format.TerminalType.{TerminalType}
 use Rattle.vt_recording.specs.declared.heading.Heading.{Heading}

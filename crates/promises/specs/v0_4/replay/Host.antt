@@ -1,10 +1,9 @@
 -- 0.4: vt_replay/specs/Host.
 use Rattle.promises.specs.v0_4.cli.Source.{size_of}
 use Rattle.promises.specs.v0_4.recording.Heading.{heading_of}
-use Rattle.promises.specs.v0_4.replay.Sized.{plays_sizes}
 use Rattle.promises.specs.v0_4.screen.Sizes.{vt220_size}
-use Rattle.std.specs.Prelude.{[], Bool, codes, cond, false, List, nat_eq, None, Option, Some, unwrap_or, ℕ, ◌&&◌}
-use Rattle.std.specs.Prelude.{◌++◌, ◌||◌, ◌∷◌}
+use Rattle.std.specs.Prelude.{[], Bool, codes, cond, false, List, nat_eq, None, Option, Some, true, unwrap_or, ℕ}
+use Rattle.std.specs.Prelude.{◌&&◌, ◌++◌, ◌||◌, ◌∷◌}
 use Rattle.vt_cli.specs.declared.asked.Request.{Request}
 use Rattle.vt_cli.specs.declared.what.Word.TheVariants.{Animation, Content, Events, Log, Pages, Replay, Search}
 use Rattle.vt_cli.specs.declared.what.Word.TheVariants.{Summary, Trace}
@@ -58,7 +57,12 @@ named_for Search named = named
 
 -- the word plays a screen of any size
 abbrev pub takes_size : Word → Bool
-takes_size (Replay what) = plays_sizes what
+takes_size (Replay what) = true
+takes_size (Animation looks) = true
+takes_size Log = true
+takes_size Trace = true
+takes_size Summary = true
+takes_size Search = true
 takes_size word = false
 
 -- a VT220's screen: 24 rows of 80 or 132 columns

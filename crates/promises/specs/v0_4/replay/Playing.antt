@@ -1,5 +1,5 @@
 -- 0.4: vt_replay/specs/Playing.
-use Rattle.promises.specs.v0_4.output.Output.{nothing, OutputTable}
+use Rattle.promises.specs.v0_4.device.Output.{nothing, OutputTable}
 use Rattle.promises.specs.v0_4.replay.Due.{end_by, sent_by, there_by}
 use Rattle.promises.specs.v0_4.replay.Session.{session_at, session_is_there, session_repaint}
 use Rattle.promises.specs.v0_4.screen.Sizes.{vt220_size}
@@ -10,7 +10,7 @@ use Rattle.std.specs.Prelude.{[], Bool, List, Result, ℕ}
 use Rattle.vt_cli.specs.declared.what.What.TheVariants.{Repaint}
 use Rattle.vt_cli.specs.declared.what.What.{What}
 use Rattle.vt_device.specs.Runs.{Flags}
-use Rattle.vt_recording.specs.declared.fault.Fault.{Fault}
+use Rattle.vt_device.specs.declared.fault.Fault.{Fault}
 use Rattle.vt_recording.specs.declared.format.Encoding.TheVariants as encoding
 use Rattle.vt_recording.specs.declared.format.Encoding.{Encoding}
 use Rattle.vt_recording.specs.declared.format.TerminalType.TheVariants as terminal
@@ -52,14 +52,14 @@ pub record Due' : Type 0 where
 abbrev pub due_by : (played : List ℕ → Played) → What → Due
 due_by played what = record { written = sent_by played what; ending = end_by played what; there = there_by played what }
 
--- a repaint is of a VT220's size. Under TERM=xterm it is of the whole session, everything else of the terminal
-abbrev pub repainted : Language → Due
-repainted Xterm = record { written = nothing; ending = session_repaint; there = session_is_there }
-repainted language = due_by (played_as language) Repaint
+-- under TERM=xterm a repaint is of the whole session, everything else of the terminal
+abbrev pub repainted : Size → Language → Due
+repainted size Xterm = record { written = nothing; ending = session_repaint size; there = session_is_there size }
+repainted size language = due_by (played_at size language) Repaint
 
 -- on a screen of a size
 abbrev pub replayed_at : Size → Language → What → Due
-replayed_at size language Repaint = repainted language
+replayed_at size language Repaint = repainted size language
 replayed_at size language what = due_by (played_at size language) what
 
 -- what each answer of a replay on a screen of a size says of a host's bytes in a language

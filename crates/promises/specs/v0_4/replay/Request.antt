@@ -15,12 +15,12 @@ use Rattle.vt_cli.specs.declared.what.Word.TheVariants.{Animation, Content, Even
 use Rattle.vt_cli.specs.declared.what.Word.TheVariants.{Summary, Trace}
 use Rattle.vt_cli.specs.declared.what.Word.{Word}
 use Rattle.vt_device.specs.Runs.{Flags}
+use Rattle.vt_device.specs.declared.fault.Break.{Break}
+use Rattle.vt_device.specs.declared.fault.Fault.TheVariants as fault
+use Rattle.vt_device.specs.declared.fault.Fault.{Fault}
 use Rattle.vt_recording.specs.Reached.{IsTakenBetween}
 use Rattle.vt_recording.specs.declared.detection.Detected.TheVariants.{Compressed, Recording}
 use Rattle.vt_recording.specs.declared.detection.Detected.{Detected}
-use Rattle.vt_recording.specs.declared.fault.Fault.TheVariants as fault
-use Rattle.vt_recording.specs.declared.fault.Fault.{Fault}
-use Rattle.vt_recording.specs.declared.format.Break.{Break}
 use Rattle.vt_recording.specs.declared.format.Format.TheVariants as format
 use Rattle.vt_recording.specs.declared.format.Format.{Format}
 use Rattle.vt_recording.specs.declared.format.Moment.TheVariants.{Bytes, Event, Marker, Micros}
@@ -90,10 +90,10 @@ abbrev pub IsTakenBy : Word → Request → Format → Host → (timing : Option
 IsTakenBy Events r format host timing bytes content broken replaced =
     IsTableTaken format r.full r.from r.until timing bytes content broken replaced
 IsTakenBy (Animation looks) r format host timing bytes content broken replaced =
-    IsAnimation looks (title_of r.title) (opening (Replay Picture) host) (language_of host.terminal host.encoding) format host.encoding r.until
+    IsAnimation looks (title_of r.title) (opening (Replay Picture) host) host.size (language_of host.terminal host.encoding) format host.encoding r.until
     timing bytes content broken replaced
 IsTakenBy Search r format host timing bytes content broken replaced =
-    IsSearched (text_of r.pattern) (opening (Replay Picture) host) (language_of host.terminal host.encoding) format host.encoding r.until
+    IsSearched host.size r.log (text_of r.pattern) (opening (Replay Picture) host) (language_of host.terminal host.encoding) format host.encoding r.until
     timing bytes content broken replaced
 IsTakenBy word r format host timing bytes content broken replaced =
     IsTakenBetween format host.encoding r.from r.until timing bytes content broken replaced

@@ -1,12 +1,12 @@
 -- 0.4: vt_replay/specs/Search.
 use Rattle.promises.specs.v0_4.glyph.Tables.{space}
 use Rattle.promises.specs.v0_4.recording.Gathered.{events_of}
-use Rattle.promises.specs.v0_4.recording.Reached.{length_of}
-use Rattle.promises.specs.v0_4.replay.Animated.{shown_after}
 use Rattle.promises.specs.v0_4.replay.EventTable.{time_column}
+use Rattle.promises.specs.v0_4.replay.LogSearch.{log_found_at}
+use Rattle.promises.specs.v0_4.replay.Playing.{played_at}
 use Rattle.promises.specs.v0_4.replay.Steps.{Step}
 use Rattle.promises.specs.v0_4.screen.Cells.{blank}
-use Rattle.promises.specs.v0_4.screen.Grid.{last_row, row_of}
+use Rattle.promises.specs.v0_4.screen.Grid.{row_of}
 use Rattle.promises.specs.v0_4.term.Text.{glyphs_of, trimmed}
 use Rattle.promises.specs.v0_4.utf8.Cells.{cells}
 use Rattle.promises.specs.v0_4.utf8.Similar.{shown}
@@ -17,7 +17,7 @@ use Rattle.std.specs.Prelude.{◌==◌, ◌∷◌}
 use Rattle.std.specs.Str.{chars}
 use Rattle.std.specs.declared.alloc.Global.{Global}
 use Rattle.std.specs.declared.string.String.{String}
-use Rattle.vt_recording.specs.declared.format.Break.{Break}
+use Rattle.vt_device.specs.declared.fault.Break.{Break}
 use Rattle.vt_recording.specs.declared.format.Encoding.{Encoding}
 use Rattle.vt_recording.specs.declared.format.Format.{Format}
 use Rattle.vt_recording.specs.declared.format.Moment.{Moment}
@@ -26,6 +26,7 @@ use Rattle.vt_replay.specs.Steps.{IsStepped}
 use Rattle.vt_replay.specs.declared.language.Language.TheVariants.{Dec, Utf8, Xterm}
 use Rattle.vt_replay.specs.declared.language.Language.{Language}
 use Rattle.vt_screen.specs.declared.cell.Cell.{Cell}
+use Rattle.vt_screen.specs.declared.size.Size.{Size}
 use Rattle.vt_term.specs.State.{Display}
 
 abbrev pub text_of : Option (String Global) → List ℕ
@@ -68,24 +69,26 @@ line_of utf8 s row = line utf8 (row_of s.grid row)
 
 -- the rows, one after the other
 unfoldable pub lines : (utf8 : Bool) → Display → List ℕ
-lines utf8 s = flat_map (λ row. line_of utf8 s row) (range_with_len 1 last_row)
-
--- the row and the column, from 1, of a byte of the rows starting at this one, of which so many are left
-abbrev pub column_of : (before : List ℕ) → ℕ
-column_of before = length_of true before + 1
+lines utf8 s = flat_map (λ row. line_of utf8 s row) (range_with_len 1 s.grid.size.rows)
 
 -- the time of the first event after which it isn't there, or `-` if it is there at the end
 abbrev pub until_column : Option ℕ → List ℕ
 until_column None = codes "-"
 until_column (Some clock) = time_column true clock
 
--- of steps, which have the bytes of a content. The opening comes before it
-abbrev pub searched : Language → (text opening content : List ℕ) → List Step → List ℕ
-searched language text opening content steps =
-    spans (λ bytes. first_place (is_utf8 language) (wanted language text) (shown_after language (opening ++ bytes))) 0 None (events_of steps content)
+-- of steps, which have the bytes of a content, on a terminal of a size. The opening comes before it
+abbrev pub spans_at : Size → Language → (wanted opening content : List ℕ) → List Step → List ℕ
+spans_at size language wanted opening content steps =
+    spans (λ bytes. first_place (is_utf8 language) wanted (played_at size language (opening ++ bytes)).state.display) 0 None (events_of steps content)
 
--- the lines of a recording up to a moment, and where that breaks its format
-abbrev pub IsSearched : (text opening : List ℕ) → Language → Format → Encoding → (until : Option Moment) → (timing : Option (List ℕ))
-    → (bytes lines : List ℕ) → (broken : Option Break) → (replaced : ℕ) → Type 0
-IsSearched text opening language format encoding until timing bytes lines broken replaced =
-    IsStepped (λ content steps. searched language text opening content steps) format encoding until timing bytes lines broken replaced
+-- what is found: the spans, and after them the lines of the log, if it is asked for
+abbrev pub searched : Size → Language → (log : Bool) → (text opening content : List ℕ) → List Step → List ℕ
+searched size language log text opening content steps =
+    let found = spans_at size language (wanted language text) opening content steps in
+    if log then found ++ log_found_at size language (is_utf8 language) (wanted language text) opening content steps else found
+
+-- in a recording up to a moment, and where that breaks its format
+abbrev pub IsSearched : Size → (log : Bool) → (text opening : List ℕ) → Language → Format → Encoding → (until : Option Moment)
+    → (timing : Option (List ℕ)) → (bytes lines : List ℕ) → (broken : Option Break) → (replaced : ℕ) → Type 0
+IsSearched size log text opening language format encoding until timing bytes lines broken replaced =
+    IsStepped (λ content steps. searched size language log text opening content steps) format encoding until timing bytes lines broken replaced

@@ -1,6 +1,5 @@
 -- 0.4: vt_replay/specs/Session.
 use Rattle.promises.specs.v0_4.replay.Due.{is_nothing}
-use Rattle.promises.specs.v0_4.screen.Sizes.{vt220_size}
 use Rattle.promises.specs.v0_4.term.State.{state_of}
 use Rattle.promises.specs.v0_4.utf8.Decoding.{pending_after}
 use Rattle.promises.specs.v0_4.xterm.Play.{behind, front_of, play_xterm}
@@ -13,10 +12,6 @@ use Rattle.vt_xterm.specs.Play.{Whole, WholePlayed}
 abbrev pub session_at : Size → List ℕ → WholePlayed
 session_at size bytes = play_xterm (behind (state_of size) (front_of size)) [] bytes
 
--- of a VT220's size
-abbrev pub session : List ℕ → WholePlayed
-session bytes = session_at vt220_size bytes
-
 abbrev pub is_empty : List ℕ → Bool
 is_empty [] = true
 is_empty (b ∷ bytes) = false
@@ -26,9 +21,9 @@ abbrev pub is_between : Whole → (pending : List ℕ) → Bool
 is_between w pending = is_nothing w.state.held && is_empty pending
 
 -- the repaint is of the whole session
-abbrev pub session_repaint : List ℕ → List ℕ
-session_repaint bytes = xterm_repaint (session bytes).whole
+abbrev pub session_repaint : Size → List ℕ → List ℕ
+session_repaint size bytes = xterm_repaint (session_at size bytes).whole
 
 -- it is there between sequences and between characters only
-abbrev pub session_is_there : List ℕ → Bool
-session_is_there bytes = is_between (session bytes).whole (pending_after [] bytes)
+abbrev pub session_is_there : Size → List ℕ → Bool
+session_is_there size bytes = is_between (session_at size bytes).whole (pending_after [] bytes)

@@ -1,11 +1,11 @@
 -- 0.4: vt_replay/specs/Showing.
-use Rattle.promises.specs.v0_4.output.Output.{all, always, nothing, TranslatedTable}
+use Rattle.promises.specs.v0_4.device.Output.{all, always, nothing, TranslatedTable}
 use Rattle.promises.specs.v0_4.replay.Playing.{played_as}
 use Rattle.promises.specs.v0_4.term.Play.{joined}
 use Rattle.promises.specs.v0_4.term.State.{power_up}
 use Rattle.std.specs.Prelude.{[], length, List, Result, ℕ, ◌++◌, ◌∷◌, ◌≡◌, ◌≤◌}
 use Rattle.vt_device.specs.Runs.{Flags}
-use Rattle.vt_recording.specs.declared.fault.Fault.{Fault}
+use Rattle.vt_device.specs.declared.fault.Fault.{Fault}
 use Rattle.vt_replay.specs.Showing.{Shows}
 use Rattle.vt_replay.specs.declared.language.Language.TheVariants.{Xterm}
 use Rattle.vt_syntax.specs.declared.held.Held.TheVariants.{Nothing}

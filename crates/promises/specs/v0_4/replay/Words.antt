@@ -1,49 +1,52 @@
 -- 0.4: vt_replay/specs/Words.
-use Rattle.promises.specs.v0_4.output.Output.{all, always, nothing, OutputTable}
+use Rattle.promises.specs.v0_4.device.Output.{all, always, nothing, OutputTable}
 use Rattle.promises.specs.v0_4.replay.Encoding.{decoded}
-use Rattle.promises.specs.v0_4.replay.Log.{lines_in, screen, screen_in}
+use Rattle.promises.specs.v0_4.replay.Log.{lines_at, screen, screen_at}
 use Rattle.promises.specs.v0_4.replay.Pages.{pages}
 use Rattle.promises.specs.v0_4.replay.Playing.{language_of, replayed_at}
 use Rattle.promises.specs.v0_4.replay.Showing.{ShownTable}
-use Rattle.promises.specs.v0_4.term.State.{power_up}
-use Rattle.promises.specs.v0_4.trace.Summary.{summary}
+use Rattle.promises.specs.v0_4.term.State.{power_up, state_of}
+use Rattle.promises.specs.v0_4.trace.Summary.{summary_on}
 use Rattle.promises.specs.v0_4.trace.Trace.{end_lines, trace, tracer_all, tracer_at_start}
-use Rattle.promises.specs.v0_4.trace.Utf8.{summary_utf8, trace_utf8, tracer_utf8}
+use Rattle.promises.specs.v0_4.trace.Utf8.{summary_utf8_by, summary_utf8_on, trace_utf8, tracer_utf8}
+use Rattle.promises.specs.v0_4.xterm.Play.{behind, front_of}
+use Rattle.promises.specs.v0_4.xterm_trace.Names.{xterm_listing}
+use Rattle.promises.specs.v0_4.xterm_trace.Trace.{trace_xterm, tracer_xterm}
 use Rattle.std.specs.Prelude.{[], List, Result, ℕ}
 use Rattle.vt_cli.specs.declared.what.Word.TheVariants.{Animation, Content, Events, Log, Pages, Replay, Search}
 use Rattle.vt_cli.specs.declared.what.Word.TheVariants.{Summary, Trace}
 use Rattle.vt_cli.specs.declared.what.Word.{Word}
 use Rattle.vt_device.specs.Runs.{Flags}
-use Rattle.vt_recording.specs.declared.fault.Fault.{Fault}
-use Rattle.vt_recording.specs.declared.format.Encoding.TheVariants.{Dec, Utf8}
+use Rattle.vt_device.specs.declared.fault.Fault.{Fault}
+use Rattle.vt_recording.specs.declared.format.Encoding.TheVariants.{Dec}
 use Rattle.vt_recording.specs.declared.format.Encoding.{Encoding}
 use Rattle.vt_recording.specs.declared.format.TerminalType.TheVariants.{Xterm}
 use Rattle.vt_recording.specs.declared.format.TerminalType.{TerminalType}
 use Rattle.vt_replay.specs.Playing.{Due}
+use Rattle.vt_replay.specs.declared.language.Language.TheVariants as language
+use Rattle.vt_replay.specs.declared.language.Language.{Language}
 use Rattle.vt_screen.specs.declared.size.Size.{Size}
 
 abbrev pub pages_written : List ℕ → List ℕ
 pages_written bytes = pages power_up bytes
 
-abbrev pub trace_written : List ℕ → List ℕ
-trace_written bytes = trace power_up tracer_at_start bytes
+-- on a screen of a size, of the host's bytes in each language: the events have the host's own characters and places
+abbrev pub trace_at : Size → Language → List ℕ → List ℕ
+trace_at size language.Dec bytes = trace (state_of size) tracer_at_start bytes
+trace_at size language.Utf8 bytes = trace_utf8 (state_of size) tracer_at_start [] bytes
+trace_at size language.Xterm bytes = trace_xterm (behind (state_of size) (front_of size)) tracer_at_start [] bytes
 
 -- the end of a text, if the last line is one, and the line of a sequence or string that is still open
-abbrev pub trace_ending : List ℕ → List ℕ
-trace_ending bytes = end_lines (tracer_all power_up tracer_at_start bytes)
+abbrev pub trace_end_at : Size → Language → List ℕ → List ℕ
+trace_end_at size language.Dec bytes = end_lines (tracer_all (state_of size) tracer_at_start bytes)
+trace_end_at size language.Utf8 bytes = end_lines (tracer_utf8 (state_of size) tracer_at_start [] bytes)
+trace_end_at size language.Xterm bytes = end_lines (tracer_xterm (behind (state_of size) (front_of size)) tracer_at_start [] bytes)
 
--- of the host's bytes in each encoding: the events have the host's own characters and places
-abbrev pub trace_in : Encoding → List ℕ → List ℕ
-trace_in Dec bytes = trace_written bytes
-trace_in Utf8 bytes = trace_utf8 power_up tracer_at_start [] bytes
-
-abbrev pub trace_end_in : Encoding → List ℕ → List ℕ
-trace_end_in Dec bytes = trace_ending bytes
-trace_end_in Utf8 bytes = end_lines (tracer_utf8 power_up tracer_at_start [] bytes)
-
-abbrev pub summary_in : Encoding → List ℕ → List ℕ
-summary_in Dec bytes = summary bytes
-summary_in Utf8 bytes = summary_utf8 bytes
+-- of the host's bytes in each language. Under TERM=xterm the events have its names
+abbrev pub summary_at : Size → Language → List ℕ → List ℕ
+summary_at size language.Dec bytes = summary_on size.rows bytes
+summary_at size language.Utf8 bytes = summary_utf8_on size.rows bytes
+summary_at size language.Xterm bytes = summary_utf8_by xterm_listing size.rows bytes
 
 -- of the terminal's bytes for the host's
 abbrev pub of_decoded : Encoding → (written ending : List ℕ → List ℕ) → Due
@@ -53,16 +56,20 @@ of_decoded encoding written ending = record {
   there = always;
 }
 
--- a row a word, for a terminal of a size and in an encoding. A picture that moves, the table of events and the spans of a search are ready before they are written. A replay and a log play xterm; what content writes then is below
+-- a row a word, for a terminal of a size and in an encoding. A picture that moves, the table of events and the spans of a search are ready before they are written. A replay, a log, a trace and a summary play xterm; what content writes then is below
 abbrev pub due_of : Word → Size → TerminalType → Encoding → Due
 due_of (Replay what) size terminal encoding = replayed_at size (language_of terminal encoding) what
 due_of (Animation looks) size terminal encoding = of_decoded Dec all nothing
 due_of Log size terminal encoding =
     let language = language_of terminal encoding in
-    record { written = lines_in language; ending = screen_in language; there = always }
+    record { written = lines_at size language; ending = screen_at size language; there = always }
 due_of Pages size terminal encoding = of_decoded encoding pages_written screen
-due_of Trace size terminal encoding = record { written = trace_in encoding; ending = trace_end_in encoding; there = always }
-due_of Summary size terminal encoding = record { written = nothing; ending = summary_in encoding; there = always }
+due_of Trace size terminal encoding =
+    let language = language_of terminal encoding in
+    record { written = trace_at size language; ending = trace_end_at size language; there = always }
+due_of Summary size terminal encoding =
+    let language = language_of terminal encoding in
+    record { written = nothing; ending = summary_at size language; there = always }
 due_of Events size terminal encoding = of_decoded Dec all nothing
 due_of Content size terminal encoding = of_decoded encoding all nothing
 due_of Search size terminal encoding = of_decoded Dec all nothing

@@ -4,14 +4,19 @@ use Rattle.promises.specs.v0_4.term.Functions.{effect}
 use Rattle.promises.specs.v0_4.term.Names.{name_on}
 use Rattle.promises.specs.v0_4.term.Reports.{report}
 use Rattle.promises.specs.v0_4.term.Sound.{IsSoundDisplay}
+use Rattle.promises.specs.v0_4.trace.Lines.{Names}
 use Rattle.std.specs.Prelude.{[], Bool, false, None, Some, true, ℕ, ◌≡◌, ◌≢◌, ◌⊎◌}
 use Rattle.vt_syntax.specs.declared.event.Event.{Event}
 use Rattle.vt_term.specs.State.{Display}
 use Rattle.vt_trace.specs.Ignored.{LeavesAlone}
 
 -- an event without a name, on a screen of so many rows
+abbrev pub is_ignored_by : Names → ℕ → Event → Bool
+is_ignored_by called rows event = elim (called rows event) [ None ↦ true | Some name ↦ false ]
+
+-- by a VT220's names
 abbrev pub is_ignored_on : ℕ → Event → Bool
-is_ignored_on rows event = elim (name_on rows event) [ None ↦ true | Some name ↦ false ]
+is_ignored_on rows event = is_ignored_by name_on rows event
 
 -- on a VT220
 abbrev pub is_ignored : Event → Bool

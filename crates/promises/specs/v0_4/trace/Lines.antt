@@ -50,14 +50,22 @@ bytes_column (Sequence marker params inter last) =
 abbrev pub line : ℕ → List ℕ → List ℕ → List ℕ
 line place name column = decimal place ++ (0x09 ∷ (name ++ (0x09 ∷ (column ++ 0x0A ∷ []))))
 
+-- what events are called on a screen of so many rows; an event without a name is ignored
+abbrev pub Names : Type 0
+Names = ℕ → Event → Option (List ℕ)
+
 -- an event with a name, or one that is ignored
 abbrev pub line_named : ℕ → Event → Option (List ℕ) → List ℕ
 line_named place event (Some name) = line place name (values_column event)
 line_named place event None = line place (codes "ignored") (bytes_column event)
 
 -- on a screen of so many rows
-unfoldable pub event_line_on : ℕ → ℕ → Event → List ℕ
-event_line_on rows place event = line_named place event (name_on rows event)
+unfoldable pub event_line_by : Names → ℕ → ℕ → Event → List ℕ
+event_line_by names rows place event = line_named place event (names rows event)
+
+-- by a VT220's names
+abbrev pub event_line_on : ℕ → ℕ → Event → List ℕ
+event_line_on rows place event = event_line_by name_on rows place event
 
 -- on a VT220's
 abbrev pub event_line : ℕ → Event → List ℕ

@@ -3,7 +3,10 @@ use Rattle.promises.specs.v0_4.glyph.Designation.{finals}
 use Rattle.promises.specs.v0_4.term.Functions.{controls, exclamation_sequences, FunctionTable, number_sign_escapes}
 use Rattle.promises.specs.v0_4.term.Functions.{plain_escapes, plain_sequences, private_sequences, quote_sequences}
 use Rattle.promises.specs.v0_4.term.Functions.{set_name, space_escapes}
-use Rattle.std.specs.Prelude.{[], codes, get_or, List, map, take, ℕ, ◌++◌, ◌∷◌}
+use Rattle.promises.specs.v0_4.term.Names.{name_on}
+use Rattle.promises.specs.v0_4.trace.Lines.{Names}
+use Rattle.std.specs.Prelude.{[], codes, get_or, List, map, take, ℕ, ◌++◌, ◌+◌, ◌∷◌}
+use Rattle.vt_trace.specs.Names.{Listing}
 
 abbrev pub names_in : FunctionTable → List (List ℕ)
 names_in table = map (λ row. row.1.name) table
@@ -31,3 +34,15 @@ names =
 
 abbrev pub numbered : ℕ → List ℕ
 numbered number = get_or names number []
+
+-- what events are called, and these names in the order of a summary
+pub record Listing' : Type 0 where
+  pub called : Names
+  pub listed : List (List ℕ)
+
+-- that of a VT220
+abbrev pub vt220_listing : Listing
+vt220_listing = record { called = name_on; listed = names }
+
+abbrev pub numbered_in : Listing → ℕ → List ℕ
+numbered_in d number = get_or d.listed number []

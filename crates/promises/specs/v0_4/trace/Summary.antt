@@ -2,9 +2,9 @@
 use Rattle.promises.specs.v0_4.screen.Grid.{last_row}
 use Rattle.promises.specs.v0_4.syntax.Reading.{events_of}
 use Rattle.promises.specs.v0_4.term.Names.{name_on}
-use Rattle.promises.specs.v0_4.trace.Ignored.{is_ignored_on}
-use Rattle.promises.specs.v0_4.trace.Lines.{bytes_column, shown_byte}
-use Rattle.promises.specs.v0_4.trace.Names.{names, numbered}
+use Rattle.promises.specs.v0_4.trace.Ignored.{is_ignored_by}
+use Rattle.promises.specs.v0_4.trace.Lines.{bytes_column, Names, shown_byte}
+use Rattle.promises.specs.v0_4.trace.Names.{numbered_in, vt220_listing}
 use Rattle.promises.specs.v0_4.trace.Skipped.{kind_name, kinds_of}
 use Rattle.std.specs.Cmp.Lexicographic.{pointwise}
 use Rattle.std.specs.List.{flat_map, range_with_len}
@@ -12,6 +12,7 @@ use Rattle.std.specs.Prelude.{None, Option, Some, ℕ, ◌&&◌, ◌*◌, ◌++�
 use Rattle.std.specs.Prelude.{[], Bool, codes, count_by, decimal, false, if◌then◌else◌, length, List, min, nat_eq}
 use Rattle.vt_syntax.specs.declared.event.Event.TheVariants.{Control, Escape, Print, Sequence}
 use Rattle.vt_syntax.specs.declared.event.Event.{Event}
+use Rattle.vt_trace.specs.Names.{Listing}
 
 -- none is 0, and 20..2F are 1 to 16
 abbrev pub inter_number : Option ℕ → ℕ
@@ -46,18 +47,18 @@ IsByteAtMost (Control b) = b ≤ 0xFF
 IsByteAtMost _ = Unit {0}
 
 -- the event has this name
-abbrev pub has_name_on : ℕ → List ℕ → Event → Bool
-has_name_on rows name event = elim (name_on rows event) [ None ↦ false | Some other ↦ pointwise nat_eq name other ]
+abbrev pub has_name_by : Names → ℕ → List ℕ → Event → Bool
+has_name_by called rows name event = elim (called rows event) [ None ↦ false | Some other ↦ pointwise nat_eq name other ]
 
 -- the event is ignored, and its kind has this number
-abbrev pub is_ignored_kind_on : ℕ → ℕ → Event → Bool
-is_ignored_kind_on rows number event = is_ignored_on rows event && kind_number event == number
+abbrev pub is_ignored_kind_by : Names → ℕ → ℕ → Event → Bool
+is_ignored_kind_by called rows number event = is_ignored_by called rows event && kind_number event == number
 
-unfoldable pub times_named_on : ℕ → List ℕ → List Event → ℕ
-times_named_on rows name events = count_by (has_name_on rows name) events
+unfoldable pub times_named_by : Names → ℕ → List ℕ → List Event → ℕ
+times_named_by called rows name events = count_by (has_name_by called rows name) events
 
-unfoldable pub times_ignored_on : ℕ → ℕ → List Event → ℕ
-times_ignored_on rows number events = count_by (is_ignored_kind_on rows number) events
+unfoldable pub times_ignored_by : Names → ℕ → ℕ → List Event → ℕ
+times_ignored_by called rows number events = count_by (is_ignored_kind_by called rows number) events
 
 -- among kinds of items without a function
 unfoldable pub times_skipped : ℕ → List ℕ → ℕ
@@ -75,8 +76,8 @@ count_line n name = if n == 0 then [] else decimal n ++ (0x09 ∷ (name ++ 0x0A 
 abbrev pub ignored_line : (ℕ → ℕ) → Event → List ℕ
 ignored_line times event = count_line (times (kind_number event)) (codes "ignored " ++ bytes_column event)
 
-abbrev pub named_line : (ℕ → ℕ) → ℕ → List ℕ
-named_line times number = count_line (times number) (numbered number)
+abbrev pub named_line : Listing → (ℕ → ℕ) → ℕ → List ℕ
+named_line d times number = count_line (times number) (numbered_in d number)
 
 -- without one, and with each of these
 abbrev pub optionally : List ℕ → (Option ℕ → List ℕ) → List ℕ
@@ -118,28 +119,32 @@ ignored_lines times =
     ++ optionally markers (λ marker. optionally intermediates (ignored_sequences times marker)))
 
 -- the names in the order of the list of all names
-abbrev pub named_lines : (ℕ → ℕ) → List ℕ
-named_lines times = flat_map (named_line times) (range_with_len 0 (length names))
+abbrev pub named_lines : Listing → (ℕ → ℕ) → List ℕ
+named_lines d times = flat_map (named_line d times) (range_with_len 0 (length d.listed))
 
 -- how often an event was ignored, or an item had no function, whose kind has this number
-abbrev pub all_ignored_on : ℕ → List Event → List ℕ → ℕ → ℕ
-all_ignored_on rows events kinds number = counted (times_ignored_on rows number events + times_skipped number kinds)
+abbrev pub all_ignored_by : Names → ℕ → List Event → List ℕ → ℕ → ℕ
+all_ignored_by called rows events kinds number = counted (times_ignored_by called rows number events + times_skipped number kinds)
 
 -- the summary of events, and of the kinds of items without a function
-abbrev pub event_summary_on : ℕ → List Event → List ℕ → List ℕ
-event_summary_on rows events kinds =
-    ignored_lines (all_ignored_on rows events kinds)
-    ++ named_lines (λ number. counted (times_named_on rows (numbered number) events))
+abbrev pub event_summary_by : Listing → ℕ → List Event → List ℕ → List ℕ
+event_summary_by d rows events kinds =
+    ignored_lines (all_ignored_by d.called rows events kinds)
+    ++ named_lines d (λ number. counted (times_named_by d.called rows (numbered_in d number) events))
 
 -- the summary of a terminal's input
-unfoldable pub summary_on : ℕ → List ℕ → List ℕ
-summary_on rows bytes = event_summary_on rows (events_of bytes) (kinds_of bytes)
+unfoldable pub summary_by : Listing → ℕ → List ℕ → List ℕ
+summary_by d rows bytes = event_summary_by d rows (events_of bytes) (kinds_of bytes)
+
+-- by a VT220's names
+abbrev pub summary_on : ℕ → List ℕ → List ℕ
+summary_on rows bytes = summary_by vt220_listing rows bytes
 
 abbrev pub times_named : List ℕ → List Event → ℕ
-times_named name events = times_named_on last_row name events
+times_named name events = times_named_by name_on last_row name events
 
 abbrev pub times_ignored : ℕ → List Event → ℕ
-times_ignored number events = times_ignored_on last_row number events
+times_ignored number events = times_ignored_by name_on last_row number events
 
 abbrev pub summary : List ℕ → List ℕ
 summary bytes = summary_on last_row bytes

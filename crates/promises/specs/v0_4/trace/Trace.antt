@@ -4,9 +4,11 @@ use Rattle.promises.specs.v0_4.syntax.Held.{events_from, held_after, held_from}
 use Rattle.promises.specs.v0_4.syntax.Items.{item_bytes, rest_bytes}
 use Rattle.promises.specs.v0_4.syntax.Split.{split_of}
 use Rattle.promises.specs.v0_4.term.Functions.{effect}
+use Rattle.promises.specs.v0_4.term.Happenings.{happening}
+use Rattle.promises.specs.v0_4.term.Names.{name_on}
 use Rattle.promises.specs.v0_4.term.Play.{play}
 use Rattle.promises.specs.v0_4.term.Reports.{report}
-use Rattle.promises.specs.v0_4.trace.Lines.{event_line_on, line, shown, shown_byte}
+use Rattle.promises.specs.v0_4.trace.Lines.{event_line_by, line, Names, shown, shown_byte}
 use Rattle.promises.specs.v0_4.trace.Skipped.{code_of, cut_sequence, is_empty, skipped_line, spoilt_sequence}
 use Rattle.std.specs.List.{flat_map}
 use Rattle.std.specs.Prelude.{[], Bool, codes, decimal, false, if◌then◌else◌, length, List, nat_le, nat_lt, not, take}
@@ -15,6 +17,7 @@ use Rattle.vt_syntax.specs.declared.event.Event.TheVariants.{Control, Escape, Pr
 use Rattle.vt_syntax.specs.declared.event.Event.{Event}
 use Rattle.vt_syntax.specs.declared.held.Held.TheVariants as held
 use Rattle.vt_syntax.specs.declared.held.Held.{Held}
+use Rattle.vt_term.specs.Happenings.{Happening}
 use Rattle.vt_term.specs.State.{Display, State}
 use Rattle.vt_trace.specs.declared.tracing.Tracer.{Tracer}
 
@@ -67,10 +70,11 @@ report_line place [] = []
 report_line place (b ∷ bytes) = line place (codes "report") (shown (b ∷ bytes))
 
 -- what is written of an event with its report, on a screen of so many rows
-abbrev pub written : ℕ → Bool → ℕ → Event → List ℕ → List ℕ
-written rows in_text place (Print b) reports =
-    if has_no_glyph b then text_end in_text ++ event_line_on rows place (Print b) else text_of in_text place b
-written rows in_text place event reports = text_end in_text ++ (event_line_on rows place event ++ report_line place reports)
+abbrev pub written : Names → ℕ → Bool → ℕ → Event → List ℕ → List ℕ
+written names rows in_text place (Print b) reports =
+    if has_no_glyph b then text_end in_text ++ event_line_by names rows place (Print b) else text_of in_text place b
+written names rows in_text place event reports =
+    text_end in_text ++ (event_line_by names rows place event ++ report_line place reports)
 
 abbrev pub is_nothing : Held → Bool
 is_nothing held.Nothing = true
@@ -129,30 +133,38 @@ unfoldable pub end_lines : Tracer → List ℕ
 end_lines t = if length t.first.items == 0 then text_end t.in_text else open_lines t
 
 -- what is written of the events of a byte, each in the state before it
-abbrev pub written_all : Bool → (Event → ℕ) → List Event → Display → List ℕ
-written_all in_text place_at [] s = []
-written_all in_text place_at (event ∷ events) s =
-    written s.grid.size.rows in_text (place_at event) event (report event s) ++ written_all (is_text event) place_at events (effect event s)
+abbrev pub written_all : Names → Bool → (Event → ℕ) → List Event → Display → List ℕ
+written_all names in_text place_at [] s = []
+written_all names in_text place_at (event ∷ events) s =
+    written names s.grid.size.rows in_text (place_at event) event (report event s)
+    ++ written_all names (is_text event) place_at events (effect event s)
 
 abbrev pub text_after : Bool → List Event → Bool
 text_after in_text [] = in_text
 text_after in_text (event ∷ events) = text_after (is_text event) events
 
--- what is written of a byte
-unfoldable pub traced : State → Tracer → ℕ → List ℕ
-traced s t b =
-    skipped t s.held b
-    ++ written_all (goes_on t s.held b) (place_of t.place (item_place t s.held b) b) (events_from s.held (b ∷ [])) s.display
+-- what is written of what happens at a byte: of what it cuts off or ends, and of its events. (A byte has one event at most.)
+abbrev pub traced_at : Names → Tracer → Happening → List ℕ
+traced_at names t h =
+    skipped t h.held h.byte
+    ++ written_all names (goes_on t h.held h.byte) (place_of t.place (item_place t h.held h.byte) h.byte) h.events h.before
 
--- the tracer after a byte: between items it keeps nothing of one
-unfoldable pub tracer_after : State → Tracer → ℕ → Tracer
-tracer_after s t b = record {
+-- the tracer after it: between items it keeps nothing of one
+abbrev pub tracer_at : Tracer → Happening → Tracer
+tracer_at t h = record {
   place = t.place + 1;
-  begin = item_place t s.held b;
-  in_text = text_after (goes_on t s.held b) (events_from s.held (b ∷ []));
-  code = code_after t.code (is_string s.held) (held_from s.held (b ∷ [])) b;
-  first = record { items = if is_nothing (held_from s.held (b ∷ [])) then [] else item_first t s.held b };
+  begin = item_place t h.held h.byte;
+  in_text = text_after (goes_on t h.held h.byte) h.events;
+  code = code_after t.code (is_string h.held) (held_from h.held (h.byte ∷ [])) h.byte;
+  first = record { items = if is_nothing (held_from h.held (h.byte ∷ [])) then [] else item_first t h.held h.byte };
 }
+
+-- a byte on a VT220
+unfoldable pub traced : State → Tracer → ℕ → List ℕ
+traced s t b = traced_at name_on t (happening s b)
+
+unfoldable pub tracer_after : State → Tracer → ℕ → Tracer
+tracer_after s t b = tracer_at t (happening s b)
 
 -- what is written of bytes
 unfoldable pub trace : State → Tracer → List ℕ → List ℕ

@@ -1,7 +1,7 @@
-use Rattle.promises.proofs.controls.function.function_delete_lines.Goals as goal
-use Rattle.promises.proofs.v0_4.controls.Named.{sequence_named-same}
+use Rattle.promises.proofs.paint.function.function_delete_lines.Goals as goal
+use Rattle.promises.proofs.v0_4.paint.Named.{sequence_named-same}
 use Rattle.std.specs.Prelude.{codes, ◌≡◌}
-use Rattle.vt_controls.specs.Named.{unless_one}
+use Rattle.vt_paint.specs.Named.{unless_one}
 use Rattle.vt_syntax.specs.Spelling.{spell_event}
 
 pub returns : goal.returns

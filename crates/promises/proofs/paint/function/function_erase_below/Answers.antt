@@ -1,5 +1,5 @@
-use Rattle.promises.proofs.controls.function.function_erase_below.Goals as goal
-use Rattle.promises.proofs.v0_4.controls.Named.{sequence_named-same}
+use Rattle.promises.proofs.paint.function.function_erase_below.Goals as goal
+use Rattle.promises.proofs.v0_4.paint.Named.{sequence_named-same}
 use Rattle.std.specs.Prelude.{[], codes, ◌≡◌}
 use Rattle.vt_syntax.specs.Spelling.{spell_event}
 

@@ -1,5 +1,5 @@
-use Rattle.promises.proofs.controls.function.function_line_feed.Goals as goal
-use Rattle.promises.proofs.v0_4.controls.Named.{control_named-same}
+use Rattle.promises.proofs.paint.function.function_line_feed.Goals as goal
+use Rattle.promises.proofs.v0_4.paint.Named.{control_named-same}
 use Rattle.std.specs.Prelude.{codes, ◌≡◌}
 use Rattle.vt_syntax.specs.Spelling.{spell_event}
 

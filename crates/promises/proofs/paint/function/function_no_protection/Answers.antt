@@ -1,5 +1,5 @@
-use Rattle.promises.proofs.controls.function.function_no_protection.Goals as goal
-use Rattle.promises.proofs.v0_4.controls.Named.{no_protection-same}
+use Rattle.promises.proofs.paint.function.function_no_protection.Goals as goal
+use Rattle.promises.proofs.v0_4.paint.Named.{no_protection-same}
 use Rattle.std.specs.Prelude.{◌≡◌}
 use Rattle.vt_syntax.specs.Spelling.{spell_event}
 

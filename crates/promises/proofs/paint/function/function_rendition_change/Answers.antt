@@ -1,5 +1,5 @@
-use Rattle.promises.proofs.controls.function.function_rendition_change.Goals as goal
-use Rattle.promises.proofs.v0_4.controls.Named.{rendition_change-same}
+use Rattle.promises.proofs.paint.function.function_rendition_change.Goals as goal
+use Rattle.promises.proofs.v0_4.paint.Named.{rendition_change-same}
 use Rattle.std.specs.Prelude.{◌≡◌}
 
 pub returns : goal.returns

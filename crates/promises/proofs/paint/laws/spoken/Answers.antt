@@ -1,6 +1,6 @@
 use Rattle.promises.proofs.paint.laws.spoken.Goals as goal
 use Rattle.promises.proofs.v0_4.paint.Repaint.{paint-same}
-use Rattle.vt_controls.specs.Spoken.{Speaks}
+use Rattle.vt_paint.specs.Spoken.{Speaks}
 use Rattle.vt_term.specs.Sound.{IsSound}
 use Rattle.vt_term.specs.State.{State}
 

@@ -1,11 +1,11 @@
 use Rattle.promises.proofs.trace.characters.summary_count_utf8.Goals as goal
+use Rattle.promises.proofs.v0_4.trace.Counted.{HasCountedOn-same}
 use Rattle.promises.proofs.v0_4.trace.Utf8.{counted_bytes-same}
 use Rattle.promises.proofs.v0_4.utf8.Decoding.{pending_after-same}
 use Rattle.std.specs.Prelude.{List, ℕ, ◌++◌, ◌≡◌}
-use Rattle.vt_trace.specs.Counted.{HasCountedOn}
 
 pub returns-clause-counted : goal.returns-clause-counted
-returns-clause-counted c = coe 1 0 (ι. (rows : ℕ) (bytes : List ℕ) → HasCountedOn rows bytes c.args.summary.now → HasCountedOn rows (bytes ++ (counted_bytes-same ι) c.args.decoder.now c.args.chunk.now) c.count_utf8.new.self) c.count_utf8.ensures.counted
+returns-clause-counted c = coe 1 0 (ι. (rows : ℕ) (bytes : List ℕ) → (HasCountedOn-same ι) rows bytes c.args.summary.now → (HasCountedOn-same ι) rows (bytes ++ (counted_bytes-same ι) c.args.decoder.now c.args.chunk.now) c.count_utf8.new.self) c.count_utf8.ensures.counted
 
 pub returns-clause-pending : goal.returns-clause-pending
 returns-clause-pending c = coe 1 0 (ι. c.count_utf8.new.decoder ≡ (pending_after-same ι) c.args.decoder.now c.args.chunk.now) c.count_utf8.ensures.pending

@@ -1,0 +1,13 @@
+use Rattle.promises.proofs.v0_4.xterm_paint.Repaint.{IsRebuilt-same, showing_other-same, xterm_repaint-same}
+use Rattle.promises.proofs.xterm_paint.views.repaint_xterm.Goals as goal
+use Rattle.std.specs.Prelude.{OnOk, ◌++◌, ◌+◌, ◌≡◌}
+use Rattle.vt_xterm.specs.Play.{behind}
+
+pub returns-clause-items : goal.returns-clause-items
+returns-clause-items c = coe 1 0 (ι. OnOk c.repaint_xterm.result (c.repaint_xterm.new.out.items ≡ c.args.out.now.items ++ (xterm_repaint-same ι) (behind c.args.t.now c.args.front.now))) c.repaint_xterm.ensures.items
+
+pub returns-clause-rebuilds : goal.returns-clause-rebuilds
+returns-clause-rebuilds c = coe 1 0 (ι. OnOk c.repaint_xterm.result ((IsRebuilt-same ι) (behind c.args.t.now c.args.front.now))) c.repaint_xterm.ensures.rebuilds
+
+pub returns-clause-scratch : goal.returns-clause-scratch
+returns-clause-scratch c = coe 1 0 (ι. OnOk c.repaint_xterm.result (c.repaint_xterm.new.scratch ≡ (showing_other-same ι) c.args.front.now.pages)) c.repaint_xterm.ensures.scratch

@@ -1,0 +1,130 @@
+-- 0.4: vt_picture/specs/Draw.
+use Rattle.promises.specs.v0_4.paint.Controls.{cursor_position, private_mode}
+use Rattle.promises.specs.v0_4.paint.Named.{sequence_named}
+use Rattle.promises.specs.v0_4.picture.Show.{change, rendition_sequence}
+use Rattle.promises.specs.v0_4.screen.Cells.{blank, plain}
+use Rattle.promises.specs.v0_4.screen.Grid.{last_row, row_of}
+use Rattle.promises.specs.v0_4.screen.Same.{same_bool, same_rendition, when}
+use Rattle.promises.specs.v0_4.syntax.Spelling.{spell_event}
+use Rattle.std.specs.Prelude.{[], Bool, codes, encode_utf8, false, if◌then◌else◌, List, map, not, suc, true, zero, ℕ}
+use Rattle.std.specs.Prelude.{◌&&◌, ◌++◌, ◌+◌, ◌==◌, ◌∷◌, ◌≡◌}
+use Rattle.vt_picture.specs.Draw.{Shown}
+use Rattle.vt_picture.specs.declared.drawing.pen.Pen.{Pen}
+use Rattle.vt_screen.specs.declared.cell.Cell.{Cell}
+use Rattle.vt_screen.specs.declared.cell.Rendition.{Rendition}
+use Rattle.vt_term.specs.State.{State}
+
+-- on a reverse screen the attribute `reverse` is inverted
+abbrev pub shown_rendition : (reversed : Bool) → Rendition → Rendition
+shown_rendition reversed look = record {
+  bold = look.bold;
+  underline = look.underline;
+  blink = look.blink;
+  reverse = if reversed then not look.reverse else look.reverse;
+}
+
+-- the glyph and the attributes that are shown; protection isn't
+abbrev pub shown_cell : (reversed : Bool) → Cell → Cell
+shown_cell reversed cell = record {
+  glyph = cell.glyph;
+  rendition = shown_rendition reversed cell.rendition;
+  protected = false;
+}
+
+-- the cells of each row as they are shown, the cursor's place, and whether the cursor is shown
+pub record Shown' : Type 0 where
+  pub cells : ℕ → List Cell
+  pub row : ℕ
+  pub col : ℕ
+  pub has_cursor : Bool
+
+-- two screens look the same
+pub record LooksLike' (a b : Shown) : Type 0 where
+  pub cells : (r : ℕ) → a.cells r ≡ b.cells r
+  pub row : a.row ≡ b.row
+  pub col : a.col ≡ b.col
+  pub has_cursor : a.has_cursor ≡ b.has_cursor
+
+abbrev pub shown : State → Shown
+shown s = record {
+  cells = λ r. map (λ c. shown_cell s.display.modes.decscnm c) (row_of s.display.grid r);
+  row = s.display.cursor.row;
+  col = s.display.cursor.col;
+  has_cursor = s.display.modes.dectcem;
+}
+
+-- an empty screen as wide as that of a state
+abbrev pub erased : State → Shown
+erased s = record {
+  cells = λ r. map (λ c. blank) (row_of s.display.grid r);
+  row = 1;
+  col = 1;
+  has_cursor = true;
+}
+
+-- CUP, if the pen is elsewhere
+abbrev pub go : Pen → ℕ → ℕ → List ℕ
+go pen row col = when (not (pen.row == row && pen.col == col)) (spell_event (cursor_position row col))
+
+abbrev pub same_look : Cell → Cell → Bool
+same_look a b = a.glyph == b.glyph && same_rendition a.rendition b.rendition
+
+abbrev pub place_bytes : ℕ → ℕ → Cell → Cell → Pen → List ℕ
+place_bytes row col old new pen =
+    when (not (same_look old new))
+    (go pen row col ++ (change pen.look new.rendition ++ encode_utf8 new.glyph))
+
+-- after the last column no place is the pen's
+abbrev pub place_pen : ℕ → ℕ → Cell → Cell → Pen → Pen
+place_pen row col old new pen =
+    if same_look old new then pen else record { row = row; col = col + 1; look = new.rendition }
+
+-- the places of a row, starting at a column
+abbrev pub row_bytes : ℕ → ℕ → List Cell → List Cell → Pen → List ℕ
+row_bytes row col (old ∷ olds) (new ∷ news) pen =
+    place_bytes row col old new pen ++ row_bytes row (col + 1) olds news (place_pen row col old new pen)
+row_bytes row col _ _ pen = []
+
+abbrev pub row_pen : ℕ → ℕ → List Cell → List Cell → Pen → Pen
+row_pen row col (old ∷ olds) (new ∷ news) pen = row_pen row (col + 1) olds news (place_pen row col old new pen)
+row_pen row col _ _ pen = pen
+
+-- the first rows
+unfoldable pub rows_pen : (ℕ → List Cell) → (ℕ → List Cell) → ℕ → Pen → Pen
+rows_pen olds news zero pen = pen
+rows_pen olds news (suc n) pen = row_pen (suc n) 1 (olds (suc n)) (news (suc n)) (rows_pen olds news n pen)
+
+unfoldable pub rows_bytes : (ℕ → List Cell) → (ℕ → List Cell) → ℕ → Pen → List ℕ
+rows_bytes olds news zero pen = []
+rows_bytes olds news (suc n) pen =
+    rows_bytes olds news n pen ++ row_bytes (suc n) 1 (olds (suc n)) (news (suc n)) (rows_pen olds news n pen)
+
+-- at the end the cursor's place, no attributes, and the cursor shown or hidden if it isn't already
+abbrev pub end_bytes : Pen → (was_shown : Bool) → Shown → List ℕ
+end_bytes pen was_shown new =
+    go pen new.row new.col ++ (change pen.look plain
+    ++ when (not (same_bool was_shown new.has_cursor)) (spell_event (private_mode 25 new.has_cursor)))
+
+-- at first the pen is at the cursor, without attributes
+abbrev pub first_pen : Shown → Pen
+first_pen old = record { row = old.row; col = old.col; look = plain }
+
+unfoldable pub changes : Shown → Shown → List ℕ
+changes old new =
+    rows_bytes old.cells new.cells last_row (first_pen old)
+    ++ end_bytes (rows_pen old.cells new.cells last_row (first_pen old)) old.has_cursor new
+
+-- no attributes, an empty screen, and the cursor shown in its first place
+unfoldable pub erase : List ℕ
+erase =
+    rendition_sequence plain ++ (spell_event (cursor_position 1 1)
+    ++ (spell_event (sequence_named [] (codes "ED")) ++ spell_event (private_mode 25 true)))
+
+-- from any screen
+unfoldable pub draw : State → List ℕ
+draw s = erase ++ changes (erased s) (shown s)
+
+-- from the screen of a state. A screen of another width is erased
+unfoldable pub draw_from : State → State → List ℕ
+draw_from a b =
+    if a.display.grid.width == b.display.grid.width then changes (shown a) (shown b) else draw b

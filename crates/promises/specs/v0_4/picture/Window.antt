@@ -1,0 +1,76 @@
+-- 0.4: vt_picture/specs/Window.
+use Rattle.promises.specs.v0_4.paint.Controls.{cursor_position, private_mode}
+use Rattle.promises.specs.v0_4.paint.Named.{sequence_named}
+use Rattle.promises.specs.v0_4.picture.Show.{rendition_sequence}
+use Rattle.promises.specs.v0_4.screen.Cells.{blank, plain}
+use Rattle.promises.specs.v0_4.screen.Grid.{last_row}
+use Rattle.promises.specs.v0_4.syntax.Spelling.{spell_event}
+use Rattle.std.specs.List.{flat_map}
+use Rattle.std.specs.Prelude.{[], Bool, codes, encode_utf8, false, if◌then◌else◌, length, List, nat_lt}
+use Rattle.std.specs.Prelude.{slice_index_or, ℕ, ◌&&◌, ◌+◌, ◌<◌, ◌==◌, ◌||◌, ◌∷◌, ◌≡◌, ◌≤◌}
+use Rattle.vt_picture.specs.Draw.{Shown}
+use Rattle.vt_picture.specs.Window.{Attributes, Character, Cursor, Erase, Looks, Position, Sent, Shows, Window}
+use Rattle.vt_picture.specs.declared.drawing.pen.Pen.{Pen}
+use Rattle.vt_screen.specs.declared.cell.Cell.{Cell}
+use Rattle.vt_screen.specs.declared.cell.Rendition.{Rendition}
+
+-- a character in UTF-8; CUP; SGR with 0 and the attributes; ED to the end of the screen; DECTCEM
+pub data Sent' : Type 0 where
+  Character' : ℕ → Sent'
+  Position' : ℕ → ℕ → Sent'
+  Attributes' : Rendition → Sent'
+  Erase' : Sent'
+  Cursor' : Bool → Sent'
+
+abbrev pub sent_bytes : Sent → List ℕ
+sent_bytes (Character glyph) = encode_utf8 glyph
+sent_bytes (Position row col) = spell_event (cursor_position row col)
+sent_bytes (Attributes look) = rendition_sequence look
+sent_bytes Erase = spell_event (sequence_named [] (codes "ED"))
+sent_bytes (Cursor on) = spell_event (private_mode 25 on)
+
+-- what each place shows, by row and column; the pen; and whether the cursor is shown
+pub record Window' : Type 0 where
+  pub place : ℕ → ℕ → Cell
+  pub pen : Pen
+  pub has_cursor : Bool
+
+-- one place shows a glyph with some attributes
+abbrev pub write : Window → ℕ → ℕ → ℕ → Rendition → (ℕ → ℕ → Cell)
+write w row col glyph look r c =
+    if r == row && c == col then record { glyph = glyph; rendition = look; protected = false } else w.place r c
+
+-- a character is shown where the pen is, and moves it; ED erases what is at the pen and after it
+abbrev pub after : Sent → Window → Window
+after (Character glyph) w = record w {
+  place = write w w.pen.row w.pen.col glyph w.pen.look;
+  pen = record w.pen { col = w.pen.col + 1 };
+}
+after (Position row col) w = record w { pen = record w.pen { row = row; col = col } }
+after (Attributes look) w = record w { pen = record w.pen { look = look } }
+after Erase w = record w {
+  place = λ r c. if nat_lt r w.pen.row || r == w.pen.row && nat_lt c w.pen.col then w.place r c else blank;
+}
+after (Cursor on) w = record w { has_cursor = on }
+
+abbrev pub all_after : List Sent → Window → Window
+all_after [] w = w
+all_after (sent ∷ more) w = all_after more (after sent w)
+
+-- the same glyph with the same attributes
+pub record Looks' (a b : Cell) : Type 0 where
+  pub glyph : a.glyph ≡ b.glyph
+  pub rendition : a.rendition ≡ b.rendition
+
+-- each place of 24 rows, the cursor, and no attributes
+pub record Shows' (w : Window) (s : Shown) : Type 0 where
+  pub places : (r k : ℕ) → 1 ≤ r → r ≤ last_row → k < length (s.cells r)
+      → Looks (w.place r (k + 1)) (slice_index_or (s.cells r) k blank)
+  pub pen : w.pen ≡ record { row = s.row; col = s.col; look = plain }
+  pub has_cursor : w.has_cursor ≡ s.has_cursor
+
+-- the bytes are functions and characters after which the terminal shows a screen
+pub record Draws' (bytes : List ℕ) (w : Window) (s : Shown) : Type 0 where
+  pub sent : List Sent
+  pub spelled : flat_map sent_bytes sent ≡ bytes
+  pub shows : Shows (all_after sent w) s

@@ -1,0 +1,121 @@
+-- 0.4: vt_xterm_trace/specs/Names.
+use Rattle.promises.specs.v0_4.glyph.LookUp.{contains, look_up}
+use Rattle.promises.specs.v0_4.term.Functions.{byte, numbers_of}
+use Rattle.promises.specs.v0_4.term.Modes.{private_modes}
+use Rattle.promises.specs.v0_4.term.Names.{name_on, sequence_name_on}
+use Rattle.promises.specs.v0_4.term.Rendition.{rendition_changes}
+use Rattle.promises.specs.v0_4.trace.Lines.{Names}
+use Rattle.promises.specs.v0_4.trace.Names.{names}
+use Rattle.promises.specs.v0_4.xterm.Attributes.{without_colours}
+use Rattle.promises.specs.v0_4.xterm.Front.{is_bare}
+use Rattle.promises.specs.v0_4.xterm.Pages.{page_modes}
+use Rattle.std.specs.List.{list_any}
+use Rattle.std.specs.Prelude.{[], Bool, codes, false, if◌then◌else◌, List, None, Option, Some, true, ℕ, ◌++◌, ◌==◌}
+use Rattle.std.specs.Prelude.{◌∷◌}
+use Rattle.vt_syntax.specs.declared.event.Event.TheVariants.{Control, Escape, Print, Sequence}
+use Rattle.vt_trace.specs.Names.{Listing}
+use Rattle.vt_xterm_trace.specs.Names.{Named}
+
+-- the name of a function, and the values for which it has an effect; with others it is ignored
+pub record Named' : Type 0 where
+  pub name : List ℕ
+  pub takes : List ℕ → Bool
+
+-- by the final byte
+abbrev pub NameTable : Type 0
+NameTable = List (ℕ × Named)
+
+-- a function of any values
+abbrev pub always : List ℕ → Named
+always name = record { name = name; takes = λ values. true }
+
+-- a function, if the values pass the test
+abbrev pub taking : (List ℕ → Bool) → List ℕ → Named
+taking takes name = record { name = name; takes = takes }
+
+-- SD by `T`: one value
+abbrev pub is_one : List ℕ → Bool
+is_one [] = false
+is_one (value ∷ []) = true
+is_one (value ∷ (more ∷ values)) = false
+
+-- SGR: one of the values outside colours is an attribute of a VT220
+abbrev pub has_attribute : List ℕ → Bool
+has_attribute values = list_any (contains (numbers_of rendition_changes)) (without_colours 0 values)
+
+-- SM and RM after `?`: one of the values is a mode of xterm's pages, or a private mode of a VT220
+abbrev pub has_mode : List ℕ → Bool
+has_mode values = list_any (contains (numbers_of page_modes ++ numbers_of private_modes)) values
+
+abbrev pub plain_names : NameTable
+plain_names =
+    (byte (codes "E"), always (codes "CNL"))
+    ∷ (byte (codes "F"), always (codes "CPL"))
+    ∷ (byte (codes "G"), always (codes "CHA"))
+    ∷ (byte (codes "I"), always (codes "CHT"))
+    ∷ (byte (codes "S"), always (codes "SU"))
+    ∷ (byte (codes "T"), taking is_one (codes "SD"))
+    ∷ (byte (codes "Z"), always (codes "CBT"))
+    ∷ (byte (codes "^"), always (codes "SD"))
+    ∷ (byte (codes "`"), always (codes "HPA"))
+    ∷ (byte (codes "a"), always (codes "HPR"))
+    ∷ (byte (codes "b"), always (codes "REP"))
+    ∷ (byte (codes "d"), always (codes "VPA"))
+    ∷ (byte (codes "e"), always (codes "VPR"))
+    ∷ (byte (codes "m"), taking has_attribute (codes "SGR"))
+    ∷ (byte (codes "s"), taking is_bare (codes "SCP"))
+    ∷ (byte (codes "u"), taking is_bare (codes "RCP"))
+    ∷ []
+
+-- after `?`
+abbrev pub private_names : NameTable
+private_names = (byte (codes "h"), taking has_mode (codes "SM")) ∷ (byte (codes "l"), taking has_mode (codes "RM")) ∷ []
+
+-- by the marker and the intermediate
+abbrev pub names_of : Option ℕ → Option ℕ → NameTable
+names_of None None = plain_names
+names_of (Some marker) None = if marker == byte (codes "?") then private_names else []
+names_of None (Some inter) = []
+names_of (Some marker) (Some inter) = []
+
+-- the name, if the function takes the values
+abbrev pub name_with : List ℕ → Named → Option (List ℕ)
+name_with values f = if f.takes values then Some f.name else None
+
+-- what the table has for the final byte, or else a VT220's name
+abbrev pub name_in : NameTable → ℕ → List ℕ → Option (List ℕ) → Option (List ℕ)
+name_in table last values otherwise = elim (look_up table last) [ None ↦ otherwise | Some f ↦ name_with values f ]
+
+unfoldable pub xterm_sequence_name : ℕ → Option ℕ → Option ℕ → ℕ → List ℕ → Option (List ℕ)
+xterm_sequence_name rows marker inter last values =
+    name_in (names_of marker inter) last values (sequence_name_on rows marker inter last values)
+
+-- an event without a name is ignored
+abbrev pub xterm_names : Names
+xterm_names rows (Print b) = name_on rows (Print b)
+xterm_names rows (Control b) = name_on rows (Control b)
+xterm_names rows (Escape inter last) = name_on rows (Escape inter last)
+xterm_names rows (Sequence marker params inter last) = xterm_sequence_name rows marker inter last params.items
+
+-- those that a VT220's functions don't have, in the order of the table
+abbrev pub own_names : List (List ℕ)
+own_names =
+    codes "CNL"
+    ∷ codes "CPL"
+    ∷ codes "CHA"
+    ∷ codes "CHT"
+    ∷ codes "SU"
+    ∷ codes "SD"
+    ∷ codes "CBT"
+    ∷ codes "HPA"
+    ∷ codes "HPR"
+    ∷ codes "REP"
+    ∷ codes "VPA"
+    ∷ codes "VPR"
+    ∷ codes "SCP"
+    ∷ codes "RCP"
+    ∷ []
+
+-- in the order of a summary, after those of a VT220
+abbrev pub xterm_listing : Listing
+xterm_listing = record { called = xterm_names; listed = names ++ own_names }

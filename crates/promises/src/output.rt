@@ -1,2 +1,0 @@
-//! The calls of vt_output.
-pub mod output;

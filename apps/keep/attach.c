@@ -144,15 +144,9 @@ static void send_keys(void) {
 
 /* --- frames --- */
 
-static void play(const uint8_t *bytes, size_t len) {
-    uint8_t none[VT220_REPORT_LIMIT];
-    size_t reports;
-    for (size_t at = 0; at < len;) at += vt220_feed(&it.terminal, bytes + at, len - at, none, sizeof none, &reports);
-}
-
 static void take_frame(char letter, const uint8_t *bytes, size_t len) {
     if (letter == FRAME_PLAY) {
-        play(bytes, len);
+        vt220_feed(&it.terminal, bytes, len, NULL, 0, NULL);
         it.is_behind = true;
     } else if (letter == FRAME_BELL) {
         draw_bell();

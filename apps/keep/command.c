@@ -31,15 +31,14 @@ static noreturn void become_command(const struct line *line, char **command, int
     _exit(COMMAND_NOT_FOUND);
 }
 
-/* Sets whether the line erases whole characters of UTF-8. */
-static void set_line(int slave, bool is_utf8) {
+static void set_line(int slave, tcflag_t erasing) {
     struct termios it;
     if (tcgetattr(slave, &it) != 0) return;
-    it.c_iflag = is_utf8 ? it.c_iflag | IUTF8 : it.c_iflag & ~(tcflag_t)IUTF8;
+    it.c_iflag = (it.c_iflag & ~(tcflag_t)IUTF8) | erasing;
     tcsetattr(slave, TCSANOW, &it);
 }
 
-static bool open_line(struct line *line, int *told, bool is_utf8) {
+static bool open_line(struct line *line, int *told, tcflag_t erasing) {
     struct winsize size = {.ws_row = ROWS, .ws_col = COLUMNS};
     if (pipe2(told, O_CLOEXEC) != 0) return false;
     if (openpty(&line->master, &line->slave, NULL, NULL, &size) != 0) {
@@ -49,17 +48,17 @@ static bool open_line(struct line *line, int *told, bool is_utf8) {
         errno = why;
         return false;
     }
-    set_line(line->slave, is_utf8);
+    set_line(line->slave, erasing);
     fcntl(line->master, F_SETFD, FD_CLOEXEC);
     fcntl(line->slave, F_SETFD, FD_CLOEXEC);
     fcntl(line->master, F_SETFL, O_NONBLOCK);
     return true;
 }
 
-int start_command(struct line *line, char **command, bool is_utf8, void (*prepare)(const void *), const void *of, int *status) {
+int start_command(struct line *line, char **command, tcflag_t erasing, void (*prepare)(const void *), const void *of, int *status) {
     int told[2], error = 0;
     *status = COMMAND_REFUSED;
-    if (!open_line(line, told, is_utf8)) return errno;
+    if (!open_line(line, told, erasing)) return errno;
     line->command = fork();
     if (line->command == 0) {
         free_signals();

@@ -4,6 +4,7 @@
 
 #include <stdbool.h>
 #include <sys/types.h>
+#include <termios.h>
 
 enum {
     COMMAND_REFUSED = 1, /* the statuses of env(1): of a pseudo-terminal that can't be opened, of a command that can't be run, */
@@ -16,8 +17,9 @@ struct line {
     pid_t command;
 };
 
-/* Runs a command. `prepare`, unless it is NULL, is called in its process before it begins. Returns 0 when it runs. Otherwise returns the error,
- * and nothing is open: *status is then that of env(1). */
-int start_command(struct line *line, char **command, bool is_utf8, void (*prepare)(const void *), const void *of, int *status);
+/* Runs a command. `erasing` is IUTF8 if the line erases whole characters of UTF-8, and 0 if it erases bytes. `prepare`, unless it is NULL, is
+ * called in its process before it begins. Returns 0 when it runs. Otherwise returns the error, and nothing is open: *status is then that of
+ * env(1). */
+int start_command(struct line *line, char **command, tcflag_t erasing, void (*prepare)(const void *), const void *of, int *status);
 
 #endif

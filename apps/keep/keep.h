@@ -138,10 +138,11 @@ int shell_status(int ending);
 
 bool draw_enter(void);
 bool draw_resize(void);
-void draw(vt220 *t); /* only when all is written that was drawn before */
+void draw(const vt220 *t); /* only when all is written that was drawn before */
 size_t draw_rows(void);
-/* Draws lines of UTF-8 from the top, and this hint in a corner. Each line has an LF. */
+/* Draws lines of UTF-8 from the top, and this hint in a corner, unless these lines are drawn already. Each line has an LF. */
 void draw_lines(const uint8_t *const *lines, size_t count, const char *hint);
+void draw_again(void); /* other lines may be where those were that are drawn */
 void draw_bell(void);
 void draw_brackets(bool on); /* whether the outer terminal is to send pasted text in brackets */
 void draw_leave(void);

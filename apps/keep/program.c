@@ -149,7 +149,7 @@ static void set_environment(const void *of) {
 bool run_command(const struct beginning *beginning, char *why, int *status) {
     struct line line;
     the.width = 80;
-    int error = start_command(&line, beginning->command, beginning->language != VT220_BYTES, set_environment, beginning, status);
+    int error = start_command(&line, beginning->command, beginning->language != VT220_BYTES ? IUTF8 : 0, set_environment, beginning, status);
     if (error == 0) the.master = line.master, the.slave = line.slave, the.command = line.command;
     else if (*status == COMMAND_REFUSED) snprintf(why, WHY_LIMIT, "cannot open a pseudo-terminal: %s", strerror(error));
     else snprintf(why, WHY_LIMIT, "%.200s: %s", beginning->command[0], strerror(error));

@@ -23,6 +23,7 @@ bool scroll_is_on(void) {
 }
 
 void scroll_leave(void) {
+    draw_again();
     free(it.bytes);
     free(it.lines);
     it.bytes = NULL;

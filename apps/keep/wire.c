@@ -25,24 +25,23 @@ bool types_keys(char ask) {
     return ask == ASK_ATTACH || ask == ASK_SEND;
 }
 
-/* Reads a frame that has a byte, which is 0 or 1. */
-static bool receive_flag(int socket, char wanted, bool *flag) {
+/* Reads a frame that has a byte. 1 says that the session has this language. */
+static bool receive_language(int socket, char wanted, uint32_t language, struct hello *hello) {
     uint8_t told = 0;
     char letter;
     size_t len;
     if (!wire_receive(socket, &letter, &told, sizeof told, &len) || letter != wanted) return false;
-    *flag = told == 1;
+    if (told == 1) hello->language = language;
     return true;
 }
 
 /* Reads the frames that have the session's encoding and its terminal, if they are sent. An older keeper's session isn't in UTF-8, and its
  * program writes for a VT220. */
 static int receive_session(int socket, char ask, struct hello *hello) {
-    bool is_utf8 = false, is_xterm = false;
+    hello->language = VT220_BYTES;
     if (!types_keys(ask)) return WIRE_OK;
-    if (hello->version >= PROTOCOL_ENCODING && !receive_flag(socket, FRAME_ENCODING, &is_utf8)) return WIRE_SILENT;
-    if (hello->version >= PROTOCOL_TERMINAL && !receive_flag(socket, FRAME_TERMINAL, &is_xterm)) return WIRE_SILENT;
-    hello->language = is_xterm ? VT220_XTERM : is_utf8 ? VT220_UTF8 : VT220_BYTES;
+    if (hello->version >= PROTOCOL_ENCODING && !receive_language(socket, FRAME_ENCODING, VT220_UTF8, hello)) return WIRE_SILENT;
+    if (hello->version >= PROTOCOL_TERMINAL && !receive_language(socket, FRAME_TERMINAL, VT220_XTERM, hello)) return WIRE_SILENT;
     return WIRE_OK;
 }
 

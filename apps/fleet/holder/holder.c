@@ -130,7 +130,7 @@ static void drop_before(uint64_t position) {
 /* Starts the program. If it can't be started, it has written why, and has ended. */
 static void start_program(void) {
     char why[1024];
-    int error = start_command(&the.line, the.command, strcmp(the.encoding, "utf-8") == 0, NULL, NULL, &the.status);
+    int error = start_command(&the.line, the.command, strcmp(the.encoding, "utf-8") == 0 ? IUTF8 : 0, NULL, NULL, &the.status);
     the.is_started = true;
     if (error == 0) {
         close(the.line.slave); /* so the terminal is closed when the last program has closed it */

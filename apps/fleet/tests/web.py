@@ -35,14 +35,7 @@ class Browser(Chromium):
     def __init__(self, url, width=1500, height=900):
         super().__init__("about:blank", width, height)
         started.callback(self.close)
-        wait_for(lambda: self.has_left_for(url), pause=2)
-
-    def has_left_for(self, url):
-        """Returns whether the blank page is left. Navigates otherwise: a blank page that comes late takes the place of the one that was asked for."""
-        if self.evaluate("location.href") != "about:blank":
-            return True
-        self.call("Page.navigate", url=url)
-        return False
+        self.call("Page.navigate", url=url)  # the page changes its address at once, so that one isn't waited for
 
     def type(self, text):
         for each in text:

@@ -199,7 +199,7 @@ class Outer:
 
     def part(self, rows, columns, shown):
         """Which row and column of the session is the first one shown, and where the hint is that says so: its row and column."""
-        for at in (0, rows - 1):
+        for at in (0, min(rows, 24) - 1):
             found = re.search(r"\[(\d+)-(\d+)/24 (\d+)-(\d+)/(\d+)\]$", shown[at].ljust(columns))
             if found:
                 return int(found[1]) - 1, int(found[3]) - 1, at, found.start()

@@ -34,10 +34,11 @@ const Base = globalThis.HTMLElement ?? class {};
 /** The styles of all players. */
 let sheet = null;
 
-/** Returns whether the end of an element has been parsed. Something comes after it then, or all has been parsed. */
-function isParsed(element) {
-  for (let at = element; at !== null; at = at.parentNode) if (at.nextSibling !== null) return true;
-  return document.readyState !== "loading";
+/** Returns whether an element may begin: all has been parsed, or it is an early one and its own end has been. Something comes after it then. */
+function mayBegin(element) {
+  if (document.readyState !== "loading") return true;
+  if (element.hasAttribute("early")) for (let at = element; at !== null; at = at.parentNode) if (at.nextSibling !== null) return true;
+  return false;
 }
 
 /** Returns a promise of the next turn of the page. */
@@ -89,7 +90,7 @@ export class Vt220Player extends Base {
 
   connectedCallback() {
     const begin = () => this.isConnected && !this.#isBegun && this.#open();
-    if (isParsed(this)) begin();
+    if (mayBegin(this)) begin();
     else document.addEventListener("DOMContentLoaded", begin, { once: true });
   }
 

@@ -42,7 +42,8 @@ for (const [file, timing] of FILES) {
   let spans = 0;
   for (const text of textsIn(line)) {
     const wanted = line.search(text, { matchCase: true }).map(({ time, until, row, column }) => `${written(time)}\t${written(until)}\t${row}\t${column}\n`);
-    const { status, stdout } = spawnSync(program, ["search", "--quiet", ...format, "--", text, name], { encoding: "utf8" });
+    // A Timeline has a VT220's screen, whatever size the recording names.
+    const { status, stdout } = spawnSync(program, ["search", "--quiet", "--columns", "80", ...format, "--", text, name], { encoding: "utf8" });
     check(`${JSON.stringify(text)} in ${file}: ${stdout}, not ${wanted.join("")}`, status === 0 && stdout === wanted.join(""));
     spans += wanted.length;
   }

@@ -72,7 +72,7 @@ def recording(
 
 def _player(recorded: str, attributes: str = "", name: str = "rest") -> Tuple[str, str]:
     """Returns the element of what recording() returns, and what comes after the script of the page: the rest of a large recording's bytes. So the first
-    frame is shown while the rest is parsed."""
+    frame is shown while the rest is parsed. The script of the page hears of that, since it is one with the player's."""
     found = re.fullmatch(r'(\{.*)("bytes": ")([A-Za-z0-9+/=]*)("\})', recorded, re.S)
     rest = found[3][BEGINNING:] if found else ""
     if found and rest:
@@ -80,7 +80,7 @@ def _player(recorded: str, attributes: str = "", name: str = "rest") -> Tuple[st
         rest = f'<script type="application/octet-stream" id="{name}">{rest}</script>\n'
     # An end tag of a script can't be in it.
     inside = recorded.replace("<", "\\u003c")
-    return f'<vt220-player{attributes}><script type="application/json">{inside}</script>Loading</vt220-player>', rest
+    return f'<vt220-player early{attributes}><script type="application/json">{inside}</script>Loading</vt220-player>', rest
 
 
 def _filled(title: str, players: str, rest: str = "") -> str:

@@ -185,7 +185,7 @@ class Item:
 
 def crates():
     """Returns the names of all crates but those of tests and the frozen promises."""
-    return sorted(path.name for path in ROOT.iterdir() if (path / "src").exists() and not path.name.startswith(("tests_", "promises")))
+    return sorted(path.name for path in ROOT.iterdir() if (path / "src").exists() and not path.name.startswith(("tests", "promises")))
 
 
 def exported(crate):

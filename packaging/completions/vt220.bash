@@ -2,6 +2,7 @@
 _vt220() {
   local commands='text reports repaint status show picture log pages trace summary events content search help'
   local options='--piece --limit --format --timing --from --until --encoding --terminal --columns --size --animate --theme --cursor --title --full --partial --quiet -h --help'
+  if [ "${COMP_WORDS[1]}" = search ]; then options="$options --log"; fi
   local formats='raw script ttyrec asciicast auto'
   local word=${COMP_WORDS[COMP_CWORD]} before=${COMP_WORDS[COMP_CWORD - 1]} words=
   # Readline cuts --format=raw into three words. Without = in COMP_WORDBREAKS it is one word.

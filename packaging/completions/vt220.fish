@@ -31,6 +31,7 @@ complete -c vt220 -n "__fish_seen_subcommand_from $commands" -l theme -x -a 'dar
 complete -c vt220 -n "__fish_seen_subcommand_from $commands" -l cursor -x -a 'outline block underline hidden' -d 'Its cursor'
 complete -c vt220 -n "__fish_seen_subcommand_from $commands" -l title -x -d 'Its title'
 complete -c vt220 -n "__fish_seen_subcommand_from $commands" -l full -d 'All that the recording has, for events'
+complete -c vt220 -n "__fish_seen_subcommand_from search" -l log -d 'Also the lines that scrolled off'
 complete -c vt220 -n "__fish_seen_subcommand_from $commands" -l partial -d 'What came before a break is enough'
 complete -c vt220 -n "__fish_seen_subcommand_from $commands" -l quiet -d 'No notes'
 complete -c vt220 -n "__fish_seen_subcommand_from help" -f -a "$commands"

@@ -1,4 +1,0 @@
-pub mod Tests
-pub mod Digits
-pub mod Speech
-pub mod Spelled

@@ -1,4 +1,0 @@
-pub mod Controls
-pub mod Named
-pub mod Spoken
-pub mod Private

@@ -1,5 +1,0 @@
-mod Rows
-mod Same
-mod Kept
-mod Window
-mod Shows

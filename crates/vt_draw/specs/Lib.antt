@@ -1,3 +1,0 @@
-pub mod Draw
-pub mod Window
-pub mod Private

@@ -8,14 +8,11 @@ ghost use Rattle.vt_screen.specs.Cells.{blank};
 ghost use Rattle.vt_term.specs.Text.{glyphs_of, line_text, trimmed};
 
 use vt_glyph::Glyph;
-use vt_screen::{COLUMNS, Cell, MOST};
+use vt_screen::{Cell, MOST};
 use vt_syntax::plain_run;
 
 /// The most bytes of the text of a row of ASCII glyphs: one for each cell, and LF.
 const LINE: usize = MOST + 1;
-
-/// The same of a row that isn't wider than a VT220's wide screen.
-const SHORT_LINE: usize = COLUMNS + 1;
 
 /// How many spaces at the end are looked for at a time.
 const BLOCK: usize = 8;
@@ -28,27 +25,8 @@ pub(crate) fn push_line(cells: &[Cell], out: &mut Vec<u8>)
     ensures bounded { vec_len out.new ≤ vec_len out.old + 3 * length cells.now + 1 }
     ensures capacity { vec_capacity out.old ≤ vec_capacity out.new }
 {
-    if cells.len() < SHORT_LINE {
-        let mut codes = [0u8; SHORT_LINE];
-        push_coded(cells, &mut codes, out);
-    } else {
-        let mut codes = [0u8; LINE];
-        push_coded(cells, &mut codes, out);
-    }
-}
-
-/// Appends the text of a row by way of the codes of its glyphs, which it writes over the front of `codes`. Speed: a shorter array
-/// costs less to make.
-#[inline(always)]
-fn push_coded(cells: &[Cell], codes: &mut [u8], out: &mut Vec<u8>)
-    requires long { length cells.now < length codes.old }
-    requires few { length cells.now ≤ 255 }
-    requires room { vec_len out.old + 3 * length cells.now + 1 ≤ vec_capacity out.old }
-    ensures items { out.new.items ≡ out.old.items ++ line_text cells.now }
-    ensures bounded { vec_len out.new ≤ vec_len out.old + 3 * length cells.now + 1 }
-    ensures capacity { vec_capacity out.old ≤ vec_capacity out.new }
-{
-    put_codes(cells, codes);
+    let mut codes = [0u8; LINE];
+    put_codes(cells, &mut codes);
     let end = end_of_text(&codes[..cells.len()]);
     if plain_run(&codes[..end]) == end {
         codes[end] = b'\n';
@@ -61,9 +39,8 @@ fn push_coded(cells: &[Cell], codes: &mut [u8], out: &mut Vec<u8>)
 
 /// Writes the code of each cell's glyph over the front of a line.
 #[inline(always)]
-fn put_codes(cells: &[Cell], codes: &mut [u8])
-    requires { length cells.now ≤ length codes.old }
-    ensures len { length codes.new ≡ length codes.old }
+fn put_codes(cells: &[Cell], codes: &mut [u8; LINE])
+    requires { length cells.now ≤ 255 }
     ensures glyphs { (k : ℕ) → k < length cells.now
         → encoded_glyph (slice_index codes.new k) ≡ (slice_index_or cells.now k blank).glyph }
     ensures codes { (k : ℕ) → k < length cells.now

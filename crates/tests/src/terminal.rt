@@ -11,6 +11,7 @@ mod pairs;
 mod readers;
 mod repaint;
 mod repaints_of_sizes;
+mod resizes;
 mod runs;
 mod sizes;
 mod status;

@@ -3,6 +3,7 @@
 mod attributes;
 mod checkpoints;
 mod common;
+mod resizes;
 mod rows;
 mod sizes;
 mod utf8;

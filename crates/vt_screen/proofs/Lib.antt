@@ -5,4 +5,7 @@ pub mod Rows
 pub mod Maps
 pub mod Same
 pub mod Composed
+pub mod Areas
+pub mod Steps
 pub mod SoundGrids
+pub mod OtherSize

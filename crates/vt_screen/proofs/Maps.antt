@@ -19,7 +19,7 @@ use Rattle.vt_screen.specs.Cells.{blank, erased, cell_like}
 use Rattle.vt_screen.specs.Order.{Order, IsOrder, start_of, stored}
 use Rattle.vt_screen.specs.Sizes.{stride, room}
 use Rattle.vt_screen.specs.Grid.{Grid, grid_of, cell_at, with_row, put, put_inserting, put_run, erase, insert_cells}
-use Rattle.vt_screen.specs.Grid.{delete_cells, scroll_up, scroll_down, is_within}
+use Rattle.vt_screen.specs.Grid.{delete_cells, scroll_up, scroll_down, is_within, row_from}
 
 -- a cell of the row before
 before : (o : Order) (xs : List Cell) (w row c : ℕ) → 1 ≤ row → row ≤ o.size.rows → 1 ≤ c → c ≤ w
@@ -295,6 +295,27 @@ scroll_down-rows o o' xs zs w t b n m t1 tb b24 is_min moved rest blanked kept =
           let out : (r < t) ⊎ (t + m ≤ r) = elim k.1 [ inl l ↦ inl (omega arith) | inr l ↦ inr (omega arith) ] in
           rw k.0 (kept r c r1 r24 out c1 cw ∙ ap (λ x. get_or xs (x + (c - 1)) blank) (rest r r1 k.1)
           ∙ before o xs w r c r1 r24 c1 cw)
+    ])
+
+-- the front of a row is written over with cells of a row of another grid
+pub row_from-row : (o : Order) (xs ys : List Cell) (w row from at k : ℕ) (other : Grid) → IsOrder o → length xs ≡ room o.size
+    → 1 ≤ row → row ≤ o.size.rows → w ≤ stride o.size
+    → at ≡ start_of o row → k ≡ min w other.width → length ys ≡ length (mid_of at k xs)
+    → ((i : ℕ) → i < k → get_or ys i blank ≡ cell_at other from (i + 1))
+    → grid_of o.size w (stored o (put_mid at k xs ys)) ≡ row_from (grid_of o.size w (stored o xs)) row other from
+row_from-row o xs ys w row from at k other order long row1 row24 narrow here is len written =
+    let below = start-below o order row row1 row24 in
+    let mid : length (mid_of at k xs) ≡ k = length-mid_of at k xs (omega arith) in
+    part-written o xs ys w row at 0 k _ order long row1 row24 narrow (omega arith) (omega arith) (len ∙ mid)
+    (λ i c place low. elim (leb_tells c other.width) [
+      | inl t ↦
+          let next : i + 1 ≡ c = omega arith in
+          rw t.0 (written i low ∙ ap (cell_at other from) next)
+      | inr t ↦ absurd (omega (arith, t))
+    ])
+    (λ c c1 cw out. elim (leb_tells c other.width) [
+      | inl t ↦ absurd (elim out [ inl l ↦ omega arith | inr l ↦ omega (arith, t) ])
+      | inr t ↦ rw t.0 refl
     ])
 
 -- one row is written over with one cell

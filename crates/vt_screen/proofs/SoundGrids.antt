@@ -1,5 +1,5 @@
 -- Each map of a sound grid is one.
-use Rattle.std.proofs.Common.{◌≡◌, inl, inr, ℕ, ◌+◌, ◌-◌, Bool, true, false, ◌==◌, if◌then◌else◌, List, length, All}
+use Rattle.std.proofs.Common.{◌≡◌, inl, inr, ℕ, ◌+◌, ◌-◌, Bool, true, false, ◌==◌, ◌&&◌, if◌then◌else◌, List, length, All}
 use Rattle.std.proofs.Common.{IsTrue, arith, refl, sym, ◌∙◌}
 use Rattle.std.proofs.Math.Dec.{leb, ltb}
 use Rattle.std.specs.List.{length_refill}
@@ -12,7 +12,7 @@ use Rattle.vt_screen.specs.Sizes.{width_of, IsSize}
 use Rattle.vt_screen.specs.Cells.{blank, erased, cell_like}
 use Rattle.vt_screen.specs.Grid.{Grid, IsSoundGrid, grid_of, cell_at, with_row, blank_grid, put, put_inserting}
 use Rattle.vt_screen.specs.Grid.{put_run, insert_cells, delete_cells, erase_area, scroll_up, scroll_down, fill}
-use Rattle.vt_screen.specs.Grid.{is_within}
+use Rattle.vt_screen.specs.Grid.{is_within, row_from, grid_on}
 use Rattle.vt_screen.proofs.Places.{IsGrid-grid_of}
 use Rattle.vt_screen.proofs.Maps.{among-before}
 use Rattle.vt_screen.proofs.Composed.{test-at, test-formula}
@@ -101,6 +101,11 @@ pub scroll_down-sound : (g : Grid) (top bottom n : ℕ) → IsSoundGrid g → Is
 scroll_down-sound g top bottom n sound = made g _ sound (λ r c. chosen (is_within top bottom r) _ _
     (chosen (leb (top + n) r) _ _ (at g (r - n) c sound) blank-shown) (at g r c sound))
 
+pub row_from-sound : (g : Grid) (row : ℕ) (other : Grid) (from : ℕ) → IsSoundGrid g → IsSoundGrid other
+    → IsSoundGrid (row_from g row other from)
+row_from-sound g row other from sound there = row-sound g row _ sound
+    (λ c. chosen (leb c other.width) _ _ (at other from c there) (at g row c sound))
+
 pub fill-sound : (g : Grid) (cell : Cell) → IsSoundGrid g → IsGlyph cell.glyph → IsSoundGrid (fill g cell)
 fill-sound g cell sound glyph = made g _ sound (λ r c. by_glyph cell glyph)
 
@@ -109,4 +114,12 @@ unfolding is_glyph
 blank_grid-sound s wide sized = record {
   shape = IsGrid-grid_of s (width_of s wide) (λ r c. blank) sized (wide, refl);
   glyphs = test-formula (λ cell. is_glyph cell.glyph) s (width_of s wide) (λ r c. blank) (λ r c r1 r24 c1 cw. refl);
+}
+
+pub grid_on-sound : (s : Size) (off : ℕ) (g : Grid) → IsSize s → IsSoundGrid g → IsSoundGrid (grid_on s off g)
+unfolding shown
+grid_on-sound s off g sized sound = record {
+  shape = IsGrid-grid_of s (width_of s (g.width == g.size.wide)) _ sized (g.width == g.size.wide, refl);
+  glyphs = test-formula (λ cell. is_glyph cell.glyph) s (width_of s (g.width == g.size.wide)) _ (λ r c r1 r24 c1 cw.
+      chosen (leb (r + off) g.size.rows && leb c g.width) _ _ (at g (r + off) c sound) blank-shown);
 }

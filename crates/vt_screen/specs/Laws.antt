@@ -6,7 +6,7 @@ use Rattle.vt_screen.specs.Cells.{blank, cell_like}
 use Rattle.vt_screen.specs.declared.size.Size.{Size}
 use Rattle.vt_screen.specs.Sizes.{IsSize}
 use Rattle.vt_screen.specs.Grid.{Grid, IsGrid, AllCells, grid_of, cell_at, row_of, blank_grid}
-use Rattle.vt_screen.specs.Grid.{put, put_run, erase_area, fill}
+use Rattle.vt_screen.specs.Grid.{put, put_run, erase_area, fill, grid_on, IsSoundGrid}
 
 -- what a formula's grid has at a place, and when two grids are equal
 pub record PlaceLaws : Type 0 where
@@ -58,3 +58,10 @@ pub record TestLaws : Type 0 where
       → IsTrue (test (cell_at g r c))
   pub formula : (test : Cell → Bool) (s : Size) (w : ℕ) (f : ℕ → ℕ → Cell)
       → ((r c : ℕ) → 1 ≤ r → r ≤ s.rows → 1 ≤ c → c ≤ w → IsTrue (test (f r c))) → AllCells test (grid_of s w f)
+
+-- a grid on its own size is the same one if no row leaves; what is inside both sizes stays; a sound grid is sound on any size
+pub record SizeLaws : Type 0 where
+  pub own : (g : Grid) → IsGrid g → grid_on g.size 0 g ≡ g
+  pub stays : (s : Size) (off : ℕ) (g : Grid) (r c : ℕ) → 1 ≤ r → r ≤ s.rows → r + off ≤ g.size.rows
+      → 1 ≤ c → c ≤ g.width → c ≤ (grid_on s off g).width → cell_at (grid_on s off g) r c ≡ cell_at g (r + off) c
+  pub sound : (s : Size) (off : ℕ) (g : Grid) → IsSize s → IsSoundGrid g → IsSoundGrid (grid_on s off g)

@@ -1,6 +1,6 @@
 //! Laws of the definitions that contracts cite. A law is a function with an empty body, which a proof
 //! cites by calling it.
-ghost use Rattle.vt_screen.specs.Laws.{PlaceLaws, RowLaws, RunLaws, AreaLaws, TestLaws};
+ghost use Rattle.vt_screen.specs.Laws.{PlaceLaws, RowLaws, RunLaws, AreaLaws, TestLaws, SizeLaws};
 
 /// States what a formula's grid has at a position, and when two grids are equal.
 pub fn places()
@@ -26,4 +26,9 @@ pub fn areas()
 /// passes a test if the formula passes it at every position.
 pub fn tests()
     ensures { TestLaws }
+{}
+
+/// States that a grid on its own size is the same one, that what is inside two sizes stays, and that a sound grid is sound on any size.
+pub fn sizes()
+    ensures { SizeLaws }
 {}

@@ -2,6 +2,7 @@
 //! 132 cells. Rows and columns count from 1.
 #![tactic(auto)]
 
+pub mod between;
 mod cell;
 pub mod laws;
 mod line;

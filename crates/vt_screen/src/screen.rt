@@ -68,6 +68,7 @@ impl Screen {
     ghost use Rattle.vt_screen.specs.Sizes.{vt220_size, IsSize};
     ghost use Rattle.vt_screen.specs.Grid.{IsGrid, IsSoundGrid, cell_at, row_of, put, put_inserting, put_run, erase};
     ghost use Rattle.vt_screen.specs.Grid.{insert_cells, delete_cells, scroll_up, scroll_down, fill, blank_grid};
+    ghost use Rattle.vt_screen.specs.Grid.{grid_on, row_from, width_on};
 
     /// Returns a narrow screen of the VT220's size, all blank. It allocates memory for a wide one, 24 rows of 132 cells.
     /// Returns `Err` if allocation fails.
@@ -108,6 +109,41 @@ impl Screen {
         self.cells.copy_from_slice(&other.cells);
         self.order = other.order.copied();
         self.width = other.width;
+    }
+
+    /// Returns the number of columns on a screen of another size: those of its wide form, if this screen is wide.
+    pub fn width_on(&self, size: Size) -> usize
+        ensures { result ≡ width_on size self.now }
+    {
+        size.columns(self.width == self.order.size().wide)
+    }
+
+    /// Makes the screen show the cells of another one of any size, after the first `off` rows of that one have left at the top. The
+    /// columns and rows that both have stay, from the top left, and the others are blank. It becomes wide if the other one is
+    /// wide. It allocates nothing. (xterm: a window that changes its size)
+    pub fn copy_on(&mut self, other: &Screen, off: usize)
+        requires { off ≤ other.now.size.rows }
+        ensures grid { self.new ≡ grid_on self.old.size off other.now }
+        ensures sound { IsSoundGrid self.new }
+    {
+        let from = other.order.size();
+        self.set_width(other.width == from.wide);
+        let end = self.order.size().rows.min(from.rows - off) + 1;
+        for row in 1..end {
+            self.copy_row(row, other, row + off);
+        }
+    }
+
+    /// Writes the cells of a row of another screen over those of a row, as many as both have.
+    fn copy_row(&mut self, row: usize, other: &Screen, from: usize)
+        requires row { (1 ≤ row) × (row ≤ self.old.size.rows) }
+        requires from { (1 ≤ from) × (from ≤ other.now.size.rows) }
+        ensures grid { self.new ≡ row_from self.old row other.now from }
+        ensures sound { IsSoundGrid self.new }
+    {
+        let count = self.width.min(other.width);
+        let start = self.order.start(row);
+        self.cells[start..start + count].copy_from_slice(&other.row(from)[..count]);
     }
 
     /// Returns the number of columns.

@@ -14,6 +14,7 @@ pub mod SoundPlay
 pub mod SizeKept
 pub mod SizeHappened
 mod Staying
+pub mod Resized
 pub mod OneSize
 pub mod Happened
 mod Playing

@@ -18,6 +18,7 @@ pub mod Names
 pub mod Machines
 pub mod Play
 pub mod Text
+pub mod Resizing
 pub mod Scrolling
 pub mod Happenings
 pub mod ScrollSteps

@@ -1,18 +1,20 @@
 //! Laws over the definitions alone. A caller cites a law by a call of its function.
-ghost use Rattle.std.specs.Prelude.{◌≡◌, ℕ, All, List, [], ◌++◌, length, true, false, ◌==◌, None};
+ghost use Rattle.std.specs.Prelude.{◌≡◌, ◌≤◌, ◌+◌, ℕ, All, List, [], ◌++◌, length, true, false, ◌==◌, None};
 ghost use Rattle.vt_syntax.specs.Held.{events_from};
 ghost use Rattle.vt_syntax.specs.declared.event.Event.TheVariants.{Print, Control};
 ghost use Rattle.vt_glyph.specs.Invocation.{has_no_glyph, glyph_read, after_read};
 ghost use Rattle.vt_glyph.specs.Tables.{substitute_glyph};
 ghost use Rattle.vt_screen.specs.declared.size.Size.{Size};
 ghost use Rattle.vt_screen.specs.Sizes.{IsSize};
-ghost use Rattle.vt_screen.specs.Grid.{scroll_up};
+ghost use Rattle.vt_screen.specs.Grid.{scroll_up, cell_at};
 ghost use Rattle.vt_term.specs.State.{Display, at_place};
 ghost use Rattle.vt_term.specs.Functions.{effect};
 ghost use Rattle.vt_term.specs.Writing.{put_glyph, write_if_read};
 ghost use Rattle.vt_term.specs.Scrolling.{is_line_feed, is_at_end, scrolls_off};
 ghost use Rattle.vt_term.specs.State.{State, power_up, state_of};
-ghost use Rattle.vt_term.specs.Sound.{IsSoundAt, IsSound};
+ghost use Rattle.vt_term.specs.Sound.{IsSoundAt, IsSound, IsSoundSized};
+ghost use Rattle.vt_term.specs.Pages.{PageState, IsSoundPageAt, IsSoundSizedPage};
+ghost use Rattle.vt_term.specs.Resizing.{count_off, page_on, state_on, log_on};
 ghost use Rattle.vt_term.specs.Scrolling.{scrolled_off, log};
 ghost use Rattle.vt_term.specs.Play.{play, both, play_all, joined};
 ghost use Rattle.vt_term.specs.Happenings.{happenings, events_in, lines_in};
@@ -130,4 +132,22 @@ pub fn scrolls()
           grid = scroll_up s.grid 1 s.margins.bottom 1;
           cursor = at_place s.cursor.row 1;
         }) }
+{}
+
+/// States what a change of the screen's size keeps. At its own size a state stays as it is, and nothing goes to the log. So does a
+/// page of which no row leaves. Cells that both screens have stay, and the cursor stays in its line. A sound state is sound at the
+/// other size, and so is a page.
+pub fn resizes()
+    ensures own { (s : State) → IsSoundSized s → state_on s.display.grid.size s ≡ s }
+    ensures own_log { (s : State) → IsSoundSized s → log_on s.display.grid.size s ≡ [] }
+    ensures own_page { (page : PageState) → IsSoundSizedPage page → page_on page.grid.size 0 page ≡ page }
+    ensures inside { (size : Size) (s : State) (r c : ℕ) → 1 ≤ r → r ≤ size.rows
+        → r + count_off size s.display ≤ s.display.grid.size.rows → 1 ≤ c → c ≤ s.display.grid.width
+        → c ≤ (state_on size s).display.grid.width
+        → cell_at (state_on size s).display.grid r c ≡ cell_at s.display.grid (r + count_off size s.display) c }
+    ensures line { (size : Size) (s : State)
+        → (state_on size s).display.cursor.row + count_off size s.display ≡ s.display.cursor.row }
+    ensures sound { (size : Size) (s : State) → IsSize size → IsSoundSized s → IsSoundAt size (state_on size s) }
+    ensures sound_page { (size : Size) (off : ℕ) (page : PageState) → IsSize size → IsSoundSizedPage page
+        → IsSoundPageAt size (page_on size off page) }
 {}

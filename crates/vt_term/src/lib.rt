@@ -1,6 +1,7 @@
 //! The terminal: it reads a host's bytes, and has a screen, a cursor and report bytes.
 #![tactic(auto)]
 
+mod between;
 mod codes;
 mod copying;
 mod cursor;
@@ -20,6 +21,7 @@ mod readers;
 mod rendition;
 mod reports;
 mod resets;
+mod resizing;
 mod same;
 mod saving;
 mod scrolling;

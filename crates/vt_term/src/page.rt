@@ -1,10 +1,12 @@
 //! Pages: what a terminal shows, and a caller may exchange.
-ghost use Rattle.std.specs.Prelude.{◌≡◌, Bool, IfOk};
+ghost use Rattle.std.specs.Prelude.{◌≡◌, ◌≤◌, Bool, IfOk};
 ghost use Rattle.vt_screen.specs.Sizes.{width_of, IsSize};
 ghost use Rattle.vt_term.specs.State.{display_of, state_of};
+ghost use Rattle.vt_term.specs.Resizing.{page_on};
 ghost use Rattle.vt_term.specs.Pages.{PageState, IsSoundSizedPage, page_at_power_up, blank_page, blanked, fitted, page_of, with_page};
 
 use crate::display::Display;
+use crate::resizing::saved_on;
 use crate::sized::SizedTerminal;
 use crate::state::Saved;
 use std::alloc::{AllocError, Global};
@@ -64,6 +66,27 @@ impl SizedPage {
     {
         self.screen.copy_from(&other.screen);
         self.saved = other.saved;
+    }
+
+    /// Returns the size: the rows, and the columns of the narrow and of the wide screen.
+    #[inline(always)]
+    pub fn size(&self) -> Size
+        ensures size { result ≡ self.now.grid.size }
+        ensures sound { IsSize self.now.grid.size }
+    {
+        self.screen.size()
+    }
+
+    /// Makes another page, of any size, show what this one shows after its first `off` rows have left at the top, and brings the
+    /// saved place inside. It never fails and allocates nothing. (xterm: a window that changes its size)
+    pub fn resize_into(&self, off: usize, target: &mut SizedPage)
+        requires { off ≤ self.now.grid.size.rows }
+        ensures { target.new ≡ page_on target.old.grid.size off self.now }
+    {
+        self.soundness();
+        let size = target.screen.size();
+        target.screen.copy_on(&self.screen, off);
+        target.saved = saved_on(self.saved, size.rows, self.screen.width_on(size));
     }
 
     /// States that the page is sound, for proofs. It does nothing when it runs.

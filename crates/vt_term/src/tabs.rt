@@ -1,6 +1,7 @@
 //! Tab stops.
 ghost use Rattle.std.specs.Prelude.{◌≡◌, ◌≤◌, ◌<◌, ◌-◌, ◌↔◌, IsTrue, length, slice_set};
 ghost use Rattle.vt_term.specs.Tabs.{horizontal_tab, set_tab, clear_tabs, next_stop_of, no_stops};
+ghost use Rattle.vt_term.specs.Resizing.{is_stop_on, stops_on};
 ghost use Rattle.vt_term.specs.State.{stops_of, stops_at_power_up, is_stop_at_power_up};
 
 use crate::display::Display;
@@ -46,6 +47,27 @@ fn set_at_power_up(stops: &mut [bool])
     }
 }
 
+/// Returns whether a column has a tab stop on a screen of another size: as in `from`, or as at power-up if it is new.
+fn has_stop_on(from: &[bool], col: usize) -> bool
+    requires { 1 ≤ col }
+    ensures { result ≡ is_stop_on from.now col }
+{
+    if col <= from.len() {
+        from[col - 1]
+    } else {
+        has_stop_at_power_up(col)
+    }
+}
+
+/// Sets the tab stops on a screen of another size: those of `from`, and of columns that are new those of power-up.
+fn set_on(stops: &mut [bool], from: &[bool])
+    ensures { stops.new ≡ stops_on (length stops.old) from.now }
+{
+    for col in 1..stops.len() + 1 {
+        stops[col - 1] = has_stop_on(from, col);
+    }
+}
+
 /// Returns the tab stops of a VT220 at power-up, at columns 9, 17, .. 129: index c - 1 for column c. (This profile)
 pub fn stops_at_power_up() -> [bool; STOPS]
     ensures { result ≡ stops_at_power_up }
@@ -81,6 +103,16 @@ impl TabStops {
             stops: self.stops,
             columns: self.columns,
         }
+    }
+
+    /// Returns the tab stops on a screen of so many columns: those that were there, and of columns that are new those of power-up.
+    pub(crate) fn on(&self, columns: usize) -> TabStops
+        requires { columns ≤ 255 }
+        ensures { result ≡ stops_on columns self.now }
+    {
+        let mut stops = [false; MOST];
+        set_on(&mut stops[..columns], self.as_slice());
+        TabStops { stops, columns }
     }
 
     /// Returns whether the tab stops are the same.

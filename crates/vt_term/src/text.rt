@@ -1,7 +1,7 @@
 //! The text of the screen.
-ghost use Rattle.std.specs.Prelude.{◌≡◌, ◌+◌, ◌≤◌, ◌++◌, vec_len, vec_capacity, OnOk, OnErr, IsOk};
+ghost use Rattle.std.specs.Prelude.{◌≡◌, ◌+◌, ◌*◌, ◌≤◌, ◌++◌, vec_len, vec_capacity, OnOk, OnErr, IsOk};
 ghost use Rattle.vt_screen.specs.Grid.{row_of};
-ghost use Rattle.vt_term.specs.Text.{text, line_text, row_text_limit, text_limit};
+ghost use Rattle.vt_term.specs.Text.{text, line_text, lines_text, row_text_limit, text_limit};
 
 use crate::line::push_line;
 use crate::sized::SizedTerminal;
@@ -47,7 +47,19 @@ impl SizedTerminal {
         ensures bounded { vec_len out.new ≤ vec_len out.old + text_limit self.now.display.grid.size }
         ensures capacity { vec_capacity out.old ≤ vec_capacity out.new }
     {
-        for row in 1..self.size().rows + 1 {
+        self.rows_text_reserved(self.size().rows, out);
+    }
+
+    /// Appends the texts of the first `count` rows to `out`, which has capacity for `row_text_limit` more bytes for each of them.
+    #[inline(always)]
+    pub(crate) fn rows_text_reserved(&self, count: usize, out: &mut Vec<u8>)
+        requires rows { count ≤ self.now.display.grid.size.rows }
+        requires room { vec_len out.old + count * row_text_limit self.now.display.grid.size ≤ vec_capacity out.old }
+        ensures items { out.new.items ≡ out.old.items ++ lines_text count self.now.display.grid }
+        ensures bounded { vec_len out.new ≤ vec_len out.old + count * row_text_limit self.now.display.grid.size }
+        ensures capacity { vec_capacity out.old ≤ vec_capacity out.new }
+    {
+        for row in 1..count + 1 {
             self.row_text_reserved(row, out);
         }
     }

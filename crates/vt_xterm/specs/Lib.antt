@@ -9,4 +9,5 @@ pub mod Limits
 pub mod Log
 pub mod Terminals
 pub mod Play
+pub mod Resizing
 pub mod Private

@@ -4,8 +4,10 @@ ghost use Rattle.std.specs.List.{list_any};
 ghost use Rattle.vt_syntax.specs.declared.event.Event.{Event};
 ghost use Rattle.vt_syntax.specs.Reading.{events_of};
 ghost use Rattle.vt_term.specs.State.{Display, power_up};
-ghost use Rattle.vt_term.specs.Sound.{IsSound, IsSoundDisplay};
-ghost use Rattle.vt_term.specs.Pages.{IsSoundPage, page_of, with_page};
+ghost use Rattle.vt_screen.specs.declared.size.Size.{Size};
+ghost use Rattle.vt_screen.specs.Sizes.{IsSize};
+ghost use Rattle.vt_term.specs.Sound.{IsSound, IsSoundDisplay, IsSoundAt, IsSoundSized};
+ghost use Rattle.vt_term.specs.Pages.{IsSoundPage, IsSoundPageAt, IsSoundSizedPage, page_of, with_page};
 ghost use Rattle.vt_term.specs.Saving.{save_cursor, restore_cursor};
 ghost use Rattle.vt_term.specs.Play.{play, joined};
 ghost use Rattle.vt_term.specs.Scrolling.{scrolled_off};
@@ -14,12 +16,13 @@ ghost use Rattle.vt_xterm.specs.Pages.{Screens, show_and_save};
 ghost use Rattle.vt_xterm.specs.Front.{xterm_effect, is_page_function, is_paste_function, into_alternate, through_alternate};
 ghost use Rattle.vt_xterm.specs.Play.{Whole, IsSoundWhole, behind, front_at_power_up};
 ghost use Rattle.vt_xterm.specs.Play.{play_bytes, play_xterm, play_xterm_all, both, nothing_played, xterm_log};
+ghost use Rattle.vt_xterm.specs.Resizing.{whole_on, xterm_log_on};
 ghost use Rattle.vt_xterm.specs.Terminals.{PlaysTerminals};
 
 use vt_glyph::laws::{glyphs, soundness as sets_soundness};
 use vt_screen::laws::{rows, tests};
 use vt_syntax::laws::{one_split, spelled};
-use vt_term::laws::soundness as played_soundness;
+use vt_term::laws::{resizes as resized, soundness as played_soundness};
 
 /// States that the state and the page that isn't shown are sound at power-up, and that events and UTF-8 keep them sound.
 pub fn soundness()
@@ -106,4 +109,16 @@ pub fn comes_back()
 {
     one_split();
     spelled();
+}
+
+/// States what a change of the screen's size keeps: at its own size a session stays as it is, and nothing goes to the log. At another
+/// size the terminal and the page that isn't shown are sound and of that size.
+pub fn resizes()
+    ensures own { (w : Whole) → IsSoundSized w.state → IsSoundPageAt w.state.display.grid.size w.pages.other
+        → whole_on w.state.display.grid.size w ≡ w }
+    ensures own_log { (w : Whole) → IsSoundSized w.state → xterm_log_on w.state.display.grid.size w ≡ [] }
+    ensures sound { (size : Size) (w : Whole) → IsSize size → IsSoundSized w.state → IsSoundSizedPage w.pages.other
+        → IsSoundAt size (whole_on size w).state × IsSoundPageAt size (whole_on size w).pages.other }
+{
+    resized();
 }

@@ -17,6 +17,7 @@ mod modes;
 mod playing;
 mod profile;
 mod repeating;
+mod resizing;
 pub mod sized;
 mod tabs;
 

@@ -1,10 +1,9 @@
 use Rattle.std.proofs.Common.{◌≡◌, ◌∙◌, ◌-◌, ◌+◌, ◌*◌, ◌≤◌, ◌++◌, ℕ, suc, List, ap, append_assoc, arith, refl}
 use Rattle.std.specs.List.{range_with_len, flat_map}
 use Rattle.std.proofs.lemmas.Nat.{mul-le}
-use Rattle.vt_screen.specs.declared.size.Size.{Size}
 use Rattle.vt_screen.specs.Grid.{row_of}
 use Rattle.vt_term.specs.Text.{lines_text, line_text, row_text_limit}
-use Rattle.vt_term.proofs.sized.SizedTerminal.text_reserved.Goals as goal
+use Rattle.vt_term.proofs.sized.SizedTerminal.rows_text_reserved.Goals as goal
 
 -- one row more fits in all rows
 one-more : (limit row rows : ℕ) → 1 ≤ row → row ≤ rows → (row - 1) * limit + limit ≤ rows * limit
@@ -15,31 +14,27 @@ one-more limit row rows some few =
 pub loop-row-init : goal.loop-row-init
 unfolding lines_text
 loop-row-init c =
-    let same : c.args.self.now.display.grid.size.rows + 1 - 1 ≡ c.args.self.now.display.grid.size.rows = omega arith in
+    let same : c.args.count + 1 - 1 ≡ c.args.count = omega arith in
     record { items = rw same refl; bounded = omega arith; capacity = omega arith }
 
 pub row_text_reserved-requires-clause-room : goal.row_text_reserved-requires-clause-room
 row_text_reserved-requires-clause-room c =
     let limit : ℕ = row_text_limit c.args.self.now.display.grid.size in
-    let end : c.size-row-end.result.rows ≡ c.args.self.now.display.grid.size.rows = ap (λ (z : Size). z.rows) c.size-row-end.ensures.size in
     omega (
       arith,
       c.loop-row.invariant.bounded,
       c.loop-row.invariant.capacity,
-      c.requires,
-      one-more limit c.loop-row.row c.args.self.now.display.grid.size.rows (omega arith) (omega (arith, end)),
+      c.requires.room,
+      one-more limit c.loop-row.row c.args.count (omega arith) (omega arith),
     )
 
 pub loop-row-preserved : goal.loop-row-preserved
 loop-row-preserved c =
     let row : ℕ = c.loop-row.row in
-    let limit : ℕ = row_text_limit c.args.self.now.display.grid.size in
     let line : List ℕ = line_text (row_of c.args.self.now.display.grid row) in
     let rest : List ℕ = flat_map (λ r. line_text (row_of c.args.self.now.display.grid r))
-    (range_with_len (row + 1) (c.args.self.now.display.grid.size.rows + 1 - (row + 1))) in
-    let end : c.size-row-end.result.rows ≡ c.args.self.now.display.grid.size.rows = ap (λ (z : Size). z.rows) c.size-row-end.ensures.size in
-    let more : c.args.self.now.display.grid.size.rows + 1 - row
-    ≡ suc (c.args.self.now.display.grid.size.rows + 1 - (row + 1)) = omega (arith, end) in
+    (range_with_len (row + 1) (c.args.count + 1 - (row + 1))) in
+    let more : c.args.count + 1 - row ≡ suc (c.args.count + 1 - (row + 1)) = omega arith in
     let next : row + 1 - 1 ≡ row - 1 + 1 = omega arith in
     record {
       items = ap (λ (t : List ℕ). t ++ rest) c.row_text_reserved.ensures.items

@@ -1,0 +1,26 @@
+use Rattle.std.proofs.Common.{arith}
+use Rattle.vt_screen.proofs.OtherSize.{inside-stays}
+use Rattle.vt_term.specs.Resizing.{count_off}
+use Rattle.vt_term.proofs.Resized.{own-state, own-log, own-page, state_on-sound, page_on-sound}
+use Rattle.vt_term.proofs.laws.resizes.Goals as goal
+
+pub returns-clause-own : goal.returns-clause-own
+returns-clause-own c = own-state
+
+pub returns-clause-own_log : goal.returns-clause-own_log
+returns-clause-own_log c = own-log
+
+pub returns-clause-own_page : goal.returns-clause-own_page
+returns-clause-own_page c = own-page
+
+pub returns-clause-inside : goal.returns-clause-inside
+returns-clause-inside c = λ size s. inside-stays size (count_off size s.display) s.display.grid
+
+pub returns-clause-line : goal.returns-clause-line
+returns-clause-line c = λ size s. omega arith
+
+pub returns-clause-sound : goal.returns-clause-sound
+returns-clause-sound c = state_on-sound
+
+pub returns-clause-sound_page : goal.returns-clause-sound_page
+returns-clause-sound_page c = page_on-sound

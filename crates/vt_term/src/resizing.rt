@@ -1,0 +1,144 @@
+//! A terminal on a screen of another size.
+ghost use Rattle.std.specs.Prelude.{◌≡◌, ◌≤◌, ◌+◌, ◌*◌, ◌++◌, vec_len, vec_capacity, IsOk, OnOk, OnErr};
+ghost use Rattle.vt_term.specs.Text.{row_text_limit};
+ghost use Rattle.vt_term.specs.Resizing.{count_off, col_on, cursor_on, saved_on, is_as_large, margins_on, modes_on};
+ghost use Rattle.vt_term.specs.Resizing.{display_on, state_on, log_on};
+
+use crate::display::Display;
+use crate::sized::SizedTerminal;
+use crate::state::{Cursor, Margins, Modes, Saved};
+use std::alloc::AllocError;
+use vt_screen::Size;
+
+/// Returns a column brought inside a screen of a width. From a wrap flag it is the next column, if the screen has that.
+fn col_on(width: usize, col: usize, wrap: bool) -> usize
+    ensures { result ≡ col_on width col wrap }
+{
+    if wrap && col < width {
+        return col + 1;
+    }
+    col.min(width)
+}
+
+/// Returns the cursor brought inside a screen of so many rows and columns. A wrap flag stays in the last column.
+fn cursor_on(cursor: Cursor, rows: usize, width: usize) -> Cursor
+    ensures { result ≡ cursor_on rows width cursor }
+{
+    Cursor {
+        row: cursor.row.min(rows),
+        col: col_on(width, cursor.col, cursor.wrap),
+        wrap: cursor.wrap && width <= cursor.col,
+    }
+}
+
+/// Returns what DECSC saved, with its place brought inside in the same way.
+pub(crate) fn saved_on(saved: Saved, rows: usize, width: usize) -> Saved
+    ensures { result ≡ saved_on rows width saved }
+{
+    let mut inside = saved;
+    inside.row = saved.row.min(rows);
+    inside.col = col_on(width, saved.col, saved.wrap);
+    inside.wrap = saved.wrap && width <= saved.col;
+    inside
+}
+
+impl Display {
+    /// Returns how many rows leave at the top of a screen of another size: as many as the cursor would be below the last row.
+    fn count_off(&self, size: Size) -> usize
+        ensures off { result ≡ count_off size self.now }
+        ensures bound { result ≤ self.now.grid.size.rows }
+    {
+        self.soundness();
+        self.cursor.row.saturating_sub(size.rows)
+    }
+
+    /// Returns whether a screen of another size has as many rows and columns.
+    fn is_as_large(&self, size: Size) -> bool
+        ensures { result ≡ is_as_large size self.now }
+    {
+        self.screen.size().rows == size.rows && self.screen.width() == self.screen.width_on(size)
+    }
+
+    /// Returns the margins on a screen of another size: full ones, unless it is as large.
+    fn margins_on(&self, size: Size) -> Margins
+        ensures { result ≡ margins_on size self.now }
+    {
+        if self.is_as_large(size) {
+            return self.margins;
+        }
+        Margins::full(size.rows)
+    }
+
+    /// Returns the modes on a screen of another size: DECOM is reset, unless it is as large.
+    fn modes_on(&self, size: Size) -> Modes
+        ensures { result ≡ modes_on size self.now }
+    {
+        let mut modes = self.modes;
+        modes.decom = self.modes.decom && self.is_as_large(size);
+        modes
+    }
+
+    /// Makes another display, of any size, show what this one shows.
+    fn resize_into(&self, target: &mut Display)
+        ensures { target.new ≡ display_on target.old.grid.size self.now }
+    {
+        self.soundness();
+        let size = target.screen.size();
+        let width = self.screen.width_on(size);
+        target.screen.copy_on(&self.screen, self.count_off(size));
+        target.cursor = cursor_on(self.cursor, size.rows, width);
+        target.pen = self.pen;
+        target.sets = self.sets;
+        target.margins = self.margins_on(size);
+        target.stops = self.stops.on(size.wide);
+        target.modes = self.modes_on(size);
+        target.saved = saved_on(self.saved, size.rows, width);
+    }
+}
+
+impl SizedTerminal {
+    /// Returns how many rows leave at the top if the terminal gets another size: as many as the cursor would be below the last
+    /// row.
+    pub fn count_off(&self, size: Size) -> usize
+        ensures off { result ≡ count_off size self.now.display }
+        ensures bound { result ≤ self.now.display.grid.size.rows }
+    {
+        self.display.count_off(size)
+    }
+
+    /// Appends to `out` what a change to another size adds to the log: the text of each row that leaves at the top, in UTF-8,
+    /// without the spaces at its end, and LF.
+    ///
+    /// It first reserves `row_text_limit` bytes of capacity for each of these rows. Returns `Err` if that fails. Then the
+    /// contents of `out` are unchanged.
+    pub fn log_on(&self, size: Size, out: &mut Vec<u8>) -> Result<(), AllocError>
+        ensures ok { OnOk result (out.new.items ≡ out.old.items ++ log_on size self.now) }
+        ensures err { OnErr result (out.new.items ≡ out.old.items) }
+        ensures has_room { vec_len out.old + count_off size self.now.display * row_text_limit self.now.display.grid.size
+            ≤ vec_capacity out.old → IsOk result }
+        ensures bounded { vec_len out.new
+            ≤ vec_len out.old + count_off size self.now.display * row_text_limit self.now.display.grid.size }
+        ensures capacity { vec_capacity out.old ≤ vec_capacity out.new }
+    {
+        let _ = self.size();
+        let count = self.count_off(size);
+        out.reserve(count * self.row_text_limit())?;
+        self.rows_text_reserved(count, out);
+        Ok(())
+    }
+
+    /// Makes another terminal, of any size, the state that this one gets if its screen changes to that size, the held part
+    /// included. It never fails and allocates nothing. (xterm: a window that changes its size, without saved lines)
+    ///
+    /// If the cursor would be below the last row, so many rows leave at the top (`count_off`, `log_on`). The rows and columns
+    /// that both screens have stay, and the others are blank. The cursor and the saved place are brought inside. A wrap flag
+    /// stays in the last column, and on a wider screen becomes the next column. Unless the screen has as many rows and
+    /// columns as before, its margins are full, and DECOM is reset. Tab stops stay, and columns that come in have those of
+    /// power-up.
+    pub fn resize_into(&self, target: &mut SizedTerminal)
+        ensures { target.new ≡ state_on target.old.display.grid.size self.now }
+    {
+        self.display.resize_into(&mut target.display);
+        target.parser = self.parser.copied();
+    }
+}

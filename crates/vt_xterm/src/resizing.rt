@@ -1,0 +1,62 @@
+//! A session on a screen of another size.
+ghost use Rattle.std.specs.Prelude.{◌≡◌, ◌≤◌, ◌+◌, ◌*◌, ◌++◌, vec_len, vec_capacity, IsOk, OnOk, OnErr};
+ghost use Rattle.vt_term.specs.Text.{row_text_limit};
+ghost use Rattle.vt_term.specs.Resizing.{count_off};
+ghost use Rattle.vt_xterm.specs.Play.{behind};
+ghost use Rattle.vt_xterm.specs.Resizing.{pages_on, front_on, xterm_log_on};
+
+use crate::front::{SizedFront, SizedPages};
+use std::alloc::AllocError;
+use vt_term::{Size, SizedTerminal};
+
+impl SizedPages {
+    /// Makes the pages of another front, of any size, those of this one on a screen of that size.
+    fn resize_into(&self, terminal: &SizedTerminal, target: &mut SizedPages)
+        requires { self.now.other.grid.size ≡ terminal.now.display.grid.size }
+        ensures { target.new ≡ pages_on target.old.other.grid.size terminal.now.display self.now }
+    {
+        let off = terminal.count_off(target.other.size());
+        self.other.resize_into(off, &mut target.other);
+        target.alternate = self.alternate;
+        target.resizes = self.resizes;
+        target.brackets = self.brackets;
+    }
+}
+
+impl SizedFront {
+    /// Makes another front, of any size, keep what this one keeps if the screen changes to that size. `terminal` is this front's,
+    /// before its own change (`SizedTerminal::resize_into`). As many rows leave the page that isn't shown as leave the one that
+    /// is. It never fails and allocates nothing. (xterm: a window that changes its size, without saved lines)
+    pub fn resize_into(&self, terminal: &SizedTerminal, target: &mut SizedFront)
+        requires { self.now.pages.other.grid.size ≡ terminal.now.display.grid.size }
+        ensures { target.new ≡ front_on target.old.pages.other.grid.size terminal.now.display self.now }
+    {
+        self.pages.resize_into(terminal, &mut target.pages);
+        target.decoder = self.decoder.copied();
+    }
+
+    /// Appends to `out` what a change to another size adds to the log: the text of each row that leaves at the top of the main
+    /// page, if that is shown, in UTF-8, without the spaces at its end, and LF. If the alternate page is shown, it is nothing.
+    ///
+    /// It reserves `row_text_limit` bytes of capacity for each of these rows. Returns `Err` if that fails. Then the contents of
+    /// `out` are unchanged.
+    pub fn log_on(
+        &self,
+        terminal: &SizedTerminal,
+        size: Size,
+        out: &mut Vec<u8>,
+    ) -> Result<(), AllocError>
+        ensures ok { OnOk result (out.new.items ≡ out.old.items ++ xterm_log_on size (behind terminal.now self.now)) }
+        ensures err { OnErr result (out.new.items ≡ out.old.items) }
+        ensures has_room { vec_len out.old + count_off size terminal.now.display * row_text_limit terminal.now.display.grid.size
+            ≤ vec_capacity out.old → IsOk result }
+        ensures bounded { vec_len out.new
+            ≤ vec_len out.old + count_off size terminal.now.display * row_text_limit terminal.now.display.grid.size }
+        ensures capacity { vec_capacity out.old ≤ vec_capacity out.new }
+    {
+        if self.pages.is_alternate() {
+            return Ok(());
+        }
+        terminal.log_on(size, out)
+    }
+}

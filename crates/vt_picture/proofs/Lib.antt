@@ -11,3 +11,5 @@ mod Same
 mod Kept
 mod Window
 mod Shows
+mod CellWords
+mod ShownRuns

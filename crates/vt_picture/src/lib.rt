@@ -8,6 +8,7 @@ mod document;
 mod drawing;
 pub mod laws;
 mod limits;
+mod line;
 mod looks;
 mod rows;
 mod runs;

@@ -1,12 +1,11 @@
 //! What cells look like, and what a picture does with it: its colours and its cursor.
-ghost use Rattle.std.specs.Prelude.{◌≡◌, ◌≤◌, length};
-ghost use Rattle.vt_screen.specs.Cells.{plain};
-ghost use Rattle.vt_screen.specs.Same.{same_rendition};
+ghost use Rattle.std.specs.Prelude.{◌≡◌, ◌≤◌, ◌<◌, length};
+ghost use Rattle.vt_glyph.specs.Encoding.{encoded_glyph, encoding_of};
 ghost use Rattle.vt_picture.specs.Looks.{is_blank as is_blank_cell, trimmed};
 ghost use Rattle.vt_picture.specs.Looks.{same_look as same_look_of, same_looks as same_looks_of, is_empty as is_empty_of};
+ghost use Rattle.vt_picture.specs.Private.Words.{look_word};
 
-use vt_glyph::Glyph;
-use vt_screen::{Cell, Rendition};
+use vt_screen::Cell;
 
 /// The colours of a picture that moves: those of light ink on dark paper.
 #[derive(Clone, Copy, Debug, PartialEq, Eq)]
@@ -34,20 +33,24 @@ pub enum CursorShape {
     Hidden,
 }
 
-/// Returns whether there are no attributes.
-///
-/// Speed: without branches the compiler tests all of them as one word.
-fn is_plain(look: Rendition) -> bool
-    ensures { result ≡ same_rendition look plain }
+/// Returns a cell as one number without its protection. Two cells have the same number exactly if they look the same.
+#[tactic(auto, using(crate::proofs::CellWords::without_protection))]
+#[inline(always)]
+pub(crate) fn look_word(cell: &Cell) -> u64
+    ensures word { result ≡ look_word cell.now }
+    ensures glyph { encoded_glyph (encoding_of cell.now.glyph) ≡ cell.now.glyph }
+    ensures bound { encoding_of cell.now.glyph < 0x100 }
 {
-    !(look.bold | look.underline | look.blink | look.reverse)
+    cell.word() % 0x100_0000_0000_0000
 }
 
 /// Returns whether a cell shows a space without attributes.
+#[tactic(auto, using(crate::proofs::CellWords::blank_look))]
+#[inline(always)]
 fn is_blank(cell: &Cell) -> bool
     ensures { result ≡ is_blank_cell cell.now }
 {
-    cell.glyph == Glyph::blank() && is_plain(cell.rendition)
+    look_word(cell) == 0x20
 }
 
 /// Returns the row without the blank cells at its end.

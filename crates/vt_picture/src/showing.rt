@@ -3,12 +3,12 @@ ghost use Rattle.std.specs.Prelude.{◌≡◌, ◌+◌, ◌*◌, ◌≤◌, ◌+
 ghost use Rattle.vt_picture.specs.Show.{change, rendition_sequence, shown_line, show};
 ghost use Rattle.vt_picture.specs.Limits.{show_limit};
 
-use crate::bytes::push_glyph;
 use crate::limits::show_limit;
+use crate::line::{LINE, push_cells, put_rendition};
 use crate::looks::without_blank_end;
 use std::alloc::AllocError;
-use vt_paint::{push_bytes, push_when};
-use vt_screen::{Cell, Rendition};
+use vt_paint::push_bytes;
+use vt_screen::{Cell, MOST, Rendition};
 use vt_term::{ROWS, STOPS, SizedTerminal};
 
 /// The limit of a VT220's screen with its attributes in bytes. Each row has twelve for attributes and four for a character for
@@ -24,12 +24,9 @@ pub fn push_rendition(look: Rendition, out: &mut Vec<u8>)
     ensures bounded { vec_len out.new ≤ vec_len out.old + 12 }
     ensures capacity { vec_capacity out.old ≤ vec_capacity out.new }
 {
-    push_bytes(b"\x1B[0", out);
-    push_when(look.bold, b";1", out);
-    push_when(look.underline, b";4", out);
-    push_when(look.blink, b";5", out);
-    push_when(look.reverse, b";7", out);
-    push_bytes(b"m", out);
+    let mut bytes = [0; 12];
+    let end = put_rendition(look, 0, &mut bytes);
+    push_bytes(&bytes[..end], out);
 }
 
 /// Appends SGR if the attributes change.
@@ -45,20 +42,14 @@ pub fn push_change(before: Rendition, after: Rendition, out: &mut Vec<u8>)
 }
 
 /// Appends a row without the blank cells at its end, and LF.
-fn push_shown_line(cells: &[Cell], out: &mut Vec<u8>)
-    requires { vec_len out.old + 16 * length cells.now + 13 ≤ vec_capacity out.old }
+fn push_shown_line(cells: &[Cell], line: &mut [u8; LINE], out: &mut Vec<u8>)
+    requires len { length cells.now ≤ MOST }
+    requires room { vec_len out.old + 16 * length cells.now + 13 ≤ vec_capacity out.old }
     ensures items { out.new.items ≡ out.old.items ++ shown_line cells.now }
     ensures bounded { vec_len out.new ≤ vec_len out.old + 16 * length cells.now + 13 }
     ensures capacity { vec_capacity out.old ≤ vec_capacity out.new }
 {
-    let mut before = Rendition::plain();
-    for cell in without_blank_end(cells) {
-        push_change(before, cell.rendition, out);
-        push_glyph(cell.glyph, out);
-        before = cell.rendition;
-    }
-    push_change(before, Rendition::plain(), out);
-    push_bytes(b"\n", out);
+    push_cells(without_blank_end(cells), line, out);
 }
 
 /// Appends the screen to `out` as text with its attributes, for modern terminals. Each row is in UTF-8, without the
@@ -87,7 +78,8 @@ pub fn show_reserved(t: &SizedTerminal, out: &mut Vec<u8>)
     ensures bounded { vec_len out.new ≤ vec_len out.old + show_limit t.now.display.grid.size }
     ensures capacity { vec_capacity out.old ≤ vec_capacity out.new }
 {
+    let mut line = [0; LINE];
     for row in 1..t.size().rows + 1 {
-        push_shown_line(t.row(row), out);
+        push_shown_line(t.row(row), &mut line, out);
     }
 }

@@ -11,8 +11,13 @@ unfolding shown_lines
 loop-row-init c =
     record { items = sym (append-nil c.args.out.now.items); bounded = omega arith; capacity = omega arith }
 
-pub push_shown_line-requires : goal.push_shown_line-requires
-push_shown_line-requires c =
+pub push_shown_line-requires-clause-len : goal.push_shown_line-requires-clause-len
+push_shown_line-requires-clause-len c =
+    let few = few-cells c.args.t.now.display.grid.size _ c.size-row-end.ensures.sound c.row.ensures.width in
+    omega (arith, few.0, few.1)
+
+pub push_shown_line-requires-clause-room : goal.push_shown_line-requires-clause-room
+push_shown_line-requires-clause-room c =
     let size : Size = c.args.t.now.display.grid.size in
     let end : c.size-row-end.result.rows ≡ size.rows = ap (λ (z : Size). z.rows) c.size-row-end.ensures.size in
     let few = few-cells size _ c.size-row-end.ensures.sound c.row.ensures.width in

@@ -31,6 +31,7 @@ size_t core_feed_log(handle *t, handle *s, const uint8_t *bytes, size_t len, boo
                      uint8_t *lines, size_t lines_size, size_t *lines_written, size_t *bells);
 size_t core_feed_utf8(handle *t, utf8 *u, const uint8_t *bytes, size_t len, bool counts, uint8_t *reports, size_t size,
                       size_t *written, size_t *bells);
+size_t core_feed_byte_utf8(handle *t, utf8 *u, uint8_t byte, uint8_t *reports, size_t size, size_t *written);
 size_t core_feed_log_utf8(handle *t, handle *s, utf8 *u, const uint8_t *bytes, size_t len, bool counts, uint8_t *reports, size_t size,
                           size_t *written, uint8_t *lines, size_t lines_size, size_t *lines_written, size_t *bells);
 uint32_t core_xterm_open(handle *x);
@@ -44,6 +45,7 @@ size_t core_feed_log_xterm(handle *t, handle *s, handle *x, const uint8_t *bytes
                            size_t *written, uint8_t *lines, size_t lines_size, size_t *lines_written, size_t *bells);
 size_t core_feed_xterm(handle *t, handle *x, const uint8_t *bytes, size_t len, bool counts, uint8_t *reports, size_t size, size_t *written,
                        size_t *bells);
+size_t core_feed_byte_xterm(handle *t, handle *x, uint8_t byte, uint8_t *reports, size_t size, size_t *written);
 uint32_t core_shown(uint32_t character, size_t *cells);
 uint32_t core_reset(handle *t);
 uint32_t core_copy(handle *to, handle *from);
@@ -71,7 +73,7 @@ bool core_same_state(handle *a, handle *b);
 
 /* A handle for another language than a VT220's bytes points to this block, and its `bells` are IS_SESSION. No count comes that far. */
 typedef struct session {
-    void *terminal, *pages; /* `pages` is what a terminal needs under TERM=xterm, otherwise null */
+    handle terminal, pages; /* `pages` is what a terminal needs under TERM=xterm, and otherwise closed */
     uint64_t bells;
     uint32_t language; /* VT220_UTF8 or VT220_XTERM */
     utf8 pending;      /* under TERM=xterm it is with the pages */
@@ -101,21 +103,19 @@ enum { REPLIES = 2560, BEL = 0x07, FIRST = 8 };
 /* Returns the block of an open handle for another language, or null. */
 static session *session_of(const vt220 *t) { return t->is_open && t->bells == IS_SESSION ? (session *)t->terminal : NULL; }
 
-static bool is_xterm(const session *by) { return by != NULL && by->pages != NULL; }
+static bool is_xterm(const session *by) { return by != NULL && by->pages.is_open; }
 
 static handle own(const vt220 *t) {
     const session *by = session_of(t);
-    return (handle){by != NULL ? by->terminal : t->terminal, t->is_open};
+    return by != NULL ? by->terminal : (handle){t->terminal, t->is_open};
 }
 
 static handle own_scratch(const vt220_scratch *s) { return (handle){s->room, s->is_open}; }
 
-static handle own_pages(const session *by) { return (handle){by->pages, true}; }
-
 /* Stores what a call left in the copy of a handle. No call opens or closes one. */
 static void keep(vt220 *t, handle h) {
     session *by = session_of(t);
-    if (by != NULL) by->terminal = h.at;
+    if (by != NULL) by->terminal = h;
     else t->terminal = h.at;
 }
 
@@ -172,7 +172,7 @@ static uint32_t speak(vt220 *t, uint32_t language) {
         vt220_close(t);
         return VT220_MEMORY;
     }
-    *by = (session){t->terminal, pages.at, 0, language, {{0}, 0}};
+    *by = (session){{t->terminal, true}, pages, 0, language, {{0}, 0}};
     *t = (vt220){by, true, IS_SESSION};
     return VT220_OK;
 }
@@ -187,9 +187,8 @@ uint32_t vt220_open_as(vt220 *t, uint32_t language) {
 
 void vt220_close(vt220 *t) {
     session *by = session_of(t);
-    handle h = own(t), pages = {NULL, false};
-    if (is_xterm(by)) pages = own_pages(by);
-    if (pages.is_open) core_xterm_close(&pages);
+    handle h = own(t);
+    if (is_xterm(by)) core_xterm_close(&by->pages);
     if (h.is_open) core_close(&h);
     free(by);
     *t = (vt220){NULL, false, 0};
@@ -225,7 +224,7 @@ static utf8 pending_of(const vt220 *t) {
     utf8 pending = {{0}, 0};
     if (by != NULL) pending = by->pending;
     if (is_xterm(by)) {
-        handle pages = own_pages(by);
+        handle pages = by->pages;
         core_xterm_pending(&pages, &pending);
     }
     return pending;
@@ -237,7 +236,7 @@ bool vt220_language(const vt220 *t, vt220_language_state *language) {
     vt220_language_state now = {.language = language_of(t), .pending_len = pending.len};
     memcpy(now.pending, pending.bytes, sizeof now.pending);
     if (is_xterm(session_of(t))) {
-        handle pages = own_pages(session_of(t));
+        handle pages = session_of(t)->pages;
         now.alternate = core_xterm_alternate(&pages);
         now.bracketed_paste = core_xterm_bracketed_paste(&pages);
     }
@@ -281,10 +280,7 @@ typedef struct player {
 INLINED size_t feed_part(session *by, handle *h, const uint8_t *bytes, part next, uint8_t *out, size_t size, size_t *sent, size_t *rung) {
     if (by == NULL) return core_feed(h, bytes, next.len, next.rings, out, size, sent, rung);
     if (!is_xterm(by)) return core_feed_utf8(h, &by->pending, bytes, next.len, next.rings, out, size, sent, rung);
-    handle pages = own_pages(by);
-    size_t now = core_feed_xterm(h, &pages, bytes, next.len, next.rings, out, size, sent, rung);
-    by->pages = pages.at;
-    return now;
+    return core_feed_xterm(h, &by->pages, bytes, next.len, next.rings, out, size, sent, rung);
 }
 
 /* Does the same with a log. */
@@ -292,10 +288,7 @@ INLINED size_t log_part(session *by, handle *h, handle *room, const uint8_t *byt
                         size_t free, size_t *off, size_t *rung) {
     if (by == NULL) return core_feed_log(h, room, bytes, next.len, next.rings, out, size, sent, to, free, off, rung);
     if (!is_xterm(by)) return core_feed_log_utf8(h, room, &by->pending, bytes, next.len, next.rings, out, size, sent, to, free, off, rung);
-    handle pages = own_pages(by);
-    size_t now = core_feed_log_xterm(h, room, &pages, bytes, next.len, next.rings, out, size, sent, to, free, off, rung);
-    by->pages = pages.at;
-    return now;
+    return core_feed_log_xterm(h, room, &by->pages, bytes, next.len, next.rings, out, size, sent, to, free, off, rung);
 }
 
 /* Plays a part of an input. Adds to what the buffers have. */
@@ -365,9 +358,26 @@ __attribute__((noinline)) static size_t feed_counting(vt220 *t, const uint8_t *b
     return taken;
 }
 
+/* Does it for an open terminal and one byte that isn't BEL, by the call for the language. It works on the handles in place. */
+INLINED size_t feed_byte(vt220 *t, uint8_t byte, uint8_t *reports, size_t size, size_t *written) {
+    session *by = session_of(t);
+    if (by == NULL) return core_feed_byte((handle *)t, byte, reports, size, written);
+    if (is_xterm(by)) return core_feed_byte_xterm(&by->terminal, &by->pages, byte, reports, size, written);
+    return core_feed_byte_utf8(&by->terminal, &by->pending, byte, reports, size, written);
+}
+
+/* Does the same and drops the replies. */
+__attribute__((noinline)) static size_t feed_byte_unanswered(vt220 *t, uint8_t byte) {
+    uint8_t dropped[VT220_REPORT_LIMIT];
+    size_t written;
+    return feed_byte(t, byte, dropped, sizeof dropped, &written);
+}
+
 size_t vt220_feed(vt220 *t, const uint8_t *bytes, size_t len, uint8_t *reports, size_t size, size_t *written) {
+    bool is_byte = len == 1 && *bytes != BEL && t->is_open;
+    if (is_byte && written == NULL) return feed_byte_unanswered(t, *bytes);
+    if (is_byte && reports != NULL) return feed_byte(t, *bytes, reports, size, written);
     bool is_any = !t->is_open || t->bells == IS_SESSION || reports == NULL || written == NULL;
-    if (len == 1 && *bytes != BEL && !is_any) return core_feed_byte((handle *)t, *bytes, reports, size, written);
     if (len == 0 || is_any) return feed_any(t, bytes, len, reports, size, written);
     return feed_counting(t, bytes, len, reports, size, written);
 }
@@ -397,9 +407,7 @@ static void reset_pages(session *by, handle *h) {
     static const uint8_t bytes[] = "\030\033[?40h\033c\033[?40l";
     uint8_t none[VT220_REPORT_LIMIT * sizeof bytes];
     size_t written, rung;
-    handle pages = own_pages(by);
-    core_feed_xterm(h, &pages, bytes, sizeof bytes - 1, false, none, sizeof none, &written, &rung);
-    by->pages = pages.at;
+    core_feed_xterm(h, &by->pages, bytes, sizeof bytes - 1, false, none, sizeof none, &written, &rung);
 }
 
 uint32_t vt220_reset(vt220 *t) {
@@ -416,9 +424,8 @@ uint32_t vt220_reset(vt220 *t) {
 /* Copies what the language of `to` keeps next to the terminal. */
 static void copy_language(session *to, const vt220 *from) {
     if (is_xterm(to)) {
-        handle target = own_pages(to), source = own_pages(session_of(from));
-        core_xterm_copy(&target, &source);
-        to->pages = target.at;
+        handle source = session_of(from)->pages;
+        core_xterm_copy(&to->pages, &source);
     } else {
         to->pending = pending_of(from);
     }
@@ -462,7 +469,7 @@ uint32_t vt220_picture(const vt220 *t, vt220_scratch *s, uint8_t *out, size_t si
 }
 
 static uint32_t repaint_pages(const vt220 *t, vt220_scratch *s, uint8_t *out, size_t size, size_t *written) {
-    handle h = own(t), pages = own_pages(session_of(t)), room = own_scratch(s);
+    handle h = own(t), pages = session_of(t)->pages, room = own_scratch(s);
     *written = 0;
     if (!room.is_open) return VT220_CLOSED;
     if (out == NULL) out = &nothing, size = 0;

@@ -1,10 +1,10 @@
 //! Playing what a host sends on the terminal of a handle by a player, with its log if there is a buffer for it.
-ghost use Rattle.std.specs.Prelude.{◌≡◌, ◌+◌, ◌≤◌, ◌<◌, ◌⊎◌, ℕ, true, length, take, vec_capacity};
+ghost use Rattle.std.specs.Prelude.{◌≡◌, ◌+◌, ◌≤◌, ◌<◌, ◌⊎◌, ◌∷◌, [], ℕ, true, length, take, vec_capacity};
 ghost use Rattle.std.specs.Bool.{OnTrue, OnFalse};
 ghost use Rattle.vt220_c.specs.Told.{WritesAt, Plays, Rings, lines_if};
 
 use crate::bytes::put;
-use crate::inner::{CHUNK, Inner, Logged};
+use crate::inner::{CHUNK, Front, Inner, Logged};
 use crate::player::Player;
 use vt_term::REPORT_LIMIT;
 
@@ -183,6 +183,38 @@ fn has_room<P: Player>(player: &P, lines: &[u8], lines_written: usize, logs: boo
     ensures full { OnFalse result ((logs ≡ true) × (length lines.now < lines_written + P.room)) }
 {
     !logs || lines.len() - lines_written >= player.lines_limit()
+}
+
+/// Plays a byte if `out` has capacity for its reports. Speed: there is no loop, no log, and no bell is counted.
+#[inline(always)]
+pub(crate) fn play_byte<P: Player>(
+    inner: &mut Inner,
+    player: &mut P,
+    byte: u8,
+    out: &mut [u8],
+) -> Front
+    ensures within { result.taken ≤ 1 }
+    ensures state { inner.new ≡ (P.told inner.old player.old (take result.taken (byte ∷ []))).state }
+    ensures kept { player.new ≡ (P.told inner.old player.old (take result.taken (byte ∷ []))).kept }
+    ensures sent { WritesAt (P.told inner.old player.old (take result.taken (byte ∷ []))).reports out.old 0 out.new
+        result.written }
+    ensures all { (result.taken ≡ 1) ⊎ (length out.old < result.written + REPORT_LIMIT) }
+{
+    let _ = inner.terminal.width();
+    player.cuts();
+    if out.len() < REPORT_LIMIT {
+        return Front {
+            taken: 0,
+            written: 0,
+        };
+    }
+    inner.reports.clear();
+    player.feed(&mut inner.terminal, &[byte], &mut inner.reports);
+    put(out, 0, inner.reports.as_slice());
+    Front {
+        taken: 1,
+        written: inner.reports.len(),
+    }
 }
 
 /// Plays as many bytes of a chunk as the buffers have capacity for: a byte can cause ten bytes of reports, and a turn with a log

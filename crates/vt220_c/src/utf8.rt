@@ -1,5 +1,5 @@
 //! UTF-8 for C: what is pending, how a character is shown, and calls that play UTF-8.
-ghost use Rattle.std.specs.Prelude.{◌≡◌, ◌+◌, ◌≤◌, ◌<◌, ◌⊎◌, true, false, length, take, IfSome, is_some};
+ghost use Rattle.std.specs.Prelude.{◌≡◌, ◌+◌, ◌≤◌, ◌<◌, ◌⊎◌, ◌∷◌, [], true, false, length, take, IfSome, is_some};
 ghost use Rattle.std.specs.declared.option.Option.TheVariants.{None, Some};
 ghost use Rattle.vt_term.specs.Scrolling.{log};
 ghost use Rattle.vt_utf8.specs.Decoding.{pending_after};
@@ -9,10 +9,12 @@ ghost use Rattle.vt220_c.specs.Utf8.{pending_in, c_utf8, cells_of_character, gly
 ghost use Rattle.vt220_c.specs.Written.{written_over};
 
 use crate::handle::Vt220;
-use crate::playing::play;
+use crate::inner::{Front, Inner};
+use crate::playing::{play, play_byte};
 use crate::scratch_handle::Vt220Scratch;
 use std::alloc::Global;
 use vt_term::REPORT_LIMIT;
+use vt_utf8::laws::ascii;
 use vt_utf8::{Decoder, UTF8_LINES_LIMIT, cells, shown_as};
 
 /// The pending part of UTF-8: the bytes of a character that isn't complete, and how many there are.
@@ -129,6 +131,60 @@ pub extern "C" fn core_feed_utf8(
     *written = played.written;
     *rung = played.bells;
     played.taken
+}
+
+/// Plays a byte of UTF-8 after what is pending, if `out` has capacity for its reports. Speed: ASCII with nothing pending is a VT220's
+/// byte.
+#[inline(always)]
+#[tactic(auto, unfolding(vt_utf8::specs::Play::play_utf8))]
+fn play_byte_utf8(inner: &mut Inner, u: &mut Vt220Utf8, byte: u8, out: &mut [u8]) -> Front
+    ensures within { result.taken ≤ 1 }
+    ensures state { inner.new ≡ (play_utf8 inner.old (pending_in u.old) (take result.taken (byte ∷ []))).state }
+    ensures pending { u.new ≡ c_utf8 (pending_after (pending_in u.old) (take result.taken (byte ∷ []))) }
+    ensures reports { out.new ≡ written_over (play_utf8 inner.old (pending_in u.old) (take result.taken (byte ∷ []))).reports out.old }
+    ensures written { result.written ≡ length (play_utf8 inner.old (pending_in u.old) (take result.taken (byte ∷ []))).reports }
+    ensures all { (result.taken ≡ 1) ⊎ (length out.old < result.written + REPORT_LIMIT) }
+{
+    ascii();
+    if u.len == 0 && byte < 0x80 {
+        u.bytes = [0; 3];
+        return inner.feed_byte(byte, out);
+    }
+    let mut decoder = decoder_of(u);
+    let front = play_byte(inner, &mut decoder, byte, out);
+    *u = c_utf8(&decoder);
+    front
+}
+
+/// Plays a byte of UTF-8 and writes its reports, as `core_feed_utf8` does. Returns 1, or 0 if `out` has no capacity for ten bytes
+/// or the handle is closed. Counts no bell.
+#[unsafe(no_mangle)]
+#[tactic(auto, unfolding(vt_utf8::specs::Play::play_utf8))]
+pub extern "C" fn core_feed_byte_utf8(
+    t: &mut Vt220,
+    u: &mut Vt220Utf8,
+    byte: u8,
+    out: &mut [u8],
+    written: &mut usize,
+    alloc: Global,
+) -> usize
+    ensures within { result ≤ 1 }
+    ensures state { IfSome t.old.kept.inside (λ s. t.new.kept.inside ≡ Some (play_utf8 s (pending_in u.old) (take result (byte ∷ []))).state) }
+    ensures pending { IfSome t.old.kept.inside (λ _. u.new ≡ c_utf8 (pending_after (pending_in u.old) (take result (byte ∷ [])))) }
+    ensures reports { IfSome t.old.kept.inside (λ s. out.new ≡ written_over (play_utf8 s (pending_in u.old) (take result (byte ∷ []))).reports out.old) }
+    ensures written { IfSome t.old.kept.inside (λ s. written.new ≡ length (play_utf8 s (pending_in u.old) (take result (byte ∷ []))).reports) }
+    ensures all { IfSome t.old.kept.inside (λ _. (result ≡ 1) ⊎ (length out.old < written.new + REPORT_LIMIT)) }
+    ensures closed { t.old.kept.inside ≡ None → (t.new.kept.inside ≡ None) × (u.new ≡ u.old) × (result ≡ 0) × (written.new ≡ 0)
+        × (out.new ≡ out.old) }
+{
+    *written = 0;
+    let Some(mut inner) = t.take(alloc) else {
+        return 0;
+    };
+    let front = play_byte_utf8(&mut inner, u, byte, out);
+    t.put(inner);
+    *written = front.written;
+    front.taken
 }
 
 /// Plays UTF-8 with its log, as `core_feed_log` does. `u` is what is pending of a character between chunks. Returns how many

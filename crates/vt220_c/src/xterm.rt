@@ -1,6 +1,8 @@
 //! Calls of C that play what a host sends under TERM=xterm.
-ghost use Rattle.std.specs.Prelude.{◌≡◌, ◌↔◌, ◌+◌, ◌≤◌, ◌<◌, ◌⊎◌, true, false, length, take, IfSome, is_some};
+ghost use Rattle.std.specs.Prelude.{◌≡◌, ◌↔◌, ◌+◌, ◌≤◌, ◌<◌, ◌⊎◌, ◌∷◌, [], true, false, length, take, IfSome, is_some};
 ghost use Rattle.std.specs.declared.option.Option.TheVariants.{None, Some};
+ghost use Rattle.std.specs.Bool.{OnTrue};
+ghost use Rattle.vt_syntax.specs.declared.held.Held.TheVariants.{Nothing};
 ghost use Rattle.vt_xterm.specs.Play.{front_at_power_up};
 ghost use Rattle.vt220_c.specs.Status.{status_ok, status_closed, status_in_use};
 ghost use Rattle.vt220_c.specs.Utf8.{c_utf8};
@@ -8,13 +10,17 @@ ghost use Rattle.vt220_c.specs.Written.{written_over};
 ghost use Rattle.vt220_c.specs.Xterm.{xterm_played, xterm_front, xterm_lines, xterm_bells};
 
 use crate::handle::Vt220;
-use crate::playing::play;
+use crate::inner::{Front as Sent, Inner};
+use crate::playing::{play, play_byte};
 use crate::scratch_handle::Vt220Scratch;
 use crate::status::{CLOSED, IN_USE, MEMORY, OK};
 use crate::utf8::{Vt220Utf8, c_pending};
 use crate::xterm_handle::Vt220Xterm;
 use std::alloc::Global;
-use vt_term::REPORT_LIMIT;
+use vt_syntax::laws::spelled;
+use vt_term::{Held, REPORT_LIMIT};
+use vt_utf8::laws::ascii;
+use vt_xterm::laws::transparent;
 use vt_xterm::{Front, LINES_LIMIT};
 
 /// Opens a closed handle, with a front at power-up. Returns `OK`, `IN_USE` or `MEMORY`.
@@ -147,6 +153,77 @@ pub extern "C" fn core_feed_xterm(
     *written = played.written;
     *rung = played.bells;
     played.taken
+}
+
+/// Returns whether a byte is printed as on a VT220: it is a graphic byte of ASCII between sequences, and nothing is pending.
+#[inline(always)]
+fn is_printed(held: &Held, pending: &[u8], byte: u8) -> bool
+    ensures { OnTrue result ((held.now ≡ Nothing) × (length pending.now ≡ 0) × (0x20 ≤ byte) × (byte ≤ 0x7E)) }
+{
+    match held {
+        Held::Nothing => pending.is_empty() && 0x20 <= byte && byte <= 0x7E,
+        Held::Escape(_) | Held::Control { .. } | Held::Text { .. } | Held::Spoilt => false,
+    }
+}
+
+/// Plays a byte under TERM=xterm, if `out` has capacity for its reports. Speed: most bytes are printed as on a VT220.
+#[inline(always)]
+fn play_byte_xterm(inner: &mut Inner, front: &mut Front, byte: u8, out: &mut [u8]) -> Sent
+    ensures within { result.taken ≤ 1 }
+    ensures state { inner.new ≡ (xterm_played inner.old front.old (take result.taken (byte ∷ []))).whole.state }
+    ensures front { front.new ≡ xterm_front inner.old front.old (take result.taken (byte ∷ [])) }
+    ensures reports { out.new ≡ written_over (xterm_played inner.old front.old (take result.taken (byte ∷ []))).reports out.old }
+    ensures written { result.written ≡ length (xterm_played inner.old front.old (take result.taken (byte ∷ []))).reports }
+    ensures all { (result.taken ≡ 1) ⊎ (length out.old < result.written + REPORT_LIMIT) }
+{
+    let _ = inner.terminal.width();
+    ascii();
+    transparent();
+    spelled();
+    if is_printed(inner.terminal.held(), front.pending(), byte) {
+        return inner.feed_byte(byte, out);
+    }
+    play_byte(inner, front, byte, out)
+}
+
+/// Plays a byte under TERM=xterm and writes its reports, as `core_feed_xterm` does. Returns 1, or 0 if `out` has no capacity for ten
+/// bytes or a handle is closed. Counts no bell.
+#[unsafe(no_mangle)]
+pub extern "C" fn core_feed_byte_xterm(
+    t: &mut Vt220,
+    x: &mut Vt220Xterm,
+    byte: u8,
+    out: &mut [u8],
+    written: &mut usize,
+    alloc: Global,
+) -> usize
+    ensures within { result ≤ 1 }
+    ensures state { IfSome t.old.kept.inside (λ s. IfSome x.old.kept.inside (λ front.
+        t.new.kept.inside ≡ Some (xterm_played s front (take result (byte ∷ []))).whole.state)) }
+    ensures front { IfSome t.old.kept.inside (λ s. IfSome x.old.kept.inside (λ front.
+        x.new.kept.inside ≡ Some (xterm_front s front (take result (byte ∷ []))))) }
+    ensures reports { IfSome t.old.kept.inside (λ s. IfSome x.old.kept.inside (λ front.
+        out.new ≡ written_over (xterm_played s front (take result (byte ∷ []))).reports out.old)) }
+    ensures written { IfSome t.old.kept.inside (λ s. IfSome x.old.kept.inside (λ front.
+        written.new ≡ length (xterm_played s front (take result (byte ∷ []))).reports)) }
+    ensures all { IfSome t.old.kept.inside (λ _. IfSome x.old.kept.inside (λ _.
+        (result ≡ 1) ⊎ (length out.old < written.new + REPORT_LIMIT))) }
+    ensures closed { (t.old.kept.inside ≡ None) ⊎ (x.old.kept.inside ≡ None) → (t.new.kept.inside ≡ t.old.kept.inside)
+        × (x.new.kept.inside ≡ x.old.kept.inside) × (result ≡ 0) × (written.new ≡ 0) × (out.new ≡ out.old) }
+{
+    *written = 0;
+    let Some(mut inner) = t.take(alloc) else {
+        return 0;
+    };
+    let Some(mut front) = x.take(alloc) else {
+        t.put(inner);
+        return 0;
+    };
+    let sent = play_byte_xterm(&mut inner, &mut front, byte, out);
+    t.put(inner);
+    x.put(front);
+    *written = sent.written;
+    sent.taken
 }
 
 /// Plays what a host sends under TERM=xterm with its log, as `core_feed_log` does. Returns how many bytes were played: all, or as

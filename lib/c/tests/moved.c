@@ -95,6 +95,8 @@ size_t core_feed_utf8(handle *t, utf8 *u, const uint8_t *bytes, size_t len, bool
     return core_feed(t, bytes, len, counts, reports, size, written, rung);
 }
 
+size_t core_feed_byte_utf8(handle *t, utf8 *u, uint8_t byte, uint8_t *reports, size_t size, size_t *written) { return move(t), 1; }
+
 size_t core_feed_log_utf8(handle *t, handle *s, utf8 *u, const uint8_t *bytes, size_t len, bool counts, uint8_t *reports, size_t size,
                           size_t *written, uint8_t *lines, size_t lines_size, size_t *lines_written, size_t *rung) {
     return core_feed_log(t, s, bytes, len, counts, reports, size, written, lines, lines_size, lines_written, rung);
@@ -104,6 +106,10 @@ size_t core_feed_xterm(handle *t, handle *x, const uint8_t *bytes, size_t len, b
                        size_t *rung) {
     move(x);
     return core_feed(t, bytes, len, counts, reports, size, written, rung);
+}
+
+size_t core_feed_byte_xterm(handle *t, handle *x, uint8_t byte, uint8_t *reports, size_t size, size_t *written) {
+    return move(t), move(x), 1;
 }
 
 size_t core_feed_log_xterm(handle *t, handle *s, handle *x, const uint8_t *bytes, size_t len, bool counts, uint8_t *reports, size_t size,
@@ -172,7 +178,10 @@ static void handles_have_the_new_blocks(void) {
     for (int turn = 0; turn < 2; turn++) {
         CHECK(vt220_feed(&t, BYTES("a\ab"), out, sizeof out, &written) == 3);
         CHECK(vt220_feed(&t, BYTES("a\ab"), NULL, 0, NULL) == 3);
-        CHECK(vt220_feed(&t, BYTES("a"), out, sizeof out, &written) == 1);
+        for (vt220 **each = (vt220 *[]){&t, &in_utf8, &x, NULL}; *each != NULL; each++) {
+            CHECK(vt220_feed(*each, BYTES("a"), out, sizeof out, &written) == 1);
+            CHECK(vt220_feed(*each, BYTES("a"), NULL, 0, NULL) == 1);
+        }
         CHECK(vt220_feed_log(&t, &s, BYTES("a\ab"), out, sizeof out, &written, lines, sizeof lines, &logged) == 3);
         CHECK(vt220_feed_log(&t, &s, BYTES("a\ab"), NULL, 0, NULL, lines, sizeof lines, &logged) == 3);
         CHECK(vt220_feed(&in_utf8, BYTES("a\ab"), out, sizeof out, &written) == 3 && vt220_copy(&in_utf8, &x) == VT220_OK);

@@ -77,9 +77,14 @@ int main(void) {
         writing(sizeof out);
         STAYS(core_feed_log(&u, &s, bytes, len, true, out, sizeof out, &written, lines, sizeof lines, &logged, &rung));
         STAYS(core_feed_utf8(&t, &pending, (const uint8_t *)"\xC3\xA9\xE2", 3, true, out, sizeof out, &written, &rung));
+        STAYS(core_feed_byte_utf8(&t, &pending, 0x82, out, sizeof out, &written));
+        STAYS(core_feed_byte_utf8(&t, &pending, *bytes, out, 9, &written));
         STAYS(core_feed_log_utf8(&u, &s, &pending, bytes, len, true, out, sizeof out, &written, lines, sizeof lines, &logged, &rung));
         STAYS(core_feed_xterm(&u, &x, bytes, len, true, out, sizeof out, &written, &rung));
         STAYS(core_feed_xterm(&u, &x, (const uint8_t *)"\033[?1049h\a\xE2", 10, false, out, sizeof out, &written, &rung));
+        STAYS(core_feed_byte_xterm(&u, &x, 'a', out, sizeof out, &written));
+        STAYS(core_feed_byte_xterm(&u, &x, *bytes, out, sizeof out, &written));
+        STAYS(core_feed_byte_xterm(&u, &x, *bytes, out, 9, &written));
         STAYS(core_feed_log_xterm(&u, &s, &x, bytes, len, true, out, sizeof out, &written, lines, sizeof lines, &logged, &rung));
         STAYS(core_xterm_copy(&y, &x));
         STAYS(core_xterm_alternate(&x));

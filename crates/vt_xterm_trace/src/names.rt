@@ -10,6 +10,7 @@ ghost use Rattle.vt_trace.specs.Names.{numbered_in};
 ghost use Rattle.vt_xterm.specs.Front.{is_bare};
 ghost use Rattle.vt_xterm.specs.Pages.{page_modes};
 ghost use Rattle.vt_xterm_trace.specs.Names.{plain_names, private_names, own_names, name_in, is_one, has_mode, xterm_sequence_name, xterm_listing};
+ghost use Rattle.vt_xterm_trace.specs.declared.names.TheConstants.{NAMES};
 
 use crate::attributes::has_attribute;
 use vt_syntax::EventKind;
@@ -30,6 +31,9 @@ const RM: usize = 66;
 
 /// The number of SGR.
 const SGR: usize = 67;
+
+/// How many names there are.
+const NAMES: usize = OF_VT220 + OWN.len();
 
 /// The names that a VT220's functions don't have.
 const OWN: [&str; 14] = [
@@ -71,7 +75,7 @@ impl Listed for XtermNames {
 
     #[inline(always)]
     fn count(&self) -> usize {
-        OF_VT220 + OWN.len()
+        NAMES
     }
 
     #[inline(always)]
@@ -107,7 +111,7 @@ fn own_words() -> &'static [&'static str; 14]
 /// Returns the number of an event's name on a VT220, if it isn't ignored.
 fn vt220_number(rows: usize, kind: EventKind, values: &[u16]) -> Option<usize>
     ensures word { option_map (numbered_in xterm_listing) result ≡ name_on rows (event_of kind values.now) }
-    ensures within { IfSome result (λ number. number < 89) }
+    ensures within { IfSome result (λ number. number < NAMES) }
 {
     Vt220Names.number_of(rows, kind, values)
 }
@@ -122,7 +126,7 @@ fn sequence_number(
     last: u8,
 ) -> Option<usize>
     ensures word { option_map (numbered_in xterm_listing) result ≡ xterm_sequence_name rows marker inter last values.now }
-    ensures within { IfSome result (λ number. number < 89) }
+    ensures within { IfSome result (λ number. number < NAMES) }
 {
     match (marker, inter) {
         (None, None) => plain_number(rows, values, last),
@@ -140,7 +144,7 @@ fn vt220_sequence(
     last: u8,
 ) -> Option<usize>
     ensures word { option_map (numbered_in xterm_listing) result ≡ sequence_name_on rows marker inter last values.now }
-    ensures within { IfSome result (λ number. number < 89) }
+    ensures within { IfSome result (λ number. number < NAMES) }
 {
     let kind = EventKind::Sequence {
         marker,
@@ -152,9 +156,9 @@ fn vt220_sequence(
 
 /// Returns the number of a name if the function takes the values.
 fn if_takes(takes: bool, number: usize) -> Option<usize>
-    requires { number < 89 }
+    requires { number < NAMES }
     ensures word { option_map (numbered_in xterm_listing) result ≡ if takes then Some (numbered_in xterm_listing number) else None }
-    ensures within { IfSome result (λ number. number < 89) }
+    ensures within { IfSome result (λ number. number < NAMES) }
 {
     if takes { Some(number) } else { None }
 }
@@ -163,7 +167,7 @@ fn if_takes(takes: bool, number: usize) -> Option<usize>
 fn plain_number(rows: usize, values: &[u16], last: u8) -> Option<usize>
     ensures word { option_map (numbered_in xterm_listing) result
         ≡ name_in plain_names last values.now (sequence_name_on rows None None last values.now) }
-    ensures within { IfSome result (λ number. number < 89) }
+    ensures within { IfSome result (λ number. number < NAMES) }
 {
     match last {
         b'E' => Some(OF_VT220),
@@ -190,7 +194,7 @@ fn plain_number(rows: usize, values: &[u16], last: u8) -> Option<usize>
 fn private_number(rows: usize, values: &[u16], last: u8) -> Option<usize>
     ensures word { option_map (numbered_in xterm_listing) result
         ≡ name_in private_names last values.now (sequence_name_on rows (Some 0x3F) None last values.now) }
-    ensures within { IfSome result (λ number. number < 89) }
+    ensures within { IfSome result (λ number. number < NAMES) }
 {
     match last {
         b'h' => if_takes(has_mode(values), SM),

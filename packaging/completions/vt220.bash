@@ -1,9 +1,12 @@
 # Completions of vt220 for bash.
+
+# Prints the formats, as the help of the program lists them.
+_vt220_formats() { vt220 text --help 2>/dev/null | sed -n 's/.*FILE was recorded: \(.*\) \[.*/\1/p' | sed 's/ or / /; s/,//g'; }
+
 _vt220() {
   local commands='text reports repaint status show picture log pages trace summary events content search help'
   local options='--piece --limit --format --timing --from --until --encoding --terminal --columns --size --animate --theme --cursor --title --full --partial --quiet -h --help'
   if [ "${COMP_WORDS[1]}" = search ]; then options="$options --log"; fi
-  local formats='raw script ttyrec asciicast auto'
   local word=${COMP_WORDS[COMP_CWORD]} before=${COMP_WORDS[COMP_CWORD - 1]} words=
   # Readline cuts --format=raw into three words. Without = in COMP_WORDBREAKS it is one word.
   local start=
@@ -15,7 +18,7 @@ _vt220() {
   else
     case $before in
       --piece | --limit | --from | --until | --title) COMPREPLY=(); return ;;
-      --format) words=$formats ;;
+      --format) words=$(_vt220_formats) ;;
       --encoding) words='dec utf-8 auto' ;;
       --terminal) words='vt220 xterm auto' ;;
       --columns) words='80 132 auto' ;;

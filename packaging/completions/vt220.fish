@@ -1,4 +1,10 @@
 # Completions of vt220 for fish.
+
+# Prints the formats, as the help of the program lists them.
+function __vt220_formats
+    vt220 text --help 2>/dev/null | string replace -rf '.*FILE was recorded: (.*) \[.*' '$1' | string replace ' or ' ', ' | string split ', '
+end
+
 set -l commands text reports repaint status show picture log pages trace summary events content search
 complete -c vt220 -n "not __fish_seen_subcommand_from $commands help" -f
 complete -c vt220 -n "not __fish_seen_subcommand_from $commands help" -a text -d 'The screen as text'
@@ -18,7 +24,7 @@ complete -c vt220 -n "not __fish_seen_subcommand_from $commands help" -a help -d
 complete -c vt220 -n "not __fish_seen_subcommand_from $commands help" -s V -l version -d 'Print the version'
 complete -c vt220 -n "__fish_seen_subcommand_from $commands" -l piece -x -d 'The most bytes of one read'
 complete -c vt220 -n "__fish_seen_subcommand_from $commands" -l limit -x -d 'The most bytes of the input'
-complete -c vt220 -n "__fish_seen_subcommand_from $commands" -l format -x -a 'raw script ttyrec asciicast auto' -d 'How the input was recorded'
+complete -c vt220 -n "__fish_seen_subcommand_from $commands" -l format -x -a '(__vt220_formats)' -d 'How the input was recorded'
 complete -c vt220 -n "__fish_seen_subcommand_from $commands" -l timing -r -d 'The times of a recording by script'
 complete -c vt220 -n "__fish_seen_subcommand_from $commands" -l from -x -d 'Only what comes from there on'
 complete -c vt220 -n "__fish_seen_subcommand_from $commands" -l until -x -d 'Only what came up to it'

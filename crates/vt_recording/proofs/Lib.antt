@@ -14,3 +14,4 @@ mod Heard
 mod Replays
 mod Values
 mod Versions
+mod Changing

@@ -1,8 +1,10 @@
 pub mod Asciicast
+pub mod Changes
 pub mod Characters
 pub mod Content
 pub mod Detection
 pub mod Events
+pub mod Format
 pub mod Gathered
 pub mod Heading
 pub mod Lines

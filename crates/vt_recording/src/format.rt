@@ -1,4 +1,7 @@
-//! The formats of recordings, and the content of one.
+//! The formats of recordings, what a caller asks of one, and the content of a recording.
+ghost use Rattle.std.specs.Prelude.{◌≡◌};
+ghost use Rattle.vt_recording.specs.Format.{format_named, takes_timing, has_times, usual_encoding};
+
 use vt_device::Break;
 
 /// The format of a recording.
@@ -12,6 +15,53 @@ pub enum Format {
     Ttyrec,
     /// The format of asciinema. In versions 2 and 3 a line with an object, and events, one a line; in version 1 one object.
     Asciicast,
+}
+
+impl Format {
+    /// Returns the format of a name, as `--format` has it.
+    pub fn named(name: &str) -> Option<Format>
+        ensures { result ≡ format_named name.now }
+    {
+        match name {
+            "raw" => Some(Format::Raw),
+            "script" => Some(Format::Script),
+            "ttyrec" => Some(Format::Ttyrec),
+            "asciicast" => Some(Format::Asciicast),
+            _ => None,
+        }
+    }
+
+    /// Returns whether a timing file goes with a recording in this format. (script(1))
+    pub fn takes_timing(self) -> bool
+        ensures { result ≡ takes_timing self }
+    {
+        match self {
+            Format::Script => true,
+            _ => false,
+        }
+    }
+
+    /// Returns whether a recording in this format has times, with a timing file or without.
+    pub fn has_times(self, timed: bool) -> bool
+        ensures { result ≡ has_times self timed }
+    {
+        match self {
+            Format::Raw => false,
+            Format::Script => timed,
+            Format::Ttyrec => true,
+            Format::Asciicast => true,
+        }
+    }
+
+    /// Returns the encoding of what a VT220's host sends, if nobody asks for another one. (asciinema writes UTF-8)
+    pub fn usual_encoding(self) -> Encoding
+        ensures { result ≡ usual_encoding self }
+    {
+        match self {
+            Format::Asciicast => Encoding::Utf8,
+            _ => Encoding::Dec,
+        }
+    }
 }
 
 /// How a host's bytes are read.

@@ -219,9 +219,8 @@ pub fn heading_of(alloc: Global, bytes: &[u8], format: Format) -> Result<Heading
     ensures { IfOk result (λ heading. heading ≡ heading_of format bytes.now) }
 {
     match format {
-        Format::Raw => Ok(NOTHING),
         Format::Script => Ok(in_line(front_line(bytes))),
-        Format::Ttyrec => Ok(NOTHING),
         Format::Asciicast => in_cast(alloc, json_text(bytes)),
+        _ => Ok(NOTHING),
     }
 }

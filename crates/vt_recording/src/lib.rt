@@ -4,6 +4,7 @@
 
 mod asciicast;
 mod casting;
+mod changes;
 mod characters;
 mod content;
 mod detection;
@@ -22,6 +23,7 @@ mod timing;
 mod ttyrec;
 
 pub use asciicast::json_text;
+pub use changes::{Change, Window, changes_of};
 pub use content::Content;
 pub use detection::{Compression, DETECTION_LENGTH, Detected, detect};
 pub use format::{Encoding, Format, Moment, Taken, TerminalType};

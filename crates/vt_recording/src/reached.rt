@@ -26,14 +26,14 @@ pub struct Passed {
 }
 
 /// The beginning of a recording.
-const NOTHING_PASSED: Passed = Passed {
+pub(crate) const NOTHING_PASSED: Passed = Passed {
     events: 0,
     markers: 0,
     content: 0,
 };
 
 /// Returns whether the content of a recording has a byte for each character, and not the bytes of its UTF-8.
-fn has_characters(format: Format, encoding: Encoding) -> bool
+pub(crate) fn has_characters(format: Format, encoding: Encoding) -> bool
     ensures { result ≡ has_characters format encoding }
 {
     matches!(format, Format::Asciicast) && matches!(encoding, Encoding::Dec)
@@ -88,7 +88,7 @@ fn is_output(kind: EventKind) -> bool
 
 impl Passed {
     /// Returns what passes with an event more, whose bytes are these.
-    fn with_event(self, characters: bool, event: Event, text: &[u8]) -> Passed
+    pub(crate) fn with_event(self, characters: bool, event: Event, text: &[u8]) -> Passed
         requires events { self.events + 1 < 2 ^ 64 }
         requires markers { self.markers ≤ self.events }
         requires content { self.content + length text.now < 2 ^ 64 }
@@ -128,7 +128,7 @@ impl Passed {
 }
 
 /// Returns an event by its index.
-fn event_at(events: &[Event], i: usize) -> Event
+pub(crate) fn event_at(events: &[Event], i: usize) -> Event
     requires { i < length events.now }
     ensures { drop i events.now ≡ result ∷ drop (i + 1) events.now }
 {

@@ -1,10 +1,10 @@
 //! The notes on standard error: what the input looks like, for which terminal and at which size it was recorded. They change
 //! nothing else.
 
-use crate::reasons::name_of;
+use crate::reasons::{hint_of, name_of};
 use vt_replay::{
-    Compression, Detected, Encoding, Format, Heading, Host, Part, Request, TerminalType, Word,
-    detect, heading_of, host_for,
+    Encoding, Format, Heading, Host, Part, Request, TerminalType, Word, detect, heading_of,
+    host_for,
 };
 
 /// The number of first bytes that are looked at for what a host sends. More would cost as much as to play them.
@@ -63,17 +63,7 @@ fn language_hint(
     beginning: &[u8],
 ) -> Option<&'static str> {
     if host.terminal == TerminalType::Xterm {
-        return match request.word {
-            Word::Pages => Some("recorded for an xterm, and this command plays a VT220"),
-            Word::Replay(_)
-            | Word::Animation(_)
-            | Word::Log
-            | Word::Trace
-            | Word::Summary
-            | Word::Events
-            | Word::Content
-            | Word::Search => None,
-        };
+        return None;
     }
     let front = beginning.get(..LOOKED_AT).unwrap_or(beginning);
     let is_chosen = request.terminal.is_some() || request.encoding.is_some();
@@ -115,33 +105,5 @@ fn is_utf8(bytes: &[u8]) -> bool {
     match bytes.get(..front) {
         Some(front) => !front.is_ascii() && std::str::from_utf8(front).is_ok(),
         None => false,
-    }
-}
-
-/// Returns what to do with a file that isn't raw, or none if it is raw.
-pub(crate) fn hint_of(detected: Detected) -> Option<&'static str> {
-    match detected {
-        Detected::Recording(Format::Raw) => None,
-        Detected::Recording(Format::Script) => {
-            Some("it looks like a recording by script: use --format script")
-        }
-        Detected::Recording(Format::Ttyrec) => {
-            Some("it looks like a recording by ttyrec: use --format ttyrec")
-        }
-        Detected::Recording(Format::Asciicast) => {
-            Some("it looks like a recording by asciinema: use --format asciicast")
-        }
-        Detected::Compressed(Compression::Gzip) => {
-            Some("it looks like a file of gzip: give what gzip -dc writes")
-        }
-        Detected::Compressed(Compression::Zstd) => {
-            Some("it looks like a file of zstd: give what zstd -dc writes")
-        }
-        Detected::Compressed(Compression::Xz) => {
-            Some("it looks like a file of xz: give what xz -dc writes")
-        }
-        Detected::Compressed(Compression::Bzip2) => {
-            Some("it looks like a file of bzip2: give what bzip2 -dc writes")
-        }
     }
 }

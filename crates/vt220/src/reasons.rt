@@ -1,9 +1,8 @@
 //! The second line of a fault: the file that it is about, and the reason.
 
-use crate::notes::hint_of;
 use std::alloc::{AllocError, Global};
 use std::io::Error;
-use vt_replay::{Break, Detected, Fault, Format, Part, Request};
+use vt_replay::{Break, Compression, Detected, Fault, Format, Part, Request};
 
 /// The part of an error's message after which the operating system's number comes.
 const BEFORE_THE_NUMBER: &str = " (os error ";
@@ -156,5 +155,33 @@ fn expected(format: Format, place: Break) -> &'static str {
             }
             Format::Asciicast => "--format asciicast has lines such as '[0.25, \"o\", \"text\"]'",
         },
+    }
+}
+
+/// Returns what to do with a file that isn't raw, or none if it is raw.
+pub(crate) fn hint_of(detected: Detected) -> Option<&'static str> {
+    match detected {
+        Detected::Recording(Format::Raw) => None,
+        Detected::Recording(Format::Script) => {
+            Some("it looks like a recording by script: use --format script")
+        }
+        Detected::Recording(Format::Ttyrec) => {
+            Some("it looks like a recording by ttyrec: use --format ttyrec")
+        }
+        Detected::Recording(Format::Asciicast) => {
+            Some("it looks like a recording by asciinema: use --format asciicast")
+        }
+        Detected::Compressed(Compression::Gzip) => {
+            Some("it looks like a file of gzip: give what gzip -dc writes")
+        }
+        Detected::Compressed(Compression::Zstd) => {
+            Some("it looks like a file of zstd: give what zstd -dc writes")
+        }
+        Detected::Compressed(Compression::Xz) => {
+            Some("it looks like a file of xz: give what xz -dc writes")
+        }
+        Detected::Compressed(Compression::Bzip2) => {
+            Some("it looks like a file of bzip2: give what bzip2 -dc writes")
+        }
     }
 }

@@ -3,7 +3,8 @@ use Rattle.std.specs.Prelude.{List, [], ◌∷◌, ◌++◌, codes, Bool, true, 
 use Rattle.std.specs.Prelude.{bytes_eq, is_some, nat_eq, nat_lt, ℕ, ◌+◌, take, drop, option_map, option_and_then}
 use Rattle.clap.specs.Words.{Row, Text, first_of}
 use Rattle.vt_recording.specs.declared.format.Format.{Format}
-use Rattle.vt_recording.specs.declared.format.Format.TheVariants.{Raw, Script, Ttyrec, Asciicast}
+use Rattle.vt_recording.specs.declared.format.Format.TheVariants.{Raw}
+use Rattle.vt_recording.specs.Format as format
 use Rattle.vt_recording.specs.declared.format.Encoding.{Encoding}
 use Rattle.vt_recording.specs.declared.format.Encoding.TheVariants.{Dec, Utf8}
 use Rattle.vt_recording.specs.declared.format.Moment.{Moment}
@@ -21,34 +22,27 @@ use Rattle.vt_cli.specs.declared.source.Source.{Source}
 use Rattle.vt_cli.specs.declared.source.Screen.{Screen}
 use Rattle.vt_cli.specs.declared.source.Complaint.{Complaint}
 use Rattle.vt_cli.specs.declared.source.Complaint.TheVariants.{NoFormat, NoTimingFile, NoMoment, NoTimes, NoStart, NoEncoding}
-use Rattle.vt_cli.specs.declared.source.Complaint.TheVariants.{NoTerminal, NoColumns, OnlyUtf8, OnlyVt220, NoSize, TwoSizes, OneSize}
+use Rattle.vt_cli.specs.declared.source.Complaint.TheVariants.{NoTerminal, NoColumns, OnlyUtf8, NoSize, TwoSizes, OneSize}
 use Rattle.vt_cli.specs.declared.source.Complaint.TheVariants.{OnlyPicture, OnlyMoving, NoSteps, NoTheme, NoShape}
 use Rattle.vt_cli.specs.CommandLine.{is_set}
 use Rattle.vt_cli.specs.Moment.{place, moment}
 
 -- the format of a name, or none for the name that lets the beginning of the input decide
-abbrev pub format_named : Text → Result (Option Format) Complaint
-format_named name =
-    cond (bytes_eq name (codes "raw")) (Ok (Some Raw))
-    (cond (bytes_eq name (codes "script")) (Ok (Some Script))
-    (cond (bytes_eq name (codes "ttyrec")) (Ok (Some Ttyrec))
-    (cond (bytes_eq name (codes "asciicast")) (Ok (Some Asciicast))
-    (cond (bytes_eq name (codes "auto")) (Ok None) (Err NoFormat)))))
+abbrev pub format_or_auto : Text → Option Format → Result (Option Format) Complaint
+format_or_auto name (Some f) = Ok (Some f)
+format_or_auto name None = cond (bytes_eq name (codes "auto")) (Ok None) (Err NoFormat)
 
--- a timing file goes with a recording of script(1) alone
+abbrev pub format_named : Text → Result (Option Format) Complaint
+format_named name = format_or_auto name (format.format_named name)
+
+-- a timing file goes with the format
 abbrev pub takes_timing : Option Format → Bool
-takes_timing (Some Raw) = false
-takes_timing (Some Script) = true
-takes_timing (Some Ttyrec) = false
-takes_timing (Some Asciicast) = false
+takes_timing (Some f) = format.takes_timing f
 takes_timing None = false
 
--- the recording has times: that of script(1) in its timing file. Where its beginning decides, it may have some
+-- the recording has times. Where its beginning decides, it may have some
 abbrev pub has_times : Option Format → (timed : Bool) → Bool
-has_times (Some Raw) timed = false
-has_times (Some Script) timed = timed
-has_times (Some Ttyrec) timed = true
-has_times (Some Asciicast) timed = true
+has_times (Some f) timed = format.has_times f timed
 has_times None timed = true
 
 -- the recording has the moment
@@ -91,27 +85,23 @@ encoding_of (Some name) = encoding_named name
 
 -- ---- the terminal
 
--- the command of this name plays xterm
-abbrev pub plays_xterm : Text → Bool
-plays_xterm command = not (bytes_eq command (codes "pages"))
+-- xterm, for the encoding that was asked for: it reads UTF-8
+abbrev pub xterm_for : Option Encoding → Result (Option TerminalType) Complaint
+xterm_for (Some Dec) = Err OnlyUtf8
+xterm_for (Some Utf8) = Ok (Some Xterm)
+xterm_for None = Ok (Some Xterm)
 
--- xterm, for a command and the encoding that was asked for: it reads UTF-8
-abbrev pub xterm_for : (command : Text) → Option Encoding → Result (Option TerminalType) Complaint
-xterm_for command (Some Dec) = Err OnlyUtf8
-xterm_for command (Some Utf8) = cond (plays_xterm command) (Ok (Some Xterm)) (Err OnlyVt220)
-xterm_for command None = cond (plays_xterm command) (Ok (Some Xterm)) (Err OnlyVt220)
-
--- the terminal of a name, for a command and an encoding, or none for the name that lets the recording decide
-abbrev pub terminal_named : (command : Text) → Option Encoding → (name : Text) → Result (Option TerminalType) Complaint
-terminal_named command encoding name =
+-- the terminal of a name, for an encoding, or none for the name that lets the recording decide
+abbrev pub terminal_named : Option Encoding → (name : Text) → Result (Option TerminalType) Complaint
+terminal_named encoding name =
     cond (bytes_eq name (codes "vt220")) (Ok (Some Vt220))
-    (cond (bytes_eq name (codes "xterm")) (xterm_for command encoding)
+    (cond (bytes_eq name (codes "xterm")) (xterm_for encoding)
     (cond (bytes_eq name (codes "auto")) (Ok None) (Err NoTerminal)))
 
 -- without a name the recording decides
-abbrev pub terminal_of : (command : Text) → Option Encoding → Option Text → Result (Option TerminalType) Complaint
-terminal_of command encoding None = Ok None
-terminal_of command encoding (Some name) = terminal_named command encoding name
+abbrev pub terminal_of : Option Encoding → Option Text → Result (Option TerminalType) Complaint
+terminal_of encoding None = Ok None
+terminal_of encoding (Some name) = terminal_named encoding name
 
 -- ---- the columns
 
@@ -175,7 +165,7 @@ screen_with (Some wide) (Some text) = Err TwoSizes
 -- the command of this name plays a VT220's screen alone, or none
 abbrev pub has_one_size : (command : Text) → Bool
 has_one_size command =
-    bytes_eq command (codes "pages") || (bytes_eq command (codes "events") || bytes_eq command (codes "content"))
+    bytes_eq command (codes "events") || bytes_eq command (codes "content")
 
 -- a size that isn't a VT220's is for a command that plays it
 abbrev pub screen_for : (command : Text) → Screen → Result Screen Complaint
@@ -257,7 +247,7 @@ source_of command looks format timed from until encoding terminal columns size =
       wide = screen.wide;
       size = screen.size;
       looks = looks;
-    })) (screen_of command columns size)) (terminal_of command encoding terminal)) (encoding_of encoding)) (moment_of format timed until))
+    })) (screen_of command columns size)) (terminal_of encoding terminal)) (encoding_of encoding)) (moment_of format timed until))
     (from_of command format timed from))))
     (named format)
 
@@ -284,7 +274,7 @@ line_of NoColumns = codes "vt220: --columns is 80, 132 or auto" ++ 0x0A ∷ []
 line_of NoSize = codes "vt220: --size is columns and rows, as 120x40: 80 to 255 columns and 2 to 255 rows; or it is auto" ++ 0x0A ∷ []
 line_of TwoSizes = codes "vt220: --size and --columns are given: one of the two is enough" ++ 0x0A ∷ []
 line_of OneSize =
-    codes "vt220: this command plays 80x24 and 132x24 alone" ++ 0x0A ∷ codes "vt220: all but pages, events and content play any size" ++ 0x0A ∷ []
+    codes "vt220: this command plays 80x24 and 132x24 alone" ++ 0x0A ∷ codes "vt220: all but events and content play any size" ++ 0x0A ∷ []
 line_of OnlyUtf8 = codes "vt220: --terminal xterm reads UTF-8, and not --encoding dec" ++ 0x0A ∷ []
 line_of OnlyPicture = codes "vt220: --animate goes with picture alone" ++ 0x0A ∷ []
 line_of OnlyMoving = codes "vt220: --theme, --cursor and --title go with picture --animate alone" ++ 0x0A ∷ []
@@ -292,5 +282,3 @@ line_of NoSteps =
     codes "vt220: the input has no times, and search and --animate need them; give script its --timing FILE" ++ 0x0A ∷ codes "vt220: a recording by ttyrec or asciinema has times: add --format ttyrec, asciicast or auto" ++ 0x0A ∷ []
 line_of NoTheme = codes "vt220: --theme is dark, light, green or amber" ++ 0x0A ∷ []
 line_of NoShape = codes "vt220: --cursor is outline, block, underline or hidden" ++ 0x0A ∷ []
-line_of OnlyVt220 =
-    codes "vt220: pages plays no xterm" ++ 0x0A ∷ codes "vt220: text, show, picture, status, reports, repaint, log, trace, summary, search and content do" ++ 0x0A ∷ []

@@ -5,7 +5,7 @@ ghost use Rattle.clap.specs.Words.{found_of, rows_of};
 ghost use Rattle.vt_cli.specs.Source.{format_named, named, takes_timing, has_times, has_moment, moment_of, takes_start, from_of, source_of, source_in, line_of};
 ghost use Rattle.vt_cli.specs.Source.{encoding_named, encoding_of};
 ghost use Rattle.vt_cli.specs.Source.{theme_named, theme_of, cursor_named, cursor_of, looks_with, may_move, looks_of, looks_in, is_timed, lacks_steps};
-ghost use Rattle.vt_cli.specs.Source.{plays_xterm, xterm_for, terminal_named, terminal_of, wide_named, wide_of};
+ghost use Rattle.vt_cli.specs.Source.{xterm_for, terminal_named, terminal_of, wide_named, wide_of};
 ghost use Rattle.vt_cli.specs.Source.{size_of, screen_at, screen_in, screen_named, screen_with, has_one_size, screen_for, screen_of};
 
 use crate::command_line::is_set;
@@ -73,8 +73,6 @@ pub(crate) enum Complaint {
     OneSize,
     /// `--terminal xterm` is given with `--encoding dec`.
     OnlyUtf8,
-    /// `--terminal xterm` is given for a command that plays a VT220 alone.
-    OnlyVt220,
     /// `--animate` is given for a command other than picture.
     OnlyPicture,
     /// `--theme`, `--cursor` or `--title` is given without `--animate`.
@@ -117,7 +115,7 @@ impl Complaint {
             }
             Complaint::OneSize => {
                 "vt220: this command plays 80x24 and 132x24 alone\n\
-                 vt220: all but pages, events and content play any size\n"
+                 vt220: all but events and content play any size\n"
             }
             Complaint::OnlyUtf8 => "vt220: --terminal xterm reads UTF-8, and not --encoding dec\n",
             Complaint::OnlyPicture => "vt220: --animate goes with picture alone\n",
@@ -130,10 +128,6 @@ impl Complaint {
             }
             Complaint::NoTheme => "vt220: --theme is dark, light, green or amber\n",
             Complaint::NoShape => "vt220: --cursor is outline, block, underline or hidden\n",
-            Complaint::OnlyVt220 => {
-                "vt220: pages plays no xterm\n\
-                 vt220: text, show, picture, status, reports, repaint, log, trace, summary, search and content do\n"
-            }
         }
     }
 }
@@ -142,13 +136,10 @@ impl Complaint {
 fn format_named(name: &str) -> Result<Option<Format>, Complaint>
     ensures { result ≡ format_named name.now }
 {
-    match name {
-        "raw" => Ok(Some(Format::Raw)),
-        "script" => Ok(Some(Format::Script)),
-        "ttyrec" => Ok(Some(Format::Ttyrec)),
-        "asciicast" => Ok(Some(Format::Asciicast)),
-        "auto" => Ok(None),
-        _ => Err(Complaint::NoFormat),
+    match Format::named(name) {
+        Some(format) => Ok(Some(format)),
+        None if name == "auto" => Ok(None),
+        None => Err(Complaint::NoFormat),
     }
 }
 
@@ -167,8 +158,8 @@ fn takes_timing(format: Option<Format>) -> bool
     ensures { result ≡ takes_timing format }
 {
     match format {
-        Some(Format::Script) => true,
-        Some(Format::Raw) | Some(Format::Ttyrec) | Some(Format::Asciicast) | None => false,
+        Some(format) => format.takes_timing(),
+        None => false,
     }
 }
 
@@ -177,9 +168,8 @@ fn has_times(format: Option<Format>, timed: bool) -> bool
     ensures { result ≡ has_times format timed }
 {
     match format {
-        Some(Format::Raw) => false,
-        Some(Format::Script) => timed,
-        Some(Format::Ttyrec) | Some(Format::Asciicast) | None => true,
+        Some(format) => format.has_times(timed),
+        None => true,
     }
 }
 
@@ -259,50 +249,38 @@ fn encoding_of(name: Option<&str>) -> Result<Option<Encoding>, Complaint>
     }
 }
 
-/// Returns whether the command of this name plays xterm.
-fn plays_xterm(command: &str) -> bool
-    ensures { result ≡ plays_xterm command.now }
-{
-    !matches!(command, "pages")
-}
-
-/// Returns xterm, for a command and the encoding that was asked for.
-fn xterm_for(command: &str, encoding: Option<Encoding>) -> Result<Option<TerminalType>, Complaint>
-    ensures { result ≡ xterm_for command.now encoding }
+/// Returns xterm, for the encoding that was asked for.
+fn xterm_for(encoding: Option<Encoding>) -> Result<Option<TerminalType>, Complaint>
+    ensures { result ≡ xterm_for encoding }
 {
     match encoding {
         Some(Encoding::Dec) => Err(Complaint::OnlyUtf8),
-        Some(Encoding::Utf8) | None if plays_xterm(command) => Ok(Some(TerminalType::Xterm)),
-        Some(Encoding::Utf8) | None => Err(Complaint::OnlyVt220),
+        Some(Encoding::Utf8) => Ok(Some(TerminalType::Xterm)),
+        None => Ok(Some(TerminalType::Xterm)),
     }
 }
 
-/// Returns the terminal of a name, for a command and an encoding, or none for the name that lets the recording decide.
-fn terminal_named(
-    command: &str,
-    encoding: Option<Encoding>,
-    name: &str,
-) -> Result<Option<TerminalType>, Complaint>
-    ensures { result ≡ terminal_named command.now encoding name.now }
+/// Returns the terminal of a name, for an encoding, or none for the name that lets the recording decide.
+fn terminal_named(encoding: Option<Encoding>, name: &str) -> Result<Option<TerminalType>, Complaint>
+    ensures { result ≡ terminal_named encoding name.now }
 {
     match name {
         "vt220" => Ok(Some(TerminalType::Vt220)),
-        "xterm" => xterm_for(command, encoding),
+        "xterm" => xterm_for(encoding),
         "auto" => Ok(None),
         _ => Err(Complaint::NoTerminal),
     }
 }
 
-/// Returns the terminal of a name, for a command and an encoding. Without a name the recording decides.
+/// Returns the terminal of a name, for an encoding. Without a name the recording decides.
 fn terminal_of(
-    command: &str,
     encoding: Option<Encoding>,
     name: Option<&str>,
 ) -> Result<Option<TerminalType>, Complaint>
-    ensures { result ≡ terminal_of command.now encoding (option_map (λ n. n.now) name.entry) }
+    ensures { result ≡ terminal_of encoding (option_map (λ n. n.now) name.entry) }
 {
     match name {
-        Some(name) => terminal_named(command, encoding, name),
+        Some(name) => terminal_named(encoding, name),
         None => Ok(None),
     }
 }
@@ -415,7 +393,7 @@ fn screen_with(wide: Option<bool>, size: Option<&str>) -> Result<Screen, Complai
 fn has_one_size(command: &str) -> bool
     ensures { result ≡ has_one_size command.now }
 {
-    matches!(command, "pages" | "events" | "content")
+    matches!(command, "events" | "content")
 }
 
 /// Returns the screen, if the command of this name plays it.
@@ -604,7 +582,7 @@ fn source_of(
         Ok(encoding) => encoding,
         Err(complaint) => return Err(complaint),
     };
-    let terminal = match terminal_of(command, encoding, terminal) {
+    let terminal = match terminal_of(encoding, terminal) {
         Ok(terminal) => terminal,
         Err(complaint) => return Err(complaint),
     };

@@ -3,7 +3,7 @@ use Rattle.std.specs.Prelude.{◌≡◌, ℕ, ◌+◌, ◌/◌, ◌%◌, ◌++�
 use Rattle.std.specs.Prelude.{Option, Some, None}
 use Rattle.vt_trace.specs.Lines.{shown}
 use Rattle.vt_recording.specs.declared.format.Format.{Format}
-use Rattle.vt_recording.specs.declared.format.Format.TheVariants as format
+use Rattle.vt_recording.specs.Format.{has_times}
 use Rattle.vt_recording.specs.declared.format.Moment.{Moment}
 use Rattle.vt_recording.specs.declared.format.Moment.TheVariants as moment
 use Rattle.vt_recording.specs.declared.format.Encoding.TheVariants.{Utf8}
@@ -134,13 +134,6 @@ pub record IsTable (format : Format) (timed full : Bool) (from until : Option Mo
       ++ table timed full until (first_in format from timeline.events) (last_in format until timeline.events) 0 0 timeline.events)
       ++ break_line full timeline.broken
   pub breaks : broken ≡ timeline.broken
-
--- the format has times, with a timing file or without
-abbrev pub has_times : Format → (timed : Bool) → Bool
-has_times format.Raw timed = false
-has_times format.Script timed = timed
-has_times format.Ttyrec timed = true
-has_times format.Asciicast timed = true
 
 abbrev pub IsTableTaken : Format → (full : Bool) → (from until : Option Moment) → (timing : Option (List ℕ)) → (bytes content : List ℕ)
     → (broken : Option Break) → (replaced : ℕ) → Type 0

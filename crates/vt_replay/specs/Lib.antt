@@ -5,6 +5,7 @@ pub mod EventTable
 pub mod Host
 pub mod Log
 pub mod LogSearch
+pub mod MainPage
 pub mod PageCuts
 pub mod Pages
 pub mod Playing

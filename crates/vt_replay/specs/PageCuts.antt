@@ -1,6 +1,6 @@
 -- The pages of bytes in parts. Contracts of private functions cite this, and no public clause does.
-use Rattle.std.specs.Prelude.{◌≡◌, ℕ, ◌+◌, ◌*◌, ◌≤◌, ◌++◌, ◌∷◌, ◌||◌, List, [], Bool, length, flat_map, All, ⊤}
-use Rattle.std.proofs.Common.{refl, sym, ap, ◌∙◌, arith, append_assoc, append-nil, length-append}
+use Rattle.std.specs.Prelude.{◌≡◌, ◌≢◌, ◌<◌, ℕ, ◌+◌, ◌*◌, ◌≤◌, ◌++◌, ◌∷◌, ◌||◌, List, [], Bool, length, flat_map, All, ⊤}
+use Rattle.std.proofs.Common.{refl, sym, ap, subst, ◌∙◌, arith, append_assoc, append-nil, length-append}
 use Rattle.std.proofs.lemmas.Grind.{flat_map-append}
 use Rattle.std.proofs.lemmas.List.Elements.{All-nil, All-cons, All-head, All-tail}
 use Rattle.vt_syntax.specs.declared.event.Event.{Event}
@@ -15,6 +15,11 @@ use Rattle.vt_term.specs.Play.{play, after_events}
 use Rattle.vt_term.specs.Happenings.{Happening}
 use Rattle.vt_term.specs.Observing.{AreJoined}
 use Rattle.vt_term.specs.Scrolling.{scrolls_off}
+use Rattle.vt_utf8.specs.Decoding.{pending_after}
+use Rattle.vt_utf8.specs.Play.{translated, play_utf8}
+use Rattle.vt_xterm.specs.Limits.{xterm_lines_limit}
+use Rattle.vt_xterm.specs.Play.{Whole, play_xterm}
+use Rattle.vt_replay.specs.MainPage.{xterm_pages}
 use Rattle.vt_replay.specs.Pages.{blanks_screen, taken_off, pages_off, pages}
 
 -- the event takes lines off the screen
@@ -28,17 +33,17 @@ pages_at h = pages_off h.events h.before
 abbrev pub pages_in : List Happening → List ℕ
 pages_in hs = flat_map pages_at hs
 
--- the text of the screen, and of a row, has at most the bytes of a VT220's
-abbrev pub AreFew : Size → Type 0
-AreFew size = (text_limit size ≤ 9528) × (row_text_limit size ≤ 9528)
+-- the text of the screen, and of a row, has at most so many bytes
+abbrev pub AreFew : ℕ → Size → Type 0
+AreFew limit size = (text_limit size ≤ limit) × (row_text_limit size ≤ limit)
 
-abbrev pub IsFew : Happening → Type 0
-IsFew h = AreFew h.before.grid.size
+abbrev pub IsFew : ℕ → Happening → Type 0
+IsFew limit h = AreFew limit h.before.grid.size
 
 -- the lines and pages of happenings come after what was before, if their texts have at most so many bytes
-pub record IsPaged (hs : List Happening) (before after : List ℕ) : Type 0 where
-  pub lines : All IsFew hs → after ≡ before ++ pages_in hs
-  pub bounded : length after ≤ length before + 9528 * length hs
+pub record IsPaged (limit : ℕ) (hs : List Happening) (before after : List ℕ) : Type 0 where
+  pub lines : All (IsFew limit) hs → after ≡ before ++ pages_in hs
+  pub bounded : length after ≤ length before + limit * length hs
 
 pages_off-append : (xs ys : List Event) (s : Display)
     → pages_off (xs ++ ys) s ≡ pages_off xs s ++ pages_off ys (after_events xs s)
@@ -69,24 +74,55 @@ All-append_right : (P : Happening → Type 0) (xs ys : List Happening) → All P
 All-append_right P [] ys all = all
 All-append_right P (x ∷ xs) ys all = All-append_right P xs ys (All-tail P x (xs ++ ys) all)
 
-paged-more : (hs ks : List Happening) (xs ys zs : List ℕ) → IsPaged hs xs ys → IsPaged ks ys zs → IsPaged (hs ++ ks) xs zs
-paged-more hs ks xs ys zs first second = record {
-  lines = λ few. second.lines (All-append_right IsFew hs ks few)
-      ∙ ap (λ (t : List ℕ). t ++ pages_in ks) (first.lines (All-append_left IsFew hs ks few))
+more-bounded : (limit m n x y z k : ℕ) → y ≤ x + limit * m → z ≤ y + limit * n → k ≡ m + n → z ≤ x + limit * k
+more-bounded limit m n x y z k first second is = rw is (omega (arith, first, second))
+
+paged-more : (limit : ℕ) (hs ks : List Happening) (xs ys zs : List ℕ) → IsPaged limit hs xs ys → IsPaged limit ks ys zs
+    → IsPaged limit (hs ++ ks) xs zs
+paged-more limit hs ks xs ys zs first second = record {
+  lines = λ few. second.lines (All-append_right (IsFew limit) hs ks few)
+      ∙ ap (λ (t : List ℕ). t ++ pages_in ks) (first.lines (All-append_left (IsFew limit) hs ks few))
       ∙ append_assoc xs (pages_in hs) (pages_in ks)
       ∙ ap (λ (t : List ℕ). xs ++ t) (sym (flat_map-append pages_at hs ks));
-  bounded = omega (arith, first.bounded, second.bounded, length-append hs ks);
+  bounded = more-bounded limit (length hs) (length ks) (length xs) (length ys) (length zs) (length (hs ++ ks)) first.bounded
+      second.bounded (length-append hs ks);
 }
 
-pub pages_joined : {O N : Type 0} (lines : O → List ℕ) (room : O → ℕ) (name : O → N) → AreJoined {O = O}
-    (λ o hs p. (name p ≡ name o) × IsPaged hs (lines o) (lines p) × (room o ≤ room p)) (λ o n. ⊤)
-pages_joined lines room name = record {
-  nothing = λ o. (refl, record { lines = λ few. sym (append-nil (lines o)); bounded = omega arith }, omega arith);
+pub pages_joined : {O N : Type 0} (lines : O → List ℕ) (limit : O → ℕ) (room : O → ℕ) (name : O → N) → AreJoined {O = O}
+    (λ o hs p. (name p ≡ name o) × (limit p ≡ limit o) × IsPaged (limit o) hs (lines o) (lines p) × (room o ≤ room p)) (λ o n. ⊤)
+pages_joined lines limit room name = record {
+  nothing = λ o. (refl, refl, record { lines = λ few. sym (append-nil (lines o)); bounded = omega arith }, omega arith);
   more = λ o p q xs ys first second. (
     second.0 ∙ first.0,
-    paged-more xs ys (lines o) (lines p) (lines q) first.1 second.1,
-    omega (arith, first.2, second.2),
+    second.1 ∙ first.1,
+    paged-more (limit o) xs ys (lines o) (lines p) (lines q) first.2
+        (subst (λ (n : ℕ). IsPaged n ys (lines p) (lines q)) first.1 second.2),
+    omega (arith, first.3, second.3),
   );
   fewer = λ o m n few takes. tt;
   left = λ o p hs n saw takes. tt;
 }
+
+-- bytes of UTF-8 were played: the state and the pending part that they leave, and their lines and pages after what was before
+pub record PagesUtf8 (s : State) (pending bytes : List ℕ) (t : State) (after before out : List ℕ) : Type 0 where
+  pub state : t ≡ (play_utf8 s pending bytes).state
+  pub left : after ≡ pending_after pending bytes
+  pub lines_are : out ≡ before ++ pages s (translated s pending bytes)
+
+-- and bytes under TERM=xterm
+pub record PagesXterm (w : Whole) (pending bytes : List ℕ) (z : Whole) (after before out : List ℕ) : Type 0 where
+  pub whole : z ≡ (play_xterm w pending bytes).whole
+  pub left : after ≡ pending_after pending bytes
+  pub lines_are : out ≡ before ++ xterm_pages w pending bytes
+
+-- a page, and twice the lines of a byte under TERM=xterm
+abbrev pub main_room : Size → ℕ
+main_room size = text_limit size + 2 * xterm_lines_limit size
+
+-- an ASCII byte that isn't ESC
+abbrev pub IsText : ℕ → Type 0
+IsText b = (b < 0x80) × (b ≢ 0x1B)
+
+-- the capacity for lines and pages between two writes: 64 screens
+unfoldable pub pages_room : Size → ℕ
+pages_room size = 64 * text_limit size

@@ -1,11 +1,13 @@
 -- The bytes that each word writes. (this profile)
 use Rattle.std.specs.Prelude.{ℕ, List, [], Result}
 use Rattle.vt_device.specs.Runs.{Flags}
-use Rattle.vt_term.specs.State.{power_up, state_of}
+use Rattle.vt_term.specs.State.{state_of}
+use Rattle.vt_replay.specs.MainPage.{xterm_pages}
 use Rattle.vt_replay.specs.Pages.{pages}
 use Rattle.vt_trace.specs.Trace.{trace, tracer_all, tracer_at_start, end_lines}
 use Rattle.vt_trace.specs.Summary.{summary_on}
 use Rattle.vt_trace.specs.Utf8.{trace_utf8, tracer_utf8, summary_utf8_by, summary_utf8_on}
+use Rattle.vt_utf8.specs.Play.{translated}
 use Rattle.vt_xterm.specs.Play.{behind, front_of}
 use Rattle.vt_xterm_trace.specs.Names.{xterm_listing}
 use Rattle.vt_xterm_trace.specs.Trace.{trace_xterm, tracer_xterm}
@@ -19,7 +21,7 @@ use Rattle.vt_device.specs.declared.fault.Fault.{Fault}
 use Rattle.vt_recording.specs.declared.format.Encoding.{Encoding}
 use Rattle.vt_recording.specs.declared.format.Encoding.TheVariants.{Dec, Utf8}
 use Rattle.vt_replay.specs.Encoding.{decoded}
-use Rattle.vt_replay.specs.Log.{screen, lines_at, screen_at}
+use Rattle.vt_replay.specs.Log.{lines_at, screen_at}
 use Rattle.vt_device.specs.Output.{OutputTable, always, all, nothing}
 use Rattle.vt_screen.specs.declared.size.Size.{Size}
 use Rattle.vt_replay.specs.Playing.{Due, language_of, replayed_at}
@@ -27,8 +29,11 @@ use Rattle.vt_replay.specs.Showing.{ShownTable}
 
 -- ---- pages
 
-abbrev pub pages_written : List ℕ → List ℕ
-pages_written bytes = pages power_up bytes
+-- on a screen of a size, of the host's bytes in each language
+abbrev pub pages_at : Size → Language → List ℕ → List ℕ
+pages_at size language.Dec bytes = pages (state_of size) bytes
+pages_at size language.Utf8 bytes = pages (state_of size) (translated (state_of size) [] bytes)
+pages_at size language.Xterm bytes = xterm_pages (behind (state_of size) (front_of size)) [] bytes
 
 -- ---- trace
 
@@ -62,14 +67,16 @@ of_decoded encoding written ending = record {
   there = always;
 }
 
--- a row a word, for a terminal of a size and in an encoding. A picture that moves, the table of events and the spans of a search are ready before they are written. A replay, a log, a trace and a summary play xterm; what content writes then is below
+-- a row a word, for a terminal of a size and in an encoding. A picture that moves, the table of events and the spans of a search are ready before they are written. What content writes under TERM=xterm is below
 abbrev pub due_of : Word → Size → TerminalType → Encoding → Due
 due_of (Replay what) size terminal encoding = replayed_at size (language_of terminal encoding) what
 due_of (Animation looks) size terminal encoding = of_decoded Dec all nothing
 due_of Log size terminal encoding =
     let language = language_of terminal encoding in
     record { written = lines_at size language; ending = screen_at size language; there = always }
-due_of Pages size terminal encoding = of_decoded encoding pages_written screen
+due_of Pages size terminal encoding =
+    let language = language_of terminal encoding in
+    record { written = pages_at size language; ending = screen_at size language; there = always }
 due_of Trace size terminal encoding =
     let language = language_of terminal encoding in
     record { written = trace_at size language; ending = trace_end_at size language; there = always }

@@ -54,7 +54,7 @@ fn moves_all(terminal: &SizedTerminal, values: &[u16]) -> bool
 
 /// Returns whether a control sequence is an ED that erases every cell, an IL or DL that moves every line off, or sets or
 /// resets DECCOLM.
-fn blanks_by(
+pub(crate) fn blanks_by(
     terminal: &SizedTerminal,
     marker: Option<u8>,
     inter: Option<u8>,
@@ -78,7 +78,7 @@ fn blanks_by(
 }
 
 /// Returns whether an escape sequence is RIS.
-fn is_reset(inter: Option<u8>, last: u8) -> bool
+pub(crate) fn is_reset(inter: Option<u8>, last: u8) -> bool
     ensures { result ≡ is_reset inter last }
 {
     inter.is_none() && last == b'c'

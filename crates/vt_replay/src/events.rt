@@ -3,7 +3,7 @@ ghost use Rattle.std.specs.Prelude.{◌≡◌, ◌+◌, ◌≤◌, ◌<◌, ◌^
 ghost use Rattle.vt_trace.specs.Lines.{shown};
 ghost use Rattle.vt_recording.specs.Timeline.{is_output};
 ghost use Rattle.vt_recording.specs.Gathered.{events_of};
-ghost use Rattle.vt_replay.specs.EventTable.{kind_name, digit, six_digits, time_column, text_column, event_line, is_listed, listed, place_then, has_times, table, IsTableTaken};
+ghost use Rattle.vt_replay.specs.EventTable.{kind_name, digit, six_digits, time_column, text_column, event_line, is_listed, listed, place_then, table, IsTableTaken};
 ghost use Rattle.vt_replay.specs.EventTable.{first_in, last_in, is_before, is_asked};
 ghost use Rattle.vt_replay.specs.EventTable.{terminal_line, window_line, heading_lines, part_name, break_line};
 
@@ -226,18 +226,6 @@ fn push_table(
     Ok(())
 }
 
-/// Returns whether a recording in a format has times, with a timing file or without.
-fn has_times(format: Format, timed: bool) -> bool
-    ensures { result ≡ has_times format timed }
-{
-    match format {
-        Format::Raw => false,
-        Format::Script => timed,
-        Format::Ttyrec => true,
-        Format::Asciicast => true,
-    }
-}
-
 /// Returns how many events come before the first line.
 fn first_in(timeline: &Timeline, format: Format, from: Option<Moment>) -> u64
     ensures { result ≡ first_in format from (events_of timeline.now.events.items timeline.now.text.items) }
@@ -350,7 +338,7 @@ pub(crate) fn events_taken(
     let heading = heading_of(alloc, bytes, format)?;
     let timeline = timeline_of(alloc, bytes, timing, format)?;
     let listing = Listing {
-        timed: has_times(format, timing.is_some()),
+        timed: format.has_times(timing.is_some()),
         full,
         until,
         first: first_in(&timeline, format, from),

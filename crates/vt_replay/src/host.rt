@@ -2,7 +2,7 @@
 ghost use Rattle.std.specs.Prelude.{◌≡◌, IfSome};
 ghost use Rattle.vt_screen.specs.Sizes.{IsSize, width_of};
 ghost use Rattle.vt_replay.specs.Host.{takes_size, is_vt220, size_named, size_for};
-ghost use Rattle.vt_replay.specs.Host.{terminal_for, encoding_of, encoding_for, wide_for, named_for, host_for, plain_host};
+ghost use Rattle.vt_replay.specs.Host.{terminal_for, encoding_for, wide_for, named_for, host_for, plain_host};
 ghost use Rattle.vt_replay.specs.Host.{widening, widening_shown, opening};
 
 use vt_cli::{Encoding, Format, Request, TerminalType, Word, size_of};
@@ -49,24 +49,13 @@ fn terminal_for(
     }
 }
 
-/// Returns the encoding of a VT220's host: the one that was asked for, otherwise dec, and in a recording by asciinema UTF-8.
-fn encoding_of(wanted: Option<Encoding>, format: Format) -> Encoding
-    ensures { result ≡ encoding_of wanted format }
-{
-    match format {
-        Format::Raw => wanted.unwrap_or(Encoding::Dec),
-        Format::Script => wanted.unwrap_or(Encoding::Dec),
-        Format::Ttyrec => wanted.unwrap_or(Encoding::Dec),
-        Format::Asciicast => wanted.unwrap_or(Encoding::Utf8),
-    }
-}
-
-/// Returns the encoding of what a host sends for a terminal.
+/// Returns the encoding of what a host sends for a terminal: for a VT220 the one that was asked for, otherwise the usual one of the
+/// format.
 fn encoding_for(terminal: TerminalType, wanted: Option<Encoding>, format: Format) -> Encoding
     ensures { result ≡ encoding_for terminal wanted format }
 {
     match terminal {
-        TerminalType::Vt220 => encoding_of(wanted, format),
+        TerminalType::Vt220 => wanted.unwrap_or(format.usual_encoding()),
         TerminalType::Xterm => Encoding::Utf8,
     }
 }
@@ -110,6 +99,7 @@ fn takes_size(word: Word) -> bool
         Word::Replay(_)
         | Word::Animation(_)
         | Word::Log
+        | Word::Pages
         | Word::Trace
         | Word::Summary
         | Word::Search => { true }

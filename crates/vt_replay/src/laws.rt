@@ -3,7 +3,8 @@ ghost use Rattle.std.specs.Prelude.{◌≡◌, ℕ, List, [], ◌++◌, true};
 ghost use Rattle.vt_syntax.specs.declared.event.Event.{Event};
 ghost use Rattle.vt_term.specs.State.{Display, State, power_up};
 ghost use Rattle.vt_term.specs.Functions.{effect};
-ghost use Rattle.vt_term.specs.Sound.{IsSound};
+ghost use Rattle.vt_screen.specs.declared.size.Size.{Size};
+ghost use Rattle.vt_term.specs.Sound.{IsSound, IsSoundAt};
 ghost use Rattle.vt_term.specs.Play.{play};
 ghost use Rattle.vt_recording.specs.declared.format.Encoding.{Encoding};
 ghost use Rattle.vt_recording.specs.declared.format.TerminalType.TheVariants.{Vt220};
@@ -23,6 +24,14 @@ pub fn as_decoded()
 /// States that bytes may be cut anywhere: the lines and pages of chunks in turn are those of the chunks joined.
 pub fn pages_cut()
     ensures none { (s : State) → IsSound s → pages s [] ≡ [] }
+    ensures two { (s : State) (a b : List ℕ) → pages s (a ++ b) ≡ pages s a ++ pages (play s a).state b }
+{
+    one_split();
+}
+
+/// States the same at any size.
+pub(crate) fn sized_pages_cut()
+    ensures none { (size : Size) (s : State) → IsSoundAt size s → pages s [] ≡ [] }
     ensures two { (s : State) (a b : List ℕ) → pages s (a ++ b) ≡ pages s a ++ pages (play s a).state b }
 {
     one_split();

@@ -1,33 +1,27 @@
 //! The outputs: what each word writes of the host's bytes as they come, and at their end.
 ghost use Rattle.std.specs.Prelude.{◌≡◌, ⊤, ◌+◌, ◌*◌, ◌/◌, ◌^◌, ◌≤◌, ◌<◌, ◌++◌, [], true, false, length, take, vec_capacity, IfOk, List, ℕ, Bool};
 ghost use Rattle.std.specs.Io.KnownBytes.{IsAtEnd};
-ghost use Rattle.vt_term.specs.Play.{play};
-ghost use Rattle.vt_term.specs.Text.{text};
 ghost use Rattle.vt_device.specs.Runs.{Moves};
 ghost use Rattle.vt_device.specs.Output.{OutputTable, always, all, nothing};
 ghost use Rattle.vt_replay.specs.Encoding.{EncodedTable};
-ghost use Rattle.vt_replay.specs.Log.{screen};
-ghost use Rattle.vt_replay.specs.Pages.{pages};
 ghost use Rattle.vt_recording.specs.declared.format.Encoding.TheVariants.{Dec};
 ghost use Rattle.vt_replay.specs.declared.language.Language.TheVariants as language;
-ghost use Rattle.vt_replay.specs.Words.{pages_written, trace_at, trace_end_at, summary_at};
+ghost use Rattle.vt_replay.specs.Words.{trace_at, trace_end_at, summary_at};
 ghost use Rattle.vt_screen.specs.declared.size.Size.{Size};
 ghost use Rattle.vt_screen.specs.Sizes.{IsSize};
 ghost use Rattle.vt_trace.specs.Trace.{trace, tracer_all, end_lines};
 ghost use Rattle.vt_trace.specs.Counted.{HasCountedSome, summary_after};
 ghost use Rattle.vt_trace.specs.Names.{vt220_listing};
 
-use crate::laws::pages_cut;
 use crate::output::{front_for, write_output_from};
-use crate::pages::{PAGE_LIMIT, feed_pages_reserved};
 use std::alloc::{AllocError, Global};
 use std::io::Write;
 use vt_cli::Encoding;
 use vt_device::{Output, Source, Watched};
 use vt_recording::Fault;
 use vt_syntax::laws::one_split;
-use vt_term::laws::{cuts, sized_soundness, soundness};
-use vt_term::{REPORT_LIMIT, Size, SizedTerminal, Terminal};
+use vt_term::laws::sized_soundness;
+use vt_term::{REPORT_LIMIT, Size, SizedTerminal};
 use vt_trace::laws::sized_cuts as trace_cuts;
 use vt_trace::sized::trace_reserved;
 use vt_trace::{SUMMARY_LIMIT, Summary, TRACE_LIMIT, Tracer, trace_end};
@@ -120,69 +114,6 @@ pub(crate) fn write_word_at<O: SizedWordOutput, S: Source, W: Write>(
     let mut output = O::new(alloc, size, piece)?;
     let dec = Encoding::Dec;
     write_output_from(alloc, &mut output, dec, reader, writer, piece, limit)
-}
-
-/// The log with pages.
-#[derive(Drop)]
-pub(crate) struct PageOutput {
-    terminal: Terminal,
-    /// The reports of a chunk, which are dropped.
-    reports: Vec<u8>,
-}
-
-impl Output for PageOutput {
-    ghost written = { λ o bytes. pages o.terminal bytes };
-
-    ghost ending = { λ o bytes. text (play o.terminal bytes).state };
-
-    ghost there = { λ o bytes. true };
-
-    ghost most = { λ o. vec_capacity o.reports / 10 };
-
-    ghost counted = { λ o. 0 };
-
-    ghost reserve = { λ o. 38112 };
-
-    fn capacity(&self) -> usize {
-        4 * PAGE_LIMIT
-    }
-
-    fn feed(&mut self, chunk: &[u8], out: &mut Vec<u8>) -> usize {
-        let _ = self.terminal.width();
-        cuts();
-        pages_cut();
-        soundness();
-        self.reports.clear();
-        let count = front_for(chunk, &self.reports);
-        feed_pages_reserved(&mut self.terminal, &chunk[..count], &mut self.reports, out)
-    }
-
-    fn is_there(&self) -> bool {
-        true
-    }
-
-    fn end(&mut self, out: &mut Vec<u8>) {
-        let _ = self.terminal.width();
-        cuts();
-        self.terminal.text_reserved(out)
-    }
-}
-
-impl WordOutput for PageOutput {
-    ghost writes = { pages_written };
-
-    ghost ends = { screen };
-
-    ghost ready = { always };
-
-    fn new(alloc: Global, piece: usize) -> Result<PageOutput, AllocError> {
-        pages_cut();
-        soundness();
-        Ok(PageOutput {
-            reports: Vec::with_capacity(alloc, REPORT_LIMIT * piece)?,
-            terminal: Terminal::new(alloc)?,
-        })
-    }
 }
 
 /// The trace.

@@ -2,6 +2,7 @@
 ghost use Rattle.std.specs.Prelude.{◌≡◌, ◌+◌, ◌*◌, ◌≤◌, ◌<◌, ◌++◌, true, length, take};
 ghost use Rattle.std.specs.Prelude.{vec_len, vec_capacity, OnOk, OnErr, IsOk};
 ghost use Rattle.vt_term.specs.Play.{play};
+ghost use Rattle.vt_term.specs.Text.{text_limit};
 ghost use Rattle.std.specs.Bool.{OnTrue, OnFalse};
 ghost use Rattle.vt_syntax.specs.Event.{event_of};
 ghost use Rattle.vt_replay.specs.Pages.{pages, taken_off};
@@ -81,7 +82,38 @@ pub fn feed_pages_reserved(
     let _ = terminal.width();
     one_split();
     sized_happened();
-    let mut observer = Pages { lines };
+    let limit = PAGE_LIMIT;
+    let mut observer = Pages { lines, limit };
+    terminal.feed_observed(piece, &mut observer, reports)
+}
+
+/// Plays the front of a piece of the host's bytes on a screen of any size, as `feed_pages_reserved` does on a VT220's. Returns how many
+/// bytes it played.
+///
+/// If it stops early, `lines` has fewer than `text_limit` bytes free, the capacity of one page.
+pub(crate) fn feed_pages_at(
+    terminal: &mut SizedTerminal,
+    piece: &[u8],
+    reports: &mut Vec<u8>,
+    lines: &mut Vec<u8>,
+) -> usize
+    requires { vec_len reports.old + 10 * length piece.now ≤ vec_capacity reports.old }
+    ensures within { result ≤ length piece.now }
+    ensures size { terminal.new.display.grid.size ≡ terminal.old.display.grid.size }
+    ensures all { result < length piece.now → vec_capacity lines.new < vec_len lines.new + text_limit terminal.old.display.grid.size }
+    ensures state { terminal.new ≡ (play terminal.old (take result piece.now)).state }
+    ensures reports { reports.new.items ≡ reports.old.items ++ (play terminal.old (take result piece.now)).reports }
+    ensures lines { lines.new.items ≡ lines.old.items ++ pages terminal.old (take result piece.now) }
+    ensures reports_bounded { vec_len reports.new ≤ vec_len reports.old + 10 * result }
+    ensures lines_bounded { vec_len lines.new ≤ vec_len lines.old + text_limit terminal.old.display.grid.size * result }
+    ensures reports_capacity { vec_capacity reports.old ≤ vec_capacity reports.new }
+    ensures lines_capacity { vec_capacity lines.old ≤ vec_capacity lines.new }
+{
+    let _ = (terminal.width(), terminal.size());
+    one_split();
+    sized_happened();
+    let limit = terminal.text_limit();
+    let mut observer = Pages { lines, limit };
     terminal.feed_observed(piece, &mut observer, reports)
 }
 
@@ -90,35 +122,38 @@ pub fn feed_pages_reserved(
 #[derive(Drop)]
 struct Pages<'a> {
     lines: &'a mut Vec<u8>,
+    /// The limit of a page in bytes: `text_limit` of the terminal. A page that might be longer isn't kept.
+    limit: usize,
 }
 
 impl Pages<'_> {
     /// Returns whether there is capacity for a page.
     #[inline(always)]
     fn has_room(&self) -> bool
-        ensures room { OnTrue result (vec_len self.now.lines.now + PAGE_LIMIT ≤ vec_capacity self.now.lines.now) }
-        ensures full { OnFalse result (vec_capacity self.now.lines.now < vec_len self.now.lines.now + PAGE_LIMIT) }
+        ensures room { OnTrue result (vec_len self.now.lines.now + self.now.limit ≤ vec_capacity self.now.lines.now) }
+        ensures full { OnFalse result (vec_capacity self.now.lines.now < vec_len self.now.lines.now + self.now.limit) }
     {
-        self.lines.capacity() - self.lines.len() >= PAGE_LIMIT
+        self.lines.capacity() - self.lines.len() >= self.limit
     }
 
-    /// Appends what an event takes off the screen, if its text has at most `PAGE_LIMIT` bytes.
+    /// Appends what an event takes off the screen, if its text has at most `limit` bytes.
     #[inline(always)]
     fn keep(&mut self, terminal: &SizedTerminal, kind: EventKind, values: &[u16])
         requires { takes_off (event_of kind values.now) terminal.now.display ≡ true
-            → vec_len self.old.lines.now + PAGE_LIMIT ≤ vec_capacity self.old.lines.now }
+            → vec_len self.old.lines.now + self.old.limit ≤ vec_capacity self.old.lines.now }
         ensures same_reference { self.new.lines.ghost_name ≡ self.old.lines.ghost_name }
-        ensures lines { AreFew terminal.now.display.grid.size → self.new.lines.now.items ≡ self.old.lines.now.items
+        ensures same_limit { self.new.limit ≡ self.old.limit }
+        ensures lines { AreFew self.old.limit terminal.now.display.grid.size → self.new.lines.now.items ≡ self.old.lines.now.items
             ++ taken_off (event_of kind values.now) terminal.now.display }
-        ensures bounded { vec_len self.new.lines.now ≤ vec_len self.old.lines.now + PAGE_LIMIT }
+        ensures bounded { vec_len self.new.lines.now ≤ vec_len self.old.lines.now + self.old.limit }
         ensures capacity { vec_capacity self.old.lines.now ≤ vec_capacity self.new.lines.now }
     {
         let _ = terminal.size();
         if blanks_screen(terminal, kind, values) {
-            if terminal.text_limit() <= PAGE_LIMIT {
+            if terminal.text_limit() <= self.limit {
                 push_page(terminal, self.lines);
             }
-        } else if terminal.scrolls_off(kind) && terminal.row_text_limit() <= PAGE_LIMIT {
+        } else if terminal.scrolls_off(kind) && terminal.row_text_limit() <= self.limit {
             terminal.row_text_reserved(1, self.lines);
         }
     }
@@ -130,22 +165,22 @@ impl Observer for Pages<'_> {
     ghost use Rattle.vt_term.specs.ScrollSteps.{Fits as RowFits};
     ghost use Rattle.vt_replay.specs.PageCuts.{IsPaged, pages_joined, takes_off};
 
-    ghost Saw = { λ o hs p. (p.lines.ghost_name ≡ o.lines.ghost_name)
-        × IsPaged hs o.lines.now.items p.lines.now.items
+    ghost Saw = { λ o hs p. (p.lines.ghost_name ≡ o.lines.ghost_name) × (p.limit ≡ o.limit)
+        × IsPaged o.limit hs o.lines.now.items p.lines.now.items
         × (vec_capacity o.lines.now ≤ vec_capacity p.lines.now) };
 
     ghost Takes = { λ o n. ⊤ };
 
-    ghost Lets = { λ o s event. takes_off event s ≡ true → vec_len o.lines.now + 9528 ≤ vec_capacity o.lines.now };
+    ghost Lets = { λ o s event. takes_off event s ≡ true → vec_len o.lines.now + o.limit ≤ vec_capacity o.lines.now };
 
     ghost Fits = { λ o s n. RowFits n s
-        × (1 ≤ n → (s.cursor.wrap && is_at_end s) ≡ true → vec_len o.lines.now + 9528 ≤ vec_capacity o.lines.now) };
+        × (1 ≤ n → (s.cursor.wrap && is_at_end s) ≡ true → vec_len o.lines.now + o.limit ≤ vec_capacity o.lines.now) };
 
-    ghost Stopped = { λ o. vec_capacity o.lines.now < vec_len o.lines.now + 9528 };
+    ghost Stopped = { λ o. vec_capacity o.lines.now < vec_len o.lines.now + o.limit };
 
     ghost Stops = { true };
 
-    ghost joined = { pages_joined (λ o. o.lines.now.items) (λ o. vec_capacity o.lines.now) (λ o. o.lines.ghost_name) };
+    ghost joined = { pages_joined (λ o. o.lines.now.items) (λ o. o.limit) (λ o. vec_capacity o.lines.now) (λ o. o.lines.ghost_name) };
 
     #[inline(always)]
     fn stops(&self) -> bool {

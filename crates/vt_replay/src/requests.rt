@@ -16,7 +16,8 @@ use crate::events::events_taken;
 use crate::host::{Host, host_for, opening, plain_host};
 use crate::language::Language;
 use crate::logging::write_log_at;
-use crate::outputs::{ContentOutput, PageOutput, write_word};
+use crate::outputs::{ContentOutput, write_word};
+use crate::page_outputs::write_pages_at;
 use crate::search::{search_taken, text_of};
 use std::alloc::{AllocError, Global};
 use std::io::{Read, Write};
@@ -50,9 +51,7 @@ fn carry_out_word<S: Source, W: Write>(
     match request.word {
         Word::Replay(what) => { run_at(alloc, reader, writer, what, language, size, piece, limit) }
         Word::Log => write_log_at(alloc, reader, writer, language, size, piece, limit),
-        Word::Pages => {
-            write_word::<PageOutput, S, W>(alloc, reader, writer, encoding, piece, limit)
-        }
+        Word::Pages => write_pages_at(alloc, reader, writer, language, size, piece, limit),
         Word::Trace => write_trace(alloc, reader, writer, language, size, piece, limit),
         Word::Summary => write_summary(alloc, reader, writer, language, size, piece, limit),
         Word::Events | Word::Animation(_) | Word::Search => {
@@ -92,11 +91,9 @@ fn asks_wide(wide: Option<bool>) -> bool
 fn is_streamed(format: Format, until: Option<Moment>, wide: Option<bool>, whole: bool) -> bool
     ensures { result ≡ is_streamed format until wide whole }
 {
-    match format {
-        Format::Raw => until.is_none() && !asks_wide(wide) && !whole,
-        Format::Script => false,
-        Format::Ttyrec => false,
-        Format::Asciicast => false,
+    match (format, until) {
+        (Format::Raw, None) => !asks_wide(wide) && !whole,
+        _ => false,
     }
 }
 
@@ -156,14 +153,9 @@ pub fn format_of(wanted: Option<Format>, beginning: &[u8]) -> Format
 pub fn lacks_times(format: Format, timed: bool, until: Option<Moment>) -> bool
     ensures { result ≡ lacks_times format timed until }
 {
-    let Some(Moment::Micros(_)) = until else {
-        return false;
-    };
-    match format {
-        Format::Raw => true,
-        Format::Script => !timed,
-        Format::Ttyrec => false,
-        Format::Asciicast => false,
+    match until {
+        Some(Moment::Micros(_)) => !format.has_times(timed),
+        _ => false,
     }
 }
 
@@ -173,13 +165,12 @@ pub fn lacks_times(format: Format, timed: bool, until: Option<Moment>) -> bool
 ///
 /// The terminal is the request's, otherwise the one that the first line of a recording by asciinema or by script names,
 /// otherwise a VT220. If the request's encoding is dec, it is a VT220. For an xterm the host sends UTF-8. For a VT220 it sends in
-/// the request's encoding, otherwise in dec, and in a recording by asciinema in UTF-8. Pages play a VT220,
-/// whatever the terminal. Content is the host's bytes, unless the request is for xterm. Then it is bytes with which a VT220 shows the same: an update for each chunk.
+/// the request's encoding, otherwise in dec, and in a recording by asciinema in UTF-8. Content is the host's bytes, unless the request is for xterm. Then it is bytes with which a VT220 shows the same: an update for each chunk.
 ///
 /// The screen has 132 columns if the request asks for them, or if it leaves the width to a recording whose first line names
 /// 132. Then bytes that set DECCOLM are played first, except for trace and summary.
 ///
-/// All replays but a repaint, log, trace and summary are of a screen of the size that the request asks for. If it leaves the size to a recording, they are
+/// All replays but a repaint, log, pages, trace and summary are of a screen of the size that the request asks for. If it leaves the size to a recording, they are
 /// of the size that its first line names, if a screen may have that. DECCOLM leaves the width of such a screen, unless it is a VT220's.
 ///
 /// If the format is raw, all of the input is wanted, and 132 columns weren't asked for, the word is carried out on the bytes as they come. Events

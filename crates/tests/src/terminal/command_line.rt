@@ -456,6 +456,15 @@ const FOR_TERMINALS: &[Asked] = &[
         },
     ),
     ("vt220 content --terminal xterm a", Word::Content, XTERM),
+    ("vt220 pages --terminal xterm a", Word::Pages, XTERM),
+    (
+        "vt220 pages --terminal=xterm --encoding utf-8",
+        Word::Pages,
+        Options {
+            encoding: Some(Encoding::Utf8),
+            ..XTERM
+        },
+    ),
 ];
 
 /// The looks of a picture that moves, if nothing else is asked for.
@@ -633,7 +642,7 @@ fn words_ask_for_columns(rt: HostRuntime) {
 }
 
 /// A line that is refused, and the sentences that say why.
-const MISFITS: [(&str, &str); 33] = [
+const MISFITS: [(&str, &str); 29] = [
     (
         "vt220 text --format cast",
         "vt220: --format is raw, script, ttyrec or asciicast\n\
@@ -679,10 +688,6 @@ const MISFITS: [(&str, &str); 33] = [
         "vt220 text --terminal xterm --encoding dec",
         "vt220: --terminal xterm reads UTF-8, and not --encoding dec\n",
     ),
-    ("vt220 pages --terminal xterm", NO_XTERM),
-    ("vt220 pages --terminal=xterm --encoding utf-8", NO_XTERM),
-    ("vt220 pages --terminal xterm --size 80x24", NO_XTERM),
-    ("vt220 pages --terminal xterm --columns 132", NO_XTERM),
 ];
 
 /// Lines whose options of a picture that moves don't fit, and what is said of them.
@@ -722,9 +727,6 @@ const NO_SHAPE: &str = "vt220: --cursor is outline, block, underline or hidden\n
 const NO_TERMINAL: &str = "vt220: --terminal is vt220, xterm or auto\n";
 
 const NO_COLUMNS: &str = "vt220: --columns is 80, 132 or auto\n";
-
-const NO_XTERM: &str = "vt220: pages plays no xterm\n\
-     vt220: text, show, picture, status, reports, repaint, log, trace, summary, search and content do\n";
 
 const NO_ENCODING: &str = "vt220: --encoding is dec, utf-8 or auto\n";
 

@@ -313,7 +313,8 @@ fn request_is_refused(alloc: Global, input: &[u8], word: Word, what: What) -> Re
     )
 }
 
-/// A word, and what is written for it. No line scrolls off, so that a log and pages are the text.
+/// A word, and what is written for it. No line scrolls off, so that a log is the text. Pages aren't here: they take memory for 64 screens
+/// at once, more than a `Scarce` grants.
 const REQUESTED: &[(Word, What)] = &[
     (Word::Replay(What::Text), What::Text),
     (Word::Replay(What::Reports), What::Reports),
@@ -321,7 +322,6 @@ const REQUESTED: &[(Word, What)] = &[
     (Word::Replay(What::Status), What::Status),
     (Word::Replay(What::Show), What::Show),
     (Word::Log, What::Text),
-    (Word::Pages, What::Text),
 ];
 
 /// Returns whether that is so of each of these words.

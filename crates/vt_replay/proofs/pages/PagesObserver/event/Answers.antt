@@ -9,7 +9,8 @@ returns c = λ s sound same is last.
     let few = c.keep.ensures.bounded in
     let event = event_of c.args.kind c.args.values.now in (
       c.keep.ensures.same_reference,
-      paged-one c.one_split.ensures s c.args.bytes.now c.args.self.now.lines.now.items c.keep.new.self.lines.now.items
+      c.keep.ensures.same_limit,
+      paged-one c.one_split.ensures c.args.self.now.limit s c.args.bytes.now c.args.self.now.lines.now.items c.keep.new.self.lines.now.items
           (taken_off event s.display) sound c.requires.some (one-page s c.args.bytes.now event is)
           (rw same c.keep.ensures.lines) (omega (arith, few)),
       c.keep.ensures.capacity,

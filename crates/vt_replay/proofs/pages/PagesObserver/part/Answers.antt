@@ -5,6 +5,7 @@ use Rattle.vt_replay.proofs.pages.PagesObserver.part.Goals as goal
 pub returns : goal.returns
 returns c = λ s sound none. (
   refl,
-  paged-none c.one_split.ensures s c.args.bytes.now c.args.self.now.lines.now.items sound none,
+  refl,
+  paged-none c.one_split.ensures c.args.self.now.limit s c.args.bytes.now c.args.self.now.lines.now.items sound none,
   omega arith,
 )

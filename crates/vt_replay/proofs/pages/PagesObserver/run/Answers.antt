@@ -10,7 +10,8 @@ returns c = λ s sound same between.
     let few = c.keep.ensures.bounded in
     let bytes = c.args.bytes.now in (
       c.keep.ensures.same_reference,
-      paged-one c.one_split.ensures s bytes c.args.self.now.lines.now.items c.keep.new.self.lines.now.items
+      c.keep.ensures.same_limit,
+      paged-one c.one_split.ensures c.args.self.now.limit s bytes c.args.self.now.lines.now.items c.keep.new.self.lines.now.items
           (taken_off (Print (slice_index bytes 0)) s.display) sound c.requires.some
           (run-pages c.spelled.ensures s bytes between c.requires.graphic c.requires.some (rw same c.requires.fits.0))
           (rw same c.keep.ensures.lines) (omega (arith, few)),

@@ -1,0 +1,40 @@
+use Rattle.std.proofs.Common.{◌+◌, ◌∙◌, take, drop, refl, ap, arith, length-drop}
+use Rattle.std.proofs.Math.Seq.{take-add}
+use Rattle.vt_device.proofs.OutputSteps.{rest-of}
+use Rattle.vt_xterm.specs.Play.{WholePlayed}
+use Rattle.vt_replay.proofs.PagesFed.{xterm-first, xterm-both}
+use Rattle.vt_replay.proofs.main_pages.feed_main_pages.Goals as goal
+
+pub loop-at-init : goal.loop-at-init
+loop-at-init c = record {
+  within = omega arith;
+  some = λ zero. refl;
+  limit = c.main_room-limit.ensures;
+  size = refl;
+  other_size = refl;
+  paged = xterm-first _ _ _;
+  reports = omega arith;
+  capacity = omega arith;
+}
+
+pub loop-at-preserved : goal.loop-at-preserved
+loop-at-preserved c =
+    let at = c.loop-at.at in
+    let n = c.main_next-at.result in
+    let chunk = c.args.chunk.now in
+    let was = c.loop-at.invariant in
+    let made = c.main_next-at.ensures in
+    let rest = rest-of chunk at in
+    let inside = simp length-drop at (rw rest at made.within) in
+    record {
+      within = omega (arith, inside);
+      some = λ zero. absurd (omega (arith, zero, made.some));
+      limit = was.limit;
+      size = made.size ∙ was.size;
+      other_size = made.other_size ∙ was.other_size;
+      paged = rw (take-add at n chunk)
+          (xterm-both (λ w pending a b. ap (λ (p : WholePlayed). p.whole) (c.cuts.ensures.two w pending a b)) _ _ _ _ _ _
+          (take at chunk) (take n (drop at chunk)) _ _ _ was.paged (rw rest at made.paged));
+      reports = omega (arith, was.reports, made.reports);
+      capacity = omega (arith, was.capacity, made.capacity);
+    }

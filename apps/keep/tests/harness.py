@@ -63,6 +63,8 @@ def wait(condition, what):
 
 def keep(*words, **more):
     given = {"env": ENVIRONMENT, "capture_output": True, "text": True, "timeout": PATIENCE} | more
+    if given["text"]:
+        given["errors"] = "backslashreplace"  # a session's names may be any bytes, and so may what a false keeper replies
     return subprocess.run([KEEP, *words], **given)
 
 

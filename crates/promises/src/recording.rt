@@ -1,7 +1,9 @@
 //! The calls of vt_recording.
 pub mod asciicast;
+pub mod changes;
 pub mod content;
 pub mod detection;
+pub mod format;
 pub mod heading;
 pub mod laws;
 pub mod reached;

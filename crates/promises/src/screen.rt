@@ -1,4 +1,5 @@
 //! The calls of vt_screen.
+pub mod between;
 pub mod cell;
 pub mod laws;
 pub mod line;

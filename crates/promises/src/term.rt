@@ -1,4 +1,5 @@
 //! The calls of vt_term.
+pub mod between;
 pub mod copying;
 pub mod feeding;
 pub mod feeds;
@@ -8,6 +9,7 @@ pub mod laws;
 pub mod page;
 pub mod readers;
 pub mod reports;
+pub mod resizing;
 pub mod scrolling;
 pub mod sized;
 pub mod state;

@@ -4,3 +4,4 @@ pub mod feeding;
 pub mod feeds;
 pub mod front;
 pub mod laws;
+pub mod resizing;

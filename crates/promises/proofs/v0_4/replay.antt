@@ -7,6 +7,7 @@ pub mod Encoding
 pub mod Words
 pub mod Log
 pub mod Pages
+pub mod MainPage
 pub mod Host
 pub mod Request
 pub mod EventTable

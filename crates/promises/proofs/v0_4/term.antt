@@ -20,4 +20,5 @@ pub mod Text
 pub mod ScrollSteps
 pub mod Sound
 pub mod Pages
+pub mod Resizing
 pub mod Names

@@ -9,3 +9,4 @@ pub mod Scroll
 pub mod Log
 pub mod Limits
 pub mod Terminals
+pub mod Resizing

@@ -1,6 +1,7 @@
+pub mod Format
 pub mod Seconds
-pub mod Heading
 pub mod Script
+pub mod Heading
 pub mod Lines
 pub mod Asciicast
 pub mod Timeline
@@ -13,3 +14,4 @@ pub mod Characters
 pub mod Gathered
 pub mod Reading
 pub mod Detection
+pub mod Changes

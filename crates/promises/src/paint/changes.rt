@@ -1,6 +1,6 @@
 //! The calls of vt_paint/src/changes.
-ghost use Rattle.promises.specs.v0_4.paint.Spoken.{Speaks};
 ghost use Rattle.promises.specs.v0_4.paint.Changes.{differing};
+ghost use Rattle.promises.specs.v0_4.paint.Spoken.{Speaks};
 ghost use Rattle.promises.specs.v0_4.term.Sound.{IsSound};
 ghost use Rattle.std.specs.Prelude.{drop, vec_capacity, vec_len, ◌*◌, ◌+◌, ◌≡◌, ◌≤◌};
 ghost use Rattle.vt_paint.specs.Changes.{AreChanges, Changes};

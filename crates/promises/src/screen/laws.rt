@@ -1,5 +1,5 @@
 //! The calls of vt_screen/src/laws.
-ghost use Rattle.vt_screen.specs.Laws.{AreaLaws, PlaceLaws, RowLaws, RunLaws, TestLaws};
+ghost use Rattle.vt_screen.specs.Laws.{AreaLaws, PlaceLaws, RowLaws, RunLaws, SizeLaws, TestLaws};
 
 /// Promises what `vt_screen::laws::places` promises.
 pub fn places()
@@ -34,4 +34,11 @@ pub fn tests()
     ensures { TestLaws }
 {
     vt_screen::laws::tests()
+}
+
+/// Promises what `vt_screen::laws::sizes` promises.
+pub fn sizes()
+    ensures { SizeLaws }
+{
+    vt_screen::laws::sizes()
 }

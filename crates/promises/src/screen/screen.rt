@@ -1,7 +1,8 @@
 //! The calls of vt_screen/src/screen.
 ghost use Rattle.promises.specs.v0_4.glyph.Invocation.{glyph_in_use, HasGlyph};
-ghost use Rattle.promises.specs.v0_4.screen.Grid.{blank_grid, cell_at, delete_cells, erase, fill, insert_cells, put};
-ghost use Rattle.promises.specs.v0_4.screen.Grid.{put_inserting, put_run, row_of, scroll_down, scroll_up};
+ghost use Rattle.promises.specs.v0_4.screen.Grid.{blank_grid, cell_at, delete_cells, erase, fill, grid_on};
+ghost use Rattle.promises.specs.v0_4.screen.Grid.{insert_cells, put, put_inserting, put_run, row_of, scroll_down};
+ghost use Rattle.promises.specs.v0_4.screen.Grid.{scroll_up, width_on};
 ghost use Rattle.promises.specs.v0_4.screen.Sizes.{vt220_size};
 ghost use Rattle.std.specs.Prelude.{All, false, IfOk, IsTrue, length, map, ◌+◌, ◌↔◌, ◌≡◌, ◌≤◌};
 ghost use Rattle.vt_screen.specs.Grid.{IsGrid, IsSoundGrid};
@@ -40,6 +41,22 @@ pub fn screen_copy_from(screen: &mut Screen, other: &Screen)
     ensures { screen.new ≡ other.now }
 {
     screen.copy_from(other)
+}
+
+/// Promises what `screen.width_on` promises.
+pub fn screen_width_on(screen: &Screen, size: Size) -> usize
+    ensures { result ≡ width_on size screen.now }
+{
+    screen.width_on(size)
+}
+
+/// Promises what `screen.copy_on` promises.
+pub fn screen_copy_on(screen: &mut Screen, other: &Screen, off: usize)
+    requires { off ≤ other.now.size.rows }
+    ensures grid { screen.new ≡ grid_on screen.old.size off other.now }
+    ensures sound { IsSoundGrid screen.new }
+{
+    screen.copy_on(other, off)
 }
 
 /// Promises what `screen.width` promises.

@@ -1,19 +1,22 @@
 //! The calls of vt_term/src/laws.
 ghost use Rattle.promises.specs.v0_4.glyph.Invocation.{after_read, glyph_read};
 ghost use Rattle.promises.specs.v0_4.glyph.Tables.{substitute_glyph};
-ghost use Rattle.promises.specs.v0_4.screen.Grid.{scroll_up};
+ghost use Rattle.promises.specs.v0_4.screen.Grid.{cell_at, scroll_up};
 ghost use Rattle.promises.specs.v0_4.syntax.Held.{events_from};
 ghost use Rattle.promises.specs.v0_4.term.Functions.{effect};
 ghost use Rattle.promises.specs.v0_4.term.Happenings.{events_in, happenings, lines_in};
+ghost use Rattle.promises.specs.v0_4.term.Pages.{IsSoundSizedPage};
 ghost use Rattle.promises.specs.v0_4.term.Play.{both, joined, play, play_all};
+ghost use Rattle.promises.specs.v0_4.term.Resizing.{count_off, log_on, page_on, state_on};
 ghost use Rattle.promises.specs.v0_4.term.Scrolling.{is_at_end, is_line_feed, log, scrolled_off, scrolls_off};
-ghost use Rattle.promises.specs.v0_4.term.Sound.{IsSound};
+ghost use Rattle.promises.specs.v0_4.term.Sound.{IsSound, IsSoundSized};
 ghost use Rattle.promises.specs.v0_4.term.State.{at_place, power_up, state_of};
 ghost use Rattle.promises.specs.v0_4.term.Writing.{put_glyph, write_if_read};
-ghost use Rattle.std.specs.Prelude.{[], All, false, length, List, true, ℕ, ◌++◌, ◌==◌, ◌≡◌};
+ghost use Rattle.std.specs.Prelude.{[], All, false, length, List, true, ℕ, ◌++◌, ◌+◌, ◌==◌, ◌≡◌, ◌≤◌};
 ghost use Rattle.vt_screen.specs.Sizes.{IsSize};
 ghost use Rattle.vt_screen.specs.declared.size.Size.{Size};
 ghost use Rattle.vt_syntax.specs.declared.event.Event.TheVariants.{Control, Print};
+ghost use Rattle.vt_term.specs.Pages.{IsSoundPageAt, PageState};
 ghost use Rattle.vt_term.specs.Sound.{IsSoundAt};
 ghost use Rattle.vt_term.specs.State.{Display, State};
 
@@ -119,4 +122,22 @@ pub fn scrolls()
         }) }
 {
     vt_term::laws::scrolls()
+}
+
+/// Promises what `vt_term::laws::resizes` promises.
+pub fn resizes()
+    ensures own { (s : State) → IsSoundSized s → state_on s.display.grid.size s ≡ s }
+    ensures own_log { (s : State) → IsSoundSized s → log_on s.display.grid.size s ≡ [] }
+    ensures own_page { (page : PageState) → IsSoundSizedPage page → page_on page.grid.size 0 page ≡ page }
+    ensures inside { (size : Size) (s : State) (r c : ℕ) → 1 ≤ r → r ≤ size.rows
+        → r + count_off size s.display ≤ s.display.grid.size.rows → 1 ≤ c → c ≤ s.display.grid.width
+        → c ≤ (state_on size s).display.grid.width
+        → cell_at (state_on size s).display.grid r c ≡ cell_at s.display.grid (r + count_off size s.display) c }
+    ensures line { (size : Size) (s : State)
+        → (state_on size s).display.cursor.row + count_off size s.display ≡ s.display.cursor.row }
+    ensures sound { (size : Size) (s : State) → IsSize size → IsSoundSized s → IsSoundAt size (state_on size s) }
+    ensures sound_page { (size : Size) (off : ℕ) (page : PageState) → IsSize size → IsSoundSizedPage page
+        → IsSoundPageAt size (page_on size off page) }
+{
+    vt_term::laws::resizes()
 }

@@ -1,8 +1,9 @@
 //! The calls of vt_term/src/page.
 ghost use Rattle.promises.specs.v0_4.term.Pages.{blank_page, blanked, fitted, IsSoundSizedPage, page_at_power_up};
 ghost use Rattle.promises.specs.v0_4.term.Pages.{page_of, with_page};
+ghost use Rattle.promises.specs.v0_4.term.Resizing.{page_on};
 ghost use Rattle.promises.specs.v0_4.term.State.{display_of, state_of};
-ghost use Rattle.std.specs.Prelude.{IfOk, ◌≡◌};
+ghost use Rattle.std.specs.Prelude.{IfOk, ◌≡◌, ◌≤◌};
 ghost use Rattle.vt_screen.specs.Sizes.{IsSize};
 
 use std::alloc::{AllocError, Global};
@@ -37,6 +38,22 @@ pub fn sized_page_copy_from(sized_page: &mut SizedPage, other: &SizedPage)
     ensures { sized_page.new ≡ other.now }
 {
     sized_page.copy_from(other)
+}
+
+/// Promises what `sized_page.size` promises.
+pub fn sized_page_size(sized_page: &SizedPage) -> Size
+    ensures size { result ≡ sized_page.now.grid.size }
+    ensures sound { IsSize sized_page.now.grid.size }
+{
+    sized_page.size()
+}
+
+/// Promises what `sized_page.resize_into` promises.
+pub fn sized_page_resize_into(sized_page: &SizedPage, off: usize, target: &mut SizedPage)
+    requires { off ≤ sized_page.now.grid.size.rows }
+    ensures { target.new ≡ page_on target.old.grid.size off sized_page.now }
+{
+    sized_page.resize_into(off, target)
 }
 
 /// Promises what `sized_page.soundness` promises.

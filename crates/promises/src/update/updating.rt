@@ -1,7 +1,7 @@
 //! The calls of vt_update/src/updating.
-ghost use Rattle.promises.specs.v0_4.paint.Spoken.{Speaks};
 ghost use Rattle.promises.specs.v0_4.paint.Changes.{differing};
 ghost use Rattle.promises.specs.v0_4.paint.Repaint.{paint};
+ghost use Rattle.promises.specs.v0_4.paint.Spoken.{Speaks};
 ghost use Rattle.promises.specs.v0_4.update.Leads.{HasOtherColumns};
 ghost use Rattle.std.specs.Prelude.{drop, IsErrOf, OnErr, OnOk, vec_capacity, vec_len, ◌*◌, ◌++◌, ◌+◌, ◌<◌, ◌↔◌, ◌≡◌};
 ghost use Rattle.std.specs.Prelude.{◌≢◌, ◌≤◌, ◌⊎◌};

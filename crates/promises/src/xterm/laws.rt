@@ -1,10 +1,10 @@
 //! The calls of vt_xterm/src/laws.
 ghost use Rattle.promises.specs.v0_4.syntax.Reading.{events_of};
-ghost use Rattle.promises.specs.v0_4.term.Pages.{IsSoundPage, page_of, with_page};
+ghost use Rattle.promises.specs.v0_4.term.Pages.{IsSoundPage, IsSoundSizedPage, page_of, with_page};
 ghost use Rattle.promises.specs.v0_4.term.Play.{joined, play};
 ghost use Rattle.promises.specs.v0_4.term.Saving.{restore_cursor, save_cursor};
 ghost use Rattle.promises.specs.v0_4.term.Scrolling.{scrolled_off};
-ghost use Rattle.promises.specs.v0_4.term.Sound.{IsSound, IsSoundDisplay};
+ghost use Rattle.promises.specs.v0_4.term.Sound.{IsSound, IsSoundDisplay, IsSoundSized};
 ghost use Rattle.promises.specs.v0_4.term.State.{power_up};
 ghost use Rattle.promises.specs.v0_4.utf8.Decoding.{pending_after};
 ghost use Rattle.promises.specs.v0_4.xterm.Front.{into_alternate, is_page_function, is_paste_function};
@@ -12,10 +12,15 @@ ghost use Rattle.promises.specs.v0_4.xterm.Front.{through_alternate, xterm_effec
 ghost use Rattle.promises.specs.v0_4.xterm.Pages.{show_and_save};
 ghost use Rattle.promises.specs.v0_4.xterm.Play.{behind, both, front_at_power_up, nothing_played, play_bytes};
 ghost use Rattle.promises.specs.v0_4.xterm.Play.{play_xterm, play_xterm_all, xterm_log};
+ghost use Rattle.promises.specs.v0_4.xterm.Resizing.{whole_on, xterm_log_on};
 ghost use Rattle.promises.specs.v0_4.xterm.Terminals.{PlaysTerminals};
 ghost use Rattle.std.specs.List.{list_any};
 ghost use Rattle.std.specs.Prelude.{[], All, false, if◌then◌else◌, List, true, ℕ, ◌++◌, ◌<◌, ◌≡◌};
+ghost use Rattle.vt_screen.specs.Sizes.{IsSize};
+ghost use Rattle.vt_screen.specs.declared.size.Size.{Size};
 ghost use Rattle.vt_syntax.specs.declared.event.Event.{Event};
+ghost use Rattle.vt_term.specs.Pages.{IsSoundPageAt};
+ghost use Rattle.vt_term.specs.Sound.{IsSoundAt};
 ghost use Rattle.vt_term.specs.State.{Display};
 ghost use Rattle.vt_xterm.specs.Pages.{Screens};
 ghost use Rattle.vt_xterm.specs.Play.{IsSoundWhole, Whole};
@@ -102,4 +107,15 @@ pub fn comes_back()
         × ((play_bytes w (through_alternate bytes)).whole.state.display.cursor.col ≡ w.state.display.cursor.col) }
 {
     vt_xterm::laws::comes_back()
+}
+
+/// Promises what `vt_xterm::laws::resizes` promises.
+pub fn resizes()
+    ensures own { (w : Whole) → IsSoundSized w.state → IsSoundPageAt w.state.display.grid.size w.pages.other
+        → whole_on w.state.display.grid.size w ≡ w }
+    ensures own_log { (w : Whole) → IsSoundSized w.state → xterm_log_on w.state.display.grid.size w ≡ [] }
+    ensures sound { (size : Size) (w : Whole) → IsSize size → IsSoundSized w.state → IsSoundSizedPage w.pages.other
+        → IsSoundAt size (whole_on size w).state × IsSoundPageAt size (whole_on size w).pages.other }
+{
+    vt_xterm::laws::resizes()
 }

@@ -4,7 +4,6 @@ use Rattle.promises.specs.v0_4.cli.CommandLine as frozen
 use Rattle.std.proofs.Common.{refl, ◌≡◌}
 use Rattle.std.specs.Prelude.{List, Option, ℕ, ◌≡◌}
 use Rattle.vt_cli.specs.CommandLine as today
-use Rattle.vt_cli.specs.CommandLine.{HasNoSettings, is_plain, IsNumberOf, name_of, status_for}
 use Rattle.vt_cli.specs.declared.asked.Refused.{Refused}
 use Rattle.vt_cli.specs.declared.asked.Settings.{Settings}
 

@@ -15,9 +15,6 @@ has_moment-same = refl
 pub takes_start-same : frozen.takes_start ≡ today.takes_start
 takes_start-same = refl
 
-pub plays_xterm-same : frozen.plays_xterm ≡ today.plays_xterm
-plays_xterm-same = refl
-
 pub size_of-same : frozen.size_of ≡ today.size_of
 size_of-same = refl
 

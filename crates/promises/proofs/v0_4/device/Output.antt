@@ -3,7 +3,7 @@ use Rattle.promises.specs.v0_4.device.Output as frozen
 use Rattle.std.proofs.Common.{refl, ◌≡◌}
 use Rattle.std.specs.Prelude.{Bool, List, ℕ, ◌≡◌}
 use Rattle.vt_device.specs.Output as today
-use Rattle.vt_device.specs.Output.{IsCutAtEnd, Translation}
+use Rattle.vt_device.specs.Output.{Translation}
 
 pub all-same : frozen.all ≡ today.all
 all-same = refl

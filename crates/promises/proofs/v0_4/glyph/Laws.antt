@@ -6,7 +6,8 @@ use Rattle.promises.specs.v0_4.glyph.Laws as frozen
 use Rattle.std.proofs.Common.{◌≡◌}
 use Rattle.std.specs.Prelude.{IfSome, None, Some, ℕ, ◌≡◌, ◌≤◌}
 use Rattle.vt_glyph.specs.GraphicSets.{AreSoundSets, GraphicSets}
-use Rattle.vt_glyph.specs.Invocation.{HasGlyph, in_use, InUseTable}
+use Rattle.vt_glyph.specs.Invocation.{designated, HasGlyph, in_use, InUseTable, locked_left, locked_right, restored}
+use Rattle.vt_glyph.specs.Invocation.{shifted_once}
 use Rattle.vt_glyph.specs.Laws as today
 use Rattle.vt_glyph.specs.Spell.{AreSpellingSets, code_of, shifted_for}
 use Rattle.vt_glyph.specs.Tables.{space, substitute_glyph}

@@ -5,7 +5,6 @@ use Rattle.std.specs.Prelude.{List, Option, ℕ, ◌≡◌}
 use Rattle.std.specs.declared.alloc.Global.{Global}
 use Rattle.std.specs.declared.string.String.{String}
 use Rattle.vt_laws.specs.Plain as today
-use Rattle.vt_laws.specs.Plain.{IsOperand}
 
 pub IsOperand-same : frozen.IsOperand ≡ today.IsOperand
 IsOperand-same = refl

@@ -2,9 +2,9 @@
 use Rattle.promises.specs.v0_4.paint.Controls as frozen
 use Rattle.std.proofs.Common.{refl, ◌≡◌}
 use Rattle.std.specs.Prelude.{[], codes, ◌∷◌}
+use Rattle.vt_glyph.specs.Invocation.{set_at}
 use Rattle.vt_paint.specs.Controls as today
 use Rattle.vt_paint.specs.Controls.{designation, left_event, protection_to, rendition_to, right_event}
-use Rattle.vt_glyph.specs.Invocation.{set_at}
 
 pub sequence_of-same : frozen.sequence_of ≡ today.sequence_of
 sequence_of-same = refl

@@ -6,7 +6,7 @@ use Rattle.std.specs.List.{list_all, list_any}
 use Rattle.std.specs.Prelude.{[], Bool, bytes_eq, codes, decimal, List, map, nat_le, true, ℕ, ◌&&◌, ◌++◌, ◌||◌, ◌∷◌}
 use Rattle.std.specs.Prelude.{◌≡◌}
 use Rattle.vt_paint.specs.Spoken as today
-use Rattle.vt_paint.specs.Spoken.{are_attributes, are_numbers, Character, Control, Element, element_bytes, Escape}
+use Rattle.vt_paint.specs.Spoken.{are_attributes, are_numbers, Character, Control, Element, Escape}
 use Rattle.vt_paint.specs.Spoken.{is_among, is_designation, is_one_of, Sequence, spoken_controls, spoken_escapes}
 use Rattle.vt_term.specs.Modes.{ansi_modes}
 

@@ -85,10 +85,9 @@ in_line-same = λ ι line.
     nothing
 
 pub heading_of-at : (x0 : Format) (x1 : List ℕ) → frozen.heading_of x0 x1 ≡ today.heading_of x0 x1
-heading_of-at format.Raw bytes = λ ι. nothing
 heading_of-at format.Script bytes = λ ι. (in_line-same ι) (front_line bytes)
-heading_of-at format.Ttyrec bytes = λ ι. nothing
 heading_of-at format.Asciicast bytes = λ ι. in_document (header_in (json_text bytes))
+heading_of-at format bytes = λ ι. nothing
 
 pub heading_of-same : frozen.heading_of ≡ today.heading_of
 heading_of-same = λ ι x0 x1. heading_of-at x0 x1 ι

@@ -4,10 +4,10 @@ use Rattle.promises.proofs.v0_4.recording.Timeline.{IsTimelineOf-same}
 use Rattle.promises.specs.v0_4.recording.Reached as frozen
 use Rattle.std.proofs.Common.{refl, ◌≡◌}
 use Rattle.std.specs.Prelude.{[], Bool, cond, false, List, None, Option, Some, true, ℕ, ◌∷◌, ◌≡◌}
+use Rattle.vt_device.specs.declared.fault.Break.{Break}
 use Rattle.vt_recording.specs.Reached as today
 use Rattle.vt_recording.specs.Reached.{has_characters, is_reached, IsAmong, nothing_passed, with_event}
 use Rattle.vt_recording.specs.Timeline.{Event}
-use Rattle.vt_device.specs.declared.fault.Break.{Break}
 use Rattle.vt_recording.specs.declared.format.Encoding.{Encoding}
 use Rattle.vt_recording.specs.declared.format.Format.{Format}
 use Rattle.vt_recording.specs.declared.format.Moment.TheVariants as moment

@@ -3,7 +3,6 @@ use Rattle.promises.specs.v0_4.recording.Script as frozen
 use Rattle.std.proofs.Common.{refl, ◌≡◌}
 use Rattle.std.specs.Prelude.{List, ℕ, ◌≡◌}
 use Rattle.vt_recording.specs.Script as today
-use Rattle.vt_recording.specs.Script.{is_end}
 
 pub first_words-same : frozen.first_words ≡ today.first_words
 first_words-same = refl

@@ -3,12 +3,12 @@ use Rattle.promises.proofs.v0_4.recording.Asciicast.{asciicast-same}
 use Rattle.promises.specs.v0_4.recording.Taken as frozen
 use Rattle.std.proofs.Common.{refl, ◌≡◌}
 use Rattle.std.specs.Prelude.{List, None, Option, ℕ, ◌≡◌}
+use Rattle.vt_device.specs.declared.fault.Break.{Break}
 use Rattle.vt_recording.specs.Asciicast.{Cast}
 use Rattle.vt_recording.specs.Moment.{cut, micros_of}
 use Rattle.vt_recording.specs.Taken as today
-use Rattle.vt_recording.specs.Taken.{in_recording, IsOfBytes, IsOfCast, IsOfScriptBy}
+use Rattle.vt_recording.specs.Taken.{IsOfBytes, IsOfCast, IsOfScriptBy}
 use Rattle.vt_recording.specs.Ttyrec.{IsOfTtyrec}
-use Rattle.vt_device.specs.declared.fault.Break.{Break}
 use Rattle.vt_recording.specs.declared.format.Encoding.{Encoding}
 use Rattle.vt_recording.specs.declared.format.Format.TheVariants as format
 use Rattle.vt_recording.specs.declared.format.Format.{Format}

@@ -9,7 +9,7 @@ use Rattle.std.specs.Prelude.{[], Bool, false, length, List, None, Option, Some,
 use Rattle.vt_recording.specs.Asciicast as cast
 use Rattle.vt_recording.specs.Taken.{in_recording}
 use Rattle.vt_recording.specs.Timeline as today
-use Rattle.vt_recording.specs.Timeline.{and_then, AreFrames, at_once, ends_at, Event, frame, IsOfScriptBy, Timeline}
+use Rattle.vt_recording.specs.Timeline.{and_then, AreFrames, at_once, ends_at, frame, IsOfScriptBy, Timeline}
 use Rattle.vt_recording.specs.Timeline.{told_by, told_in, unless}
 use Rattle.vt_recording.specs.Timing as timing
 use Rattle.vt_recording.specs.Timing.{Spot}

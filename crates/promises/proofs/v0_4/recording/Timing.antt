@@ -4,11 +4,11 @@ use Rattle.promises.specs.v0_4.recording.Timing as frozen
 use Rattle.std.proofs.Common.{refl, ◌≡◌}
 use Rattle.std.specs.Option.{option_or}
 use Rattle.std.specs.Prelude.{[], Bool, codes, length, List, None, Option, take, ℕ, ◌+◌, ◌∷◌, ◌≡◌}
+use Rattle.vt_device.specs.declared.fault.Break.{Break}
 use Rattle.vt_recording.specs.Moment.{cut, micros_of}
 use Rattle.vt_recording.specs.Timing as today
 use Rattle.vt_recording.specs.Timing.{break_in, differ, is_empty, played_in, Spot, spot_after, start, step_in, unless}
 use Rattle.vt_recording.specs.Timing.{value_in}
-use Rattle.vt_device.specs.declared.fault.Break.{Break}
 use Rattle.vt_recording.specs.declared.format.Moment.{Moment}
 
 pub Step-same : frozen.Step ≡ today.Step

@@ -3,7 +3,7 @@ use Rattle.promises.specs.v0_4.recording.Ttyrec as frozen
 use Rattle.std.proofs.Common.{refl, ◌≡◌}
 use Rattle.std.specs.Prelude.{List, Option, ℕ, ◌≡◌}
 use Rattle.vt_recording.specs.Ttyrec as today
-use Rattle.vt_recording.specs.Ttyrec.{due, EndsBefore, IsWhole, Piece, size_of, spelled, time_of}
+use Rattle.vt_recording.specs.Ttyrec.{Piece}
 
 pub number_at-same : frozen.number_at ≡ today.number_at
 number_at-same = refl

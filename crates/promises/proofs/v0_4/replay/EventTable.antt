@@ -7,9 +7,9 @@ use Rattle.promises.specs.v0_4.replay.EventTable as frozen
 use Rattle.std.proofs.Common.{refl, ◌≡◌}
 use Rattle.std.specs.Prelude.{[], Bool, cond, decimal, false, length, List, None, not, Option, Some, true, ℕ, ◌&&◌}
 use Rattle.std.specs.Prelude.{◌++◌, ◌+◌, ◌∷◌, ◌≡◌}
+use Rattle.vt_device.specs.declared.fault.Break.{Break}
 use Rattle.vt_recording.specs.Reached.{has_characters, nothing_passed}
 use Rattle.vt_recording.specs.Timeline.{Event, is_output}
-use Rattle.vt_device.specs.declared.fault.Break.{Break}
 use Rattle.vt_recording.specs.declared.format.Encoding.TheVariants.{Utf8}
 use Rattle.vt_recording.specs.declared.format.Format.{Format}
 use Rattle.vt_recording.specs.declared.format.Moment.TheVariants as moment
@@ -114,9 +114,6 @@ IsTable-read format timed full from until timing bytes table_is broken ρ = reco
   lines = coe 1 0 (ι. table_is ≡ (heading_lines full ((heading_of-same ι) format bytes) ++ (table-same ι) timed full until ((first_in-same ι) format from ρ.timeline.events) ((last_in-same ι) format until ρ.timeline.events) 0 0 ρ.timeline.events) ++ break_line full ρ.timeline.broken) ρ.lines;
   breaks = ρ.breaks;
 }
-
-pub has_times-same : frozen.has_times ≡ today.has_times
-has_times-same = refl
 
 pub IsTableTaken-same : frozen.IsTableTaken ≡ today.IsTableTaken
 IsTableTaken-same = refl

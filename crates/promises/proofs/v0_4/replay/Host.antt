@@ -8,9 +8,6 @@ use Rattle.vt_replay.specs.Host.{host_for}
 pub terminal_for-same : frozen.terminal_for ≡ today.terminal_for
 terminal_for-same = refl
 
-pub encoding_of-same : frozen.encoding_of ≡ today.encoding_of
-encoding_of-same = refl
-
 pub encoding_for-same : frozen.encoding_for ≡ today.encoding_for
 encoding_for-same = refl
 

@@ -3,7 +3,7 @@ use Rattle.promises.proofs.v0_4.recording.Gathered.{events_of-same}
 use Rattle.promises.proofs.v0_4.replay.Log.{lines_at-same}
 use Rattle.promises.specs.v0_4.replay.LogSearch as frozen
 use Rattle.std.proofs.Common.{refl, ◌≡◌}
-use Rattle.std.specs.Prelude.{[], List, max, Option, ℕ, ◌++◌, ◌+◌, ◌∷◌}
+use Rattle.std.specs.Prelude.{[], List, max, Option, ℕ, ◌++◌, ◌∷◌}
 use Rattle.vt_recording.specs.Timeline.{Event}
 use Rattle.vt_replay.specs.LogSearch as today
 use Rattle.vt_replay.specs.LogSearch.{begun_then, column_in, found_by, log_line, number_then, scrolled_after}

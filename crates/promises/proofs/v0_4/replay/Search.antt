@@ -9,7 +9,7 @@ use Rattle.promises.proofs.v0_4.utf8.Similar.{shown-same}
 use Rattle.promises.specs.v0_4.replay.Search as frozen
 use Rattle.std.proofs.Common.{refl, ◌≡◌}
 use Rattle.std.specs.List.{range_with_len}
-use Rattle.std.specs.Prelude.{[], cond, encode_utf8_all, flat_map, if◌then◌else◌, nat_lt, None, ◌++◌, ◌+◌, ◌==◌, ◌∷◌}
+use Rattle.std.specs.Prelude.{[], cond, encode_utf8_all, flat_map, if◌then◌else◌, nat_lt, None, ◌++◌, ◌==◌, ◌∷◌}
 use Rattle.std.specs.Str.{chars}
 use Rattle.vt_replay.specs.Search as today
 use Rattle.vt_replay.specs.Search.{first_place, in_cells, is_utf8, line_end, spans}

@@ -1,13 +1,15 @@
 -- 0.4: vt_replay/specs/Words is today's.
 use Rattle.promises.proofs.v0_4.replay.Encoding.{decoded-same}
-use Rattle.promises.proofs.v0_4.replay.Log.{lines_at-same, screen-same, screen_at-same}
+use Rattle.promises.proofs.v0_4.replay.Log.{lines_at-same, screen_at-same}
+use Rattle.promises.proofs.v0_4.replay.MainPage.{xterm_pages-same}
 use Rattle.promises.proofs.v0_4.replay.Pages.{pages-same}
 use Rattle.promises.proofs.v0_4.replay.Playing.{replayed_at-same}
-use Rattle.promises.proofs.v0_4.term.State.{power_up-same, state_of-same}
+use Rattle.promises.proofs.v0_4.term.State.{state_of-same}
 use Rattle.promises.proofs.v0_4.trace.Summary.{summary_on-same}
 use Rattle.promises.proofs.v0_4.trace.Trace.{end_lines-same, trace-same, tracer_all-same}
 use Rattle.promises.proofs.v0_4.trace.Utf8.{summary_utf8_by-same, summary_utf8_on-same, trace_utf8-same}
 use Rattle.promises.proofs.v0_4.trace.Utf8.{tracer_utf8-same}
+use Rattle.promises.proofs.v0_4.utf8.Play.{translated-same}
 use Rattle.promises.proofs.v0_4.xterm.Play.{front_of-same}
 use Rattle.promises.proofs.v0_4.xterm_trace.Names.{xterm_listing-same}
 use Rattle.promises.proofs.v0_4.xterm_trace.Trace.{trace_xterm-same, tracer_xterm-same}
@@ -33,8 +35,13 @@ use Rattle.vt_screen.specs.declared.size.Size.{Size}
 use Rattle.vt_trace.specs.Trace.{tracer_at_start}
 use Rattle.vt_xterm.specs.Play.{behind}
 
-pub pages_written-same : frozen.pages_written ≡ today.pages_written
-pages_written-same = λ ι bytes. (pages-same ι) (power_up-same ι) bytes
+pub pages_at-at : (x0 : Size) (x1 : Language) (x2 : List ℕ) → frozen.pages_at x0 x1 x2 ≡ today.pages_at x0 x1 x2
+pages_at-at size language.Dec bytes = λ ι. (pages-same ι) ((state_of-same ι) size) bytes
+pages_at-at size language.Utf8 bytes = λ ι. (pages-same ι) ((state_of-same ι) size) ((translated-same ι) ((state_of-same ι) size) [] bytes)
+pages_at-at size language.Xterm bytes = λ ι. (xterm_pages-same ι) (behind ((state_of-same ι) size) ((front_of-same ι) size)) [] bytes
+
+pub pages_at-same : frozen.pages_at ≡ today.pages_at
+pages_at-same = λ ι x0 x1 x2. pages_at-at x0 x1 x2 ι
 
 pub trace_at-at : (x0 : Size) (x1 : Language) (x2 : List ℕ) → frozen.trace_at x0 x1 x2 ≡ today.trace_at x0 x1 x2
 trace_at-at size language.Dec bytes = λ ι. (trace-same ι) ((state_of-same ι) size) tracer_at_start bytes
@@ -73,7 +80,9 @@ due_of-at (Animation looks) size terminal encoding = λ ι. (of_decoded-same ι)
 due_of-at Log size terminal encoding = λ ι.
     let language = language_of terminal encoding in
     record { written = (lines_at-same ι) size language; ending = (screen_at-same ι) size language; there = always }
-due_of-at Pages size terminal encoding = λ ι. (of_decoded-same ι) encoding (pages_written-same ι) (screen-same ι)
+due_of-at Pages size terminal encoding = λ ι.
+    let language = language_of terminal encoding in
+    record { written = (pages_at-same ι) size language; ending = (screen_at-same ι) size language; there = always }
 due_of-at Trace size terminal encoding = λ ι.
     let language = language_of terminal encoding in
     record { written = (trace_at-same ι) size language; ending = (trace_end_at-same ι) size language; there = always }

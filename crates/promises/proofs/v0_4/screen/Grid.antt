@@ -7,7 +7,7 @@ use Rattle.std.specs.Prelude.{All, if◌then◌else◌, length, map, nat_le, nat
 use Rattle.std.specs.Prelude.{slice_index_or, ◌%◌, ◌&&◌, ◌*◌, ◌+◌, ◌-◌, ◌/◌, ◌==◌, ◌≡◌}
 use Rattle.vt_screen.specs.Cells.{blank, cell_like, erased}
 use Rattle.vt_screen.specs.Grid as today
-use Rattle.vt_screen.specs.Grid.{columns_of, Grid, is_within, IsGrid}
+use Rattle.vt_screen.specs.Grid.{columns_of, Grid, is_within, width_on}
 use Rattle.vt_screen.specs.Sizes.{width_of}
 
 pub last_row-same : frozen.last_row ≡ today.last_row
@@ -123,3 +123,10 @@ scroll_up-same = λ ι g top bottom n. (grid_of-same ι) g.size g.width (λ r c.
 pub scroll_down-same : frozen.scroll_down ≡ today.scroll_down
 scroll_down-same = λ ι g top bottom n. (grid_of-same ι) g.size g.width (λ r c.
     if is_within top bottom r then (if nat_le (top + n) r then (cell_at-same ι) g (r - n) c else blank) else (cell_at-same ι) g r c)
+
+pub width_on-same : frozen.width_on ≡ today.width_on
+width_on-same = refl
+
+pub grid_on-same : frozen.grid_on ≡ today.grid_on
+grid_on-same = λ ι size off g. (grid_of-same ι) size (width_on size g) (λ r c.
+    if nat_le (r + off) g.size.rows && nat_le c g.width then (cell_at-same ι) g (r + off) c else blank)

@@ -1,12 +1,12 @@
 -- 0.4: vt_screen/specs/Laws is today's.
 use Rattle.promises.proofs.v0_4.screen.Grid.{blank_grid-same, cell_at-same, erase_area-same, fill-same, grid_of-same}
-use Rattle.promises.proofs.v0_4.screen.Grid.{put-same, put_run-same, row_of-same}
+use Rattle.promises.proofs.v0_4.screen.Grid.{grid_on-same, put-same, put_run-same, row_of-same}
 use Rattle.promises.specs.v0_4.screen.Laws as frozen
 use Rattle.std.proofs.Common.{◌≡◌}
 use Rattle.std.specs.Prelude.{[], Bool, false, IsTrue, length, List, slice_index_or, true, ℕ, ◌*◌, ◌++◌, ◌+◌, ◌-◌}
 use Rattle.std.specs.Prelude.{◌||◌, ◌∷◌, ◌≡◌, ◌≤◌}
 use Rattle.vt_screen.specs.Cells.{blank, cell_like}
-use Rattle.vt_screen.specs.Grid.{AllCells, Grid, IsGrid}
+use Rattle.vt_screen.specs.Grid.{AllCells, Grid, IsGrid, IsSoundGrid}
 use Rattle.vt_screen.specs.Laws as today
 use Rattle.vt_screen.specs.Sizes.{IsSize}
 use Rattle.vt_screen.specs.declared.cell.Cell.{Cell}
@@ -86,4 +86,18 @@ pub TestLaws-read : today.TestLaws → frozen.TestLaws'
 TestLaws-read ρ = record {
   at = coe 1 0 (ι. (test : Cell → Bool) (g : Grid) (r c : ℕ) → IsTrue (test blank) → AllCells test g → IsTrue (test ((cell_at-same ι) g r c))) ρ.at;
   formula = coe 1 0 (ι. (test : Cell → Bool) (s : Size) (w : ℕ) (f : ℕ → ℕ → Cell) → ((r c : ℕ) → 1 ≤ r → r ≤ s.rows → 1 ≤ c → c ≤ w → IsTrue (test (f r c))) → AllCells test ((grid_of-same ι) s w f)) ρ.formula;
+}
+
+pub SizeLaws-made : frozen.SizeLaws' → today.SizeLaws
+SizeLaws-made ρ = record {
+  own = coe 0 1 (ι. (g : Grid) → IsGrid g → (grid_on-same ι) g.size 0 g ≡ g) ρ.own;
+  stays = coe 0 1 (ι. (s : Size) (off : ℕ) (g : Grid) (r c : ℕ) → 1 ≤ r → r ≤ s.rows → r + off ≤ g.size.rows → 1 ≤ c → c ≤ g.width → c ≤ ((grid_on-same ι) s off g).width → (cell_at-same ι) ((grid_on-same ι) s off g) r c ≡ (cell_at-same ι) g (r + off) c) ρ.stays;
+  sound = coe 0 1 (ι. (s : Size) (off : ℕ) (g : Grid) → IsSize s → IsSoundGrid g → IsSoundGrid ((grid_on-same ι) s off g)) ρ.sound;
+}
+
+pub SizeLaws-read : today.SizeLaws → frozen.SizeLaws'
+SizeLaws-read ρ = record {
+  own = coe 1 0 (ι. (g : Grid) → IsGrid g → (grid_on-same ι) g.size 0 g ≡ g) ρ.own;
+  stays = coe 1 0 (ι. (s : Size) (off : ℕ) (g : Grid) (r c : ℕ) → 1 ≤ r → r ≤ s.rows → r + off ≤ g.size.rows → 1 ≤ c → c ≤ g.width → c ≤ ((grid_on-same ι) s off g).width → (cell_at-same ι) ((grid_on-same ι) s off g) r c ≡ (cell_at-same ι) g (r + off) c) ρ.stays;
+  sound = coe 1 0 (ι. (s : Size) (off : ℕ) (g : Grid) → IsSize s → IsSoundGrid g → IsSoundGrid ((grid_on-same ι) s off g)) ρ.sound;
 }

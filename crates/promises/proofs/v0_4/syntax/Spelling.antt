@@ -4,7 +4,7 @@ use Rattle.promises.specs.v0_4.syntax.Spelling as frozen
 use Rattle.std.proofs.Common.{refl, ◌≡◌}
 use Rattle.std.specs.Prelude.{false, IfSome, List, Option, ℕ, ◌<◌, ◌≡◌, ◌≤◌, ◌⊎◌}
 use Rattle.vt_syntax.specs.Spelling as today
-use Rattle.vt_syntax.specs.Spelling.{AreValues, IsC0, IsEscapeFinal, IsGraphic, IsIntermediate, IsMarker, IsSequence}
+use Rattle.vt_syntax.specs.Spelling.{IsC0, IsEscapeFinal, IsGraphic, IsIntermediate, IsSequence}
 use Rattle.vt_syntax.specs.declared.event.Event.TheVariants.{Control, Escape, Print, Sequence}
 use Rattle.vt_syntax.specs.declared.event.Event.{Event}
 

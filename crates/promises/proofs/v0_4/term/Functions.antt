@@ -22,9 +22,9 @@ use Rattle.vt_syntax.specs.declared.event.Event.TheVariants.{Control, Escape, Pr
 use Rattle.vt_syntax.specs.declared.event.Event.{Event}
 use Rattle.vt_term.specs.Answers.{primary_reports, private_reports, secondary_reports, silent, status_reports}
 use Rattle.vt_term.specs.Functions as today
-use Rattle.vt_term.specs.Functions.{byte, changing, counted, designate_to, erasing, intermediate_tables, no_function}
-use Rattle.vt_term.specs.Functions.{numbers_of, of_any, of_first, of_margins, paired, plain, selected, set_name}
-use Rattle.vt_term.specs.Functions.{space_escapes, with_sets}
+use Rattle.vt_term.specs.Functions.{byte, changing, counted, designate_to, erasing, intermediate_tables}
+use Rattle.vt_term.specs.Functions.{no_function, numbers_of, of_any, of_first, of_margins, paired, plain, selected}
+use Rattle.vt_term.specs.Functions.{set_name, space_escapes, with_sets}
 use Rattle.vt_term.specs.Modes.{ansi_modes, keypad_mode}
 use Rattle.vt_term.specs.Moving.{backspace, carriage_return, cursor_backward, cursor_down, cursor_forward}
 use Rattle.vt_term.specs.Moving.{cursor_position, cursor_up, set_margins}

@@ -7,7 +7,7 @@ use Rattle.vt_screen.specs.Sizes.{vt220_size, width_of}
 use Rattle.vt_screen.specs.declared.size.Size.{Size}
 use Rattle.vt_term.specs.Pages as today
 use Rattle.vt_term.specs.Pages.{PageState}
-use Rattle.vt_term.specs.State.{saved_at_power_up}
+use Rattle.vt_term.specs.State.{saved_at_power_up, saved_sets}
 
 pub PageState-made : frozen.PageState' → today.PageState
 PageState-made ρ = record {

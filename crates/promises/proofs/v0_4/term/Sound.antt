@@ -4,8 +4,7 @@ use Rattle.std.proofs.Common.{refl, ◌≡◌}
 use Rattle.std.specs.Prelude.{Bool, ℕ, ◌≡◌}
 use Rattle.vt_screen.specs.declared.size.Size.{Size}
 use Rattle.vt_term.specs.Sound as today
-use Rattle.vt_term.specs.Sound.{AreSoundMargins, IsPlace, IsSoundDisplayAt}
-use Rattle.vt_term.specs.State.{Display, State}
+use Rattle.vt_term.specs.State.{Display, saved_sets, State}
 use Rattle.vt_term.specs.declared.state.Margins.{Margins}
 
 pub AreSoundMargins-made : (rows : ℕ) (m : Margins) → frozen.AreSoundMargins' rows m → today.AreSoundMargins rows m

@@ -8,7 +8,7 @@ use Rattle.vt_screen.specs.Cells.{plain_brush}
 use Rattle.vt_screen.specs.Sizes.{vt220_size}
 use Rattle.vt_syntax.specs.declared.held.Held.TheVariants.{Nothing}
 use Rattle.vt_term.specs.State as today
-use Rattle.vt_term.specs.State.{at_place, Display, is_stop_at_power_up, margins_of, modes_at_power_up}
+use Rattle.vt_term.specs.State.{at_place, is_stop_at_power_up, margins_of, modes_at_power_up}
 use Rattle.vt_term.specs.State.{saved_at_power_up, stops_where}
 
 pub Display-made : frozen.Display' → today.Display

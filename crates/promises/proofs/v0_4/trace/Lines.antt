@@ -4,8 +4,8 @@ use Rattle.promises.specs.v0_4.trace.Lines as frozen
 use Rattle.std.proofs.Common.{refl, ◌≡◌}
 use Rattle.std.specs.List.{flat_map}
 use Rattle.std.specs.Option.{option_to_list}
-use Rattle.std.specs.Prelude.{[], codes, if◌then◌else◌, List, None, not, Option, Some, ℕ, ◌%◌, ◌&&◌, ◌++◌, ◌+◌, ◌/◌}
-use Rattle.std.specs.Prelude.{◌==◌, ◌∷◌}
+use Rattle.std.specs.Prelude.{[], codes, if◌then◌else◌, List, None, not, Option, Some, ℕ, ◌%◌, ◌&&◌, ◌++◌, ◌/◌, ◌==◌}
+use Rattle.std.specs.Prelude.{◌∷◌}
 use Rattle.vt_screen.specs.Grid.{last_row}
 use Rattle.vt_syntax.specs.Class.{is_plain}
 use Rattle.vt_syntax.specs.declared.event.Event.TheVariants.{Control, Escape, Print, Sequence}

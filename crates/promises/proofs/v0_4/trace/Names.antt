@@ -4,7 +4,7 @@ use Rattle.promises.proofs.v0_4.term.Functions.{plain_sequences-same, private_se
 use Rattle.promises.proofs.v0_4.term.Names.{name_on-same}
 use Rattle.promises.specs.v0_4.trace.Names as frozen
 use Rattle.std.proofs.Common.{refl, ◌≡◌}
-use Rattle.std.specs.Prelude.{[], codes, get_or, take, ◌++◌, ◌+◌, ◌∷◌}
+use Rattle.std.specs.Prelude.{[], codes, get_or, take, ◌++◌, ◌∷◌}
 use Rattle.vt_term.specs.Functions.{exclamation_sequences, quote_sequences, space_escapes}
 use Rattle.vt_trace.specs.Names as today
 use Rattle.vt_trace.specs.Names.{designation_names, names_in}

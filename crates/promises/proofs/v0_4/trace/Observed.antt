@@ -2,7 +2,7 @@
 use Rattle.promises.proofs.v0_4.trace.Trace.{traced_at-same, tracer_at-same}
 use Rattle.promises.specs.v0_4.trace.Observed as frozen
 use Rattle.std.proofs.Common.{◌≡◌}
-use Rattle.std.specs.Prelude.{[], List, ◌++◌, ◌+◌, ◌∷◌}
+use Rattle.std.specs.Prelude.{[], List, ◌++◌, ◌∷◌}
 use Rattle.vt_term.specs.Happenings.{Happening}
 use Rattle.vt_trace.specs.Lines.{Names}
 use Rattle.vt_trace.specs.Observed as today

@@ -9,8 +9,8 @@ use Rattle.promises.proofs.v0_4.utf8.Decoding.{characters-same, pending_after-sa
 use Rattle.promises.proofs.v0_4.utf8.Translation.{translation-same}
 use Rattle.promises.specs.v0_4.trace.Utf8 as frozen
 use Rattle.std.proofs.Common.{refl, ◌≡◌}
-use Rattle.std.specs.Prelude.{[], false, if◌then◌else◌, length, List, map, nat_lt, None, Option, Some, ℕ, ◌++◌, ◌+◌}
-use Rattle.std.specs.Prelude.{◌==◌, ◌∷◌, ◌≡◌}
+use Rattle.std.specs.Prelude.{[], false, if◌then◌else◌, length, List, map, nat_lt, None, Option, Some, ℕ, ◌++◌, ◌==◌}
+use Rattle.std.specs.Prelude.{◌∷◌, ◌≡◌}
 use Rattle.vt_screen.specs.Grid.{last_row}
 use Rattle.vt_term.specs.Happenings.{Happening}
 use Rattle.vt_trace.specs.Lines.{Names}

@@ -10,7 +10,7 @@ use Rattle.std.specs.Prelude.{[], false, fold, if◌then◌else◌, true, unwrap
 use Rattle.vt_term.specs.Pages.{page_of, with_page}
 use Rattle.vt_term.specs.Saving.{restore_cursor, save_cursor}
 use Rattle.vt_xterm.specs.Pages as today
-use Rattle.vt_xterm.specs.Pages.{allow_column_mode, bracket_pastes, is_window_wide, on_display, PagesState}
+use Rattle.vt_xterm.specs.Pages.{allow_column_mode, bracket_pastes, is_window_wide, on_display}
 use Rattle.vt_xterm.specs.Pages.{save_or_restore}
 
 pub PagesState-made : frozen.PagesState' → today.PagesState

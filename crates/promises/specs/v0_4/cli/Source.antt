@@ -1,28 +1,22 @@
 -- 0.4: vt_cli/specs/Source.
 use Rattle.clap.specs.Words.{Text}
+use Rattle.promises.specs.v0_4.recording.Format as format
 use Rattle.std.specs.Prelude.{Bool, bytes_eq, codes, cond, false, is_some, nat_lt, None, not, Option, Some, true, ℕ}
 use Rattle.std.specs.Prelude.{◌&&◌, ◌||◌}
 use Rattle.vt_cli.specs.declared.what.Looks.{Looks}
-use Rattle.vt_recording.specs.declared.format.Format.TheVariants.{Asciicast, Raw, Script, Ttyrec}
 use Rattle.vt_recording.specs.declared.format.Format.{Format}
 use Rattle.vt_recording.specs.declared.format.Moment.TheVariants.{Bytes, Event, Marker, Micros}
 use Rattle.vt_recording.specs.declared.format.Moment.{Moment}
 use Rattle.vt_screen.specs.declared.size.Size.{Size}
 
--- a timing file goes with a recording of script(1) alone
+-- a timing file goes with the format
 abbrev pub takes_timing : Option Format → Bool
-takes_timing (Some Raw) = false
-takes_timing (Some Script) = true
-takes_timing (Some Ttyrec) = false
-takes_timing (Some Asciicast) = false
+takes_timing (Some f) = format.takes_timing f
 takes_timing None = false
 
--- the recording has times: that of script(1) in its timing file. Where its beginning decides, it may have some
+-- the recording has times. Where its beginning decides, it may have some
 abbrev pub has_times : Option Format → (timed : Bool) → Bool
-has_times (Some Raw) timed = false
-has_times (Some Script) timed = timed
-has_times (Some Ttyrec) timed = true
-has_times (Some Asciicast) timed = true
+has_times (Some f) timed = format.has_times f timed
 has_times None timed = true
 
 -- the recording has the moment
@@ -36,10 +30,6 @@ has_moment format timed (Marker n) = true
 abbrev pub takes_start : Text → Bool
 takes_start command = bytes_eq command (codes "events") || bytes_eq command (codes "content")
 
--- the command of this name plays xterm
-abbrev pub plays_xterm : Text → Bool
-plays_xterm command = not (bytes_eq command (codes "pages"))
-
 -- the size of so many rows of so many columns, if a screen may have it. Its narrow and its wide screen are of one width
 abbrev pub size_of : (columns rows : ℕ) → Option Size
 size_of columns rows =
@@ -49,7 +39,7 @@ size_of columns rows =
 -- the command of this name plays a VT220's screen alone, or none
 abbrev pub has_one_size : (command : Text) → Bool
 has_one_size command =
-    bytes_eq command (codes "pages") || (bytes_eq command (codes "events") || bytes_eq command (codes "content"))
+    bytes_eq command (codes "events") || bytes_eq command (codes "content")
 
 -- the command of this name writes a picture that may move
 abbrev pub may_move : Text → Bool

@@ -1,7 +1,6 @@
 -- 0.4: vt_device/specs/Fault.
 use Rattle.std.specs.Prelude.{Bool, codes, cond, false, List, nat_lt, ℕ, ◌&&◌}
-use Rattle.vt_device.specs.declared.fault.Fault.TheVariants.{Broken, Memory, NoTimes, Partial, Read, TooLong}
-use Rattle.vt_device.specs.declared.fault.Fault.TheVariants.{Write}
+use Rattle.vt_device.specs.declared.fault.Fault.TheVariants.{Broken, Memory, NoTimes, Partial, Read, TooLong, Write}
 use Rattle.vt_device.specs.declared.fault.Fault.{Fault}
 use Rattle.vt_device.specs.declared.fault.Part.TheVariants.{Recording, Timing}
 use Rattle.vt_device.specs.declared.fault.Part.{Part}

@@ -1,11 +1,10 @@
 -- 0.4: vt_device/specs/Output.
 use Rattle.std.specs.Prelude.{[], Bool, Err, false, length, List, Ok, Result, take, true, ℕ, ⊤, ◌++◌, ◌+◌, ◌≡◌, ◌≤◌}
 use Rattle.std.specs.Prelude.{◌⊎◌}
+use Rattle.vt_device.specs.Output.{IsCutAtEnd, IsCutBefore, IsStopped, IsStoppedAtEnd, IsWritten}
 use Rattle.vt_device.specs.Runs.{AreFlags, Flags}
 use Rattle.vt_device.specs.Writing.{IsProperBeginning}
-use Rattle.vt_device.specs.Output.{IsCutAtEnd, IsCutBefore, IsStopped, IsStoppedAtEnd, IsWritten}
-use Rattle.vt_device.specs.declared.fault.Fault.TheVariants.{Broken, Memory, NoTimes, Partial, Read, TooLong}
-use Rattle.vt_device.specs.declared.fault.Fault.TheVariants.{Write}
+use Rattle.vt_device.specs.declared.fault.Fault.TheVariants.{Broken, Memory, NoTimes, Partial, Read, TooLong, Write}
 use Rattle.vt_device.specs.declared.fault.Fault.{Fault}
 
 -- an output that writes all bytes that come, or at the end, and one that writes none

@@ -105,7 +105,6 @@ in_line line =
     nothing
 
 abbrev pub heading_of : Format → List ℕ → Heading
-heading_of format.Raw bytes = nothing
 heading_of format.Script bytes = in_line (front_line bytes)
-heading_of format.Ttyrec bytes = nothing
 heading_of format.Asciicast bytes = in_document (header_in (json_text bytes))
+heading_of format bytes = nothing

@@ -4,9 +4,9 @@ use Rattle.promises.specs.v0_4.recording.Timeline.{is_heard, is_output, IsTimeli
 use Rattle.std.specs.List.{filter, flat_map}
 use Rattle.std.specs.Prelude.{[], Bool, cond, drop, false, length, List, nat_le, nat_lt, None, not, Option, Some}
 use Rattle.std.specs.Prelude.{true, ℕ, ◌&&◌, ◌+◌, ◌∷◌, ◌≡◌}
+use Rattle.vt_device.specs.declared.fault.Break.{Break}
 use Rattle.vt_recording.specs.Reached.{IsAmong}
 use Rattle.vt_recording.specs.Timeline.{Event, Timeline}
-use Rattle.vt_device.specs.declared.fault.Break.{Break}
 use Rattle.vt_recording.specs.declared.format.Encoding.TheVariants.{Dec}
 use Rattle.vt_recording.specs.declared.format.Encoding.{Encoding}
 use Rattle.vt_recording.specs.declared.format.Format.TheVariants.{Asciicast}

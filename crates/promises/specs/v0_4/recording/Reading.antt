@@ -2,8 +2,7 @@
 use Rattle.std.specs.Prelude.{Bool, Err, false, length, List, Ok, Result, true, ℕ, ◌+◌, ◌≡◌, ◌≤◌}
 use Rattle.std.specs.declared.alloc.Global.{Global}
 use Rattle.std.specs.declared.vec.Vec.{Vec}
-use Rattle.vt_device.specs.declared.fault.Fault.TheVariants.{Broken, Memory, NoTimes, Partial, Read, TooLong}
-use Rattle.vt_device.specs.declared.fault.Fault.TheVariants.{Write}
+use Rattle.vt_device.specs.declared.fault.Fault.TheVariants.{Broken, Memory, NoTimes, Partial, Read, TooLong, Write}
 use Rattle.vt_device.specs.declared.fault.Fault.{Fault}
 
 -- what each result means, b being the bytes read

@@ -5,15 +5,15 @@ use Rattle.promises.specs.v0_4.recording.Moment.{cut, micros_of}
 use Rattle.promises.specs.v0_4.recording.Script.{first_line, IsOfScript}
 use Rattle.promises.specs.v0_4.recording.Timing.{IsTimedAfter}
 use Rattle.std.specs.Prelude.{List, None, Option, option_map, Some, ℕ, ◌≡◌}
+use Rattle.vt_device.specs.declared.fault.Break.{Break}
+use Rattle.vt_device.specs.declared.fault.Part.TheVariants as part
 use Rattle.vt_recording.specs.Asciicast.{Cast}
 use Rattle.vt_recording.specs.Taken.{IsOfBytes, IsOfCast}
 use Rattle.vt_recording.specs.Ttyrec.{IsOfTtyrec}
-use Rattle.vt_device.specs.declared.fault.Break.{Break}
 use Rattle.vt_recording.specs.declared.format.Encoding.{Encoding}
 use Rattle.vt_recording.specs.declared.format.Format.TheVariants as format
 use Rattle.vt_recording.specs.declared.format.Format.{Format}
 use Rattle.vt_recording.specs.declared.format.Moment.{Moment}
-use Rattle.vt_device.specs.declared.fault.Part.TheVariants as part
 
 -- the recording is broken at a byte
 abbrev pub in_recording : Option ℕ → Option Break

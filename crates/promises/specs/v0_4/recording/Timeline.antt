@@ -13,11 +13,11 @@ use Rattle.promises.specs.v0_4.recording.Ttyrec.{EndsBefore, spelled, time_of}
 use Rattle.std.specs.List.{All, filter, flat_map}
 use Rattle.std.specs.Prelude.{Some, take, true, ℕ, ◌&&◌, ◌++◌, ◌+◌, ◌-◌, ◌∷◌, ◌≡◌}
 use Rattle.std.specs.Prelude.{[], Bool, bytes_eq, chars, codes, cond, drop, false, length, List, map, None, Option}
+use Rattle.vt_device.specs.declared.fault.Break.{Break}
 use Rattle.vt_recording.specs.Script.{EndsAt}
 use Rattle.vt_recording.specs.Timeline.{AreFrames, Event, IsTimed, Timeline}
 use Rattle.vt_recording.specs.Timing.{Spot}
 use Rattle.vt_recording.specs.Ttyrec.{IsWhole, Piece}
-use Rattle.vt_device.specs.declared.fault.Break.{Break}
 use Rattle.vt_recording.specs.declared.format.Encoding.{Encoding}
 use Rattle.vt_recording.specs.declared.format.Format.TheVariants as format
 use Rattle.vt_recording.specs.declared.format.Format.{Format}

@@ -9,11 +9,11 @@ use Rattle.std.specs.Option.{option_or}
 use Rattle.std.specs.Prelude.{[], Bool, bytes_eq, codes, cond, drop, false, length, List, min, nat_eq, nat_le, None}
 use Rattle.std.specs.Prelude.{not, Option, option_and_then, option_map, Some, take, true, ℕ, ◌&&◌, ◌++◌, ◌+◌, ◌-◌}
 use Rattle.std.specs.Prelude.{◌^◌, ◌||◌, ◌∷◌, ◌≡◌}
+use Rattle.vt_device.specs.declared.fault.Break.{Break}
+use Rattle.vt_device.specs.declared.fault.Part.TheVariants as part
 use Rattle.vt_recording.specs.Script.{EndsAt}
 use Rattle.vt_recording.specs.Timing.{IsReplayed, Replay, Spot}
-use Rattle.vt_device.specs.declared.fault.Break.{Break}
 use Rattle.vt_recording.specs.declared.format.Moment.{Moment}
-use Rattle.vt_device.specs.declared.fault.Part.TheVariants as part
 
 -- the microseconds since the line before, whether it is output, and a number of bytes
 abbrev pub Step : Type 0

@@ -1,19 +1,19 @@
 -- 0.4: vt_replay/specs/EventTable.
+use Rattle.promises.specs.v0_4.recording.Format.{has_times}
 use Rattle.promises.specs.v0_4.recording.Heading.{heading_of}
 use Rattle.promises.specs.v0_4.recording.Reached.{has_characters, nothing_passed, passed}
 use Rattle.promises.specs.v0_4.recording.Timeline.{is_output, IsTimelineOf}
 use Rattle.promises.specs.v0_4.trace.Lines.{shown}
 use Rattle.std.specs.Prelude.{Option, Some, true, ℕ, ◌%◌, ◌&&◌, ◌++◌, ◌+◌, ◌/◌, ◌∷◌, ◌≡◌}
 use Rattle.std.specs.Prelude.{[], Bool, codes, cond, decimal, false, is_some, length, List, nat_le, nat_lt, None, not}
-use Rattle.vt_recording.specs.Timeline.{Event, Timeline}
 use Rattle.vt_device.specs.declared.fault.Break.{Break}
+use Rattle.vt_device.specs.declared.fault.Part.TheVariants.{Recording, Timing}
+use Rattle.vt_device.specs.declared.fault.Part.{Part}
+use Rattle.vt_recording.specs.Timeline.{Event, Timeline}
 use Rattle.vt_recording.specs.declared.format.Encoding.TheVariants.{Utf8}
-use Rattle.vt_recording.specs.declared.format.Format.TheVariants as format
 use Rattle.vt_recording.specs.declared.format.Format.{Format}
 use Rattle.vt_recording.specs.declared.format.Moment.TheVariants as moment
 use Rattle.vt_recording.specs.declared.format.Moment.{Moment}
-use Rattle.vt_device.specs.declared.fault.Part.TheVariants.{Recording, Timing}
-use Rattle.vt_device.specs.declared.fault.Part.{Part}
 use Rattle.vt_recording.specs.declared.format.TerminalType.TheVariants.{Vt220, Xterm}
 use Rattle.vt_recording.specs.declared.format.TerminalType.{TerminalType}
 use Rattle.vt_recording.specs.declared.heading.Heading.{Heading}
@@ -132,13 +132,6 @@ pub record IsTable' (format : Format) (timed full : Bool) (from until : Option M
       ++ table timed full until (first_in format from timeline.events) (last_in format until timeline.events) 0 0 timeline.events)
       ++ break_line full timeline.broken
   pub breaks : broken ≡ timeline.broken
-
--- the format has times, with a timing file or without
-abbrev pub has_times : Format → (timed : Bool) → Bool
-has_times format.Raw timed = false
-has_times format.Script timed = timed
-has_times format.Ttyrec timed = true
-has_times format.Asciicast timed = true
 
 abbrev pub IsTableTaken : Format → (full : Bool) → (from until : Option Moment) → (timing : Option (List ℕ)) → (bytes content : List ℕ)
     → (broken : Option Break) → (replaced : ℕ) → Type 0

@@ -1,5 +1,6 @@
 -- 0.4: vt_replay/specs/Host.
 use Rattle.promises.specs.v0_4.cli.Source.{size_of}
+use Rattle.promises.specs.v0_4.recording.Format.{usual_encoding}
 use Rattle.promises.specs.v0_4.recording.Heading.{heading_of}
 use Rattle.promises.specs.v0_4.screen.Sizes.{vt220_size}
 use Rattle.std.specs.Prelude.{[], Bool, codes, cond, false, List, nat_eq, None, Option, Some, true, unwrap_or, ℕ}
@@ -25,16 +26,9 @@ terminal_for None (Some Dec) named = Vt220
 terminal_for None (Some Utf8) named = unwrap_or named Vt220
 terminal_for None None named = unwrap_or named Vt220
 
--- a VT220's host: in the encoding that was asked for, otherwise in dec, and in a recording by asciinema in UTF-8
-abbrev pub encoding_of : Option Encoding → Format → Encoding
-encoding_of wanted format.Raw = unwrap_or wanted Dec
-encoding_of wanted format.Script = unwrap_or wanted Dec
-encoding_of wanted format.Ttyrec = unwrap_or wanted Dec
-encoding_of wanted format.Asciicast = unwrap_or wanted Utf8
-
--- an xterm's host sends UTF-8
+-- a VT220's host sends in the encoding that was asked for, otherwise in the usual one of the format. An xterm's host sends UTF-8
 abbrev pub encoding_for : TerminalType → (wanted : Option Encoding) → Format → Encoding
-encoding_for Vt220 wanted format = encoding_of wanted format
+encoding_for Vt220 wanted format = unwrap_or wanted (usual_encoding format)
 encoding_for Xterm wanted format = Utf8
 
 -- the width that was asked for, otherwise the one that the recording names. Any other width than 132 columns is 80
@@ -60,6 +54,7 @@ abbrev pub takes_size : Word → Bool
 takes_size (Replay what) = true
 takes_size (Animation looks) = true
 takes_size Log = true
+takes_size Pages = true
 takes_size Trace = true
 takes_size Summary = true
 takes_size Search = true

@@ -1,5 +1,6 @@
 -- 0.4: vt_replay/specs/Request.
 use Rattle.promises.specs.v0_4.recording.Detection.{detected}
+use Rattle.promises.specs.v0_4.recording.Format.{has_times}
 use Rattle.promises.specs.v0_4.recording.Reading.{ReadTable}
 use Rattle.promises.specs.v0_4.replay.Animated.{IsAnimation, title_of}
 use Rattle.promises.specs.v0_4.replay.EventTable.{IsTableTaken}
@@ -23,7 +24,7 @@ use Rattle.vt_recording.specs.declared.detection.Detected.TheVariants.{Compresse
 use Rattle.vt_recording.specs.declared.detection.Detected.{Detected}
 use Rattle.vt_recording.specs.declared.format.Format.TheVariants as format
 use Rattle.vt_recording.specs.declared.format.Format.{Format}
-use Rattle.vt_recording.specs.declared.format.Moment.TheVariants.{Bytes, Event, Marker, Micros}
+use Rattle.vt_recording.specs.declared.format.Moment.TheVariants.{Micros}
 use Rattle.vt_recording.specs.declared.format.Moment.{Moment}
 use Rattle.vt_replay.specs.Request.{IsPlayed, IsPrepared, IsStreamed, IsTakenApart, IsUnread}
 use Rattle.vt_replay.specs.declared.host.Host.{Host}
@@ -38,10 +39,7 @@ asks_wide None = false
 -- needs the whole of them
 abbrev pub is_streamed : Format → Option Moment → (wide : Option Bool) → (whole : Bool) → Bool
 is_streamed format.Raw None wide whole = not (asks_wide wide) && not whole
-is_streamed format.Raw (Some m) wide whole = false
-is_streamed format.Script until wide whole = false
-is_streamed format.Ttyrec until wide whole = false
-is_streamed format.Asciicast until wide whole = false
+is_streamed format until wide whole = false
 
 -- the word writes what is made of a whole recording: the table of its events, a picture that moves, or the spans of a search
 abbrev pub takes_whole : Word → Bool
@@ -147,11 +145,5 @@ format_of None beginning = shown_format (detected beginning)
 
 -- the moment is a time, and the recording has no times
 abbrev pub lacks_times : Format → (timed : Bool) → Option Moment → Bool
-lacks_times format.Raw timed (Some (Micros n)) = true
-lacks_times format.Script timed (Some (Micros n)) = not timed
-lacks_times format.Ttyrec timed (Some (Micros n)) = false
-lacks_times format.Asciicast timed (Some (Micros n)) = false
-lacks_times format timed (Some (Bytes n)) = false
-lacks_times format timed (Some (Event n)) = false
-lacks_times format timed (Some (Marker n)) = false
-lacks_times format timed None = false
+lacks_times format timed (Some (Micros n)) = not (has_times format timed)
+lacks_times format timed until = false

@@ -12,8 +12,8 @@ use Rattle.promises.specs.v0_4.utf8.Cells.{cells}
 use Rattle.promises.specs.v0_4.utf8.Similar.{shown}
 use Rattle.std.specs.List.{range_with_len}
 use Rattle.std.specs.Prelude.{[], Bool, codes, cond, encode_utf8_all, false, flat_map, if◌then◌else◌, length, List}
-use Rattle.std.specs.Prelude.{nat_lt, None, not, Option, slice_index_or, Some, string_bytes, true, ℕ, ◌++◌, ◌+◌, ◌-◌}
-use Rattle.std.specs.Prelude.{◌==◌, ◌∷◌}
+use Rattle.std.specs.Prelude.{nat_lt, None, not, Option, slice_index_or, Some, string_bytes, true, ℕ, ◌++◌, ◌-◌, ◌==◌}
+use Rattle.std.specs.Prelude.{◌∷◌}
 use Rattle.std.specs.Str.{chars}
 use Rattle.std.specs.declared.alloc.Global.{Global}
 use Rattle.std.specs.declared.string.String.{String}

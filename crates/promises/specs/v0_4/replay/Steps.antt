@@ -3,9 +3,9 @@ use Rattle.promises.specs.v0_4.recording.Moment.{micros_of}
 use Rattle.promises.specs.v0_4.recording.Reached.{has_characters, steps_in}
 use Rattle.promises.specs.v0_4.recording.Timeline.{IsTimelineOf}
 use Rattle.std.specs.Prelude.{List, None, Option, ℕ, ◌≡◌}
+use Rattle.vt_device.specs.declared.fault.Break.{Break}
 use Rattle.vt_recording.specs.Reached.{IsTakenBetween}
 use Rattle.vt_recording.specs.Timeline.{Timeline}
-use Rattle.vt_device.specs.declared.fault.Break.{Break}
 use Rattle.vt_recording.specs.declared.format.Encoding.{Encoding}
 use Rattle.vt_recording.specs.declared.format.Format.{Format}
 use Rattle.vt_recording.specs.declared.format.Moment.{Moment}

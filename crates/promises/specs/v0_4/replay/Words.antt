@@ -1,14 +1,16 @@
 -- 0.4: vt_replay/specs/Words.
 use Rattle.promises.specs.v0_4.device.Output.{all, always, nothing, OutputTable}
 use Rattle.promises.specs.v0_4.replay.Encoding.{decoded}
-use Rattle.promises.specs.v0_4.replay.Log.{lines_at, screen, screen_at}
+use Rattle.promises.specs.v0_4.replay.Log.{lines_at, screen_at}
+use Rattle.promises.specs.v0_4.replay.MainPage.{xterm_pages}
 use Rattle.promises.specs.v0_4.replay.Pages.{pages}
 use Rattle.promises.specs.v0_4.replay.Playing.{language_of, replayed_at}
 use Rattle.promises.specs.v0_4.replay.Showing.{ShownTable}
-use Rattle.promises.specs.v0_4.term.State.{power_up, state_of}
+use Rattle.promises.specs.v0_4.term.State.{state_of}
 use Rattle.promises.specs.v0_4.trace.Summary.{summary_on}
 use Rattle.promises.specs.v0_4.trace.Trace.{end_lines, trace, tracer_all, tracer_at_start}
 use Rattle.promises.specs.v0_4.trace.Utf8.{summary_utf8_by, summary_utf8_on, trace_utf8, tracer_utf8}
+use Rattle.promises.specs.v0_4.utf8.Play.{translated}
 use Rattle.promises.specs.v0_4.xterm.Play.{behind, front_of}
 use Rattle.promises.specs.v0_4.xterm_trace.Names.{xterm_listing}
 use Rattle.promises.specs.v0_4.xterm_trace.Trace.{trace_xterm, tracer_xterm}
@@ -27,8 +29,11 @@ use Rattle.vt_replay.specs.declared.language.Language.TheVariants as language
 use Rattle.vt_replay.specs.declared.language.Language.{Language}
 use Rattle.vt_screen.specs.declared.size.Size.{Size}
 
-abbrev pub pages_written : List ℕ → List ℕ
-pages_written bytes = pages power_up bytes
+-- on a screen of a size, of the host's bytes in each language
+abbrev pub pages_at : Size → Language → List ℕ → List ℕ
+pages_at size language.Dec bytes = pages (state_of size) bytes
+pages_at size language.Utf8 bytes = pages (state_of size) (translated (state_of size) [] bytes)
+pages_at size language.Xterm bytes = xterm_pages (behind (state_of size) (front_of size)) [] bytes
 
 -- on a screen of a size, of the host's bytes in each language: the events have the host's own characters and places
 abbrev pub trace_at : Size → Language → List ℕ → List ℕ
@@ -56,14 +61,16 @@ of_decoded encoding written ending = record {
   there = always;
 }
 
--- a row a word, for a terminal of a size and in an encoding. A picture that moves, the table of events and the spans of a search are ready before they are written. A replay, a log, a trace and a summary play xterm; what content writes then is below
+-- a row a word, for a terminal of a size and in an encoding. A picture that moves, the table of events and the spans of a search are ready before they are written. What content writes under TERM=xterm is below
 abbrev pub due_of : Word → Size → TerminalType → Encoding → Due
 due_of (Replay what) size terminal encoding = replayed_at size (language_of terminal encoding) what
 due_of (Animation looks) size terminal encoding = of_decoded Dec all nothing
 due_of Log size terminal encoding =
     let language = language_of terminal encoding in
     record { written = lines_at size language; ending = screen_at size language; there = always }
-due_of Pages size terminal encoding = of_decoded encoding pages_written screen
+due_of Pages size terminal encoding =
+    let language = language_of terminal encoding in
+    record { written = pages_at size language; ending = screen_at size language; there = always }
 due_of Trace size terminal encoding =
     let language = language_of terminal encoding in
     record { written = trace_at size language; ending = trace_end_at size language; there = always }

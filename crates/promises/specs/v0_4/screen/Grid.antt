@@ -118,3 +118,13 @@ scroll_up g top bottom n = grid_of g.size g.width (λ r c.
 abbrev pub scroll_down : Grid → ℕ → ℕ → ℕ → Grid
 scroll_down g top bottom n = grid_of g.size g.width (λ r c.
     if is_within top bottom r then (if nat_le (top + n) r then cell_at g (r - n) c else blank) else cell_at g r c)
+
+-- the width of a grid on a screen of another size: that of the wide form, if it had this one
+abbrev pub width_on : Size → Grid → ℕ
+width_on size g = width_of size (g.width == g.size.wide)
+
+-- a grid on a screen of another size, after its first rows have left at the top: the rows and columns that both have stay, from the
+-- top left, and the others are blank (xterm; the two widths are this profile's)
+abbrev pub grid_on : Size → ℕ → Grid → Grid
+grid_on size off g = grid_of size (width_on size g) (λ r c.
+    if nat_le (r + off) g.size.rows && nat_le c g.width then cell_at g (r + off) c else blank)

@@ -1,10 +1,10 @@
 -- 0.4: vt_screen/specs/Laws.
 use Rattle.promises.specs.v0_4.screen.Cells.{blank, cell_like}
-use Rattle.promises.specs.v0_4.screen.Grid.{AllCells, blank_grid, cell_at, erase_area, fill, grid_of, put, put_run}
-use Rattle.promises.specs.v0_4.screen.Grid.{row_of}
+use Rattle.promises.specs.v0_4.screen.Grid.{AllCells, blank_grid, cell_at, erase_area, fill, grid_of, grid_on, put}
+use Rattle.promises.specs.v0_4.screen.Grid.{put_run, row_of}
 use Rattle.std.specs.Prelude.{[], Bool, false, IsTrue, length, List, slice_index_or, true, ℕ, ◌*◌, ◌++◌, ◌+◌, ◌-◌}
 use Rattle.std.specs.Prelude.{◌||◌, ◌∷◌, ◌≡◌, ◌≤◌}
-use Rattle.vt_screen.specs.Grid.{Grid, IsGrid}
+use Rattle.vt_screen.specs.Grid.{Grid, IsGrid, IsSoundGrid}
 use Rattle.vt_screen.specs.Sizes.{IsSize}
 use Rattle.vt_screen.specs.declared.cell.Cell.{Cell}
 use Rattle.vt_screen.specs.declared.size.Size.{Size}
@@ -59,3 +59,10 @@ pub record TestLaws' : Type 0 where
       → IsTrue (test (cell_at g r c))
   pub formula : (test : Cell → Bool) (s : Size) (w : ℕ) (f : ℕ → ℕ → Cell)
       → ((r c : ℕ) → 1 ≤ r → r ≤ s.rows → 1 ≤ c → c ≤ w → IsTrue (test (f r c))) → AllCells test (grid_of s w f)
+
+-- a grid on its own size is the same one if no row leaves; what is inside both sizes stays; a sound grid is sound on any size
+pub record SizeLaws' : Type 0 where
+  pub own : (g : Grid) → IsGrid g → grid_on g.size 0 g ≡ g
+  pub stays : (s : Size) (off : ℕ) (g : Grid) (r c : ℕ) → 1 ≤ r → r ≤ s.rows → r + off ≤ g.size.rows
+      → 1 ≤ c → c ≤ g.width → c ≤ (grid_on s off g).width → cell_at (grid_on s off g) r c ≡ cell_at g (r + off) c
+  pub sound : (s : Size) (off : ℕ) (g : Grid) → IsSize s → IsSoundGrid g → IsSoundGrid (grid_on s off g)

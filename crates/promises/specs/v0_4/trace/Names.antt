@@ -5,7 +5,7 @@ use Rattle.promises.specs.v0_4.term.Functions.{plain_escapes, plain_sequences, p
 use Rattle.promises.specs.v0_4.term.Functions.{set_name, space_escapes}
 use Rattle.promises.specs.v0_4.term.Names.{name_on}
 use Rattle.promises.specs.v0_4.trace.Lines.{Names}
-use Rattle.std.specs.Prelude.{[], codes, get_or, List, map, take, ℕ, ◌++◌, ◌+◌, ◌∷◌}
+use Rattle.std.specs.Prelude.{[], codes, get_or, List, map, take, ℕ, ◌++◌, ◌∷◌}
 use Rattle.vt_trace.specs.Names.{Listing}
 
 abbrev pub names_in : FunctionTable → List (List ℕ)

@@ -1,7 +1,7 @@
 -- 0.4: vt_trace/specs/Observed.
 use Rattle.promises.specs.v0_4.trace.Lines.{Names}
 use Rattle.promises.specs.v0_4.trace.Trace.{traced_at, tracer_at}
-use Rattle.std.specs.Prelude.{[], List, ℕ, ◌++◌, ◌+◌, ◌∷◌}
+use Rattle.std.specs.Prelude.{[], List, ℕ, ◌++◌, ◌∷◌}
 use Rattle.vt_term.specs.Happenings.{Happening}
 use Rattle.vt_trace.specs.declared.tracing.Tracer.{Tracer}
 

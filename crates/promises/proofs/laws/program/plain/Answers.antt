@@ -11,9 +11,9 @@ use Rattle.std.specs.declared.alloc.Global.{Global}
 use Rattle.std.specs.declared.string.String.{String}
 use Rattle.vt_cli.specs.Request.{IsRequest}
 use Rattle.vt_cli.specs.declared.asked.Request.{Request}
+use Rattle.vt_device.specs.Output.{always, nothing, OutputTable}
 use Rattle.vt_device.specs.Runs.{Flags}
 use Rattle.vt_laws.specs.Plain.{IsPlainCommand}
-use Rattle.vt_device.specs.Output.{always, nothing, OutputTable}
 use Rattle.vt_replay.specs.Due.{is_nothing}
 use Rattle.vt_replay.specs.Request.{OutcomeTable}
 use Rattle.vt_replay.specs.declared.requests.Outcome.{Outcome}

@@ -1,6 +1,6 @@
 use Rattle.promises.proofs.paint.views.repaint_items_reserved.Goals as goal
 use Rattle.promises.proofs.v0_4.paint.Repaint.{made_events-same}
-use Rattle.std.specs.Prelude.{◌++◌, ◌+◌, ◌-◌, ◌≡◌}
+use Rattle.std.specs.Prelude.{◌++◌, ◌≡◌}
 use Rattle.vt_syntax.specs.Spelling.{spell_events}
 
 pub returns-clause-items : goal.returns-clause-items

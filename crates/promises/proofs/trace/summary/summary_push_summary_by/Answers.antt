@@ -1,6 +1,6 @@
 use Rattle.promises.proofs.trace.summary.summary_push_summary_by.Goals as goal
 use Rattle.promises.proofs.v0_4.trace.Summary.{summary_by-same}
-use Rattle.std.specs.Prelude.{List, ℕ, ◌++◌, ◌+◌, ◌≡◌}
+use Rattle.std.specs.Prelude.{List, ℕ, ◌++◌, ◌≡◌}
 use Rattle.vt_trace.specs.Counted.{HasCountedBy}
 
 pub returns-clause-items : goal.returns-clause-items

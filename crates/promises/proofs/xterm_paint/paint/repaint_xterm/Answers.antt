@@ -2,8 +2,8 @@ use Rattle.promises.proofs.v0_4.xterm_paint.Repaint.{IsRebuiltAt-same, showing_o
 use Rattle.promises.proofs.v0_4.xterm_paint.Repaint.{xterm_repaint-same}
 use Rattle.promises.proofs.xterm_paint.paint.repaint_xterm.Goals as goal
 use Rattle.std.specs.Prelude.{IsErrOf, OnOk, vec_capacity, vec_len, ◌++◌, ◌+◌, ◌<◌, ◌≡◌, ◌≤◌}
-use Rattle.vt_xterm.specs.Play.{behind}
 use Rattle.vt_paint.specs.declared.paint.PaintError.TheVariants as PaintError
+use Rattle.vt_xterm.specs.Play.{behind}
 
 pub returns-clause-items : goal.returns-clause-items
 returns-clause-items c = coe 1 0 (ι. OnOk c.repaint_xterm.result (c.repaint_xterm.new.out.items ≡ c.args.out.now.items ++ (xterm_repaint-same ι) (behind c.args.t.now c.args.front.now))) c.repaint_xterm.ensures.items

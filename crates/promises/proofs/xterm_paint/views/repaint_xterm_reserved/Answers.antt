@@ -1,6 +1,6 @@
 use Rattle.promises.proofs.v0_4.xterm_paint.Repaint.{IsRebuilt-same, showing_other-same, xterm_repaint-same}
 use Rattle.promises.proofs.xterm_paint.views.repaint_xterm_reserved.Goals as goal
-use Rattle.std.specs.Prelude.{◌++◌, ◌+◌, ◌≡◌}
+use Rattle.std.specs.Prelude.{◌++◌, ◌≡◌}
 use Rattle.vt_xterm.specs.Play.{behind}
 
 pub returns-clause-items : goal.returns-clause-items

@@ -2,7 +2,7 @@ use Rattle.promises.proofs.v0_4.utf8.Decoding.{pending_after-same}
 use Rattle.promises.proofs.v0_4.xterm.Play.{play_xterm-same}
 use Rattle.promises.proofs.v0_4.xterm_trace.Trace.{trace_xterm-same, tracer_xterm-same}
 use Rattle.promises.proofs.xterm_trace.feeds.trace_xterm_reserved.Goals as goal
-use Rattle.std.specs.Prelude.{take, ◌++◌, ◌+◌, ◌≡◌}
+use Rattle.std.specs.Prelude.{take, ◌++◌, ◌≡◌}
 use Rattle.vt_xterm.specs.Play.{behind}
 
 pub returns-clause-state : goal.returns-clause-state

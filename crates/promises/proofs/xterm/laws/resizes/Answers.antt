@@ -1,0 +1,17 @@
+use Rattle.promises.proofs.v0_4.xterm.Resizing.{whole_on-same, xterm_log_on-same}
+use Rattle.promises.proofs.xterm.laws.resizes.Goals as goal
+use Rattle.std.specs.Prelude.{[], ◌≡◌}
+use Rattle.vt_screen.specs.Sizes.{IsSize}
+use Rattle.vt_screen.specs.declared.size.Size.{Size}
+use Rattle.vt_term.specs.Pages.{IsSoundPageAt, IsSoundSizedPage}
+use Rattle.vt_term.specs.Sound.{IsSoundAt, IsSoundSized}
+use Rattle.vt_xterm.specs.Play.{Whole}
+
+pub returns-clause-own : goal.returns-clause-own
+returns-clause-own c = coe 1 0 (ι. (w : Whole) → IsSoundSized w.state → IsSoundPageAt w.state.display.grid.size w.pages.other → (whole_on-same ι) w.state.display.grid.size w ≡ w) c.resizes.ensures.own
+
+pub returns-clause-own_log : goal.returns-clause-own_log
+returns-clause-own_log c = coe 1 0 (ι. (w : Whole) → IsSoundSized w.state → (xterm_log_on-same ι) w.state.display.grid.size w ≡ []) c.resizes.ensures.own_log
+
+pub returns-clause-sound : goal.returns-clause-sound
+returns-clause-sound c = coe 1 0 (ι. (size : Size) (w : Whole) → IsSize size → IsSoundSized w.state → IsSoundSizedPage w.pages.other → IsSoundAt size ((whole_on-same ι) size w).state × IsSoundPageAt size ((whole_on-same ι) size w).pages.other) c.resizes.ensures.sound

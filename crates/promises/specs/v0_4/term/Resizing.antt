@@ -1,0 +1,81 @@
+-- 0.4: vt_term/specs/Resizing.
+use Rattle.promises.specs.v0_4.screen.Grid.{grid_on, width_on}
+use Rattle.promises.specs.v0_4.term.Pages.{page_of, with_page}
+use Rattle.promises.specs.v0_4.term.State.{bottom_row, has_stop_at, is_stop_at_power_up, last_column, margins_of}
+use Rattle.promises.specs.v0_4.term.State.{stops_where}
+use Rattle.promises.specs.v0_4.term.Text.{lines_text}
+use Rattle.std.specs.Prelude.{Bool, if◌then◌else◌, length, List, min, nat_le, ℕ, ◌&&◌, ◌+◌, ◌-◌, ◌==◌}
+use Rattle.vt_screen.specs.declared.size.Size.{Size}
+use Rattle.vt_term.specs.Pages.{PageState}
+use Rattle.vt_term.specs.State.{Display, State}
+use Rattle.vt_term.specs.declared.state.Cursor.{Cursor}
+use Rattle.vt_term.specs.declared.state.Margins.{Margins}
+use Rattle.vt_term.specs.declared.state.Modes.{Modes}
+use Rattle.vt_term.specs.declared.state.Saved.{Saved}
+
+-- the rows that leave at the top: as many as the cursor would be below the last row
+abbrev pub count_off : Size → Display → ℕ
+count_off size s = s.cursor.row - size.rows
+
+-- a column brought inside a screen of this width; from a wrap flag the next column, if the screen has it
+abbrev pub col_on : ℕ → ℕ → Bool → ℕ
+col_on width col wrap = min (if wrap then col + 1 else col) width
+
+-- a wrap flag stays if its column is the last one, or cut
+abbrev pub wrap_on : ℕ → ℕ → Bool → Bool
+wrap_on width col wrap = wrap && nat_le width col
+
+-- the cursor brought inside a screen of so many rows and columns
+abbrev pub cursor_on : ℕ → ℕ → Cursor → Cursor
+cursor_on rows width c = record { row = min c.row rows; col = col_on width c.col c.wrap; wrap = wrap_on width c.col c.wrap }
+
+-- what DECSC saved, its place brought inside in the same way
+abbrev pub saved_on : ℕ → ℕ → Saved → Saved
+saved_on rows width saved = record saved {
+  row = min saved.row rows;
+  col = col_on width saved.col saved.wrap;
+  wrap = wrap_on width saved.col saved.wrap;
+}
+
+-- the stop of a column: the one that it had, or that of power-up if it comes in
+abbrev pub is_stop_on : List Bool → ℕ → Bool
+is_stop_on stops c = if nat_le c (length stops) then has_stop_at stops c else is_stop_at_power_up c
+
+unfoldable pub stops_on : ℕ → List Bool → List Bool
+stops_on columns stops = stops_where columns (is_stop_on stops)
+
+-- a page after its first rows have left at the top
+abbrev pub page_on : Size → ℕ → PageState → PageState
+page_on size off page = record {
+  grid = grid_on size off page.grid;
+  saved = saved_on size.rows (width_on size page.grid) page.saved;
+}
+
+-- the screen has as many rows and columns as before
+abbrev pub is_as_large : Size → Display → Bool
+is_as_large size s = bottom_row s == size.rows && last_column s == width_on size s.grid
+
+-- the margins stay on a screen that is as large, and another one has full margins
+abbrev pub margins_on : Size → Display → Margins
+margins_on size s = if is_as_large size s then s.margins else margins_of size
+
+-- DECOM stays on a screen that is as large, and another one resets it
+abbrev pub modes_on : Size → Display → Modes
+modes_on size s = record s.modes { decom = s.modes.decom && is_as_large size s }
+
+-- everything else stays
+abbrev pub display_on : Size → Display → Display
+display_on size s = record (with_page (page_on size (count_off size s) (page_of s)) s) {
+  cursor = cursor_on size.rows (width_on size s.grid) s.cursor;
+  margins = margins_on size s;
+  stops = stops_on size.wide s.stops;
+  modes = modes_on size s;
+}
+
+-- what is held of a sequence stays
+abbrev pub state_on : Size → State → State
+state_on size s = record s { display = display_on size s.display }
+
+-- what a resize adds to the log: the texts of the rows that leave. (this profile)
+abbrev pub log_on : Size → State → List ℕ
+log_on size s = lines_text (count_off size s.display) s.display.grid

@@ -4,3 +4,4 @@ mod examples;
 mod long_choices;
 mod memory;
 mod pairs;
+mod sizes;

@@ -17,3 +17,4 @@ pub mod Whole
 pub mod Equality
 pub mod Differing
 pub mod RowLimits
+pub mod Vt220

@@ -29,7 +29,7 @@ use Rattle.vt_paint.proofs.Equality.{or_false, not_false, same_brush-is, is_blan
 use Rattle.vt_paint.proofs.Brushes.{brush_leaves}
 use Rattle.vt_screen.specs.declared.cell.Rendition.{Rendition}
 use Rattle.vt_term.specs.Rendition.{with_attribute}
-use Rattle.vt_paint.specs.Changes.{same_cell, differs_at, is_marked, AreMarked}
+use Rattle.vt_paint.specs.Changes.{same_cell, differs_at, is_marked, AreMarkedAt}
 use Rattle.vt_paint.specs.Controls.{all_attributes}
 use Rattle.vt_paint.specs.Private.ChangeEvents.{has_all, short_brush_events, change_of, change}
 use Rattle.vt_paint.specs.Private.ChangeEvents.{changed_cells}
@@ -359,12 +359,12 @@ abbrev anywhere : Before
 anywhere r c cursor brush = Unit {0}
 
 change_leaves : (marks : List (List Bool)) (base : Display) (b g : Grid) (r c : ℕ) (x : Display) → IsReady base
-    → AreGlyphs g → AreMarked marks b g → g.size.rows ≡ 24 → 1 ≤ r → r ≤ g.size.rows → 1 ≤ c → c ≤ g.width
+    → AreGlyphs g → AreMarkedAt g.size marks b g → 1 ≤ r → r ≤ g.size.rows → 1 ≤ c → c ≤ g.width
     → IsWritten anywhere base (cell_at b) g r c x
     → IsWritten anywhere base (cell_at b) g r (c + 1) (display_after x (change marks g r c))
 unfolding display_after change_of
-change_leaves marks base b g r c x ready are marked rows r1 r24 c1 cw w =
-    go (is_marked marks r c) (marked r c r1 (omega (arith, r24, rows)) c1 cw)
+change_leaves marks base b g r c x ready are marked r1 r24 c1 cw w =
+    go (is_marked marks r c) (marked r c r1 r24 c1 cw)
   where
     cell : Cell
     cell = cell_at g r c
@@ -394,13 +394,13 @@ change_leaves marks base b g r c x ready are marked rows r1 r24 c1 cw w =
     }
 
 pub changed_cells_leaves : (marks : List (List Bool)) (base : Display) (b g : Grid) (cursor : Cursor) (brush : Brush)
-    → IsReady base → IsGrid b → IsGrid g → b.size ≡ g.size → g.size.rows ≡ 24 → b.width ≡ g.width → AreGlyphs g
-    → AreMarked marks b g
+    → IsReady base → IsGrid b → IsGrid g → b.size ≡ g.size → b.width ≡ g.width → AreGlyphs g
+    → AreMarkedAt g.size marks b g
     → IsShown base g (display_after (shown base b cursor brush) (changed_cells marks g))
 unfolding changed_cells
-changed_cells_leaves marks base b g cursor brush ready is_b is_g size rows same are marked =
+changed_cells_leaves marks base b g cursor brush ready is_b is_g size same are marked =
     grid_leaves anywhere base (cell_at b) g (λ r c. change marks g r c)
-    (λ r c x r1 r24 c1 cw w. change_leaves marks base b g r c x ready are marked rows r1 r24 c1 cw w)
+    (λ r c x r1 r24 c1 cw w. change_leaves marks base b g r c x ready are marked r1 r24 c1 cw w)
     (λ r cursor brush. tt) (shown base b cursor brush) cursor brush is_g
     (ap (λ y. shown base y cursor brush) (sym (grid_of-cell_at b is_b.cells)
     ∙ ap (λ z. grid_of z b.width (cell_at b)) size

@@ -1,10 +1,10 @@
 -- The most bytes of cells, of a row and of all rows.
-use Rattle.std.proofs.Common.{◌≡◌, ◌+◌, ◌-◌, ◌*◌, ◌≤◌, ◌⊎◌, ℕ, Bool, true, false, cond, ltb, refl, arith}
+use Rattle.std.proofs.Common.{◌≡◌, ◌+◌, ◌-◌, ◌*◌, ◌≤◌, ◌<◌, ◌⊎◌, ℕ, Bool, true, false, cond, ltb, refl, arith}
 use Rattle.std.proofs.lemmas.Bool.{ltb-true, ltb-false}
 use Rattle.std.proofs.lemmas.Nat.{mul-le}
 use Rattle.vt_screen.specs.declared.size.Size.{Size}
 use Rattle.vt_screen.specs.Sizes.{IsSize, vt220_size}
-use Rattle.vt_paint.specs.Limits.{row_digits, cell_limit, row_limit, paint_limit}
+use Rattle.vt_paint.specs.Limits.{row_digits, cell_limit, row_limit, paint_limit, changes_limit}
 
 pub three_digits : (rows : ℕ) → row_digits rows ≤ 3
 unfolding row_digits
@@ -23,7 +23,7 @@ vt220_limited size is = rw is refl
 pub some-cells : (row i len : ℕ) → i ≤ len → cell_limit row * i ≤ cell_limit row * len
 some-cells row i len h = mul-le (cell_limit row) i (cell_limit row) len (omega arith) h
 
-digits-grow : (row rows : ℕ) → row ≤ rows → row_digits row ≤ row_digits rows
+pub digits-grow : (row rows : ℕ) → row ≤ rows → row_digits row ≤ row_digits rows
 unfolding row_digits
 digits-grow row rows h = go (ltb row 100) (ltb rows 100) refl refl
   where
@@ -59,3 +59,33 @@ pub one_row : (row limit before held after : ℕ) → 1 ≤ row → held ≤ bef
 one_row row limit before held after from_1 was is =
     let next : row + 1 - 1 ≡ row - 1 + 1 = omega arith in
     rw next (omega (arith, was, is))
+
+-- the same from none
+pub rows-so-far : (row limit held after : ℕ) → 1 ≤ row → held ≤ (row - 1) * limit → after ≤ held + limit
+    → after ≤ (row + 1 - 1) * limit
+rows-so-far row limit held after from_1 was is =
+    let next : row + 1 - 1 ≡ row - 1 + 1 = omega arith in
+    rw next (omega (arith, was, is))
+
+-- CUP with a row and a column
+pub position-short : (row len : ℕ) → (row < 100 → len ≤ 9) → len ≤ 10 → len ≤ 7 + row_digits row
+unfolding row_digits
+position-short row len short bounded = go (ltb row 100) refl
+  where
+    go : (b : Bool) → ltb row 100 ≡ b → len ≤ 7 + cond b 2 3
+    go true e = omega (arith, short (ltb-true row 100 e))
+    go false e = omega arith
+
+-- the limit of a repaint of any size
+pub paint-small : (size : Size) → IsSize size → paint_limit size ≤ 1953620
+unfolding row_limit
+paint-small size sized =
+    let row : row_limit size ≤ 7650 =
+    mul-le (cell_limit size.rows) size.wide 30 255 (omega (arith, three_digits size.rows)) sized.columns in
+    let all : size.rows * row_limit size ≤ 255 * 7650 = mul-le size.rows (row_limit size) 255 7650 sized.rows.1 row in
+    omega (arith, all, sized.columns)
+
+-- the limit of changes of a VT220's size
+pub vt220_changes : (n : ℕ) → changes_limit vt220_size n ≡ 28 * n + 230
+unfolding row_digits
+vt220_changes n = refl

@@ -7,12 +7,12 @@ use Rattle.vt_screen.specs.Cells.{plain_brush}
 use Rattle.vt_term.specs.declared.state.Modes.{Modes}
 use Rattle.vt_term.specs.State.{Display, saved_at_power_up, display_at_power_up, display_of, State, margins_of}
 use Rattle.vt_term.specs.State.{modes_at_power_up}
-use Rattle.vt_term.specs.Sound.{IsSoundDisplay, IsSoundSizedDisplay, IsPlace, IsSound, IsSoundAt}
+use Rattle.vt_term.specs.Sound.{IsSoundDisplayAt, IsSoundSizedDisplay, IsPlace, IsSoundAt}
 use Rattle.vt_term.proofs.SizeKept.{own-display}
 use Rattle.vt_term.specs.Resets.{soft_reset}
 use Rattle.vt_term.specs.Modes.{with_mode}
 use Rattle.vt_term.specs.Functions.{sequence_in, sequences_of}
-use Rattle.vt_paint.specs.Changes.{AreChanges, differing}
+use Rattle.vt_paint.specs.Changes.{AreChangesAt, differing_at}
 use Rattle.vt_paint.specs.Private.ChangeEvents.{changed_cells, start_item, saved_cursor, record_item, change_events}
 use Rattle.vt_paint.proofs.AfterEvents.{display_after, Makes, then_makes, none_makes, display_after-after_events}
 use Rattle.vt_paint.proofs.Brushes.{spelling_sets, spelling_sets_leaves, spelling_sets_are, spelling_sets_four}
@@ -31,10 +31,9 @@ use Rattle.vt_syntax.proofs.Steps.{same_held, same_events}
 use Rattle.vt_syntax.proofs.Spelled.{events_steps}
 use Rattle.vt_syntax.proofs.Cutting.{read, escape}
 use Rattle.vt_screen.specs.declared.size.Size.{Size}
-use Rattle.vt_screen.specs.Sizes.{vt220_size}
 use Rattle.vt_term.specs.Play.{after_events, play}
 use Rattle.vt_paint.specs.Controls.{reset_to_initial_state}
-use Rattle.vt_paint.specs.Limits.{row_digits, paint_limit}
+use Rattle.vt_paint.specs.Limits.{paint_limit, changes_limit}
 use Rattle.vt_paint.specs.Items.{stops_item, cells_item}
 use Rattle.vt_paint.specs.Repaint.{made_events, paint}
 use Rattle.vt_paint.specs.Spoken.{Speaks}
@@ -61,15 +60,15 @@ unfolding display_after start_item sequence_in sequences_of with_mode start_mode
 start_leaves t = record { is = refl }
 
 changes_leaves : (marks : List (List Bool)) (s t : Display) → IsSoundSizedDisplay s → IsSoundSizedDisplay t → AreGlyphs s.grid
-    → t.grid.size ≡ s.grid.size → s.grid.size.rows ≡ 24 → AreChanges marks t s → Makes (change_events marks s) t s
+    → t.grid.size ≡ s.grid.size → AreChangesAt s.grid.size marks t s → Makes (change_events marks s) t s
 unfolding change_events record_item start_modes
-changes_leaves marks s t i j are size rows changes =
+changes_leaves marks s t i j are size changes =
     let modes = start_modes t.modes in
     let base : Display = record (started t) { sets = spelling_sets sets_at_power_up } in
     let spells = spelling_sets_are sets_at_power_up refl refl in
     let ready : IsReady base = record { sets = spells; irm = refl; decawm = refl; decom = refl } in
     let w3 = changed_cells_leaves marks base t.grid s.grid base.cursor base.brush ready j.grid.shape i.grid.shape
-    size rows changes.width are changes.marked in
+    size changes.width are changes.marked in
     let cells : Makes (changed_cells marks s.grid) base
     (part (recorded s modes) modes w3.cursor w3.brush base.sets (margins_of s.grid.size) false) =
     record {
@@ -150,38 +149,40 @@ rebuilds_all size s i between t j =
     played (paint_limit s.display.grid.size) (repaint_events s.display) _ s t (repaint_within s.display own) refl j.held
     between (repaint_leaves s.display t.display own (j.display.of_size ∙ sym i.display.of_size))
 
--- ---- changes of a VT220's state
+-- ---- changes of a state of a size
 
-rows_24 : (s : Display) → IsSoundDisplay s → s.grid.size.rows ≡ 24
-rows_24 s i = ap (λ (z : Size). z.rows) i.of_size
+-- the changes of a state of its own size
+own_changes : (size : Size) (marks : List (List Bool)) (s t : Display) → s.grid.size ≡ size → AreChangesAt size marks t s
+    → AreChangesAt s.grid.size marks t s
+own_changes size marks s t e changes = subst (λ (z : Size). AreChangesAt z marks t s) (sym e) changes
 
-changes_short : (rows : ℕ) → rows ≡ 24 → 222 + 4 * row_digits rows ≡ 230
-unfolding row_digits
-changes_short rows is = rw is refl
+within : (size : Size) (marks : List (List Bool)) (s t : Display) → IsSoundDisplayAt size s → AreChangesAt size marks t s
+    → AreSpelledWithin (changes_limit size (differing_at size t.grid s.grid)) (change_events marks s)
+within size marks s t i changes =
+    subst (λ (z : Size). AreSpelledWithin (changes_limit z (differing_at z t.grid s.grid)) (change_events marks s)) i.of_size
+    (changes_within marks s t (own-display size s i) (own_changes size marks s t i.of_size changes))
 
-pub few : (marks : List (List Bool)) (s t : Display) (before : List ℕ) → IsSoundDisplay s → AreChanges marks t s
-    → length (before ++ spell_events (change_events marks s)) ≤ length before + 28 * differing t.grid s.grid + 230
-few marks s t before i changes =
-    let rows = rows_24 s i in
-    let short = (changes_within marks s t (own-display vt220_size s i) rows changes).short in
-    rw (length-append before (spell_events (change_events marks s)))
-    (omega (arith, short, changes_short s.grid.size.rows rows))
+pub few : (size : Size) (marks : List (List Bool)) (s t : Display) (before : List ℕ) → IsSoundDisplayAt size s
+    → AreChangesAt size marks t s
+    → length (before ++ spell_events (change_events marks s))
+    ≤ length before + changes_limit size (differing_at size t.grid s.grid)
+few size marks s t before i changes =
+    rw (length-append before (spell_events (change_events marks s))) (omega (arith, (within size marks s t i changes).short))
 
-pub changes_speak : (marks : List (List Bool)) (s t : Display) (before : List ℕ) → IsSoundDisplay s
-    → AreChanges marks t s
+pub changes_speak : (size : Size) (marks : List (List Bool)) (s t : Display) (before : List ℕ) → IsSoundDisplayAt size s
+    → AreChangesAt size marks t s
     → Speaks (drop (length before) (before ++ spell_events (change_events marks s)))
-changes_speak marks s t before i changes =
-    rw (drop-append_seam before (spell_events (change_events marks s)))
-    (changes_within marks s t (own-display vt220_size s i) (rows_24 s i) changes).speaks
+changes_speak size marks s t before i changes =
+    rw (drop-append_seam before (spell_events (change_events marks s))) (within size marks s t i changes).speaks
 
-pub changes_played : (marks : List (List Bool)) (s t : State) → IsSound s → s.held ≡ Nothing → IsSound t
-    → AreChanges marks t.display s.display
+pub changes_played : (size : Size) (marks : List (List Bool)) (s t : State) → IsSoundAt size s → s.held ≡ Nothing
+    → IsSoundAt size t → AreChangesAt size marks t.display s.display
     → play t (spell_events (change_events marks s.display)) ≡ record { state = s; reports = [] }
 unfolding change_events start_item
-changes_played marks s t i between j changes =
-    let own = own-display vt220_size s.display i.display in
-    let rows = rows_24 s.display i.display in
+changes_played size marks s t i between j changes =
+    let own = own-display size s.display i.display in
     played _ (change_events marks s.display) _ s t
-    (changes_within marks s.display t.display own rows changes) refl j.held between
-    (changes_leaves marks s.display t.display own (own-display vt220_size t.display j.display)
-    (sound_glyphs s.display own) (j.display.of_size ∙ sym i.display.of_size) rows changes)
+    (within size marks s.display t.display i.display changes) refl j.held between
+    (changes_leaves marks s.display t.display own (own-display size t.display j.display)
+    (sound_glyphs s.display own) (j.display.of_size ∙ sym i.display.of_size)
+    (own_changes size marks s.display t.display i.display.of_size changes))

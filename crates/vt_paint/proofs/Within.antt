@@ -49,7 +49,7 @@ use Rattle.vt_paint.proofs.Tests.{all_three, at_three, both_pass, at_bool, all_b
 use Rattle.vt_paint.proofs.Tests.{is_fine, fine_is, fine_silent}
 use Rattle.vt_syntax.specs.Class.{opens_string}
 use Rattle.vt_syntax.specs.Held.{spell_values}
-use Rattle.vt_paint.specs.Limits.{row_digits, cell_limit, row_limit, paint_limit}
+use Rattle.vt_paint.specs.Limits.{row_digits, cell_limit, row_limit, paint_limit, changes_limit}
 use Rattle.vt_paint.specs.Items.{is_wide, width_events, stop_events, made_stops, stops_item, saved_events, saved_item, cells_item}
 use Rattle.vt_paint.specs.Controls.{ModeRow, mode_rows}
 use Rattle.vt_paint.specs.Items.{margins_item, origin_item, wrap_item, row_item, modes_item}
@@ -69,7 +69,7 @@ use Rattle.vt_term.specs.Answers.{line_of_cursor}
 use Rattle.vt_term.specs.Reports.{report}
 use Rattle.vt_term.specs.Play.{reports_of, after_events}
 use Rattle.vt_paint.specs.Repaint.{made_events}
-use Rattle.vt_paint.specs.Changes.{differs_at, differing_from, differing, is_marked, AreMarked, AreChanges}
+use Rattle.vt_paint.specs.Changes.{differs_at, differing_from, differing_at, is_marked, AreMarkedAt, AreChangesAt}
 use Rattle.vt_paint.proofs.Painting.{AreGlyphs}
 use Rattle.vt_paint.proofs.RowLimits.{three_digits}
 
@@ -393,15 +393,14 @@ change_within rows r c true cell is h most k =
     upto (omega (arith, three_digits rows)) (then_within (cursor_within rows r c h most k)
     (then_within (short_brush_within (brush_of cell)) (glyph_within cell is)))
 
-changed_within : (marks : List (List Bool)) (b g : Grid) → AreGlyphs g → AreMarked marks b g → g.width ≤ 255 → g.size.rows ≡ 24
-    → AreSpelledWithin (28 * differing b g) (changed_cells marks g)
-unfolding changed_cells differing
-changed_within marks b g are marked w rows =
-    subst (λ (n : ℕ). AreSpelledWithin (28 * differing b g) (changed_rows marks g 1 n)) (sym rows)
-    (range_within 28 (λ r. differing_from b g r 1 g.width) (λ r. changed_row marks g r) 24 1 (λ r r1 r24.
+changed_within : (marks : List (List Bool)) (b g : Grid) → AreGlyphs g → AreMarkedAt g.size marks b g → g.width ≤ 255
+    → g.size.rows ≤ 255 → AreSpelledWithin (28 * differing_at g.size b g) (changed_cells marks g)
+unfolding changed_cells differing_at
+changed_within marks b g are marked w most =
+    range_within 28 (λ r. differing_from b g r 1 g.width) (λ r. changed_row marks g r) g.size.rows 1 (λ r r1 r24.
     range_within 28 (λ c. cond (differs_at b g r c) 1 0) (λ c. change marks g r c) g.width 1 (λ c c1 cw.
     rw (sym (marked r c r1 (omega arith) c1 (omega arith)))
-    (change_within 24 r c (is_marked marks r c) (cell_at g r c) (are r c) (omega arith) (omega arith) (omega arith)))))
+    (change_within g.size.rows r c (is_marked marks r c) (cell_at g r c) (are r c) (omega arith) most (omega arith))))
 
 -- ---- the whole
 
@@ -441,16 +440,15 @@ pub repaint_within : (s : Display) → IsSoundSizedDisplay s → AreSpelledWithi
 repaint_within s i =
     upto (omega arith) (then_within (computed 2 (reset_to_initial_state ∷ []) refl) (made_within s i))
 
-pub changes_within : (marks : List (List Bool)) (s t : Display) → IsSoundSizedDisplay s → s.grid.size.rows ≡ 24
-    → AreChanges marks t s
-    → AreSpelledWithin (28 * differing t.grid s.grid + (222 + 4 * row_digits s.grid.size.rows)) (change_events marks s)
+pub changes_within : (marks : List (List Bool)) (s t : Display) → IsSoundSizedDisplay s → AreChangesAt s.grid.size marks t s
+    → AreSpelledWithin (changes_limit s.grid.size (differing_at s.grid.size t.grid s.grid)) (change_events marks s)
 unfolding change_events
-changes_within marks s t i rows changes =
+changes_within marks s t i changes =
     let most : s.grid.size.rows ≤ 255 = i.grid.shape.size.rows.1 in
     let w : s.grid.width ≤ 255 = omega (arith, width_small s.grid i.grid.shape, i.grid.shape.size.columns) in
     let are = sound_glyphs s i in
     let saved_col : s.saved.col ≤ 255 = omega (arith, i.saved.col_last, w) in
     upto (omega arith) (then_within start_within (then_within (computed 10 spelling_sets_events refl)
-    (then_within (changed_within marks t.grid s.grid are changes.marked w rows)
+    (then_within (changed_within marks t.grid s.grid are changes.marked w most)
     (then_within (record_within s.grid s.grid.size.rows s.saved are i.saved.row_last most saved_col)
     (then_within (computed 10 spelling_sets_events refl) (last_within false s i))))))

@@ -4,28 +4,28 @@ ghost use Rattle.std.specs.Prelude.{◌≡◌, ◌+◌, ◌-◌, ◌*◌, ◌≤
 ghost use Rattle.std.specs.Prelude.{drop, vec_len, vec_capacity};
 ghost use Rattle.vt_syntax.specs.declared.held.Held.TheVariants.{Nothing};
 ghost use Rattle.vt_syntax.specs.Spelling.{spell_events};
-ghost use Rattle.vt_screen.specs.Sizes.{vt220_size};
-ghost use Rattle.vt_screen.specs.Grid.{Grid, row_of, last_row};
+ghost use Rattle.vt_screen.specs.declared.size.Size.{Size};
+ghost use Rattle.vt_screen.specs.Grid.{Grid, row_of};
 ghost use Rattle.vt_term.specs.State.{State};
-ghost use Rattle.vt_term.specs.Sound.{IsSound};
+ghost use Rattle.vt_term.specs.Sound.{IsSoundAt, IsSoundSized};
 ghost use Rattle.vt_term.specs.Play.{play};
-ghost use Rattle.vt_paint.specs.Changes.{differing, AreChanges, Changes};
+ghost use Rattle.vt_paint.specs.Changes.{differing_at, AreChangesAt, Changes};
+ghost use Rattle.vt_paint.specs.Controls.{cursor_position};
+ghost use Rattle.vt_paint.specs.Limits.{row_digits, cell_limit, row_limit, paint_limit, changes_limit};
 ghost use Rattle.vt_paint.specs.Spoken.{Speaks};
 ghost use Rattle.vt_paint.specs.Private.ChangeEvents.{has_all, short_brush_events, change_of};
 ghost use Rattle.vt_paint.specs.Private.ChangeEvents.{changed_row, changed_cells, record_item, change_events};
 
-use crate::PAINT_LIMIT;
 use crate::bytes::push_bytes;
 use crate::cells::SPELLING_SETS;
 use crate::controls::{push_brush, push_glyph, push_sets};
 use crate::function::Function;
 use crate::items::push_mode_item;
-use crate::line::ROW_LIMIT;
 use crate::modes::{DECAWM, DECOM};
 use crate::paint::{push_last, push_wrap};
 use vt_screen::laws::rows;
-use vt_screen::{Brush, COLUMNS, Cell, MOST, Rendition};
-use vt_term::{Cursor, ROWS, STOPS, Saved, SizedTerminal, Terminal};
+use vt_screen::{Brush, Cell, MOST, Rendition};
+use vt_term::{Cursor, Saved, SizedTerminal};
 
 // ---- the cells
 
@@ -52,32 +52,51 @@ fn push_short_brush(brush: Brush, out: &mut Vec<u8>)
     }
 }
 
+/// Appends CUP.
+#[inline(always)]
+fn push_position(row: usize, col: usize, out: &mut Vec<u8>)
+    requires row { row ≤ MOST }
+    requires col { col ≤ MOST }
+    requires room { vec_len out.old + 7 + row_digits row ≤ vec_capacity out.old }
+    ensures items { out.new.items ≡ out.old.items ++ spell_events (cursor_position row col ∷ []) }
+    ensures bounded { vec_len out.new ≤ vec_len out.old + 7 + row_digits row }
+    ensures capacity { vec_capacity out.old ≤ vec_capacity out.new }
+{
+    Function::cursor_to(row as u8, col as u8).push(out);
+}
+
 /// Appends a cell if it is marked: its position, its brush and its glyph.
 #[tactic(auto, unfolding(crate::specs::Private::ChangeEvents::change_of))]
 fn push_change(row: usize, col: usize, marked: bool, cell: &Cell, out: &mut Vec<u8>)
-    requires row { row ≤ ROWS }
-    requires col { col ≤ COLUMNS }
-    requires room { vec_len out.old + 29 ≤ vec_capacity out.old }
+    requires row { row ≤ MOST }
+    requires col { col ≤ MOST }
+    requires room { vec_len out.old + cell_limit row ≤ vec_capacity out.old }
     ensures items { out.new.items ≡ out.old.items ++ spell_events (change_of row col marked cell.now) }
-    ensures bounded { vec_len out.new ≤ vec_len out.old + 29 }
+    ensures bounded { vec_len out.new ≤ vec_len out.old + cell_limit row }
     ensures capacity { vec_capacity out.old ≤ vec_capacity out.new }
 {
     if marked {
-        Function::cursor_to(row as u8, col as u8).push(out);
+        push_position(row, col, out);
         push_short_brush(cell.brush(), out);
         push_glyph(cell.glyph, out);
     }
 }
 
 /// Appends the marked cells of a row.
-fn push_changed_row(row: usize, cells: &[Cell], marks: &[bool; STOPS], out: &mut Vec<u8>)
-    requires row { (1 ≤ row) × (row ≤ last_row) }
-    requires len { length cells.now ≤ COLUMNS }
-    requires room { vec_len out.old + ROW_LIMIT ≤ vec_capacity out.old }
+fn push_changed_row<const C: usize>(
+    row: usize,
+    cells: &[Cell],
+    marks: &[bool; C],
+    out: &mut Vec<u8>,
+)
+    requires row { (1 ≤ row) × (row ≤ MOST) }
+    requires len { length cells.now ≤ MOST }
+    requires columns { length cells.now ≤ C }
+    requires room { vec_len out.old + cell_limit row * length cells.now ≤ vec_capacity out.old }
     ensures items { (g : Grid) (all : List (List Bool)) → cells.now ≡ row_of g row
         → marks.now ≡ slice_index_or all (row - 1) []
         → out.new.items ≡ out.old.items ++ spell_events (changed_row all g row) }
-    ensures bounded { vec_len out.new ≤ vec_len out.old + ROW_LIMIT }
+    ensures bounded { vec_len out.new ≤ vec_len out.old + cell_limit row * length cells.now }
     ensures capacity { vec_capacity out.old ≤ vec_capacity out.new }
 {
     rows();
@@ -87,14 +106,20 @@ fn push_changed_row(row: usize, cells: &[Cell], marks: &[bool; STOPS], out: &mut
 }
 
 /// Appends the marked cells.
-fn push_changed_cells(marks: &[[bool; STOPS]; ROWS], t: &SizedTerminal, out: &mut Vec<u8>)
-    requires size { t.now.display.grid.size ≡ vt220_size }
-    requires room { vec_len out.old + 29 * ROWS * COLUMNS ≤ vec_capacity out.old }
+fn push_changed_cells<const R: usize, const C: usize>(
+    marks: &[[bool; C]; R],
+    t: &SizedTerminal,
+    out: &mut Vec<u8>,
+)
+    requires rows { t.now.display.grid.size.rows ≤ R }
+    requires columns { t.now.display.grid.size.wide ≤ C }
+    requires room { vec_len out.old + t.now.display.grid.size.rows * row_limit t.now.display.grid.size ≤ vec_capacity out.old }
     ensures items { out.new.items ≡ out.old.items ++ spell_events (changed_cells marks.now t.now.display.grid) }
-    ensures bounded { vec_len out.new ≤ vec_len out.old + 29 * ROWS * COLUMNS }
+    ensures bounded { vec_len out.new
+        ≤ vec_len out.old + t.now.display.grid.size.rows * row_limit t.now.display.grid.size }
     ensures capacity { vec_capacity out.old ≤ vec_capacity out.new }
 {
-    for row in 1..ROWS + 1 {
+    for row in 1..t.size().rows + 1 {
         push_changed_row(row, t.row(row), &marks[row - 1], out);
     }
 }
@@ -130,52 +155,69 @@ fn push_record(t: &SizedTerminal, saved: &Saved, out: &mut Vec<u8>)
 
 /// States that the changes lead to the state, are short, and consist of what repaints consist of.
 fn changes_lead()
-    ensures played { (marks : List (List Bool)) (s t : State) → IsSound s → IsSound t → t.held ≡ Nothing
-        → AreChanges marks s.display t.display
+    ensures played { (size : Size) (marks : List (List Bool)) (s t : State) → IsSoundAt size s → IsSoundAt size t
+        → t.held ≡ Nothing → AreChangesAt size marks s.display t.display
         → play s (spell_events (change_events marks t.display)) ≡ record { state = t; reports = [] } }
-    ensures few { (marks : List (List Bool)) (s t : State) (before : List ℕ) → IsSound t
-        → AreChanges marks s.display t.display
+    ensures few { (size : Size) (marks : List (List Bool)) (s t : State) (before : List ℕ) → IsSoundAt size t
+        → AreChangesAt size marks s.display t.display
         → length (before ++ spell_events (change_events marks t.display))
-        ≤ length before + 28 * differing s.display.grid t.display.grid + 230 }
-    ensures speaks { (marks : List (List Bool)) (s t : State) (before : List ℕ) → IsSound t
-        → AreChanges marks s.display t.display
+        ≤ length before + changes_limit size (differing_at size s.display.grid t.display.grid) }
+    ensures speaks { (size : Size) (marks : List (List Bool)) (s t : State) (before : List ℕ) → IsSoundAt size t
+        → AreChangesAt size marks s.display t.display
         → Speaks (drop (length before) (before ++ spell_events (change_events marks t.display))) }
 {}
 
 /// Appends all changes.
-fn push_changes(marks: &[[bool; STOPS]; ROWS], t: &Terminal, out: &mut Vec<u8>)
-    requires { vec_len out.old + PAINT_LIMIT ≤ vec_capacity out.old }
+fn push_changes<const R: usize, const C: usize>(
+    marks: &[[bool; C]; R],
+    t: &SizedTerminal,
+    out: &mut Vec<u8>,
+)
+    requires rows { t.now.display.grid.size.rows ≤ R }
+    requires columns { t.now.display.grid.size.wide ≤ C }
+    requires room { vec_len out.old + paint_limit t.now.display.grid.size ≤ vec_capacity out.old }
     ensures items { out.new.items ≡ out.old.items ++ spell_events (change_events marks.now t.now.display) }
-    ensures sound { IsSound t.now }
-    ensures bounded { vec_len out.new ≤ vec_len out.old + PAINT_LIMIT }
+    ensures sound { IsSoundSized t.now }
+    ensures bounded { vec_len out.new ≤ vec_len out.old + paint_limit t.now.display.grid.size }
     ensures capacity { vec_capacity out.old ≤ vec_capacity out.new }
 {
     let _ = t.width();
     Function::soft_reset().push(out);
     Function::mode(DECAWM, true).push(out);
     push_bytes(SPELLING_SETS, out);
-    push_changed_cells(marks, &t.sized, out);
-    push_record(&t.sized, &t.saved(), out);
+    push_changed_cells(marks, t, out);
+    push_record(t, &t.saved(), out);
     push_bytes(SPELLING_SETS, out);
-    push_last(&t.sized, false, out);
+    push_last(t, false, out);
 }
 
-/// Appends to `out` bytes that lead a terminal to `t`. It appends at most 28 bytes for each marked position, and 230.
+/// Appends to `out` bytes that lead a terminal to `t`. It appends at most 28 bytes for each marked position, and 230. With 100
+/// rows or more it is 234 in place of 230.
 ///
-/// The two terminals have the same width and the same tab stops. [`changed_places`](crate::changed_places) has marked
-/// the positions at which they differ. `t` is between sequences.
+/// The two terminals have the same size, the same width and the same tab stops.
+/// [`changed_places`](crate::sized::changed_places) has marked the positions at which they differ. `t` is between sequences.
 ///
-/// `out` has capacity for `PAINT_LIMIT` more bytes. It never fails and allocates nothing.
-pub fn repaint_changes_reserved(marks: &[[bool; STOPS]; ROWS], t: &Terminal, out: &mut Vec<u8>)
+/// `out` has capacity for `paint_limit` more bytes. It never fails and allocates nothing.
+pub fn repaint_changes_reserved<const R: usize, const C: usize>(
+    marks: &[[bool; C]; R],
+    t: &SizedTerminal,
+    out: &mut Vec<u8>,
+)
     requires between { t.now.held ≡ Nothing }
-    requires room { vec_len out.old + PAINT_LIMIT ≤ vec_capacity out.old }
-    ensures leads { (s : State) → IsSound s → AreChanges marks.now s.display t.now.display
+    requires rows { t.now.display.grid.size.rows ≤ R }
+    requires columns { t.now.display.grid.size.wide ≤ C }
+    requires room { vec_len out.old + paint_limit t.now.display.grid.size ≤ vec_capacity out.old }
+    ensures leads { (s : State) → IsSoundAt t.now.display.grid.size s
+        → AreChangesAt t.now.display.grid.size marks.now s.display t.now.display
         → Changes s t.now out.old.items out.new.items }
-    ensures small { (s : State) → AreChanges marks.now s.display t.now.display
-        → vec_len out.new ≤ vec_len out.old + 28 * differing s.display.grid t.now.display.grid + 230 }
-    ensures speaks { (s : State) → AreChanges marks.now s.display t.now.display
+    ensures small { (s : State) → AreChangesAt t.now.display.grid.size marks.now s.display t.now.display
+        → vec_len out.new
+        ≤ vec_len out.old
+        + changes_limit t.now.display.grid.size
+        (differing_at t.now.display.grid.size s.display.grid t.now.display.grid) }
+    ensures speaks { (s : State) → AreChangesAt t.now.display.grid.size marks.now s.display t.now.display
         → Speaks (drop (vec_len out.old) out.new.items) }
-    ensures bounded { vec_len out.new ≤ vec_len out.old + PAINT_LIMIT }
+    ensures bounded { vec_len out.new ≤ vec_len out.old + paint_limit t.now.display.grid.size }
     ensures capacity { vec_capacity out.old ≤ vec_capacity out.new }
 {
     changes_lead();

@@ -1,8 +1,9 @@
 //! The most bytes of a repaint of a screen of a size.
-ghost use Rattle.std.specs.Prelude.{◌≡◌, ◌≤◌};
+ghost use Rattle.std.specs.Prelude.{◌≡◌, ◌≤◌, ◌*◌};
 ghost use Rattle.vt_screen.specs.Sizes.{IsSize};
-ghost use Rattle.vt_paint.specs.Limits.{row_digits, row_limit, paint_limit};
+ghost use Rattle.vt_paint.specs.Limits.{row_digits, row_limit, paint_limit, changes_limit};
 
+use vt_screen::MOST;
 use vt_term::Size;
 
 /// Returns how many digits the number of a row has at most, two at least.
@@ -31,4 +32,12 @@ pub fn paint_limit(size: Size) -> usize
     ensures { result ≡ paint_limit size }
 {
     size.rows * row_limit(size) + 10 * size.wide + 320
+}
+
+/// Returns the limit of changes in bytes: 28 for each of `count` cells, and 230. With 100 rows or more it is 234 in place of 230.
+pub fn changes_limit(size: Size, count: usize) -> usize
+    requires { count ≤ MOST * MOST }
+    ensures { result ≡ changes_limit size count }
+{
+    28 * count + (222 + 4 * row_digits(size.rows))
 }

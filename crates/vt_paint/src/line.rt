@@ -11,10 +11,7 @@ ghost use Rattle.vt_paint.specs.Private.HeaderParts.{brush_number};
 use crate::bytes::put_front;
 use crate::tables::{brush_part, column_part, row_part};
 use vt_glyph::Glyph;
-use vt_screen::{COLUMNS, MOST};
-
-/// The limit of a row of a VT220 in bytes: 29 for each of 132 cells.
-pub(crate) const ROW_LIMIT: usize = 29 * COLUMNS;
+use vt_screen::MOST;
 
 /// The capacity for bytes that aren't appended yet.
 pub(crate) const LINE: usize = 2048;

@@ -3,12 +3,13 @@ use Rattle.std.proofs.Common.{◌≡◌, ℕ, zero, suc, ◌+◌, List, [], ◌�
 use Rattle.std.proofs.Common.{eq-eqb}
 use Rattle.vt_screen.specs.declared.cell.Cell.{Cell}
 use Rattle.vt_screen.specs.Cells.{blank}
-use Rattle.vt_screen.specs.Grid.{row_of, last_row}
+use Rattle.vt_screen.specs.declared.size.Size.{Size}
+use Rattle.vt_screen.specs.Grid.{row_of}
 use Rattle.vt_screen.specs.Same.{same_bool}
 use Rattle.vt_term.specs.State.{State}
 use Rattle.vt_picture.specs.declared.drawing.pen.Pen.{Pen}
 use Rattle.vt_picture.specs.Draw.{Shown, LooksLike, shown, shown_cell, erased, same_look, row_bytes, row_pen, rows_bytes, rows_pen}
-use Rattle.vt_picture.specs.Draw.{first_pen, changes, erase, draw, draw_from}
+use Rattle.vt_picture.specs.Draw.{first_pen, changes_at, erase, draw_at, draw_from_at}
 
 same_number : (n : ℕ) → (n == n) ≡ true
 same_number n = eq-eqb n n refl
@@ -79,10 +80,10 @@ blanks f [] = refl
 blanks f (cell ∷ cells) = ap (λ (t : List Cell). blank ∷ t) (blanks f cells)
 
 -- the same cells, cursors and pens have the same bytes
-pub changes-like : (old new old2 new2 : Shown) → LooksLike old old2 → LooksLike new new2
-    → changes old new ≡ changes old2 new2
-unfolding changes
-changes-like old new old2 new2 o n =
+pub changes-like : (size : Size) (old new old2 new2 : Shown) → LooksLike old old2 → LooksLike new new2
+    → changes_at size old new ≡ changes_at size old2 new2
+unfolding changes_at
+changes-like size old new old2 new2 o n =
     rw (
       o.row,
       o.col,
@@ -90,33 +91,33 @@ changes-like old new old2 new2 o n =
       n.row,
       n.col,
       n.has_cursor,
-      rows_bytes-like old.cells new.cells old2.cells new2.cells last_row (first_pen old2) o.cells n.cells,
-      rows_pen-like old.cells new.cells old2.cells new2.cells last_row (first_pen old2) o.cells n.cells,
+      rows_bytes-like old.cells new.cells old2.cells new2.cells size.rows (first_pen old2) o.cells n.cells,
+      rows_pen-like old.cells new.cells old2.cells new2.cells size.rows (first_pen old2) o.cells n.cells,
     )
     refl
 
 -- one screen is changed into itself by nothing
-pub changes-none : (s : Shown) → changes s s ≡ []
-unfolding changes
-changes-none s =
+pub changes-none : (size : Size) (s : Shown) → changes_at size s s ≡ []
+unfolding changes_at
+changes-none size s =
     rw (
-      rows-unwritten s.cells last_row (first_pen s),
-      rows-pen_kept s.cells last_row (first_pen s),
+      rows-unwritten s.cells size.rows (first_pen s),
+      rows-pen_kept s.cells size.rows (first_pen s),
       same_number s.row,
       same_number s.col,
       same_bool-same s.has_cursor,
     )
     refl
 
-pub none : (a b : Shown) → LooksLike a b → changes a b ≡ []
-none a b e =
-    changes-like a b b b e (record { cells = λ r. refl; row = refl; col = refl; has_cursor = refl }) ∙ changes-none b
+pub none : (size : Size) (a b : Shown) → LooksLike a b → changes_at size a b ≡ []
+none size a b e =
+    changes-like size a b b b e (record { cells = λ r. refl; row = refl; col = refl; has_cursor = refl }) ∙ changes-none size b
 
-pub draw_from-none : (a b : State) → a.display.grid.width ≡ b.display.grid.width → LooksLike (shown a) (shown b)
-    → draw_from a b ≡ []
-unfolding draw_from
-draw_from-none a b width e =
-    rw (eq-eqb a.display.grid.width b.display.grid.width width) (none (shown a) (shown b) e)
+pub draw_from-none : (size : Size) (a b : State) → a.display.grid.width ≡ b.display.grid.width → LooksLike (shown a) (shown b)
+    → draw_from_at size a b ≡ []
+unfolding draw_from_at
+draw_from-none size a b width e =
+    rw (eq-eqb a.display.grid.width b.display.grid.width width) (none size (shown a) (shown b) e)
 
 -- the empty screens are as wide
 erased-like : (a b : State) → LooksLike (shown a) (shown b) → LooksLike (erased a) (erased b)
@@ -130,7 +131,7 @@ erased-like a b e = record {
   has_cursor = refl;
 }
 
-pub draw-like : (a b : State) → LooksLike (shown a) (shown b) → draw a ≡ draw b
-unfolding draw
-draw-like a b e =
-    ap (λ (t : List ℕ). erase ++ t) (changes-like (erased a) (shown a) (erased b) (shown b) (erased-like a b e) e)
+pub draw-like : (size : Size) (a b : State) → LooksLike (shown a) (shown b) → draw_at size a ≡ draw_at size b
+unfolding draw_at
+draw-like size a b e =
+    ap (λ (t : List ℕ). erase ++ t) (changes-like size (erased a) (shown a) (erased b) (shown b) (erased-like a b e) e)

@@ -14,10 +14,10 @@ use Rattle.vt_screen.specs.Same.{when, same_bool, same_rendition}
 use Rattle.vt_paint.specs.Controls.{cursor_position, private_mode}
 use Rattle.vt_picture.specs.Show.{rendition_sequence, change}
 use Rattle.vt_picture.specs.declared.drawing.pen.Pen.{Pen}
-use Rattle.vt_screen.specs.Grid.{last_row}
+use Rattle.vt_screen.specs.declared.size.Size.{Size}
 use Rattle.vt_picture.specs.Draw.{Shown, go, same_look, place_bytes, place_pen, row_bytes, row_pen, rows_bytes, rows_pen}
-use Rattle.vt_picture.specs.Draw.{first_pen, end_bytes, changes}
-use Rattle.vt_picture.specs.Window.{Sent, sent_bytes, Window, write, after, all_after, Looks, Shows, Draws}
+use Rattle.vt_picture.specs.Draw.{first_pen, end_bytes, changes_at}
+use Rattle.vt_picture.specs.Window.{Sent, sent_bytes, Window, write, after, all_after, Looks, ShowsAt, DrawsAt}
 use Rattle.vt_picture.specs.Window.Sent.{Character, Position, Attributes, Cursor}
 
 -- ---- bytes that lead from one window to another
@@ -378,31 +378,31 @@ end-leads w s =
     (leads-then (change w.pen.look plain) last there ready (ended w s) (changes-look there plain)
     (cursor-by ready s.has_cursor (same_bool w.has_cursor s.has_cursor) refl))
 
-changes-lead : (old new : Shown) (w : Window) → w.pen ≡ first_pen old → w.has_cursor ≡ old.has_cursor
-    → Leads (changes old new) w (ended (rowsed old.cells new.cells last_row w) new)
-unfolding changes
-changes-lead old new w pen cursor =
-    let v : Window = rowsed old.cells new.cells last_row w in
-    let bytes : rows_bytes old.cells new.cells last_row w.pen ++ end_bytes v.pen v.has_cursor new ≡ changes old new =
-    ap (λ (p : Pen). rows_bytes old.cells new.cells last_row w.pen ++ end_bytes p v.has_cursor new)
-    (rows-pen old.cells new.cells last_row w)
-    ∙ ap (λ (b : Bool). rows_bytes old.cells new.cells last_row w.pen
-    ++ end_bytes (rows_pen old.cells new.cells last_row w.pen) b new) (rows-cursor old.cells new.cells last_row w ∙ cursor)
-    ∙ ap (λ (p : Pen). rows_bytes old.cells new.cells last_row p
-    ++ end_bytes (rows_pen old.cells new.cells last_row p) old.has_cursor new) pen in
+changes-lead : (size : Size) (old new : Shown) (w : Window) → w.pen ≡ first_pen old → w.has_cursor ≡ old.has_cursor
+    → Leads (changes_at size old new) w (ended (rowsed old.cells new.cells size.rows w) new)
+unfolding changes_at
+changes-lead size old new w pen cursor =
+    let v : Window = rowsed old.cells new.cells size.rows w in
+    let bytes : rows_bytes old.cells new.cells size.rows w.pen ++ end_bytes v.pen v.has_cursor new ≡ changes_at size old new =
+    ap (λ (p : Pen). rows_bytes old.cells new.cells size.rows w.pen ++ end_bytes p v.has_cursor new)
+    (rows-pen old.cells new.cells size.rows w)
+    ∙ ap (λ (b : Bool). rows_bytes old.cells new.cells size.rows w.pen
+    ++ end_bytes (rows_pen old.cells new.cells size.rows w.pen) b new) (rows-cursor old.cells new.cells size.rows w ∙ cursor)
+    ∙ ap (λ (p : Pen). rows_bytes old.cells new.cells size.rows p
+    ++ end_bytes (rows_pen old.cells new.cells size.rows p) old.has_cursor new) pen in
     subst (λ (t : List ℕ). Leads t w (ended v new)) bytes
-    (leads-then (rows_bytes old.cells new.cells last_row w.pen) (end_bytes v.pen v.has_cursor new) w v (ended v new)
-    (rows-leads old.cells new.cells last_row w) (end-leads v new))
+    (leads-then (rows_bytes old.cells new.cells size.rows w.pen) (end_bytes v.pen v.has_cursor new) w v (ended v new)
+    (rows-leads old.cells new.cells size.rows w) (end-leads v new))
 
 -- changes lead from what is shown to what is to be shown
-pub changes-show : (old new : Shown) (w : Window) → ((r : ℕ) → length (old.cells r) ≡ length (new.cells r)) → Shows w old
-    → Draws (changes old new) w new
+pub changes-show : (size : Size) (old new : Shown) (w : Window) → ((r : ℕ) → length (old.cells r) ≡ length (new.cells r))
+    → ShowsAt size w old → DrawsAt size (changes_at size old new) w new
 unfolding AllLook
-changes-show old new w lengths was =
-    let l : Leads (changes old new) w (ended (rowsed old.cells new.cells last_row w) new) =
-    changes-lead old new w was.pen was.has_cursor in
-    let now : AllLook new.cells last_row (rowsed old.cells new.cells last_row w) =
-    rows-here old.cells new.cells last_row w lengths was.places in
-    let shows : Shows (ended (rowsed old.cells new.cells last_row w) new) new =
+changes-show size old new w lengths was =
+    let l : Leads (changes_at size old new) w (ended (rowsed old.cells new.cells size.rows w) new) =
+    changes-lead size old new w was.pen was.has_cursor in
+    let now : AllLook new.cells size.rows (rowsed old.cells new.cells size.rows w) =
+    rows-here old.cells new.cells size.rows w lengths was.places in
+    let shows : ShowsAt size (ended (rowsed old.cells new.cells size.rows w) new) new =
     record { places = now; pen = refl; has_cursor = refl } in
-    record { sent = l.sent; spelled = l.spelled; shows = subst (λ (v : Window). Shows v new) (sym l.leads) shows }
+    record { sent = l.sent; spelled = l.spelled; shows = subst (λ (v : Window). ShowsAt size v new) (sym l.leads) shows }

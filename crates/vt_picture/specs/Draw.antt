@@ -6,7 +6,9 @@ use Rattle.vt_syntax.specs.Spelling.{spell_event}
 use Rattle.vt_screen.specs.declared.cell.Rendition.{Rendition}
 use Rattle.vt_screen.specs.declared.cell.Cell.{Cell}
 use Rattle.vt_screen.specs.Cells.{plain, blank}
-use Rattle.vt_screen.specs.Grid.{row_of, last_row}
+use Rattle.vt_screen.specs.declared.size.Size.{Size}
+use Rattle.vt_screen.specs.Sizes.{vt220_size}
+use Rattle.vt_screen.specs.Grid.{row_of}
 use Rattle.vt_screen.specs.Same.{when, same_bool, same_rendition}
 use Rattle.vt_term.specs.State.{State}
 use Rattle.vt_paint.specs.Controls.{cursor_position, private_mode}
@@ -117,10 +119,11 @@ end_bytes pen was_shown new =
 abbrev pub first_pen : Shown → Pen
 first_pen old = record { row = old.row; col = old.col; look = plain }
 
-unfoldable pub changes : Shown → Shown → List ℕ
-changes old new =
-    rows_bytes old.cells new.cells last_row (first_pen old)
-    ++ end_bytes (rows_pen old.cells new.cells last_row (first_pen old)) old.has_cursor new
+-- from one screen of this size to another one
+unfoldable pub changes_at : Size → Shown → Shown → List ℕ
+changes_at size old new =
+    rows_bytes old.cells new.cells size.rows (first_pen old)
+    ++ end_bytes (rows_pen old.cells new.cells size.rows (first_pen old)) old.has_cursor new
 
 -- no attributes, an empty screen, and the cursor shown in its first place
 unfoldable pub erase : List ℕ
@@ -128,11 +131,32 @@ erase =
     rendition_sequence plain ++ (spell_event (cursor_position 1 1)
     ++ (spell_event (sequence_named [] (codes "ED")) ++ spell_event (private_mode 25 true)))
 
--- from any screen
-unfoldable pub draw : State → List ℕ
-draw s = erase ++ changes (erased s) (shown s)
+-- of a state of this size, from any screen
+unfoldable pub draw_at : Size → State → List ℕ
+draw_at size s = erase ++ changes_at size (erased s) (shown s)
 
--- from the screen of a state. A screen of another width is erased
-unfoldable pub draw_from : State → State → List ℕ
-draw_from a b =
-    if a.display.grid.width == b.display.grid.width then changes (shown a) (shown b) else draw b
+-- of two states of this size, from the screen of the first. A screen of another width is erased
+unfoldable pub draw_from_at : Size → State → State → List ℕ
+draw_from_at size a b =
+    if a.display.grid.width == b.display.grid.width then changes_at size (shown a) (shown b) else draw_at size b
+
+-- ---- at any size
+
+abbrev pub sized_draw : State → List ℕ
+sized_draw s = draw_at s.display.grid.size s
+
+-- a screen with another number of rows is erased, too
+abbrev pub sized_draw_from : State → State → List ℕ
+sized_draw_from a b =
+    if a.display.grid.size.rows == b.display.grid.size.rows then draw_from_at b.display.grid.size a b else sized_draw b
+
+-- ---- on a VT220
+
+abbrev pub changes : Shown → Shown → List ℕ
+changes old new = changes_at vt220_size old new
+
+abbrev pub draw : State → List ℕ
+draw s = draw_at vt220_size s
+
+abbrev pub draw_from : State → State → List ℕ
+draw_from a b = draw_from_at vt220_size a b

@@ -6,7 +6,8 @@ use Rattle.vt_syntax.specs.Spelling.{spell_event}
 use Rattle.vt_screen.specs.declared.cell.Rendition.{Rendition}
 use Rattle.vt_screen.specs.declared.cell.Cell.{Cell}
 use Rattle.vt_screen.specs.Cells.{plain, blank}
-use Rattle.vt_screen.specs.Grid.{last_row}
+use Rattle.vt_screen.specs.declared.size.Size.{Size}
+use Rattle.vt_screen.specs.Sizes.{vt220_size}
 use Rattle.vt_paint.specs.Controls.{cursor_position, private_mode}
 use Rattle.vt_paint.specs.Named.{sequence_named}
 use Rattle.vt_picture.specs.Show.{rendition_sequence}
@@ -67,15 +68,23 @@ pub record Looks (a b : Cell) : Type 0 where
   pub glyph : a.glyph ≡ b.glyph
   pub rendition : a.rendition ≡ b.rendition
 
--- each place of 24 rows, the cursor, and no attributes
-pub record Shows (w : Window) (s : Shown) : Type 0 where
-  pub places : (r k : ℕ) → 1 ≤ r → r ≤ last_row → k < length (s.cells r)
+-- each place of a screen of this size, the cursor, and no attributes
+pub record ShowsAt (size : Size) (w : Window) (s : Shown) : Type 0 where
+  pub places : (r k : ℕ) → 1 ≤ r → r ≤ size.rows → k < length (s.cells r)
       → Looks (w.place r (k + 1)) (slice_index_or (s.cells r) k blank)
   pub pen : w.pen ≡ record { row = s.row; col = s.col; look = plain }
   pub has_cursor : w.has_cursor ≡ s.has_cursor
 
--- the bytes are functions and characters after which the terminal shows a screen
-pub record Draws (bytes : List ℕ) (w : Window) (s : Shown) : Type 0 where
+-- the bytes are functions and characters after which the terminal shows a screen of this size
+pub record DrawsAt (size : Size) (bytes : List ℕ) (w : Window) (s : Shown) : Type 0 where
   pub sent : List Sent
   pub spelled : flat_map sent_bytes sent ≡ bytes
-  pub shows : Shows (all_after sent w) s
+  pub shows : ShowsAt size (all_after sent w) s
+
+-- ---- of a VT220
+
+abbrev pub Shows : Window → Shown → Type 0
+Shows w s = ShowsAt vt220_size w s
+
+abbrev pub Draws : List ℕ → Window → Shown → Type 0
+Draws bytes w s = DrawsAt vt220_size bytes w s

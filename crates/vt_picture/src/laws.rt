@@ -1,17 +1,19 @@
 //! Laws over the definitions alone. A caller cites a law by a call of its function.
 ghost use Rattle.std.specs.Prelude.{◌≡◌, ℕ, true, List, []};
+ghost use Rattle.vt_screen.specs.declared.size.Size.{Size};
 ghost use Rattle.vt_screen.specs.Sizes.{vt220_size};
 ghost use Rattle.vt_screen.specs.declared.cell.Cell.{Cell};
 ghost use Rattle.vt_term.specs.State.{Display, State};
 ghost use Rattle.vt_picture.specs.declared.looks.CursorShape.{CursorShape};
 ghost use Rattle.vt_picture.specs.Animation.{same_row, same_paper, is_seen, seen_at, cells_shown, row_shown};
-ghost use Rattle.vt_picture.specs.Limits.{animation_limit, frame_limit, picture_limit, show_limit};
+ghost use Rattle.vt_picture.specs.Limits.{animation_limit, draw_limit, frame_limit, picture_limit, show_limit};
 ghost use Rattle.vt_picture.specs.declared.drawing.pen.Pen.{Pen};
-ghost use Rattle.vt_picture.specs.Draw.{LooksLike, shown, draw, draw_from, row_bytes};
-ghost use Rattle.vt_picture.specs.Window.{Draws, Shows, Window};
+ghost use Rattle.vt_picture.specs.Draw.{LooksLike, shown, draw, draw_at, draw_from, draw_from_at, row_bytes};
+ghost use Rattle.vt_picture.specs.Window.{Draws, DrawsAt, Shows, ShowsAt, Window};
 
 use crate::animation::{ANIMATION_LIMIT, FRAME_LIMIT};
 use crate::document::PICTURE_LIMIT;
+use crate::drawing::DRAW_LIMIT;
 use crate::showing::SHOW_LIMIT;
 
 /// States what a frame shows of the rows that it doesn't draw anew. A row that it leaves out shows the same on the
@@ -26,9 +28,20 @@ pub fn shows_the_screen()
 /// States that the constants are the limits of a VT220's size.
 pub fn vt220_limits()
     ensures show { show_limit vt220_size ≡ SHOW_LIMIT }
+    ensures draw { draw_limit vt220_size ≡ DRAW_LIMIT }
     ensures picture { picture_limit vt220_size ≡ PICTURE_LIMIT }
     ensures frame { frame_limit vt220_size ≡ FRAME_LIMIT }
     ensures animation { animation_limit vt220_size ≡ ANIMATION_LIMIT }
+{}
+
+/// States of the states of one size what `unwritten`, `shows` and `canonical` state of a VT220's.
+pub fn sized_drawings()
+    ensures unwritten { (size : Size) (a b : State) → a.display.grid.width ≡ b.display.grid.width
+        → LooksLike (shown a) (shown b) → draw_from_at size a b ≡ [] }
+    ensures whole { (size : Size) (s : State) (w : Window) → DrawsAt size (draw_at size s) w (shown s) }
+    ensures from { (size : Size) (a b : State) (w : Window) → ShowsAt size w (shown a)
+        → DrawsAt size (draw_from_at size a b) w (shown b) }
+    ensures canonical { (size : Size) (a b : State) → LooksLike (shown a) (shown b) → draw_at size a ≡ draw_at size b }
 {}
 
 /// States that nothing is written where nothing changed: of a row that shows the same, and of a screen that looks the same.

@@ -20,8 +20,11 @@ mod views;
 pub use animation::{ANIMATION_LIMIT, FRAME_LIMIT, Moving, animation_end};
 pub use bytes::push_glyph;
 pub use document::PICTURE_LIMIT;
+pub use drawing::DRAW_LIMIT;
 pub use drawing::pen::Pen;
-pub use drawing::{DRAW_LIMIT, draw, draw_from, draw_from_reserved, draw_reserved};
 pub use looks::{CursorShape, Theme};
 pub use showing::{SHOW_LIMIT, push_change, push_rendition};
-pub use views::{animation_start, frame, picture, picture_reserved, show, show_reserved};
+pub use views::{
+    animation_start, draw, draw_from, draw_from_reserved, draw_reserved, frame, picture,
+    picture_reserved, show, show_reserved,
+};

@@ -1,8 +1,9 @@
 //! The most bytes of what is made of a screen of a size.
-ghost use Rattle.std.specs.Prelude.{◌≡◌};
+ghost use Rattle.std.specs.Prelude.{◌≡◌, ◌≤◌};
 ghost use Rattle.vt_screen.specs.Sizes.{IsSize};
 ghost use Rattle.vt_picture.specs.Limits.{alternative_limit, animation_limit, drawn_row_limit, frame_limit};
-ghost use Rattle.vt_picture.specs.Limits.{picture_limit, show_limit};
+ghost use Rattle.vt_paint.specs.Limits.{row_digits};
+ghost use Rattle.vt_picture.specs.Limits.{draw_limit, picture_limit, places_limit, show_limit};
 
 use vt_screen::Size;
 
@@ -48,4 +49,32 @@ pub fn animation_limit(size: Size) -> usize
     ensures { result ≡ animation_limit size }
 {
     alternative_limit(size) + frame_limit(size) + 2000
+}
+
+/// Returns how many digits the number of a row has at most, two at least.
+#[tactic(auto, unfolding(vt_paint::specs::Limits::row_digits))]
+fn row_digits(rows: usize) -> usize
+    ensures value { result ≡ row_digits rows }
+    ensures few { result ≤ 3 }
+{
+    if rows < 100 { 2 } else { 3 }
+}
+
+/// Returns the limit of the places of a row in bytes: 23 and the digits of a row's number for each cell of the wide screen.
+#[tactic(auto, unfolding(crate::specs::Limits::places_limit))]
+fn places_limit(size: Size) -> usize
+    requires { IsSize size }
+    ensures value { result ≡ places_limit size }
+    ensures few { result ≤ 6630 }
+{
+    (23 + row_digits(size.rows)) * size.wide
+}
+
+/// Returns the limit of a drawing in bytes. For each row it is 25 for each cell of the wide screen, or 26 if there are 100 rows or
+/// more. Then it is 70 for everything else.
+pub fn draw_limit(size: Size) -> usize
+    requires { IsSize size }
+    ensures { result ≡ draw_limit size }
+{
+    size.rows * places_limit(size) + 70
 }

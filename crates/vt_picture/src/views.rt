@@ -2,6 +2,7 @@
 ghost use Rattle.std.specs.Prelude.{◌≡◌, ◌+◌, ◌*◌, ◌≤◌, ◌<◌, ◌++◌, ℕ, length, vec_len, vec_capacity, OnOk, OnErr, IfOk, IsOk, slice_index_or};
 ghost use Rattle.vt_screen.specs.Grid.{last_row};
 ghost use Rattle.vt_picture.specs.Show.{show};
+ghost use Rattle.vt_picture.specs.Draw.{draw, draw_from};
 ghost use Rattle.vt_picture.specs.Picture.{picture};
 ghost use Rattle.vt_picture.specs.Animation.{animation_head, frame, number_on_screen, AreNumbered};
 
@@ -11,6 +12,10 @@ use crate::animation::{
 };
 use crate::document::{
     PICTURE_LIMIT, picture as sized_picture, picture_reserved as sized_picture_reserved,
+};
+use crate::drawing::{
+    DRAW_LIMIT, draw as sized_draw, draw_from as sized_draw_from,
+    draw_from_reserved as sized_draw_from_reserved, draw_reserved as sized_draw_reserved,
 };
 use crate::looks::Theme;
 use crate::showing::{SHOW_LIMIT, show as sized_show, show_reserved as sized_show_reserved};
@@ -147,4 +152,60 @@ pub fn animation_start(
         out,
     )?;
     Ok(numbers)
+}
+
+/// Appends the bytes that make a terminal of today show the screen of `t`, whatever it shows. It has at least 24 rows, and as
+/// many columns as `t`. The bytes are UTF-8, CUP, ED, SGR and DECTCEM. On a reverse screen (DECSCNM) the attribute
+/// `reverse` of each cell is inverted. What is shown decides the bytes.
+///
+/// It first reserves `DRAW_LIMIT` bytes of capacity. Returns `Err` if that fails. Then the contents of `out` are unchanged.
+#[inline(always)]
+pub fn draw(t: &Terminal, out: &mut Vec<u8>) -> Result<(), AllocError>
+    ensures ok { OnOk result (out.new.items ≡ out.old.items ++ draw t.now) }
+    ensures err { OnErr result (out.new.items ≡ out.old.items) }
+    ensures has_room { vec_len out.old + DRAW_LIMIT ≤ vec_capacity out.old → IsOk result }
+    ensures bounded { vec_len out.new ≤ vec_len out.old + DRAW_LIMIT }
+    ensures capacity { vec_capacity out.old ≤ vec_capacity out.new }
+{
+    sized_draw(&t.sized, out)
+}
+
+/// Appends the bytes that show the screen of `t`, as [`draw`] does. `out` has capacity for `DRAW_LIMIT` more bytes. It never
+/// fails and allocates nothing.
+#[inline(always)]
+pub fn draw_reserved(t: &Terminal, out: &mut Vec<u8>)
+    requires { vec_len out.old + DRAW_LIMIT ≤ vec_capacity out.old }
+    ensures items { out.new.items ≡ out.old.items ++ draw t.now }
+    ensures bounded { vec_len out.new ≤ vec_len out.old + DRAW_LIMIT }
+    ensures capacity { vec_capacity out.old ≤ vec_capacity out.new }
+{
+    sized_draw_reserved(&t.sized, out);
+}
+
+/// Appends the bytes that make a terminal of today show the screen of `t`, if it shows that of `shown` and was drawn by this
+/// call or by [`draw`]. Only places that show something else are written. If the widths differ, the bytes are those of
+/// [`draw`].
+///
+/// It first reserves `DRAW_LIMIT` bytes of capacity. Returns `Err` if that fails. Then the contents of `out` are unchanged.
+#[inline(always)]
+pub fn draw_from(shown: &Terminal, t: &Terminal, out: &mut Vec<u8>) -> Result<(), AllocError>
+    ensures ok { OnOk result (out.new.items ≡ out.old.items ++ draw_from shown.now t.now) }
+    ensures err { OnErr result (out.new.items ≡ out.old.items) }
+    ensures has_room { vec_len out.old + DRAW_LIMIT ≤ vec_capacity out.old → IsOk result }
+    ensures bounded { vec_len out.new ≤ vec_len out.old + DRAW_LIMIT }
+    ensures capacity { vec_capacity out.old ≤ vec_capacity out.new }
+{
+    sized_draw_from(&shown.sized, &t.sized, out)
+}
+
+/// Appends the bytes that lead from one screen to another, as [`draw_from`] does. `out` has capacity for `DRAW_LIMIT` more
+/// bytes. It never fails and allocates nothing.
+#[inline(always)]
+pub fn draw_from_reserved(shown: &Terminal, t: &Terminal, out: &mut Vec<u8>)
+    requires { vec_len out.old + DRAW_LIMIT ≤ vec_capacity out.old }
+    ensures items { out.new.items ≡ out.old.items ++ draw_from shown.now t.now }
+    ensures bounded { vec_len out.new ≤ vec_len out.old + DRAW_LIMIT }
+    ensures capacity { vec_capacity out.old ≤ vec_capacity out.new }
+{
+    sized_draw_from_reserved(&shown.sized, &t.sized, out);
 }

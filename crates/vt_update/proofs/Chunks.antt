@@ -1,10 +1,11 @@
 -- Playing bytes chunk by chunk.
-use Rattle.std.proofs.Common.{◌≡◌, ℕ, ◌+◌, List, [], ◌++◌, length, take, drop, sym, ap, ◌∙◌}
+use Rattle.std.proofs.Common.{◌≡◌, ℕ, ◌+◌, List, [], ◌++◌, length, take, drop, sym, ap, subst, ◌∙◌, append-nil}
+use Rattle.std.specs.Prelude.{◌↔◌}
 use Rattle.std.proofs.lemmas.List.{drop-drop}
-use Rattle.std.proofs.Math.Seq.{take-add, take-append_seam}
+use Rattle.std.proofs.Math.Seq.{take-add, take-append_seam, drop-append_seam}
 use Rattle.vt_term.specs.State.{State}
 use Rattle.vt_term.specs.Play.{Played, play, both}
-use Rattle.vt_update.specs.Leads.{silently}
+use Rattle.vt_update.specs.Leads.{silently, Leads, Updates}
 
 -- playing pieces in turn is playing them joined
 module _ (two : (s : State) (a b : List ℕ) → play s (a ++ b) ≡ both (play s a) (play (play s a).state b)) where
@@ -46,3 +47,17 @@ played_silently s t u sent state silent same =
 -- what was appended is taken back
 pub taken_back : (old more now : List ℕ) (n : ℕ) → now ≡ take n (old ++ more) → n ≡ length old → now ≡ old
 taken_back old more now n h e = h ∙ ap (λ n. take n (old ++ more)) e ∙ take-append_seam old more
+
+-- between two states that differ, something is sent
+pub nothing_sent : (s t : State) (before after : List ℕ) → Leads s [] t ↔ (s ≡ t) → Updates s t before after
+    → ((s ≡ t) → ⊥) → (after ≡ before) ↔ (s ≡ t)
+nothing_sent s t before after law w differ = (
+  λ e. law.0 (subst (λ (sent : List ℕ). Leads s sent t) (sent-none e) w.leads),
+  λ e. absurd (differ e),
+)
+  where
+    sent-none : after ≡ before → w.sent ≡ []
+    sent-none e =
+        sym (drop-append_seam before w.sent)
+        ∙ ap (λ (xs : List ℕ). drop (length before) xs) (sym w.appended ∙ e ∙ sym (append-nil before))
+        ∙ drop-append_seam before []

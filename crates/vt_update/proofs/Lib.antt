@@ -1,3 +1,4 @@
 pub mod Turns
 pub mod Chunks
 pub mod Elements
+mod Arrays

@@ -1,13 +1,12 @@
 //! The cells, row by row.
 ghost use Rattle.std.specs.Prelude.{◌≡◌, ◌≤◌, length, vec_capacity};
-ghost use Rattle.vt_screen.specs.Grid.{last_row};
 ghost use Rattle.vt_update.specs.Private.Appended.{Appended};
 
 use crate::remote::Remote;
 use crate::rows::{BLANK, Rows};
 use vt_paint::Function;
-use vt_screen::{Cell, ROWS};
-use vt_term::Terminal;
+use vt_screen::{Cell, MOST};
+use vt_term::SizedTerminal;
 
 /// An erasure is chosen if it saves more cells than this: the number of bytes that it takes.
 const ERASURE: i32 = 3;
@@ -29,28 +28,35 @@ enum Erased {
 
 impl Remote {
     /// Writes all cells, by row and column.
-    pub(crate) fn set_cells(&mut self, rows: &Rows<'_>, to: &Terminal, out: &mut Vec<u8>)
+    pub(crate) fn set_cells<const R: usize>(
+        &mut self,
+        rows: &Rows<'_, R>,
+        to: &SizedTerminal,
+        out: &mut Vec<u8>,
+    )
+        requires { to.now.display.grid.size.rows ≤ R }
         ensures appended { Appended out.old.items out.new.items }
         ensures capacity { vec_capacity out.old ≤ vec_capacity out.new }
     {
         let below = rows.gains_below(to);
         let mut erased = false;
-        for row in 1..ROWS + 1 {
+        for row in 1..to.size().rows + 1 {
             erased = self.set_row(row, erased, below[row - 1], rows, to, out);
         }
     }
 
     /// Writes the cells of a row that was erased or is unchanged. Returns whether the rows below are erased.
-    fn set_row(
+    fn set_row<const R: usize>(
         &mut self,
         row: usize,
         erased: bool,
         below: i32,
-        rows: &Rows<'_>,
-        to: &Terminal,
+        rows: &Rows<'_, R>,
+        to: &SizedTerminal,
         out: &mut Vec<u8>,
     ) -> bool
-        requires { (1 ≤ row) × (row ≤ last_row) }
+        requires row { (1 ≤ row) × (row ≤ to.now.display.grid.size.rows) }
+        requires fits { to.now.display.grid.size.rows ≤ R }
         ensures appended { Appended out.old.items out.new.items }
         ensures capacity { vec_capacity out.old ≤ vec_capacity out.new }
     {
@@ -66,15 +72,16 @@ impl Remote {
     }
 
     /// Writes the cells of a row that differs. Returns whether the rows below were erased.
-    fn change_row(
+    fn change_row<const R: usize>(
         &mut self,
         row: usize,
-        rows: &Rows<'_>,
+        rows: &Rows<'_, R>,
         spared: Spared,
-        to: &Terminal,
+        to: &SizedTerminal,
         out: &mut Vec<u8>,
     ) -> bool
-        requires { (1 ≤ row) × (row ≤ last_row) }
+        requires row { (1 ≤ row) × (row ≤ to.now.display.grid.size.rows) }
+        requires fits { to.now.display.grid.size.rows ≤ R }
         ensures appended { Appended out.old.items out.new.items }
         ensures capacity { vec_capacity out.old ≤ vec_capacity out.new }
     {
@@ -100,7 +107,7 @@ impl Remote {
                 here = here.wrapping_sub(1);
             }
             let count = self.write_part(row, i + 1, &old[i..columns], &new[i..columns], to, out);
-            left = left.wrapping_sub(count as i32);
+            left = left.wrapping_sub(count.min(MOST) as i32);
             i += count;
         }
         false
@@ -114,10 +121,10 @@ impl Remote {
         col: usize,
         old: &[Cell],
         new: &[Cell],
-        to: &Terminal,
+        to: &SizedTerminal,
         out: &mut Vec<u8>,
     ) -> usize
-        requires row { (1 ≤ row) × (row ≤ last_row) }
+        requires row { (1 ≤ row) × (row ≤ to.now.display.grid.size.rows) }
         requires some { 1 ≤ length new.now }
         requires len { length old.now ≡ length new.now }
         ensures some { 1 ≤ result }
@@ -137,10 +144,10 @@ impl Remote {
         row: usize,
         from: usize,
         blank: &[Cell],
-        to: &Terminal,
+        to: &SizedTerminal,
         out: &mut Vec<u8>,
     )
-        requires { (1 ≤ row) × (row ≤ last_row) }
+        requires { (1 ≤ row) × (row ≤ to.now.display.grid.size.rows) }
         ensures appended { Appended out.old.items out.new.items }
         ensures capacity { vec_capacity out.old ≤ vec_capacity out.new }
     {
@@ -157,8 +164,8 @@ impl Remote {
     }
 
     /// Writes ED or EL at a position if it saves enough. Returns what was erased.
-    fn erase(&mut self, row: usize, col: usize, spared: Spared, to: &Terminal) -> Erased
-        requires { (1 ≤ row) × (row ≤ last_row) }
+    fn erase(&mut self, row: usize, col: usize, spared: Spared, to: &SizedTerminal) -> Erased
+        requires { (1 ≤ row) × (row ≤ to.now.display.grid.size.rows) }
     {
         let Spared { here, below } = spared;
         if here < 0 {

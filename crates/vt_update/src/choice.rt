@@ -7,20 +7,24 @@ ghost use Rattle.vt_update.specs.Private.Appended.{Appended};
 use crate::remote::Remote;
 use crate::rows::Rows;
 use crate::scrolling::Scroll;
-use vt_screen::{COLUMNS, Cell};
-use vt_term::{ROWS, Terminal};
+use vt_screen::{Cell, MOST};
+use vt_term::SizedTerminal;
 
 /// Appends bytes that should lead from one state to another. `counts` has the number of cells of each row that differ.
 ///
 /// It appends none if a single shift is pending, since the next glyph would be read through it. (It isn't inlined,
 /// so that its buffers aren't on the stack while the bytes are played.)
 #[inline(never)]
-pub(crate) fn push_choice(
-    shown: &Terminal,
-    counts: &[usize; ROWS],
-    to: &Terminal,
+pub(crate) fn push_choice<const R: usize, const C: usize>(
+    shown: &SizedTerminal,
+    counts: &[usize; R],
+    to: &SizedTerminal,
     out: &mut Vec<u8>,
 )
+    requires size { shown.now.display.grid.size.rows ≡ to.now.display.grid.size.rows }
+    requires fits { to.now.display.grid.size.rows ≤ R }
+    requires rows { R ≤ MOST }
+    requires columns { C ≤ MOST }
     ensures items { out.new.items ≡ out.old.items ++ drop (vec_len out.old) out.new.items }
     ensures speaks { Speaks (drop (vec_len out.old) out.new.items) }
     ensures capacity { vec_capacity out.old ≤ vec_capacity out.new }
@@ -29,19 +33,29 @@ pub(crate) fn push_choice(
         return;
     }
     let mut remote = Remote::new(shown);
-    remote.bring(shown, counts, to, out);
+    remote.bring::<R, C>(shown, counts, to, out);
 }
 
 impl Remote {
     /// Brings the other side, which has the cells of `shown`, to the state of `to`.
-    fn bring(&mut self, shown: &Terminal, counts: &[usize; ROWS], to: &Terminal, out: &mut Vec<u8>)
+    fn bring<const R: usize, const C: usize>(
+        &mut self,
+        shown: &SizedTerminal,
+        counts: &[usize; R],
+        to: &SizedTerminal,
+        out: &mut Vec<u8>,
+    )
+        requires size { shown.now.display.grid.size.rows ≡ to.now.display.grid.size.rows }
+        requires fits { to.now.display.grid.size.rows ≤ R }
+        requires rows { R ≤ MOST }
+        requires columns { C ≤ MOST }
         ensures appended { Appended out.old.items out.new.items }
         ensures capacity { vec_capacity out.old ≤ vec_capacity out.new }
     {
         let cursor = to.cursor();
         self.set_margins(to.margins());
-        let blanks = [Cell::blank(); COLUMNS];
-        let blank = &blanks[..shown.width().min(COLUMNS)];
+        let blanks = [Cell::blank(); C];
+        let blank = &blanks[..shown.width().min(C)];
         let mut rows = Rows::new(shown, blank, counts, to);
         if let Some(scroll) = Scroll::find(&rows, shown, to) {
             self.scroll(scroll, to);

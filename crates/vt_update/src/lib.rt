@@ -9,8 +9,11 @@ mod motion;
 mod remote;
 mod rows;
 mod scrolling;
+pub mod sized;
 mod state;
 mod updating;
+mod views;
 mod writing;
 
-pub use updating::{UPDATE_LIMIT, UpdateError, update, update_reserved};
+pub use updating::{UPDATE_LIMIT, UpdateError};
+pub use views::{update, update_reserved};

@@ -1,10 +1,9 @@
 //! Going to a position.
 ghost use Rattle.std.specs.Prelude.{◌≤◌};
-ghost use Rattle.vt_screen.specs.Grid.{last_row};
 
 use crate::remote::{Remote, number};
 use vt_paint::{DECAWM, DECOM, Function};
-use vt_term::{Cursor, Margins, Terminal};
+use vt_term::{Cursor, Margins, SizedTerminal};
 
 /// The most cells that are written again to get past them.
 const FEW: usize = 4;
@@ -48,8 +47,8 @@ impl Remote {
 
     /// Moves the cursor to a position, with the wrap flag reset. All cells to its left in the row are those of `to`.
     #[inline(always)]
-    pub(crate) fn go(&mut self, row: usize, col: usize, to: &Terminal)
-        requires { (1 ≤ row) × (row ≤ last_row) }
+    pub(crate) fn go(&mut self, row: usize, col: usize, to: &SizedTerminal)
+        requires { (1 ≤ row) × (row ≤ to.now.display.grid.size.rows) }
     {
         let at = self.cursor;
         if !(at.row == row && at.col == col && !at.wrap) {
@@ -58,8 +57,8 @@ impl Remote {
     }
 
     /// Moves the cursor to another position. Resets DECOM if the row is outside the margins.
-    fn go_elsewhere(&mut self, row: usize, col: usize, to: &Terminal)
-        requires { (1 ≤ row) × (row ≤ last_row) }
+    fn go_elsewhere(&mut self, row: usize, col: usize, to: &SizedTerminal)
+        requires { (1 ≤ row) × (row ≤ to.now.display.grid.size.rows) }
     {
         if self.modes.decom && !(self.margins.top <= row && row <= self.margins.bottom) {
             self.set_origin(false);
@@ -97,8 +96,8 @@ impl Remote {
     }
 
     /// Moves the cursor to a column of its row: by BS, CUB, CR, the few cells between written again, or CUF.
-    fn go_sideways(&mut self, row: usize, col: usize, to: &Terminal)
-        requires { (1 ≤ row) × (row ≤ last_row) }
+    fn go_sideways(&mut self, row: usize, col: usize, to: &SizedTerminal)
+        requires { (1 ≤ row) × (row ≤ to.now.display.grid.size.rows) }
     {
         let start = self.cursor.col;
         if 1 < col && col < start {
@@ -120,8 +119,8 @@ impl Remote {
 
     /// Writes the cells of the cursor's row up to a column again, if they are few and one byte each. Returns whether it
     /// did.
-    fn write_again(&mut self, row: usize, col: usize, to: &Terminal) -> bool
-        requires row { (1 ≤ row) × (row ≤ last_row) }
+    fn write_again(&mut self, row: usize, col: usize, to: &SizedTerminal) -> bool
+        requires row { (1 ≤ row) × (row ≤ to.now.display.grid.size.rows) }
     {
         let start = self.cursor.col;
         let cells = to.row(row);
@@ -142,8 +141,8 @@ impl Remote {
 
     /// Moves the cursor to its position and sets its wrap flag, which writing its cell again does. All cells are those
     /// of the target.
-    pub(crate) fn stand(&mut self, cursor: Cursor, to: &Terminal)
-        requires { (1 ≤ cursor.row) × (cursor.row ≤ last_row) }
+    pub(crate) fn stand(&mut self, cursor: Cursor, to: &SizedTerminal)
+        requires { (1 ≤ cursor.row) × (cursor.row ≤ to.now.display.grid.size.rows) }
     {
         if self.cursor == cursor {
             return;

@@ -5,7 +5,7 @@
 use crate::chosen::Chosen;
 use vt_glyph::Sets;
 use vt_screen::Brush;
-use vt_term::{Cursor, Margins, Modes, Saved, Terminal};
+use vt_term::{Cursor, Margins, Modes, Saved, SizedTerminal};
 
 /// The state of the other side without its cells, and the bytes chosen so far.
 #[derive(Drop)]
@@ -24,7 +24,7 @@ pub(crate) struct Remote {
 
 impl Remote {
     /// Returns the other side before the first byte.
-    pub(crate) fn new(shown: &Terminal) -> Remote {
+    pub(crate) fn new(shown: &SizedTerminal) -> Remote {
         let brush = shown.brush();
         Remote {
             chosen: Chosen::new(),
@@ -40,7 +40,7 @@ impl Remote {
     }
 }
 
-/// Returns a number as a parameter. On a sound terminal each is at most 132.
+/// Returns a number as a parameter. On a sound terminal each is at most 255.
 pub(crate) fn number(n: usize) -> u8 {
     n.min(0xFF) as u8
 }

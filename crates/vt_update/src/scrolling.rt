@@ -1,12 +1,11 @@
 //! Scrolls: rows that move up or down, so that they needn't be written.
-ghost use Rattle.std.specs.Prelude.{◌≤◌, ◌<◌, ◌+◌};
-ghost use Rattle.vt_screen.specs.Grid.{last_row};
+ghost use Rattle.std.specs.Prelude.{◌≡◌, ◌≤◌, ◌<◌, ◌+◌};
 
 use crate::remote::{Remote, number};
 use crate::rows::{Rows, filled, unlike};
 use vt_paint::Function;
-use vt_screen::{Cell, ROWS, same_cells};
-use vt_term::{Margins, Terminal};
+use vt_screen::{Cell, MOST, same_cells};
+use vt_term::{Margins, SizedTerminal};
 
 /// The fewest cells that a scroll has to bring to their rows to be considered.
 const FEW: i32 = 8;
@@ -21,7 +20,7 @@ pub(crate) struct Scroll {
     ghost from_row_1: { 1 ≤ top },
     ghost some: { 1 ≤ by },
     ghost inside: { top + by ≤ bottom },
-    ghost to_last_row: { bottom ≤ last_row },
+    ghost to_last_row: { bottom ≤ 255 },
 }
 
 impl Scroll {
@@ -40,7 +39,15 @@ impl Scroll {
 
     /// Returns a scroll inside the margins that saves at least two cells, if one is found. If it isn't the best one, a
     /// few more bytes are sent.
-    pub(crate) fn find(rows: &Rows<'_>, shown: &Terminal, to: &Terminal) -> Option<Scroll> {
+    pub(crate) fn find<const R: usize>(
+        rows: &Rows<'_, R>,
+        shown: &SizedTerminal,
+        to: &SizedTerminal,
+    ) -> Option<Scroll>
+        requires size { shown.now.display.grid.size.rows ≡ to.now.display.grid.size.rows }
+        requires fits { to.now.display.grid.size.rows ≤ R }
+        requires rows { R ≤ MOST }
+    {
         let _ = to.width();
         let Margins { top, bottom } = to.margins();
         let votes = Votes::new(rows, shown, to);
@@ -68,25 +75,28 @@ impl Scroll {
 /// The number of filled cells that each scroll brings to their rows, counted in whole rows that differ. Rows are
 /// compared if their sums are equal.
 #[derive(Drop)]
-struct Votes {
-    sums: [u64; ROWS],
-    up: [i32; ROWS],
-    down: [i32; ROWS],
+struct Votes<const R: usize> {
+    sums: [u64; R],
+    up: [i32; R],
+    down: [i32; R],
 }
 
-impl Votes {
-    fn new(rows: &Rows<'_>, shown: &Terminal, to: &Terminal) -> Votes {
+impl<const R: usize> Votes<R> {
+    fn new(rows: &Rows<'_, R>, shown: &SizedTerminal, to: &SizedTerminal) -> Votes<R>
+        requires size { shown.now.display.grid.size.rows ≡ to.now.display.grid.size.rows }
+        requires fits { to.now.display.grid.size.rows ≤ R }
+    {
         let mut votes = Votes {
-            sums: [0; ROWS],
-            up: [0; ROWS],
-            down: [0; ROWS],
+            sums: [0; R],
+            up: [0; R],
+            down: [0; R],
         };
-        for row in 1..ROWS + 1 {
+        for row in 1..to.size().rows + 1 {
             if rows.differs(row) {
                 votes.sums[row - 1] = sum_of(shown.row(row));
             }
         }
-        for row in 1..ROWS + 1 {
+        for row in 1..to.size().rows + 1 {
             if rows.differs(row) {
                 votes.count(row, rows, shown, to);
             }
@@ -95,8 +105,10 @@ impl Votes {
     }
 
     /// Adds the votes of one row.
-    fn count(&mut self, row: usize, rows: &Rows<'_>, shown: &Terminal, to: &Terminal)
-        requires { (1 ≤ row) × (row ≤ last_row) }
+    fn count(&mut self, row: usize, rows: &Rows<'_, R>, shown: &SizedTerminal, to: &SizedTerminal)
+        requires row { (1 ≤ row) × (row ≤ to.now.display.grid.size.rows) }
+        requires size { shown.now.display.grid.size.rows ≡ to.now.display.grid.size.rows }
+        requires fits { to.now.display.grid.size.rows ≤ R }
     {
         let new = to.row(row);
         let cells = rows.filled(row);
@@ -104,7 +116,7 @@ impl Votes {
             return;
         }
         let sum = sum_of(new);
-        for source in 1..ROWS + 1 {
+        for source in 1..to.size().rows + 1 {
             if self.sums[source - 1] == sum
                 && rows.differs(source)
                 && same_cells(shown.row(source), new)
@@ -119,7 +131,7 @@ impl Votes {
     }
 
     fn of(&self, by: usize, up: bool) -> i32
-        requires { by < last_row }
+        requires { by < R }
     {
         if up { self.up[by] } else { self.down[by] }
     }
@@ -136,22 +148,29 @@ fn sum_of(cells: &[Cell]) -> u64 {
 
 /// The number of cells that each row between the margins saves: if it comes from another row, and if it is blank.
 #[derive(Drop)]
-struct Gains {
-    moved: [i32; ROWS],
-    blank: [i32; ROWS],
+struct Gains<const R: usize> {
+    moved: [i32; R],
+    blank: [i32; R],
 }
 
-impl Gains {
-    fn new(scroll: Scroll, rows: &Rows<'_>, shown: &Terminal, to: &Terminal) -> Gains {
+impl<const R: usize> Gains<R> {
+    fn new(
+        scroll: Scroll,
+        rows: &Rows<'_, R>,
+        shown: &SizedTerminal,
+        to: &SizedTerminal,
+    ) -> Gains<R>
+        requires { to.now.display.grid.size.rows ≤ R }
+    {
         let mut gains = Gains {
-            moved: [0; ROWS],
-            blank: [0; ROWS],
+            moved: [0; R],
+            blank: [0; R],
         };
-        for row in scroll.top..scroll.bottom + 1 {
+        for row in scroll.top..scroll.bottom.min(to.size().rows) + 1 {
             let new = to.row(row);
             let differing = rows.differing(row);
             let source = scroll.source(row);
-            if 1 <= source && source <= ROWS {
+            if 1 <= source && source <= shown.size().rows {
                 gains.moved[row - 1] = differing.wrapping_sub(unlike(shown.row(source), new));
             }
             gains.blank[row - 1] = if rows.differs(row) {
@@ -173,6 +192,10 @@ impl Gains {
         } = scroll;
         let mut most = 3i32;
         let mut found = None;
+        if R < bottom {
+            return found;
+        }
+        let blank_rows = &self.blank[..];
         for first in top..bottom - by + 1 {
             let mut sum = 0i32;
             for last in first..bottom - by + 1 {
@@ -182,7 +205,7 @@ impl Gains {
                     (last + by, first)
                 };
                 sum = sum.wrapping_add(self.moved[moved - 1]);
-                let spared = sum.wrapping_add(total(&self.blank[blank - 1..blank - 1 + by]));
+                let spared = sum.wrapping_add(total(&blank_rows[blank - 1..blank - 1 + by]));
                 let whole = first == top && last + by == bottom;
                 let gain = spared.wrapping_mul(2).wrapping_add(whole as i32);
                 if gain > most {
@@ -210,13 +233,16 @@ fn total(counts: &[i32]) -> i32 {
 
 impl Remote {
     /// Sends DL and IL, or one LF if that is enough.
-    pub(crate) fn scroll(&mut self, scroll: Scroll, to: &Terminal) {
+    pub(crate) fn scroll(&mut self, scroll: Scroll, to: &SizedTerminal) {
         let Scroll {
             top,
             bottom,
             by,
             up,
         } = scroll;
+        if to.size().rows < bottom {
+            return;
+        }
         let margins = self.margins;
         let whole = margins.top == top && margins.bottom == bottom;
         if whole && up && by == 1 && self.cursor.row == bottom {

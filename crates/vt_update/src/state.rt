@@ -1,12 +1,10 @@
 //! The sets, the modes and the saved record.
 ghost use Rattle.std.specs.Prelude.{◌≤◌, ◌<◌};
-ghost use Rattle.vt_screen.specs.Grid.{last_row};
 
 use crate::remote::Remote;
 use vt_glyph::{Set, Sets};
 use vt_paint::{Function, mode_values};
-use vt_screen::ROWS;
-use vt_term::{Cursor, Margins, Modes, Saved, Terminal};
+use vt_term::{Cursor, Margins, Modes, Saved, SizedTerminal};
 
 impl Remote {
     /// Sends SCS.
@@ -72,8 +70,8 @@ impl Remote {
 
     /// Sends the saved record if it differs: it makes the state that the record holds, and saves it by DECSC. All cells
     /// are those of the target.
-    pub(crate) fn set_saved(&mut self, saved: Saved, to: &Terminal)
-        requires row { (1 ≤ saved.row) × (saved.row ≤ last_row) }
+    pub(crate) fn set_saved(&mut self, saved: Saved, to: &SizedTerminal)
+        requires row { (1 ≤ saved.row) × (saved.row ≤ to.now.display.grid.size.rows) }
         requires left { saved.gl < 4 }
         requires right { (1 ≤ saved.gr) × (saved.gr < 4) }
     {
@@ -84,7 +82,7 @@ impl Remote {
         if saved.origin && !inside {
             self.set_margins(Margins {
                 top: 1,
-                bottom: ROWS,
+                bottom: to.size().rows,
             });
         }
         self.set_origin(saved.origin);

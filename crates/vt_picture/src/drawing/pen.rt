@@ -1,10 +1,10 @@
 //! The pen: where the next character is shown, and with which attributes.
 ghost use Rattle.std.specs.Prelude.{◌≡◌, ◌+◌, ◌≤◌, ◌++◌, vec_len, vec_capacity};
+ghost use Rattle.vt_paint.specs.Limits.{row_digits};
 ghost use Rattle.vt_picture.specs.Draw.{go};
 
 use vt_paint::Function;
-use vt_screen::{COLUMNS, Rendition};
-use vt_term::ROWS;
+use vt_screen::{MOST, Rendition};
 
 /// Where the next character is shown, and with which attributes.
 #[derive(Clone, Copy)]
@@ -19,11 +19,11 @@ pub struct Pen {
 
 /// Appends CUP if the pen is elsewhere.
 pub(crate) fn push_go(pen: Pen, row: usize, col: usize, out: &mut Vec<u8>)
-    requires row { row ≤ ROWS }
-    requires col { col ≤ COLUMNS }
-    requires room { vec_len out.old + 9 ≤ vec_capacity out.old }
+    requires row { row ≤ MOST }
+    requires col { col ≤ MOST }
+    requires room { vec_len out.old + 7 + row_digits row ≤ vec_capacity out.old }
     ensures items { out.new.items ≡ out.old.items ++ go pen row col }
-    ensures bounded { vec_len out.new ≤ vec_len out.old + 9 }
+    ensures bounded { vec_len out.new ≤ vec_len out.old + 7 + row_digits row }
     ensures capacity { vec_capacity out.old ≤ vec_capacity out.new }
 {
     if !(pen.row == row && pen.col == col) {

@@ -1,6 +1,6 @@
 //! The places of a row that show something else.
 ghost use Rattle.std.specs.Prelude.{◌≡◌, ◌+◌, ◌*◌, ◌≤◌, ◌++◌, length, vec_len, vec_capacity};
-ghost use Rattle.vt_screen.specs.Grid.{last_row};
+ghost use Rattle.vt_picture.specs.Limits.{place_limit};
 ghost use Rattle.vt_picture.specs.Draw.{place_bytes, place_pen, row_bytes, row_pen};
 ghost use Rattle.vt_picture.specs.Private.Looks.{former_cell, former, latter_cell, latter};
 
@@ -8,7 +8,7 @@ use crate::bytes::push_glyph;
 use crate::drawing::looks::Looks;
 use crate::drawing::pen::{Pen, push_go};
 use crate::showing::push_change;
-use vt_screen::{COLUMNS, Cell, same_cells};
+use vt_screen::{Cell, MOST, same_cells};
 
 /// Appends a place if it shows something else. Returns the pen after it.
 fn push_place(
@@ -20,12 +20,12 @@ fn push_place(
     pen: Pen,
     out: &mut Vec<u8>,
 ) -> Pen
-    requires row { row ≤ last_row }
-    requires col { col ≤ COLUMNS }
-    requires room { vec_len out.old + 25 ≤ vec_capacity out.old }
+    requires row { row ≤ MOST }
+    requires col { col ≤ MOST }
+    requires room { vec_len out.old + place_limit row ≤ vec_capacity out.old }
     ensures items { out.new.items ≡ out.old.items ++ place_bytes row col (former_cell looks old.now) (latter_cell looks new.now) pen }
     ensures pen { result ≡ place_pen row col (former_cell looks old.now) (latter_cell looks new.now) pen }
-    ensures bounded { vec_len out.new ≤ vec_len out.old + 25 }
+    ensures bounded { vec_len out.new ≤ vec_len out.old + place_limit row }
     ensures capacity { vec_capacity out.old ≤ vec_capacity out.new }
 {
     let before = looks.former(old);
@@ -54,13 +54,13 @@ pub(crate) fn push_row(
     pen: Pen,
     out: &mut Vec<u8>,
 ) -> Pen
-    requires row { row ≤ last_row }
+    requires row { row ≤ MOST }
     requires same { length old.now ≡ length new.now }
-    requires len { length new.now ≤ COLUMNS }
-    requires room { vec_len out.old + 25 * length new.now ≤ vec_capacity out.old }
+    requires len { length new.now ≤ MOST }
+    requires room { vec_len out.old + place_limit row * length new.now ≤ vec_capacity out.old }
     ensures items { out.new.items ≡ out.old.items ++ row_bytes row 1 (former looks old.now) (latter looks new.now) pen }
     ensures pen { result ≡ row_pen row 1 (former looks old.now) (latter looks new.now) pen }
-    ensures bounded { vec_len out.new ≤ vec_len out.old + 25 * length new.now }
+    ensures bounded { vec_len out.new ≤ vec_len out.old + place_limit row * length new.now }
     ensures capacity { vec_capacity out.old ≤ vec_capacity out.new }
 {
     if looks.keeps() && same_cells(old, new) {

@@ -1,9 +1,9 @@
 use Rattle.std.proofs.Common.{append_assoc}
-use Rattle.vt_picture.specs.Draw.{draw, changes}
+use Rattle.vt_picture.specs.Draw.{draw_at, changes_at}
 use Rattle.vt_picture.proofs.drawing.draw_reserved.Goals as goal
 
 pub returns-clause-items : goal.returns-clause-items
-unfolding draw changes
+unfolding draw_at changes_at
 returns-clause-items c =
     rw (
       c.push_end.ensures.items,

@@ -6,7 +6,7 @@ use Rattle.vt_update.proofs.Chunks.{taken_back}
 use Rattle.vt_update.proofs.updating.send_changes.Goals as goal
 
 pub returns-clause-leads : goal.returns-clause-leads
-returns-clause-leads c s sound changes =
+returns-clause-leads g c s sound changes =
     let w = c.repaint_changes_reserved.ensures.leads s sound changes in
     let old = c.args.out.now.items in
     let n = c.len-before.result in
@@ -17,11 +17,11 @@ returns-clause-leads c s sound changes =
     record {
       sent = w.sent;
       appended = w.appended ∙ ap (λ (xs : List ℕ). xs ++ w.sent) back;
-      leads = c.leading.ensures.played s c.args.to.now w.sent sound w.played;
+      leads = c.sized_leading.ensures.played c.args.to.now.display.grid.size s c.args.to.now w.sent sound w.played;
     }
 
 pub returns-clause-speaks : goal.returns-clause-speaks
-returns-clause-speaks c s changes =
+returns-clause-speaks g c s changes =
     let old = c.args.out.now.items in
     let n = c.len-before.result in
     let all : n ≡ length old = omega (arith, c.len-before.ensures) in

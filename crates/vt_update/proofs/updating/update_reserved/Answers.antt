@@ -1,25 +1,16 @@
-use Rattle.std.proofs.Common.{◌≡◌, List, ℕ, subst, rules, drop, vec_len}
-use Rattle.vt_paint.specs.Spoken.{Speaks}
-use Rattle.vt_update.specs.Leads.{Updates}
+use Rattle.std.proofs.Common.{◌∙◌, sym, subst, rules}
+use Rattle.vt_screen.specs.declared.size.Size.{Size}
+use Rattle.vt_term.specs.Sound.{IsSoundAt}
 use Rattle.vt_update.proofs.updating.update_reserved.Goals as goal
 
-pub returns-then-not-send_choice-clause-leads : goal.returns-then-not-send_choice-clause-leads
-returns-then-not-send_choice-clause-leads c =
-    let taken : c.send_choice.new.out.items ≡ c.args.out.now.items = search (rules, c.if-not-send_choice.true) in
-    let same = c.same_columns.ensures.0 (search (rules, c.if-not-same_columns.false)) in
-    subst (λ (before : List ℕ). Updates c.args.shown.now c.args.to.now before c.send_changes.new.out.items) taken
-    (c.send_changes.ensures.leads c.args.shown.now (search rules)
-    (record { width = same.0; stops = same.1; marked = c.changed_places-count.ensures.marked }))
+pub bring-requires-clause-sound : goal.bring-requires-clause-sound
+bring-requires-clause-sound c =
+    let same = c.same.ensures.0 (search (rules, c.if-not-same.false)) in
+    subst (λ (z : Size). IsSoundAt z c.args.shown.now) (sym c.size.ensures.size ∙ same ∙ c.size-2.ensures.size)
+    c.soundness.ensures
 
-pub returns-then-not-send_choice-clause-speaks : goal.returns-then-not-send_choice-clause-speaks
-returns-then-not-send_choice-clause-speaks c =
-    let len : vec_len c.send_choice.new.out ≡ vec_len c.args.out.now = search (rules, c.if-not-send_choice.true) in
-    let same = c.same_columns.ensures.0 (search (rules, c.if-not-same_columns.false)) in
-    subst (λ n. Speaks (drop n c.send_changes.new.out.items)) len
-    (c.send_changes.ensures.speaks c.args.shown.now
-    (record { width = same.0; stops = same.1; marked = c.changed_places-count.ensures.marked }))
+pub bring-requires-clause-rows : goal.bring-requires-clause-rows
+bring-requires-clause-rows c = c.soundness-2.ensures.display.grid.shape.size.rows.1
 
-pub returns-then-not-send_choice-clause-ascii : goal.returns-then-not-send_choice-clause-ascii
-returns-then-not-send_choice-clause-ascii c =
-    c.spoken.ensures.ascii (drop (vec_len c.args.out.now) c.send_changes.new.out.items)
-    (returns-then-not-send_choice-clause-speaks c)
+pub bring-requires-clause-columns : goal.bring-requires-clause-columns
+bring-requires-clause-columns c = c.soundness-2.ensures.display.grid.shape.size.columns

@@ -3,7 +3,7 @@ use Rattle.vt_update.specs.Private.Appended.{Appended}
 use Rattle.vt_update.proofs.remote.Remote.change_row.Given as goal
 
 abbrev pub invariant-loop-i : goal.invariant-loop-i
-invariant-loop-i l = record {
+invariant-loop-i g l = record {
   old : l.columns ≤ length l.old;
   new : l.columns ≤ length l.new;
   appended : Appended l.fn.out.items l.out.items;
@@ -11,4 +11,4 @@ invariant-loop-i l = record {
 }
 
 abbrev pub decreases-loop-i : goal.decreases-loop-i
-decreases-loop-i l = l.columns - l.i
+decreases-loop-i g l = l.columns - l.i

@@ -3,7 +3,7 @@ use Rattle.vt_update.specs.Private.Appended.{Appended}
 use Rattle.vt_update.proofs.remote.Remote.set_cells.Given as goal
 
 abbrev pub invariant-loop-row : goal.invariant-loop-row
-invariant-loop-row l = record {
+invariant-loop-row g l = record {
   appended : Appended l.fn.out.items l.out.items;
   capacity : vec_capacity l.fn.out ≤ vec_capacity l.out;
 }

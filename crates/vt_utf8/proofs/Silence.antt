@@ -1,5 +1,5 @@
--- A character beyond ASCII causes no report.
-use Rattle.std.proofs.Common.{◌≡◌, ℕ, zero, suc, take, drop, ◌+◌, ◌-◌, ◌≤◌, Bool, true, false, not, List, [], ◌∷◌, ◌++◌, All, length, Some, inl, inr, refl, sym, ap, ◌∙◌, arith, append_assoc, append-nil}
+-- A character beyond ASCII causes no report, and has no function that erases the screen.
+use Rattle.std.proofs.Common.{◌≡◌, ℕ, zero, suc, take, drop, ◌+◌, ◌-◌, ◌≤◌, Bool, true, false, not, List, [], ◌∷◌, ◌++◌, All, length, None, Some, inl, inr, refl, sym, ap, subst, ◌∙◌, arith, append_assoc, append-nil}
 use Rattle.std.specs.Prelude.{nat_lt, nat_le, ◌==◌, ◌&&◌, slice_index_or, if◌then◌else◌}
 use Rattle.std.specs.List.{list_all}
 use Rattle.std.proofs.lemmas.Bool.{and_parts, leb-true}
@@ -9,7 +9,7 @@ use Rattle.std.proofs.lemmas.Bool.Decides.{nat_tests}
 use Rattle.std.proofs.lemmas.List.Elements.{All-append, All-from_recursion}
 use Rattle.std.proofs.lemmas.Grind.{flat_map-append}
 use Rattle.vt_syntax.specs.declared.event.Event.{Event}
-use Rattle.vt_syntax.specs.declared.event.Event.TheVariants.{Print, Control, Escape}
+use Rattle.vt_syntax.specs.declared.event.Event.TheVariants.{Print, Control, Escape, Sequence}
 use Rattle.vt_syntax.specs.declared.held.Held.{Held}
 use Rattle.vt_syntax.specs.declared.held.Held.TheVariants as held
 use Rattle.vt_syntax.specs.Class.{opens_string}
@@ -43,17 +43,25 @@ use Rattle.vt_utf8.specs.Translation.{beyond_ascii, translation}
 
 -- ---- bytes that are events without a report
 
+-- a character, a control or a designation
+abbrev pub is_part : Event → Bool
+is_part (Print b) = true
+is_part (Control b) = true
+is_part (Escape None last) = false
+is_part (Escape (Some inter) last) = true
+is_part (Sequence marker params inter last) = false
+
 abbrev pub AreSilent : List Event → Type 0
 AreSilent [] = Unit {0}
-AreSilent (event ∷ events) = ((s : Display) → report event s ≡ []) × AreSilent events
+AreSilent (event ∷ events) = ((s : Display) → report event s ≡ []) × (is_part event ≡ true) × AreSilent events
 
 pub silent-reports : (events : List Event) → AreSilent events → (s : Display) → reports_of events s ≡ []
 silent-reports [] h s = refl
-silent-reports (event ∷ events) (first, others) s = rw (first s) (silent-reports events others (effect event s))
+silent-reports (event ∷ events) (first, part, others) s = rw (first s) (silent-reports events others (effect event s))
 
 silent-append : (xs ys : List Event) → AreSilent xs → AreSilent ys → AreSilent (xs ++ ys)
 silent-append [] ys first second = second
-silent-append (x ∷ xs) ys (first, others) second = (first, silent-append xs ys others second)
+silent-append (x ∷ xs) ys (first, part, others) second = (first, part, silent-append xs ys others second)
 
 -- events that make no report, and the bytes that spell them
 pub record SpellQuietly (events : List Event) (bytes : List ℕ) : Type 0 where
@@ -72,7 +80,7 @@ pub spell-printed : (code : ℕ) → 0x20 ≤ code → code ≤ 0x7E → SpellQu
 spell-printed code low high = record {
   spelled = refl;
   are_events = All-from_recursion IsEvent (Print code ∷ []) (inl (low, high), tt);
-  silent = (λ s. refl, tt);
+  silent = (λ s. refl, refl, tt);
 }
 
 -- a control of C1, by ESC
@@ -81,7 +89,7 @@ spell-control : (control last : ℕ) → spell_event (Control control) ≡ 0x1B 
 spell-control control last spelled is silent = record {
   spelled = append-nil (spell_event (Control control)) ∙ spelled;
   are_events = All-from_recursion IsEvent (Control control ∷ []) (is, tt);
-  silent = (silent, tt);
+  silent = (silent, refl, tt);
 }
 
 spell-st : SpellQuietly (Control 0x9C ∷ []) (0x1B ∷ 0x5C ∷ [])
@@ -111,7 +119,7 @@ pub spell-designation : (inter : ℕ) (set : Set) → 0x20 ≤ inter → inter �
 spell-designation inter set low high = record {
   spelled = refl;
   are_events = All-from_recursion IsEvent (Escape (Some inter) (final_of set) ∷ []) (((low, high), final set), tt);
-  silent = (λ s. refl, tt);
+  silent = (λ s. refl, refl, tt);
 }
 
 -- ---- bytes that spell some such events
@@ -251,47 +259,46 @@ module _ (glyphs : GlyphLaws) (spelling : SpellingLaws) where
       quiet-if (cells c == 0) _ _ quiet-nothing
       (quiet-if (cells c == 1) _ _ (quiet-written (shown c) s.sets is) (quiet-wide (shown c) s is))
 
-module _ {size : Size} (none : (s : State) → IsSoundAt size s → play s [] ≡ record { state = s; reports = [] }) (spelled : SpellingLaw) where
+-- ---- the events of a character beyond ASCII
+
+no-ascii : (c : ℕ) → 0x80 ≤ c → nat_lt c 0x80 ≡ false
+no-ascii c beyond = grind (arith, nat_tests)
+
+module _ (spelled : SpellingLaw) where
   -- quiet bytes between sequences
-  silent-between : (d : Display) (bytes : List ℕ) → AreQuiet bytes
-      → (play (record { display = d; held = held.Nothing }) bytes).reports ≡ []
-  unfolding play
-  silent-between d bytes quiet =
-      let are : events_of bytes ≡ quiet.events =
-      ap events_of (sym quiet.spell.spelled) ∙ spelled.all_events quiet.events quiet.spell.are_events in
-      rw are (silent-reports quiet.events quiet.spell.silent d)
+  events-between : (bytes : List ℕ) → AreQuiet bytes → AreSilent (events_of bytes)
+  events-between bytes quiet =
+      subst AreSilent (sym (ap events_of (sym quiet.spell.spelled) ∙ spelled.all_events quiet.events quiet.spell.are_events)) quiet.spell.silent
 
-  -- quiet bytes that begin with ESC, after anything
-  silent-escape : (d : Display) (h : Held) (more : List ℕ) → IsHeldPart h → AreQuiet (0x1B ∷ more)
-      → (play (record { display = d; held = h }) (0x1B ∷ more)).reports ≡ []
-  unfolding play
-  silent-escape d h more is quiet =
-      let are : events_from h (0x1B ∷ more) ≡ quiet.events =
-      spelled.escape h more is ∙ ap events_of (sym quiet.spell.spelled)
-      ∙ spelled.all_events quiet.events quiet.spell.are_events in
-      rw are (silent-reports quiet.events quiet.spell.silent d)
+  -- and after ST, which ends anything
+  events-cut : (h : Held) (bytes : List ℕ) → IsHeldPart h → AreQuiet bytes → AreSilent (events_from h (0x1B ∷ 0x5C ∷ bytes))
+  events-cut h bytes is quiet =
+      subst AreSilent (sym (spelled.escape h (0x5C ∷ bytes) is))
+      (events-between (0x1B ∷ 0x5C ∷ bytes) (quiet-append (0x1B ∷ 0x5C ∷ []) bytes (quietly _ _ spell-st) quiet))
 
-  silent-cut : (d : Display) (h : Held) (bytes : List ℕ) → IsHeldPart h → AreQuiet bytes
-      → (play (record { display = d; held = h }) (0x1B ∷ 0x5C ∷ bytes)).reports ≡ []
-  silent-cut d h bytes is quiet =
-      silent-escape d h (0x5C ∷ bytes) is (quiet-append (0x1B ∷ 0x5C ∷ []) bytes (quietly _ _ spell-st) quiet)
+  events-beyond : (h : Held) (bytes : List ℕ) → events_from h [] ≡ [] → IsHeldPart h → AreQuiet bytes
+      → AreSilent (events_from h (beyond_ascii h bytes))
+  events-beyond held.Nothing bytes none is quiet = events-between bytes quiet
+  events-beyond (held.Escape inters) bytes none is quiet = events-cut (held.Escape inters) bytes is quiet
+  events-beyond (held.Control marker params full phase) bytes none is quiet =
+      events-cut (held.Control marker params full phase) bytes is quiet
+  events-beyond held.Spoilt bytes none is quiet = events-cut held.Spoilt bytes is quiet
+  events-beyond (held.Text osc) bytes none is quiet = subst AreSilent (sym none) tt
 
-  silent-beyond : (d : Display) (h : Held) (bytes : List ℕ) → IsSoundAt size (record { display = d; held = h }) → AreQuiet bytes
-      → (play (record { display = d; held = h }) (beyond_ascii h bytes)).reports ≡ []
-  silent-beyond d held.Nothing bytes sound quiet = silent-between d bytes quiet
-  silent-beyond d (held.Escape inters) bytes sound quiet = silent-cut d (held.Escape inters) bytes sound.held quiet
-  silent-beyond d (held.Control marker params full phase) bytes sound quiet =
-      silent-cut d (held.Control marker params full phase) bytes sound.held quiet
-  silent-beyond d held.Spoilt bytes sound quiet = silent-cut d held.Spoilt bytes sound.held quiet
-  silent-beyond d (held.Text osc) bytes sound quiet =
-      ap (λ (p : Played). p.reports) (none (record { display = d; held = held.Text osc }) sound)
-
-  pub silent-translation : GlyphLaws → SpellingLaws → (s : State) (c : ℕ) → IsSoundAt size s → 0x80 ≤ c
-      → (play s (translation s c)).reports ≡ []
+  -- after what is held
+  pub character-events : GlyphLaws → SpellingLaws → (s : State) (c : ℕ) → events_from s.held [] ≡ [] → IsHeldPart s.held → 0x80 ≤ c
+      → AreSilent (events_from s.held (translation s c))
   unfolding translation
-  silent-translation glyphs spelling s c sound beyond =
-      let is : nat_lt c 0x80 ≡ false = grind (arith, nat_tests) in
-      rw is (silent-beyond s.display s.held (put c s.display) sound (quiet-put glyphs spelling c s.display))
+  character-events glyphs spelling s c none is beyond =
+      rw (no-ascii c beyond) (events-beyond s.held (put c s.display) none is (quiet-put glyphs spelling c s.display))
+
+  -- which make no report
+  pub silent-translation : GlyphLaws → SpellingLaws → ((h : Held) → IsHeldPart h → events_from h [] ≡ []) → (size : Size) (s : State)
+      (c : ℕ) → IsSoundAt size s → 0x80 ≤ c → (play s (translation s c)).reports ≡ []
+  unfolding play
+  silent-translation glyphs spelling none size s c sound beyond =
+      silent-reports (events_from s.held (translation s c)) (character-events glyphs spelling s c (none s.held sound.held) sound.held beyond)
+      s.display
 
 -- ---- a part of bytes without a report
 

@@ -94,7 +94,7 @@ pub fn sized_silence()
     ensures silent { (size : Size) (s : State) (c : ℕ) → IsSoundAt size s → 0x80 ≤ c → (play s (translation s c)).reports ≡ [] }
     ensures plain { (s : State) (c : ℕ) → 0x80 ≤ c → All IsPlain (translation s c) }
 {
-    played_cuts();
+    one_split();
     spelled();
     all_glyphs();
     spelling();

@@ -4,6 +4,6 @@ use Rattle.vt_utf8.proofs.laws.sized_silence.Goals as goal
 
 pub returns : goal.returns
 returns c = record {
-  silent = λ size. silent-translation (c.sized_cuts.ensures.none size) c.spelled.ensures c.glyphs.ensures c.spelling.ensures;
+  silent = silent-translation c.spelled.ensures c.glyphs.ensures c.spelling.ensures c.one_split.ensures.events_nil;
   plain = plain-translation c.glyphs.ensures c.spelling.ensures;
 }

@@ -2,9 +2,11 @@
 //! nothing else.
 
 use crate::reasons::{hint_of, name_of};
+use std::alloc::Global;
+use vt_recording::{changes_of, timeline_of};
 use vt_replay::{
-    Encoding, Format, Heading, Host, Part, Request, TerminalType, Word, detect, heading_of,
-    host_for,
+    Encoding, Format, Heading, Host, Part, Request, TerminalType, What, Word, detect, heading_of,
+    host_for, keeps_size, size_of,
 };
 
 /// The number of first bytes that are looked at for what a host sends. More would cost as much as to play them.
@@ -49,10 +51,37 @@ pub(crate) fn print_notes<R: Eprint + AllocGlobal>(
         }
     }
     if format == Format::Asciicast && has_any(beginning, b'"', &[RESIZE_CODE]) {
-        let _ = eprintln!(rt;
-            "vt220: {name}: the window changes its size, and the screen stays at {width}x{height}"
-        );
+        if keeps_size(request, format) || is_session(request, host) {
+            let _ = eprintln!(rt;
+                "vt220: {name}: the window changes its size, and the screen stays at {width}x{height}"
+            );
+        } else if has_impossible(rt.alloc(), beginning, format, host) {
+            let _ = eprintln!(rt;
+                "vt220: {name}: the window changes to a size from outside 80x2 to 255x255, and the screen doesn't"
+            );
+        }
     }
+}
+
+/// Returns whether a repaint of a session under TERM=xterm is asked for. Its screen keeps its size.
+fn is_session(request: &Request, host: Host) -> bool {
+    host.terminal == TerminalType::Xterm && matches!(request.word, Word::Replay(What::Repaint))
+}
+
+/// Returns whether a recording that begins so changes its window to a size that no screen may have.
+fn has_impossible(alloc: Global, beginning: &[u8], format: Format, host: Host) -> bool {
+    let Ok(timeline) = timeline_of(alloc, beginning, None, format) else {
+        return false;
+    };
+    let Ok(changes) = changes_of(alloc, &timeline, format, host.encoding, None) else {
+        return false;
+    };
+    for change in changes.iter() {
+        if size_of(change.window.columns, change.window.rows).is_none() {
+            return true;
+        }
+    }
+    false
 }
 
 /// Returns what the host seems to send for, if it isn't what was played, or none.

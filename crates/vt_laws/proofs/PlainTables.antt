@@ -1,5 +1,5 @@
 -- What a command without options writes.
-use Rattle.std.proofs.Common.{◌≡◌, ℕ, Bool, true, false, List, Option, Some, None, refl, sym, ap, subst, ◌∙◌}
+use Rattle.std.proofs.Common.{◌≡◌, ℕ, Bool, true, false, List, [], Option, Some, None, refl, sym, ap, subst, ◌∙◌}
 use Rattle.std.specs.Prelude.{codes, is_some, ◌||◌, option_map, string_bytes, if◌then◌else◌, cond, unwrap_or}
 use Rattle.std.specs.Str.{bytes_eq}
 use Rattle.std.specs.declared.alloc.Global.{Global}
@@ -147,16 +147,16 @@ pub plain-table : (word : Word) → word_looks word ≡ None → AsksPlainly wor
     (beginning : List ℕ) (timing : Option (List ℕ)) (b w : List ℕ) (f : Flags)
     → IsPlainCommand (word_name word) file words → IsRequest words r
     → OutcomeTable o r (format_of r.format beginning) timing b w f
-    → (WordTable o.ended word vt220_size Vt220 Dec r.piece b w f r.limit) × (option_map (λ f. string_bytes f) r.file ≡ file)
+    → (WordTable o.ended word vt220_size [] Vt220 Dec r.piece b w f r.limit) × (option_map (λ f. string_bytes f) r.file ≡ file)
 plain-table word still plainly plays file words r o beginning timing b w f plain request table =
     let asks = asks-for word still file words r plainly plain request in
     let streamed : IsStreamed o r b w f =
     subst (λ (s : Bool). OutcomeBy s o r (format_of r.format beginning) timing b w f) (is-streamed word file r beginning asks plays) table in (
-      subst (λ (x : Word). WordTable o.ended x vt220_size Vt220 Dec r.piece b w f r.limit) asks.word_is
-          (subst (λ (e : Encoding). WordTable o.ended r.word vt220_size Vt220 e r.piece b w f r.limit) (plain-encoding word file r asks)
-          (subst (λ (t : TerminalType). WordTable o.ended r.word vt220_size t (plain_host r).encoding r.piece b w f r.limit)
+      subst (λ (x : Word). WordTable o.ended x vt220_size [] Vt220 Dec r.piece b w f r.limit) asks.word_is
+          (subst (λ (e : Encoding). WordTable o.ended r.word vt220_size [] Vt220 e r.piece b w f r.limit) (plain-encoding word file r asks)
+          (subst (λ (t : TerminalType). WordTable o.ended r.word vt220_size [] t (plain_host r).encoding r.piece b w f r.limit)
           (plain-terminal word file r asks)
-          (subst (λ (z : Size). WordTable o.ended r.word z (plain_host r).terminal (plain_host r).encoding r.piece b w f r.limit)
+          (subst (λ (z : Size). WordTable o.ended r.word z [] (plain_host r).terminal (plain_host r).encoding r.piece b w f r.limit)
           (plain-size word file r asks) streamed.table))),
       asks.file_is,
     )

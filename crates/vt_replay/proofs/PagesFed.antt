@@ -10,24 +10,27 @@ use Rattle.std.proofs.lemmas.Grind.{flat_map-append}
 use Rattle.std.proofs.lemmas.Bool.Decides.{nat_tests, leb_tells}
 use Rattle.bstr.specs.Utf8.{decoded, replacement, or_replacement}
 use Rattle.vt_syntax.specs.declared.event.Event.{Event}
-use Rattle.vt_syntax.specs.declared.event.Event.TheVariants.{Print, Control}
+use Rattle.vt_syntax.specs.declared.event.Event.TheVariants.{Print, Control, Escape, Sequence}
 use Rattle.vt_syntax.specs.declared.held.Held.{Held}
 use Rattle.vt_syntax.specs.declared.held.Held.TheVariants.{Nothing}
 use Rattle.vt_syntax.specs.Class.{is_opener, is_plain, opens_string}
 use Rattle.vt_syntax.specs.Held.{events_from, held_from}
-use Rattle.vt_syntax.specs.Laws.{SpellingLaw}
+use Rattle.vt_syntax.specs.Laws.{SplitLaw, SpellingLaw}
 use Rattle.vt_syntax.specs.Reading.{single_function}
 use Rattle.vt_screen.specs.declared.cell.Cell.{Cell}
 use Rattle.vt_screen.specs.declared.size.Size.{Size}
-use Rattle.vt_term.specs.State.{State}
+use Rattle.vt_glyph.specs.Laws.{GlyphLaws, SpellingLaws}
+use Rattle.vt_term.specs.Functions.{effect}
+use Rattle.vt_term.specs.State.{Display, State}
 use Rattle.vt_term.specs.Sound.{IsSoundAt, IsSoundSized}
 use Rattle.vt_term.specs.Play.{Played, play, both}
-use Rattle.vt_term.specs.Scrolling.{log, scrolled_off}
+use Rattle.vt_term.specs.Scrolling.{log, line_off, lines_off, scrolled_off}
 use Rattle.vt_term.specs.Text.{line_text, text}
 use Rattle.vt_utf8.specs.Translation.{translation}
 use Rattle.vt_utf8.specs.Decoding.{Read, read, read_last, read_apart, given_up, is_begun, characters, pending_after}
 use Rattle.vt_utf8.specs.Play.{play_utf8, translated, translated_all}
 use Rattle.vt_utf8.proofs.Cuts.{characters-append, pending-append, ascii-characters, ascii-pending}
+use Rattle.vt_utf8.proofs.Silence.{is_part, AreSilent, character-events}
 use Rattle.vt_xterm.specs.Pages.{Screens, PagesState}
 use Rattle.vt_xterm.specs.Play.{Whole, WholePlayed, FrontState, behind, screens_of, play_bytes, play_character, play_characters, play_xterm, xterm_log, both as both_whole}
 use Rattle.vt_xterm.specs.Private.Feeds.{whole_of}
@@ -35,7 +38,7 @@ use Rattle.vt_xterm.proofs.Cuts.{characters-two, character-ascii}
 use Rattle.vt_xterm.proofs.Fed.{character-beyond, one-byte}
 use Rattle.vt_device.specs.Output.{IsAfter, always}
 use Rattle.vt_replay.specs.MainPage.{page_before, pages_before, pages_at_byte, character_pages, pages_of_characters, xterm_pages}
-use Rattle.vt_replay.specs.Pages.{page, pages}
+use Rattle.vt_replay.specs.Pages.{blanks_screen, page, pages, pages_off}
 use Rattle.vt_replay.specs.PageCuts.{PagesUtf8, PagesXterm, IsText}
 
 -- ---- UTF-8
@@ -117,19 +120,46 @@ utf8-ascii s t run before out same none state lines = record {
 }
 
 -- the bytes of a character are all played, as there is capacity for a page for each of them
-pub all-played : (limit n r len old capacity room : ℕ) → r ≤ n → n ≤ 22 → (r < n → capacity < len + limit) → len ≤ old + limit * r
-    → old + 22 * limit ≤ room → room ≤ capacity → r ≡ n
-all-played limit n r len old capacity room within few full bounded fits grows = elim (leb_tells n r) [
-  | inl all ↦ omega (arith, all.1, within)
-  | inr less ↦
-      let most = mul-le limit r limit 21 (omega arith) (omega (arith, less.1, few)) in
-      absurd (omega (arith, full (omega (arith, less.1)), bounded, fits, grows, most))
-]
+-- a byte is played if there is capacity for what it takes off
+pub one-played : (limit more r len old capacity room : ℕ) → r ≤ 1 → (r < 1 → capacity < len + limit) → len ≤ old + limit * r
+    → limit ≤ more → old + more ≤ room → room ≤ capacity → r ≡ 1
+one-played limit more zero len old capacity room within full bounded few fits grows =
+    absurd (omega (arith, full (omega arith), bounded, few, fits, grows))
+one-played limit more (suc zero) len old capacity room within full bounded few fits grows = refl
+one-played limit more (suc (suc r)) len old capacity room within full bounded few fits grows = absurd (omega (arith, within))
 
-pub in-bounds : (limit n r len old : ℕ) → r ≤ n → n ≤ 22 → len ≤ old + limit * r → len ≤ old + 22 * limit
-in-bounds limit n r len old within few bounded =
-    let most = mul-le limit r limit 22 (omega arith) (omega (arith, within, few)) in
-    omega (arith, bounded, most)
+pub in-one : (limit more r len old : ℕ) → r ≤ 1 → len ≤ old + limit * r → limit ≤ more → len ≤ old + more
+in-one limit more zero len old within bounded few = omega (arith, bounded)
+in-one limit more (suc zero) len old within bounded few = omega (arith, bounded, few)
+in-one limit more (suc (suc r)) len old within bounded few = absurd (omega (arith, within))
+
+pub low-translation : (s : State) (b : ℕ) → b < 0x80 → translation s b ≡ b ∷ []
+unfolding translation
+low-translation s b low =
+    let is : nat_lt b 0x80 ≡ true = grind (arith, nat_tests, low) in
+    rw is refl
+
+-- a character beyond ASCII blanks no screen
+never : (event : Event) (s : Display) → is_part event ≡ true → blanks_screen event s ≡ false
+never (Print b) s is = refl
+never (Control b) s is = refl
+never (Escape None last) s is = absurd (cc is)
+never (Escape (Some inter) last) s is = refl
+never (Sequence marker params inter last) s is = absurd (cc is)
+
+silent-pages : (events : List Event) (s : Display) → AreSilent events → pages_off events s ≡ flat_map line_text (lines_off events s)
+silent-pages [] s silent = refl
+silent-pages (event ∷ events) s (none, part, others) =
+    ap (λ (t : Bool). (if t then page s else flat_map line_text (line_off event s)) ++ pages_off events (effect event s)) (never event s part)
+    ∙ ap (λ (l : List ℕ). flat_map line_text (line_off event s) ++ l) (silent-pages events (effect event s) others)
+    ∙ sym (flat_map-append line_text (line_off event s) (lines_off events (effect event s)))
+
+pub beyond-pages : SplitLaw → SpellingLaw → GlyphLaws → SpellingLaws → (s : State) (c : ℕ) → IsSoundSized s → 0x80 ≤ c
+    → pages s (translation s c) ≡ log s (translation s c)
+unfolding pages log scrolled_off
+beyond-pages split spelled glyphs spelling s c sound beyond =
+    silent-pages (events_from s.held (translation s c)) s.display
+    (character-events spelled glyphs spelling s c (split.events_nil s.held sound.held) sound.held beyond)
 
 -- ---- under TERM=xterm
 
@@ -430,16 +460,46 @@ lines-fit rows row = elim (leb_tells rows 22) [
       rw (most) (omega (arith, more))
 ]
 
-pub pages-fit : (rows row : ℕ) → 2 ≤ rows → rows * row + 2 * (2 * (max rows 22 * row)) ≤ 64 * (rows * row)
-pages-fit rows row some = elim (leb_tells rows 22) [
+-- a page takes at most as much as the lines of an event or a character
+pub text-fits : (rows row : ℕ) → rows * row ≤ max rows 22 * row
+text-fits rows row = elim (leb_tells rows 22) [
   | inl low ↦
       let most : max rows 22 ≡ 22 = omega (arith, low.1) in
-      let more = mul-le 2 row rows row (omega (arith, some)) (omega arith) in
-      rw (most) (omega (arith, more))
+      let more = mul-le rows row 22 row (omega (arith, low.1)) (omega arith) in
+      rw (most) more
   | inr high ↦
       let most : max rows 22 ≡ rows = omega (arith, high.1) in
       rw (most) (omega arith)
 ]
+
+pub character-fits : (rows row : ℕ) → 22 * row ≤ max rows 22 * row
+character-fits rows row = elim (leb_tells rows 22) [
+  | inl low ↦
+      let most : max rows 22 ≡ 22 = omega (arith, low.1) in
+      rw (most) (omega arith)
+  | inr high ↦
+      let most : max rows 22 ≡ rows = omega (arith, high.1) in
+      let more = mul-le 22 row rows row (omega (arith, high.1)) (omega arith) in
+      rw (most) more
+]
+
+one-in-most : (page most old room : ℕ) → page ≤ most → old + 2 * most ≤ room → old + page ≤ room
+one-in-most page most old room few fits = omega (arith, few, fits)
+
+pub one-fits : (rows row old room : ℕ) → old + 2 * (max rows 22 * row) ≤ room → old + rows * row ≤ room
+one-fits rows row old room fits = one-in-most (rows * row) (max rows 22 * row) old room (text-fits rows row) fits
+
+page-in-room : (page most : ℕ) → page ≤ most → page ≤ 4 * (2 * most)
+page-in-room page most few = omega (arith, few)
+
+pub text-room : (rows row : ℕ) → rows * row ≤ 4 * (2 * (max rows 22 * row))
+text-room rows row = page-in-room (rows * row) (max rows 22 * row) (text-fits rows row)
+
+both-in-room : (page most : ℕ) → page ≤ most → page + 2 * (2 * most) ≤ 4 * (2 * most)
+both-in-room page most few = omega (arith, few)
+
+pub main-room : (rows row : ℕ) → rows * row + 2 * (2 * (max rows 22 * row)) ≤ 4 * (2 * (max rows 22 * row))
+main-room rows row = both-in-room (rows * row) (max rows 22 * row) (text-fits rows row)
 
 -- ---- what comes after bytes
 

@@ -17,6 +17,7 @@ use Rattle.vt_device.specs.Output.{IsAfter, always, nothing}
 use Rattle.vt_xterm_paint.specs.Repaint.{xterm_repaint}
 use Rattle.vt_replay.specs.Session.{is_between}
 use Rattle.vt_replay.specs.Playing.{language_of, on_terminal, played_as}
+use Rattle.vt_replay.specs.Resizes.{Utf8Kept, XtermKept, utf8_session, xterm_session}
 
 pub plain_on : (s t : State) (chunk more : List ℕ)
     → ((s : State) (a b : List ℕ) → play s (a ++ b) ≡ both (play s a) (play (play s a).state b))
@@ -54,6 +55,40 @@ pub xterm_on : (s t : State) (front after : FrontState) (chunk more : List ℕ)
 xterm_on s t front after chunk more two state pages left =
     rw (state, pages, left)
     (ap (λ (p : WholePlayed). on_terminal p) (two (behind s front) front.pending chunk more))
+
+-- ---- what is kept
+
+abbrev pub utf8_record : State → List ℕ → Utf8Kept
+utf8_record s pending = record { state = s; pending = pending }
+
+abbrev pub xterm_record : Whole → List ℕ → XtermKept
+xterm_record w pending = record { whole = w; pending = pending }
+
+pub utf8_kept : (s t : State) (pending after chunk more : List ℕ)
+    → ((size : Size) (s : State) (pending a b : List ℕ) → IsSoundAt size s → play_utf8 s pending (a ++ b)
+    ≡ both (play_utf8 s pending a) (play_utf8 (play_utf8 s pending a).state (pending_after pending a) b))
+    → ((pending a b : List ℕ) → pending_after pending (a ++ b) ≡ pending_after (pending_after pending a) b)
+    → IsSoundSized s → t ≡ (play_utf8 s pending chunk).state → after ≡ pending_after pending chunk
+    → utf8_session.after (utf8_record s pending) (chunk ++ more) ≡ utf8_session.after (utf8_record t after) more
+utf8_kept s t pending after chunk more two parts sound state left =
+    let whole = utf8_on s t pending after chunk more two sound state left in
+    let rest : pending_after pending (chunk ++ more) ≡ pending_after after more = rw left (parts pending chunk more) in
+    λ ι. utf8_record (whole ι).state (rest ι)
+
+pub xterm_kept : (s t : State) (front after : FrontState) (chunk more : List ℕ)
+    → ((w : Whole) (pending a b : List ℕ) → play_xterm w pending (a ++ b)
+    ≡ both_whole (play_xterm w pending a) (play_xterm (play_xterm w pending a).whole (pending_after pending a) b))
+    → ((pending a b : List ℕ) → pending_after pending (a ++ b) ≡ pending_after (pending_after pending a) b)
+    → t ≡ (play_xterm (behind s front) front.pending chunk).whole.state
+    → after.pages ≡ (play_xterm (behind s front) front.pending chunk).whole.pages
+    → after.pending ≡ pending_after front.pending chunk
+    → xterm_session.after (xterm_record (behind s front) front.pending) (chunk ++ more)
+    ≡ xterm_session.after (xterm_record (behind t after) after.pending) more
+xterm_kept s t front after chunk more two parts state pages left =
+    let whole : (play_xterm (behind s front) front.pending (chunk ++ more)).whole ≡ (play_xterm (behind t after) after.pending more).whole =
+    rw (state, pages, left) (ap (λ (p : WholePlayed). p.whole) (two (behind s front) front.pending chunk more)) in
+    let rest : pending_after front.pending (chunk ++ more) ≡ pending_after after.pending more = rw left (parts front.pending chunk more) in
+    λ ι. xterm_record (whole ι) (rest ι)
 
 -- the log of what xterm plays, and its screen
 pub xterm_log_after : (s t : State) (front after : FrontState) (chunk : List ℕ)

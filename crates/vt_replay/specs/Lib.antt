@@ -10,6 +10,7 @@ pub mod PageCuts
 pub mod Pages
 pub mod Playing
 pub mod Request
+pub mod Resizes
 pub mod Search
 pub mod Session
 pub mod Showing

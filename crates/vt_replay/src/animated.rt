@@ -60,7 +60,7 @@ pub(crate) fn is_empty(bytes: &[u8]) -> bool
 /// Plays bytes, and drops their reports.
 pub(crate) fn play<P: Player>(player: &mut P, bytes: &[u8], reports: &mut Vec<u8>)
     requires { 10 ≤ vec_capacity reports.old }
-    ensures on { (more : List ℕ) → (P.played player.old (bytes.now ++ more)).state ≡ (P.played player.new more).state }
+    ensures on { (more : List ℕ) → (P.session.played (P.kept player.old) (bytes.now ++ more)).state ≡ (P.session.played (P.kept player.new) more).state }
     ensures screen { P.screen player.new ≡ P.screen player.old }
     ensures capacity { vec_capacity reports.old ≤ vec_capacity reports.new }
 {
@@ -92,7 +92,7 @@ pub(crate) fn opened<P: Player>(
 ) -> Result<P, AllocError>
     requires size { IsSize size }
     requires room { 10 ≤ vec_capacity reports.old }
-    ensures on { IfOk result (λ p. (more : List ℕ) → (P.plays size (opening.now ++ more)).state ≡ (P.played p more).state) }
+    ensures on { IfOk result (λ p. (more : List ℕ) → (P.session.played (P.begun size) (opening.now ++ more)).state ≡ (P.session.played (P.kept p) more).state) }
     ensures screen { IfOk result (λ p. P.screen p ≡ size) }
     ensures capacity { vec_capacity reports.old ≤ vec_capacity reports.new }
 {
@@ -111,7 +111,7 @@ fn terminal_after<P: Player>(
 ) -> Result<SizedTerminal, AllocError>
     requires size { IsSize size }
     requires room { 10 ≤ vec_capacity reports.old }
-    ensures state { IfOk result (λ t. t ≡ (P.plays size (opening.now ++ content.now)).state) }
+    ensures state { IfOk result (λ t. t ≡ (P.session.played (P.begun size) (opening.now ++ content.now)).state) }
     ensures size { IfOk result (λ t. t.display.grid.size ≡ size) }
     ensures capacity { vec_capacity reports.old ≤ vec_capacity reports.new }
 {
@@ -133,16 +133,16 @@ fn push_step<P: Player>(
     out: &mut Vec<u8>,
 ) -> Result<(), AllocError>
     requires room { 10 ≤ vec_capacity reports.old }
-    requires before { before.old ≡ (P.played player.old []).state }
+    requires before { before.old ≡ (P.session.played (P.kept player.old) []).state }
     requires size { before.old.display.grid.size ≡ P.screen player.old }
     requires numbers { length numbers.old ≡ (P.screen player.old).rows }
     ensures items { OnOk result (out.new.items ≡ out.old.items
         ++ frame_after moving.cursor moving.duration moving.columns number micros numbers.old bytes.now
-        (P.played player.old []).state.display (P.played player.old bytes.now).state.display) }
+        (P.session.played (P.kept player.old) []).state.display (P.session.played (P.kept player.old) bytes.now).state.display) }
     ensures numbers { OnOk result (numbers.new ≡ numbers_after number numbers.old bytes.now
-        (P.played player.old []).state.display (P.played player.old bytes.now).state.display) }
-    ensures on { OnOk result ((more : List ℕ) → (P.played player.old (bytes.now ++ more)).state ≡ (P.played player.new more).state) }
-    ensures before { OnOk result (before.new ≡ (P.played player.new []).state) }
+        (P.session.played (P.kept player.old) []).state.display (P.session.played (P.kept player.old) bytes.now).state.display) }
+    ensures on { OnOk result ((more : List ℕ) → (P.session.played (P.kept player.old) (bytes.now ++ more)).state ≡ (P.session.played (P.kept player.new) more).state) }
+    ensures before { OnOk result (before.new ≡ (P.session.played (P.kept player.new) []).state) }
     ensures size { before.new.display.grid.size ≡ before.old.display.grid.size }
     ensures screen { P.screen player.new ≡ P.screen player.old }
     ensures long { length numbers.new ≡ length numbers.old }
@@ -170,11 +170,11 @@ fn push_frames<P: Player>(
     out: &mut Vec<u8>,
 ) -> Result<(), AllocError>
     requires room { 10 ≤ vec_capacity reports.old }
-    requires before { before.old ≡ (P.played player.old []).state }
+    requires before { before.old ≡ (P.session.played (P.kept player.old) []).state }
     requires size { before.old.display.grid.size ≡ P.screen player.old }
     requires numbers { length numbers.old ≡ (P.screen player.old).rows }
     ensures { OnOk result (out.new.items ≡ out.old.items
-        ++ frames (λ bytes. (P.played player.old bytes).state.display) moving.cursor moving.duration moving.columns 0 0 numbers.old
+        ++ frames (λ bytes. (P.session.played (P.kept player.old) bytes).state.display) moving.cursor moving.duration moving.columns 0 0 numbers.old
         (events_of steps.now content.now)) }
 {
     let mut clock = 0u64;
@@ -210,13 +210,13 @@ fn push_animation<P: Player>(
     out: &mut Vec<u8>,
 ) -> Result<(), AllocError>
     requires room { 10 ≤ vec_capacity reports.old }
-    requires before { before.old ≡ (P.played player.old []).state }
+    requires before { before.old ≡ (P.session.played (P.kept player.old) []).state }
     requires size { before.old.display.grid.size ≡ P.screen player.old }
     requires last { last.now.display.grid.size ≡ P.screen player.old }
     requires columns { moving.columns ≤ MOST }
     ensures { OnOk result (out.new.items ≡ out.old.items
         ++ (animation_head theme moving.cursor title.now moving.duration moving.columns before.old.display last.now.display
-        ++ (frames (λ bytes. (P.played player.old bytes).state.display) moving.cursor moving.duration moving.columns 0 0
+        ++ (frames (λ bytes. (P.session.played (P.kept player.old) bytes).state.display) moving.cursor moving.duration moving.columns 0 0
         (first_numbers before.old.display) (events_of steps.now content.now) ++ animation_end))) }
 {
     let mut all = [0; MOST];
@@ -240,7 +240,7 @@ fn animation_by<P: Player>(
 ) -> Result<Vec<u8>, AllocError>
     requires { IsSize size }
     ensures { IfOk result (λ picture. picture.items
-        ≡ animation (λ bytes. (P.plays size bytes).state.display) looks title.now opening.now content.now steps.now) }
+        ≡ animation (λ bytes. (P.session.played (P.begun size) bytes).state.display) looks title.now opening.now content.now steps.now) }
 {
     let mut reports = Vec::with_capacity(alloc, PIECE * REPORT_LIMIT)?;
     let last = terminal_after::<P>(alloc, size, opening, content, &mut reports)?;

@@ -1,18 +1,20 @@
 //! The replay of an input: what is due of a terminal is an output.
-ghost use Rattle.std.specs.Prelude.{◌≡◌, ◌≤◌, true, false};
+ghost use Rattle.std.specs.Prelude.{◌≡◌, ◌≤◌, true, false, All};
 ghost use Rattle.std.specs.Io.KnownBytes.{IsAtEnd};
 ghost use Rattle.vt_term.specs.State.{power_up};
 ghost use Rattle.vt_term.specs.Play.{play};
 ghost use Rattle.vt_replay.specs.Due.{PlayedTable};
 ghost use Rattle.vt_cli.specs.declared.what.What.TheVariants.{Repaint};
 ghost use Rattle.vt_device.specs.Runs.{Moves};
-ghost use Rattle.vt_replay.specs.Playing.{ReplayTable, SizedReplayTable, played_at};
+ghost use Rattle.vt_replay.specs.Playing.{ReplayTable, SizedReplayTable};
+ghost use Rattle.vt_replay.specs.Resizes.{ResizedReplayTable, played_on, played_with};
 ghost use Rattle.vt_replay.specs.declared.language.Language.TheVariants.{Xterm};
 ghost use Rattle.vt_screen.specs.Sizes.{IsSize};
 
 use crate::language::Language;
 use crate::output::write_output_from;
 use crate::player::{PlainPlayer, Player, Utf8Player, XtermPlayer};
+use crate::resized::{Resize, Resized};
 use crate::session::SessionOutput;
 use crate::sized::SizedOutput;
 use std::alloc::Global;
@@ -86,16 +88,27 @@ pub fn run_from<S: Source, W: Write>(
     ensures whole { S.ended reader.new ≡ true → IsAtEnd (S.remaining reader.new) }
 {
     let size = Size::vt220();
-    run_at(alloc, reader, writer, what, language, size, piece, limit)
+    run_at(
+        alloc,
+        reader,
+        writer,
+        what,
+        language,
+        size,
+        &[],
+        piece,
+        limit,
+    )
 }
 
-/// Plays a source's bytes in a language on a new terminal of a size, and writes the repaint, as `run_from` does on a VT220's.
+/// Plays a source's bytes in a language on a new terminal of a size, whose screen has these changes, and writes the repaint, as `run_from` does on a VT220's.
 fn run_repaint<S: Source, W: Write>(
     alloc: Global,
     reader: &mut S,
     writer: &mut Watched<W>,
     language: Language,
     size: Size,
+    resizes: &[Resize],
     piece: usize,
     limit: u64,
 ) -> Result<(), Fault>
@@ -105,18 +118,19 @@ fn run_repaint<S: Source, W: Write>(
     requires piece_in_range { (1 ≤ piece) × (piece ≤ 65536) }
     requires limit_in_range { limit ≤ 1099511627776 }
     requires size_in_range { IsSize size }
+    requires sizes_in_range { All (λ r. IsSize r.size) resizes.now }
     ensures answer { Moves (S.remaining reader.old) (S.remaining reader.new) (W.contents writer.old.device)
         (W.contents writer.new.device)
-        (λ b w. SizedReplayTable size language Repaint result piece b w (record { reader_failed = S.failed reader.new; reader_ended = S.ended reader.new; writer_failed = writer.new.failed }) limit) }
+        (λ b w. ResizedReplayTable size resizes.now language Repaint result piece b w (record { reader_failed = S.failed reader.new; reader_ended = S.ended reader.new; writer_failed = writer.new.failed }) limit) }
     ensures whole { S.ended reader.new ≡ true → IsAtEnd (S.remaining reader.new) }
 {
     let what = What::Repaint;
     match language {
         Language::Dec => run_by::<PlainPlayer, S, W>(
-            alloc, reader, writer, what, size, piece, limit,
+            alloc, reader, writer, what, size, resizes, piece, limit,
         ),
         Language::Utf8 => run_by::<Utf8Player, S, W>(
-            alloc, reader, writer, what, size, piece, limit,
+            alloc, reader, writer, what, size, resizes, piece, limit,
         ),
         Language::Xterm => run_session(alloc, reader, writer, size, piece, limit),
     }
@@ -147,7 +161,7 @@ fn run_session<S: Source, W: Write>(
     write_output_from(alloc, &mut output, dec, reader, writer, piece, limit)
 }
 
-/// Plays a source's bytes in a language on a new terminal of a size, and writes what is due, as `run_from` does on a VT220's.
+/// Plays a source's bytes in a language on a new terminal of a size, whose screen has these changes, and writes what is due, as `run_from` does on a VT220's.
 ///
 /// `Err` is what `run_from` returns.
 pub(crate) fn run_at<S: Source, W: Write>(
@@ -157,6 +171,7 @@ pub(crate) fn run_at<S: Source, W: Write>(
     what: What,
     language: Language,
     size: Size,
+    resizes: &[Resize],
     piece: usize,
     limit: u64,
 ) -> Result<(), Fault>
@@ -166,22 +181,33 @@ pub(crate) fn run_at<S: Source, W: Write>(
     requires piece_in_range { (1 ≤ piece) × (piece ≤ 65536) }
     requires limit_in_range { limit ≤ 1099511627776 }
     requires size_in_range { IsSize size }
+    requires sizes_in_range { All (λ r. IsSize r.size) resizes.now }
     ensures answer { Moves (S.remaining reader.old) (S.remaining reader.new) (W.contents writer.old.device)
         (W.contents writer.new.device)
-        (λ b w. SizedReplayTable size language what result piece b w (record { reader_failed = S.failed reader.new; reader_ended = S.ended reader.new; writer_failed = writer.new.failed }) limit) }
+        (λ b w. ResizedReplayTable size resizes.now language what result piece b w (record { reader_failed = S.failed reader.new; reader_ended = S.ended reader.new; writer_failed = writer.new.failed }) limit) }
     ensures whole { S.ended reader.new ≡ true → IsAtEnd (S.remaining reader.new) }
 {
     match what {
-        What::Text => run_sized(alloc, reader, writer, what, language, size, piece, limit),
-        What::Reports => run_sized(alloc, reader, writer, what, language, size, piece, limit),
-        What::Status => run_sized(alloc, reader, writer, what, language, size, piece, limit),
-        What::Show => run_sized(alloc, reader, writer, what, language, size, piece, limit),
-        What::Picture => run_sized(alloc, reader, writer, what, language, size, piece, limit),
-        What::Repaint => run_repaint(alloc, reader, writer, language, size, piece, limit),
+        What::Text => run_sized(
+            alloc, reader, writer, what, language, size, resizes, piece, limit,
+        ),
+        What::Reports => run_sized(
+            alloc, reader, writer, what, language, size, resizes, piece, limit,
+        ),
+        What::Status => run_sized(
+            alloc, reader, writer, what, language, size, resizes, piece, limit,
+        ),
+        What::Show => run_sized(
+            alloc, reader, writer, what, language, size, resizes, piece, limit,
+        ),
+        What::Picture => run_sized(
+            alloc, reader, writer, what, language, size, resizes, piece, limit,
+        ),
+        What::Repaint => run_repaint(alloc, reader, writer, language, size, resizes, piece, limit),
     }
 }
 
-/// Plays a source's bytes in a language on a new terminal of a size, and writes what is due of the terminal.
+/// Plays a source's bytes in a language on a new terminal of a size, whose screen has these changes, and writes what is due of the terminal.
 fn run_sized<S: Source, W: Write>(
     alloc: Global,
     reader: &mut S,
@@ -189,6 +215,7 @@ fn run_sized<S: Source, W: Write>(
     what: What,
     language: Language,
     size: Size,
+    resizes: &[Resize],
     piece: usize,
     limit: u64,
 ) -> Result<(), Fault>
@@ -198,31 +225,33 @@ fn run_sized<S: Source, W: Write>(
     requires piece_in_range { (1 ≤ piece) × (piece ≤ 65536) }
     requires limit_in_range { limit ≤ 1099511627776 }
     requires size_in_range { IsSize size }
+    requires sizes_in_range { All (λ r. IsSize r.size) resizes.now }
     ensures answer { Moves (S.remaining reader.old) (S.remaining reader.new) (W.contents writer.old.device)
         (W.contents writer.new.device)
-        (λ b w. PlayedTable (played_at size language) what result piece b w (record { reader_failed = S.failed reader.new; reader_ended = S.ended reader.new; writer_failed = writer.new.failed }) limit) }
+        (λ b w. PlayedTable (played_with size resizes.now language) what result piece b w (record { reader_failed = S.failed reader.new; reader_ended = S.ended reader.new; writer_failed = writer.new.failed }) limit) }
     ensures whole { S.ended reader.new ≡ true → IsAtEnd (S.remaining reader.new) }
 {
     match language {
         Language::Dec => run_by::<PlainPlayer, S, W>(
-            alloc, reader, writer, what, size, piece, limit,
+            alloc, reader, writer, what, size, resizes, piece, limit,
         ),
         Language::Utf8 => run_by::<Utf8Player, S, W>(
-            alloc, reader, writer, what, size, piece, limit,
+            alloc, reader, writer, what, size, resizes, piece, limit,
         ),
         Language::Xterm => run_by::<XtermPlayer, S, W>(
-            alloc, reader, writer, what, size, piece, limit,
+            alloc, reader, writer, what, size, resizes, piece, limit,
         ),
     }
 }
 
-/// Plays a source's bytes by a new player of a size, and writes what is due of the terminal.
+/// Plays a source's bytes by a new player of a size, whose screen has these changes, and writes what is due of the terminal.
 fn run_by<P: Player, S: Source, W: Write>(
     alloc: Global,
     reader: &mut S,
     writer: &mut Watched<W>,
     what: What,
     size: Size,
+    resizes: &[Resize],
     piece: usize,
     limit: u64,
 ) -> Result<(), Fault>
@@ -232,12 +261,13 @@ fn run_by<P: Player, S: Source, W: Write>(
     requires piece_in_range { (1 ≤ piece) × (piece ≤ 65536) }
     requires limit_in_range { limit ≤ 1099511627776 }
     requires size_in_range { IsSize size }
+    requires sizes_in_range { All (λ r. IsSize r.size) resizes.now }
     ensures answer { Moves (S.remaining reader.old) (S.remaining reader.new) (W.contents writer.old.device)
         (W.contents writer.new.device)
-        (λ b w. PlayedTable (P.plays size) what result piece b w (record { reader_failed = S.failed reader.new; reader_ended = S.ended reader.new; writer_failed = writer.new.failed }) limit) }
+        (λ b w. PlayedTable (played_on P.session (P.begun size) resizes.now) what result piece b w (record { reader_failed = S.failed reader.new; reader_ended = S.ended reader.new; writer_failed = writer.new.failed }) limit) }
     ensures whole { S.ended reader.new ≡ true → IsAtEnd (S.remaining reader.new) }
 {
-    let mut output = SizedOutput::new(P::new(alloc, size)?, what, piece);
+    let mut output = SizedOutput::new(Resized::<P>::new(alloc, size, resizes)?, what, piece);
     let dec = Encoding::Dec;
     write_output_from(alloc, &mut output, dec, reader, writer, piece, limit)
 }

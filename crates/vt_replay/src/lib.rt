@@ -23,6 +23,7 @@ mod page_outputs;
 mod pages;
 mod player;
 mod requests;
+mod resized;
 mod search;
 mod session;
 mod sized;
@@ -35,10 +36,11 @@ pub use language::Language;
 pub use logging::{write_log, write_log_from};
 pub use output::{front_for, write_output_from};
 pub use pages::{PAGE_LIMIT, feed_pages, feed_pages_reserved};
-pub use requests::{Outcome, carry_out, format_of, lacks_times};
+pub use requests::{Outcome, carry_out, format_of, keeps_size, lacks_times};
+pub use resized::Resize;
 pub use vt_cli::{
     CursorShape, Encoding, Format, Looks, Moment, Refused, Request, Settings, TerminalType, Theme,
-    What, Word, request, settings,
+    What, Word, request, settings, size_of,
 };
 pub use vt_device::{Output, Watched, write_output};
 pub use vt_recording::{

@@ -1,5 +1,5 @@
 //! The outputs of pages: the log, and the lines of the screen before each event that blanks all of it, in each language of a host.
-ghost use Rattle.std.specs.Prelude.{◌≡◌, ◌*◌, ◌/◌, ◌≤◌, true, false, vec_capacity};
+ghost use Rattle.std.specs.Prelude.{◌≡◌, ◌/◌, ◌≤◌, true, false, vec_capacity};
 ghost use Rattle.std.specs.Io.KnownBytes.{IsAtEnd};
 ghost use Rattle.vt_screen.specs.Sizes.{IsSize};
 ghost use Rattle.vt_term.specs.Play.{play};
@@ -7,6 +7,7 @@ ghost use Rattle.vt_term.specs.Text.{text, text_limit};
 ghost use Rattle.vt_device.specs.Runs.{Moves};
 ghost use Rattle.vt_device.specs.Output.{OutputTable, always};
 ghost use Rattle.vt_utf8.specs.Play.{play_utf8, translated};
+ghost use Rattle.vt_xterm.specs.Limits.{xterm_lines_limit};
 ghost use Rattle.vt_xterm.specs.Play.{play_xterm, behind};
 ghost use Rattle.vt_replay.specs.declared.language.Language.TheVariants.{Dec, Utf8, Xterm};
 ghost use Rattle.vt_replay.specs.Log.{screen_at};
@@ -20,7 +21,7 @@ use crate::laws::sized_pages_cut;
 use crate::main_pages::feed_main_pages;
 use crate::output::front_for;
 use crate::outputs::{SizedWordOutput, write_word_at};
-use crate::page_characters::{LEAST_REPORTS, feed_utf8_pages};
+use crate::page_characters::feed_utf8_pages;
 use crate::pages::feed_pages_at;
 use std::alloc::{AllocError, Global};
 use std::io::Write;
@@ -32,16 +33,18 @@ use vt_utf8::Decoder;
 use vt_utf8::laws::{sized_cuts as utf8_cuts, sized_soundness as utf8_soundness};
 use vt_xterm::SizedFront;
 use vt_xterm::laws::cuts as xterm_cuts;
+use vt_xterm::sized::xterm_lines_limit;
 
-/// Returns the capacity for lines and pages between two writes: 64 screens. A byte's lines and pages fit in each language.
+/// Returns the capacity for lines and pages between two writes: 8 screens of 22 rows or more. A byte's lines and pages fit in each
+/// language.
 fn pages_room(terminal: &SizedTerminal) -> usize
     ensures room { result ≡ pages_room terminal.now.display.grid.size }
     ensures text { text_limit terminal.now.display.grid.size ≤ pages_room terminal.now.display.grid.size }
-    ensures utf8 { 44 * text_limit terminal.now.display.grid.size ≤ pages_room terminal.now.display.grid.size }
+    ensures utf8 { xterm_lines_limit terminal.now.display.grid.size ≤ pages_room terminal.now.display.grid.size }
     ensures xterm { main_room terminal.now.display.grid.size ≤ pages_room terminal.now.display.grid.size }
 {
     let _ = terminal.size();
-    64 * terminal.text_limit()
+    4 * xterm_lines_limit(terminal)
 }
 
 /// Writes the pages of a source's bytes in a language, on a screen of a size, as `write_log_at` writes the log.
@@ -158,7 +161,7 @@ impl Output for Utf8PageOutput {
 
     ghost there = { λ o bytes. true };
 
-    ghost most = { λ o. vec_capacity o.reports / 220 };
+    ghost most = { λ o. vec_capacity o.reports / 10 };
 
     ghost counted = { λ o. 0 };
 
@@ -204,7 +207,7 @@ impl SizedWordOutput for Utf8PageOutput {
         sized_soundness();
         let terminal = SizedTerminal::new(alloc, size)?;
         Ok(Utf8PageOutput {
-            reports: Vec::with_capacity(alloc, LEAST_REPORTS * piece)?,
+            reports: Vec::with_capacity(alloc, REPORT_LIMIT * piece)?,
             decoder: Decoder::new(),
             terminal,
         })

@@ -2,12 +2,10 @@
 ghost use Rattle.std.specs.Prelude.{◌≡◌, ◌+◌, ◌*◌, ◌≤◌, ◌++◌, [], ℕ, List, length, vec_len, vec_capacity, IfOk};
 ghost use Rattle.vt_screen.specs.declared.size.Size.{Size};
 ghost use Rattle.vt_screen.specs.Sizes.{IsSize};
-ghost use Rattle.vt_term.specs.Play.{Played, play, both};
-ghost use Rattle.vt_utf8.specs.Decoding.{pending_after};
-ghost use Rattle.vt_utf8.specs.Play.{play_utf8};
-ghost use Rattle.vt_xterm.specs.Play.{play_xterm, behind};
-ghost use Rattle.vt_replay.specs.declared.language.Language.TheVariants.{Dec, Utf8, Xterm};
-ghost use Rattle.vt_replay.specs.Playing.{on_terminal, played_at};
+ghost use Rattle.vt_term.specs.State.{State, state_of};
+ghost use Rattle.vt_term.specs.Play.{both};
+ghost use Rattle.vt_xterm.specs.Play.{behind};
+ghost use Rattle.vt_replay.specs.Resizes.{Session, Utf8Kept, XtermKept, plain_session, utf8_session, xterm_session, utf8_begun, xterm_begun};
 
 use std::alloc::{AllocError, Global};
 use vt_term::laws::{sized_cuts, sized_soundness};
@@ -21,36 +19,50 @@ use vt_xterm::sized::feed_xterm_reserved;
 
 /// How a host's bytes are played on a terminal.
 pub(crate) trait Player: Drop {
-    /// The state and the reports that bytes leave as they come.
-    ghost played: { Self → List ℕ → Played };
+    /// What is kept between bytes.
+    ghost Kept: { Type 0 };
+
+    /// What the player keeps.
+    ghost kept: { Self → Kept };
+
+    /// What bytes leave and report, and what a change of the size leaves.
+    ghost session: { Session Kept };
 
     /// The size of the terminal.
     ghost screen: { Self → Size };
 
-    /// The state and the reports that all bytes of a host leave, on a terminal of a size.
-    ghost plays: { Size → List ℕ → Played };
+    /// What a new terminal of a size keeps.
+    ghost begun: { Size → Kept };
 
     /// Returns the player of a new terminal. `Err` means that allocation failed.
     fn new(alloc: Global, size: Size) -> Result<Self, AllocError>
         requires { IsSize size }
-        ensures played { IfOk result (λ p. played p ≡ plays size) }
+        ensures kept { IfOk result (λ p. kept p ≡ begun size) }
         ensures screen { IfOk result (λ p. screen p ≡ size) };
 
     /// Plays a chunk, and appends the reports. `out` has capacity for ten more bytes for each byte of the chunk. It allocates
     /// nothing.
     fn feed(&mut self, chunk: &[u8], out: &mut Vec<u8>)
         requires { vec_len out.old + 10 * length chunk.now ≤ vec_capacity out.old }
-        ensures reports { out.new.items ≡ out.old.items ++ (played self.old chunk.now).reports }
-        ensures on { (more : List ℕ) → played self.old (chunk.now ++ more)
-            ≡ both (played self.old chunk.now) (played self.new more) }
+        ensures reports { out.new.items ≡ out.old.items ++ (session.played (kept self.old) chunk.now).reports }
+        ensures on { (more : List ℕ) → session.played (kept self.old) (chunk.now ++ more)
+            ≡ both (session.played (kept self.old) chunk.now) (session.played (kept self.new) more) }
+        ensures after { (more : List ℕ) → session.after (kept self.old) (chunk.now ++ more)
+            ≡ session.after (kept self.new) more }
         ensures screen { screen self.new ≡ screen self.old }
         ensures bounded { vec_len out.new ≤ vec_len out.old + 10 * length chunk.now }
         ensures capacity { vec_capacity out.old ≤ vec_capacity out.new };
 
     /// Returns the terminal, as the bytes that came leave it.
     fn sized(&self) -> &SizedTerminal
-        ensures state { played self.now [] ≡ record { state = result.now; reports = [] } }
+        ensures state { session.played (kept self.now) [] ≡ record { state = result.now; reports = [] } }
+        ensures kept { session.after (kept self.now) [] ≡ kept self.now }
         ensures screen { result.now.display.grid.size ≡ screen self.now };
+
+    /// Makes another player, of any size, what this one becomes if the screen changes to that size. It allocates nothing.
+    fn resize_into(&self, target: &mut Self)
+        ensures kept { kept target.new ≡ session.on (screen target.old) (kept self.now) }
+        ensures screen { screen target.new ≡ screen target.old };
 }
 
 /// The host's bytes are the terminal's.
@@ -60,11 +72,15 @@ pub(crate) struct PlainPlayer {
 }
 
 impl Player for PlainPlayer {
-    ghost played = { λ p bytes. play p.terminal bytes };
+    ghost Kept = { State };
+
+    ghost kept = { λ p. p.terminal };
+
+    ghost session = { plain_session };
 
     ghost screen = { λ p. p.terminal.display.grid.size };
 
-    ghost plays = { λ size. played_at size Dec };
+    ghost begun = { state_of };
 
     fn new(alloc: Global, size: Size) -> Result<PlainPlayer, AllocError> {
         Ok(PlainPlayer {
@@ -84,6 +100,10 @@ impl Player for PlainPlayer {
         let _ = self.terminal.width();
         &self.terminal
     }
+
+    fn resize_into(&self, target: &mut PlainPlayer) {
+        self.terminal.resize_into(&mut target.terminal);
+    }
 }
 
 /// The host's bytes are UTF-8.
@@ -94,11 +114,15 @@ pub(crate) struct Utf8Player {
 }
 
 impl Player for Utf8Player {
-    ghost played = { λ p bytes. play_utf8 p.terminal p.decoder bytes };
+    ghost Kept = { Utf8Kept };
+
+    ghost kept = { λ p. record { state = p.terminal; pending = p.decoder } };
+
+    ghost session = { utf8_session };
 
     ghost screen = { λ p. p.terminal.display.grid.size };
 
-    ghost plays = { λ size. played_at size Utf8 };
+    ghost begun = { utf8_begun };
 
     fn new(alloc: Global, size: Size) -> Result<Utf8Player, AllocError> {
         Ok(Utf8Player {
@@ -119,6 +143,11 @@ impl Player for Utf8Player {
         let _ = self.terminal.width();
         &self.terminal
     }
+
+    fn resize_into(&self, target: &mut Utf8Player) {
+        self.terminal.resize_into(&mut target.terminal);
+        target.decoder = self.decoder.copied();
+    }
 }
 
 /// The host's bytes are UTF-8, with the functions of xterm. The terminal and the front have one size.
@@ -130,11 +159,15 @@ pub(crate) struct XtermPlayer {
 }
 
 impl Player for XtermPlayer {
-    ghost played = { λ p bytes. on_terminal (play_xterm (behind p.terminal p.front) p.front.pending bytes) };
+    ghost Kept = { XtermKept };
+
+    ghost kept = { λ p. record { whole = behind p.terminal p.front; pending = p.front.pending } };
+
+    ghost session = { xterm_session };
 
     ghost screen = { λ p. p.terminal.display.grid.size };
 
-    ghost plays = { λ size. played_at size Xterm };
+    ghost begun = { xterm_begun };
 
     fn new(alloc: Global, size: Size) -> Result<XtermPlayer, AllocError> {
         Ok(XtermPlayer {
@@ -145,11 +178,18 @@ impl Player for XtermPlayer {
 
     fn feed(&mut self, chunk: &[u8], out: &mut Vec<u8>) {
         xterm_cuts();
+        utf8_cuts();
         feed_xterm_reserved(&mut self.terminal, &mut self.front, chunk, out);
     }
 
     fn sized(&self) -> &SizedTerminal {
         xterm_cuts();
+        utf8_cuts();
         &self.terminal
+    }
+
+    fn resize_into(&self, target: &mut XtermPlayer) {
+        self.front.resize_into(&self.terminal, &mut target.front);
+        self.terminal.resize_into(&mut target.terminal);
     }
 }

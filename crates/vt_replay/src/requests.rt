@@ -1,11 +1,13 @@
 //! A request, carried out by its word.
-ghost use Rattle.std.specs.Prelude.{◌≡◌, ◌≤◌, ◌++◌, true, false, Err, option_map, IfOk};
+ghost use Rattle.std.specs.Prelude.{◌≡◌, ◌≤◌, ◌<◌, ◌+◌, ◌++◌, ◌∷◌, List, length, take, drop, true, false, Err, option_map, All, IfOk};
+ghost use Rattle.std.proofs.Props.{props};
 ghost use Rattle.std.specs.Io.KnownBytes.{IsAtEnd};
 ghost use Rattle.vt_device.specs.Runs.{Moves};
 ghost use Rattle.vt_device.specs.Writing.{Gives};
 ghost use Rattle.vt_screen.specs.Sizes.{IsSize};
+ghost use Rattle.vt_recording.specs.declared.changes.Change.{Change};
 ghost use Rattle.vt_replay.specs.Words.{WordTable};
-ghost use Rattle.vt_replay.specs.Request.{asks_wide, is_streamed, takes_whole, needs_whole, format_of, lacks_times, ended_of, IsStreamed, IsTakenBy, IsPrepared, IsPlayed, OutcomeTable};
+ghost use Rattle.vt_replay.specs.Request.{asks_wide, is_streamed, takes_whole, needs_whole, has_sizes, changes_size, keeps_size, most_changes, resizes_of, AreResizes, format_of, lacks_times, ended_of, IsStreamed, IsTakenBy, IsPrepared, IsPlayed, OutcomeTable};
 ghost use Rattle.vt_replay.specs.Host.{host_of, opening};
 
 use crate::animated::{animation_taken, title_of};
@@ -18,13 +20,15 @@ use crate::language::Language;
 use crate::logging::write_log_at;
 use crate::outputs::{ContentOutput, write_word};
 use crate::page_outputs::write_pages_at;
+use crate::resized::Resize;
 use crate::search::{search_taken, text_of};
 use std::alloc::{AllocError, Global};
 use std::io::{Read, Write};
-use vt_cli::{Encoding, Format, Moment, Request, TerminalType, What, Word};
+use vt_cli::{Encoding, Format, Moment, Request, TerminalType, What, Word, size_of};
 use vt_device::{Source, Watched, write_by};
 use vt_recording::{
-    Break, Content, Detected, Fault, Taken, detect, heading_of, read_recording, take_between,
+    Break, Change, Content, Detected, Fault, Taken, changes_of, detect, heading_of, read_recording,
+    take_between, timeline_of,
 };
 
 /// Carries out a request's word on the reader's bytes, as a host sent them. Neither device has failed before, and the reader hasn't
@@ -34,22 +38,28 @@ fn carry_out_word<S: Source, W: Write>(
     reader: &mut S,
     writer: &mut Watched<W>,
     host: Host,
+    resizes: &[Resize],
     request: &Request,
 ) -> Result<(), Fault>
     requires reader_works { S.failed reader.old ≡ false }
     requires reader_goes_on { S.ended reader.old ≡ false }
     requires writer_works { writer.old.failed ≡ false }
     requires sized { IsSize host.size }
+    requires resized { All (λ r. IsSize r.size) resizes.now }
     ensures answer { Moves (S.remaining reader.old) (S.remaining reader.new) (W.contents writer.old.device)
         (W.contents writer.new.device)
-        (λ b w. WordTable result request.now.word host.size host.terminal host.encoding request.now.piece b w (record { reader_failed = S.failed reader.new; reader_ended = S.ended reader.new; writer_failed = writer.new.failed }) request.now.limit) }
+        (λ b w. WordTable result request.now.word host.size resizes.now host.terminal host.encoding request.now.piece b w (record { reader_failed = S.failed reader.new; reader_ended = S.ended reader.new; writer_failed = writer.new.failed }) request.now.limit) }
     ensures whole { S.ended reader.new ≡ true → IsAtEnd (S.remaining reader.new) }
 {
     let (piece, limit) = (request.piece, request.limit);
     let (size, encoding) = (host.size, host.encoding);
     let language = Language::of(host.terminal, encoding);
     match request.word {
-        Word::Replay(what) => { run_at(alloc, reader, writer, what, language, size, piece, limit) }
+        Word::Replay(what) => {
+            run_at(
+                alloc, reader, writer, what, language, size, resizes, piece, limit,
+            )
+        }
         Word::Log => write_log_at(alloc, reader, writer, language, size, piece, limit),
         Word::Pages => write_pages_at(alloc, reader, writer, language, size, piece, limit),
         Word::Trace => write_trace(alloc, reader, writer, language, size, piece, limit),
@@ -173,6 +183,10 @@ pub fn lacks_times(format: Format, timed: bool, until: Option<Moment>) -> bool
 /// All replays but a repaint, log, pages, trace and summary are of a screen of the size that the request asks for. If it leaves the size to a recording, they are
 /// of the size that its first line names, if a screen may have that. DECCOLM leaves the width of such a screen, unless it is a VT220's.
 ///
+/// A replay carries out the changes of the size that a recording has up to the moment, each after the content that comes before it,
+/// unless a size or a width is asked for. DECCOLM leaves the width of a screen after a change. A change to a size that no screen may
+/// have is passed over. Under TERM=xterm a repaint is of the first size, and so are all other words.
+///
 /// If the format is raw, all of the input is wanted, and 132 columns weren't asked for, the word is carried out on the bytes as they come. Events
 /// are a table of the whole recording, a picture that moves has a frame for each event of output, and a search has a line for each span of time. They are written in the place of its content. Otherwise the
 /// input is read whole, and the word is carried out on its content between the moments. If the recording is broken, that is
@@ -223,7 +237,7 @@ fn stream<R: Read, W: Write>(
     let host = plain_host(request);
     Outcome {
         replaced: 0,
-        ended: carry_out_word(alloc, reader, writer, host, request),
+        ended: carry_out_word(alloc, reader, writer, host, &[], request),
     }
 }
 
@@ -232,6 +246,8 @@ fn stream<R: Read, W: Write>(
 struct Prepared {
     /// For what its host sent.
     host: Host,
+    /// The changes of the screen's size.
+    resizes: Vec<Resize>,
     /// The opening, and the content between the moments.
     bytes: Vec<u8>,
     /// The place at which the recording is broken, or none.
@@ -239,6 +255,118 @@ struct Prepared {
     /// The number of characters that have no byte.
     replaced: u64,
     ghost sized: { IsSize host.size },
+    ghost resized: { All (λ r. IsSize r.size) resizes.items } by { Prim.hlevel props },
+}
+
+/// Returns whether recordings in a format have sizes.
+fn has_sizes(format: Format) -> bool
+    ensures { result ≡ has_sizes format }
+{
+    matches!(format, Format::Script | Format::Asciicast)
+}
+
+/// Returns whether a word carries out changes of the size.
+fn changes_size(word: Word) -> bool
+    ensures { result ≡ changes_size word }
+{
+    match word {
+        Word::Replay(_) => true,
+        _ => false,
+    }
+}
+
+/// Returns whether the screen keeps its size, whatever a recording in the format says: a size or a width was asked for, or the word
+/// or the format has no changes of the size.
+pub fn keeps_size(request: &Request, format: Format) -> bool
+    ensures { result ≡ keeps_size request.now format }
+{
+    request.size.is_some()
+        || request.wide.is_some()
+        || request.from.is_some()
+        || !changes_size(request.word)
+        || !has_sizes(format)
+}
+
+/// A place in what is played: so many bytes that aren't of the content come next, and so much of the content came before.
+#[derive(Clone, Copy)]
+struct Spot {
+    before: usize,
+    at: u64,
+}
+
+/// Returns a change by its index.
+fn change_at(changes: &[Change], i: usize) -> Change
+    requires { i < length changes.now }
+    ensures { drop i changes.now ≡ result ∷ drop (i + 1) changes.now }
+{
+    changes[i]
+}
+
+/// Appends a change of the window as a change of the screen that comes after a place, and returns the place of it. A change to a size
+/// that no screen may have is left out.
+fn push_resize(spot: Spot, change: Change, resizes: &mut Vec<Resize>) -> Result<Spot, AllocError>
+    ensures ahead { IfOk result (λ next. (changes : List Change) → resizes.new.items ++ resizes_of next.before next.at changes
+        ≡ resizes.old.items ++ resizes_of spot.before spot.at (change ∷ changes)) }
+    ensures sizes { IfOk result (λ next. All (λ r. IsSize r.size) resizes.old.items → All (λ r. IsSize r.size) resizes.new.items) }
+{
+    let Some(size) = size_of(change.window.columns, change.window.rows) else {
+        return Ok(spot);
+    };
+    let more = change.place.saturating_sub(spot.at) as usize;
+    let after = spot.before.saturating_add(more);
+    resizes.push(Resize { after, size })?;
+    Ok(Spot {
+        before: 0,
+        at: change.place,
+    })
+}
+
+/// Returns changes of the window as changes of the screen, of bytes that begin with so many that aren't of the content. A change to
+/// a size that no screen may have is left out.
+fn resizes_of(alloc: Global, before: usize, changes: &[Change]) -> Result<Vec<Resize>, AllocError>
+    ensures resizes { IfOk result (λ resizes. resizes.items ≡ resizes_of before 0 changes.now) }
+    ensures sizes { IfOk result (λ resizes. All (λ r. IsSize r.size) resizes.items) }
+{
+    let mut resizes = Vec::new(alloc);
+    let mut spot = Spot { before, at: 0 };
+    let mut i = 0;
+    while i < changes.len() {
+        spot = push_resize(spot, change_at(changes, i), &mut resizes)?;
+        i += 1;
+    }
+    Ok(resizes)
+}
+
+/// The most changes of the size that are carried out. Each has a screen from the beginning, so this bounds the memory that a recording
+/// takes.
+const MOST_CHANGES: usize = 1000;
+
+/// Returns the changes that are carried out: the first ones.
+fn first_changes(changes: &[Change]) -> &[Change]
+    ensures { result.now ≡ take most_changes changes.now }
+{
+    &changes[..MOST_CHANGES.min(changes.len())]
+}
+
+/// Returns the changes of the screen's size that a request carries out of a recording.
+fn resizes_for(
+    alloc: Global,
+    bytes: &[u8],
+    timing: Option<&[u8]>,
+    format: Format,
+    host: Host,
+    request: &Request,
+) -> Result<Vec<Resize>, AllocError>
+    ensures resizes { IfOk result (λ resizes. AreResizes (keeps_size request.now format) request.now format (option_map (λ b. b.now) timing.entry) bytes.now host resizes.items) }
+    ensures sizes { IfOk result (λ resizes. All (λ r. IsSize r.size) resizes.items) }
+{
+    if keeps_size(request, format) {
+        return Ok(Vec::new(alloc));
+    }
+    let timeline = timeline_of(alloc, bytes, timing, format)?;
+    let changes = changes_of(alloc, &timeline, format, host.encoding, request.until)?;
+    let first = first_changes(&changes);
+    resizes_of(alloc, opening(request.word, host).len(), first)
 }
 
 /// Takes out of a recording what a request's word is for: the table of its events, a picture that moves, the spans of a search, or its
@@ -284,14 +412,16 @@ fn prepare(
     format: Format,
     request: &Request,
 ) -> Result<Prepared, AllocError>
-    ensures { IfOk result (λ p. IsPrepared request.now format (option_map (λ t. t.now) timing.entry) bytes.now p.host p.bytes.items p.broken p.replaced) }
+    ensures { IfOk result (λ p. IsPrepared request.now format (option_map (λ t. t.now) timing.entry) bytes.now p.host p.resizes.items p.bytes.items p.broken p.replaced) }
 {
     let host = host_for(request, format, heading_of(alloc, bytes, format)?);
+    let resizes = resizes_for(alloc, bytes, timing, format, host, request)?;
     let taken = taken_for(alloc, bytes, timing, format, host, request)?;
     let broken = taken.broken;
     let replaced = taken.replaced;
     Ok(Prepared {
         host,
+        resizes,
         bytes: opened(alloc, opening(request.word, host), taken.content)?,
         broken,
         replaced,
@@ -320,13 +450,14 @@ fn play_prepared<W: Write>(
 ) -> Outcome
     requires writer_works { writer.old.failed ≡ false }
     ensures { Gives (W.contents writer.old.device) (W.contents writer.new.device)
-        (λ w. IsPlayed result request.now prepared.host prepared.bytes.items prepared.broken prepared.replaced w writer.new.failed) }
+        (λ w. IsPlayed result request.now prepared.host prepared.resizes.items prepared.bytes.items prepared.broken prepared.replaced w writer.new.failed) }
 {
     let host = prepared.host;
     let broken = prepared.broken;
     let replaced = prepared.replaced;
+    let resizes = prepared.resizes;
     let mut content = Content::new(prepared.bytes);
-    let played = carry_out_word(alloc, &mut content, writer, host, request);
+    let played = carry_out_word(alloc, &mut content, writer, host, &resizes, request);
     Outcome {
         replaced,
         ended: ended_of(broken, played),

@@ -278,8 +278,8 @@ fn place_after<P: Player>(
     scratch: &mut Vec<u8>,
 ) -> Result<Option<Place>, AllocError>
     requires { 10 ≤ vec_capacity reports.old }
-    ensures place { IfOk result (λ place. place ≡ first_place utf8 wanted.now (P.played player.old bytes.now).state.display) }
-    ensures on { OnOk result ((more : List ℕ) → (P.played player.old (bytes.now ++ more)).state ≡ (P.played player.new more).state) }
+    ensures place { IfOk result (λ place. place ≡ first_place utf8 wanted.now (P.session.played (P.kept player.old) bytes.now).state.display) }
+    ensures on { OnOk result ((more : List ℕ) → (P.session.played (P.kept player.old) (bytes.now ++ more)).state ≡ (P.session.played (P.kept player.new) more).state) }
     ensures capacity { vec_capacity reports.old ≤ vec_capacity reports.new }
 {
     play(player, bytes, reports);
@@ -299,7 +299,7 @@ fn push_spans<P: Player>(
 ) -> Result<(), AllocError>
     requires { 10 ≤ vec_capacity reports.old }
     ensures { OnOk result (out.new.items ≡ out.old.items
-        ++ spans (λ bytes. first_place utf8 wanted.now (P.played player.old bytes).state.display) 0 None
+        ++ spans (λ bytes. first_place utf8 wanted.now (P.session.played (P.kept player.old) bytes).state.display) 0 None
         (events_of steps.now content.now)) }
 {
     let mut found = None;
@@ -331,7 +331,7 @@ fn spans_by<P: Player>(
 ) -> Result<Vec<u8>, AllocError>
     requires { IsSize size }
     ensures { IfOk result (λ lines. lines.items
-        ≡ spans (λ bytes. first_place utf8 wanted.now (P.plays size (opening.now ++ bytes)).state.display) 0 None
+        ≡ spans (λ bytes. first_place utf8 wanted.now (P.session.played (P.begun size) (opening.now ++ bytes)).state.display) 0 None
         (events_of steps.now content.now)) }
 {
     let mut reports = Vec::with_capacity(alloc, PIECE * REPORT_LIMIT)?;

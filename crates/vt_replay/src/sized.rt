@@ -1,11 +1,12 @@
 //! What is due of a screen of any size.
-ghost use Rattle.std.specs.Prelude.{◌≡◌, ⊤, ◌+◌, ◌*◌, ◌≤◌, ◌++◌, [], true, false, length, max, vec_len, vec_capacity};
+ghost use Rattle.std.specs.Prelude.{◌≡◌, ⊤, ◌+◌, ◌*◌, ◌≤◌, ◌++◌, [], true, false, length, max, vec_len, vec_capacity, nat_le};
 ghost use Rattle.vt_syntax.specs.declared.held.Held.TheVariants.{Nothing};
 ghost use Rattle.vt_replay.specs.Due.{due_at_end, is_sent, is_there, sent_by, there_by};
 ghost use Rattle.vt_replay.specs.Sized.{room_at};
+ghost use Rattle.std.specs.List.{list_all};
 
 use crate::output::front_for;
-use crate::player::Player;
+use crate::resized::Playing;
 use crate::status::{STATUS_LIMIT, push_status};
 use vt_cli::What;
 use vt_device::Output;
@@ -16,16 +17,19 @@ use vt_term::{REPORT_LIMIT, SizedTerminal};
 /// The output that is due of a player on a terminal of any size: its reports as they come, or its text, its repaint, its status, its
 /// text with attributes or its picture at the end.
 #[derive(Drop)]
-pub(crate) struct SizedOutput<P: Drop> {
+pub(crate) struct SizedOutput<P: Playing> {
     what: What,
     player: P,
     /// The number of report bytes.
     reported: u64,
     /// The capacity for the reports of one chunk.
     room: usize,
+    /// The most bytes that are due at the end, at each size of the screen.
+    most: usize,
+    ghost fits: { list_all (λ size. nat_le (room_at what size) most) (P.sizes player) ≡ true },
 }
 
-impl<P: Player> SizedOutput<P> {
+impl<P: Playing> SizedOutput<P> {
     /// Returns the output of a player, with capacity for the reports of chunks of so many bytes.
     pub(crate) fn new(player: P, what: What, piece: usize) -> SizedOutput<P>
         requires piece { piece ≤ 65536 }
@@ -35,16 +39,18 @@ impl<P: Player> SizedOutput<P> {
         ensures none { (P.played player []).reports ≡ [] }
     {
         let _ = player.sized();
+        let most = player.most(what);
         SizedOutput {
             what,
             player,
             reported: 0,
             room: REPORT_LIMIT * piece,
+            most,
         }
     }
 }
 
-impl<P: Player> Output for SizedOutput<P> {
+impl<P: Playing> Output for SizedOutput<P> {
     ghost written = { λ o bytes. sent_by (P.played o.player) o.what bytes };
 
     ghost ending = { λ o bytes. due_at_end o.what (P.played o.player bytes).state
@@ -56,15 +62,14 @@ impl<P: Player> Output for SizedOutput<P> {
 
     ghost counted = { λ o. o.reported };
 
-    ghost reserve = { λ o. max (max o.room 10) (room_at o.what (P.screen o.player)) };
+    ghost reserve = { λ o. max (max o.room 10) o.most };
 
     fn capacity(&self) -> usize {
-        let most = room_at(self.player.sized(), self.what);
-        self.room.max(REPORT_LIMIT).max(most)
+        self.room.max(REPORT_LIMIT).max(self.most)
     }
 
     fn feed(&mut self, chunk: &[u8], out: &mut Vec<u8>) -> usize {
-        let count = front_for(chunk, out);
+        let count = self.player.front(front_for(chunk, out));
         self.player.feed(&chunk[..count], out);
         self.reported += out.len() as u64;
         if !is_sent(self.what) {
@@ -103,7 +108,7 @@ fn is_sent(what: What) -> bool
 }
 
 /// Returns the most bytes that are due after the whole input.
-fn room_at(terminal: &SizedTerminal, what: What) -> usize
+pub(crate) fn room_at(terminal: &SizedTerminal, what: What) -> usize
     ensures { result ≡ room_at what terminal.now.display.grid.size }
 {
     match what {

@@ -313,8 +313,7 @@ fn request_is_refused(alloc: Global, input: &[u8], word: Word, what: What) -> Re
     )
 }
 
-/// A word, and what is written for it. No line scrolls off, so that a log is the text. Pages aren't here: they take memory for 64 screens
-/// at once, more than a `Scarce` grants.
+/// A word, and what is written for it. No line scrolls off and no screen is blanked, so that a log is the text, with pages or without.
 const REQUESTED: &[(Word, What)] = &[
     (Word::Replay(What::Text), What::Text),
     (Word::Replay(What::Reports), What::Reports),
@@ -322,6 +321,7 @@ const REQUESTED: &[(Word, What)] = &[
     (Word::Replay(What::Status), What::Status),
     (Word::Replay(What::Show), What::Show),
     (Word::Log, What::Text),
+    (Word::Pages, What::Text),
 ];
 
 /// Returns whether that is so of each of these words.

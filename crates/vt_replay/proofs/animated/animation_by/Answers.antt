@@ -6,7 +6,7 @@ use Rattle.vt_replay.proofs.animated.animation_by.Goals as goal
 
 pub returns : goal.returns
 returns g c =
-    moves (λ bytes. (g.P.Player.plays c.args.size bytes).state.display) (λ bytes. (g.P.Player.played c.in_ok-player.player bytes).state.display)
+    moves (λ bytes. (g.P.Player.session.played (g.P.Player.begun c.args.size) bytes).state.display) (λ bytes. (g.P.Player.session.played (g.P.Player.kept c.in_ok-player.player) bytes).state.display)
     c.args.looks c.args.title.now c.args.opening.now c.args.content.now _ c.args.steps.now c.duration_of.result c.width.result
     c.in_ok-before.before.display c.in_ok-last.last.display
     (λ bytes. ap (λ (s : State). s.display) (c.in_ok-player.ensures.on bytes))

@@ -13,11 +13,11 @@ loop-at-preserved g c =
       some = c.loop-at.invariant.some;
       room = omega (arith, c.clear.ensures.capacity, c.feed.ensures.capacity, c.loop-at.invariant.room);
       screen = c.feed.ensures.screen ∙ c.loop-at.invariant.screen;
-      on = λ more. played_more (g.P.Player.played) _ _ _ c.args.bytes.now at n c.loop-at.invariant.on (rw part at c.feed.ensures.on) more;
+      on = λ more. played_more g.P.Player.session.played _ _ _ c.args.bytes.now at n c.loop-at.invariant.on (rw part at c.feed.ensures.on) more;
       capacity = omega arith;
     }
 
 pub returns-clause-on : goal.returns-clause-on
 returns-clause-on g c = λ more.
-    ap (λ (l : List ℕ). (g.P.Player.played c.args.player.now (l ++ more)).state) (sym (take_all c.loop-at.at c.args.bytes.now c.loop-at-test.false))
+    ap (λ (l : List ℕ). (g.P.Player.session.played (g.P.Player.kept c.args.player.now) (l ++ more)).state) (sym (take_all c.loop-at.at c.args.bytes.now c.loop-at-test.false))
     ∙ c.loop-at.invariant.on more

@@ -8,7 +8,7 @@ invariant-loop-at g l = record {
   some : 1 ≤ l.most;
   room : 10 * l.most ≤ vec_capacity l.reports;
   screen : g.P.Player.screen l.player ≡ g.P.Player.screen l.initial.player;
-  on : (more : List ℕ) → (g.P.Player.played l.initial.player (take l.at l.bytes ++ more)).state ≡ (g.P.Player.played l.player more).state;
+  on : (more : List ℕ) → (g.P.Player.session.played (g.P.Player.kept l.initial.player) (take l.at l.bytes ++ more)).state ≡ (g.P.Player.session.played (g.P.Player.kept l.player) more).state;
   capacity : vec_capacity l.initial.reports ≤ vec_capacity l.reports;
 }
 

@@ -18,7 +18,7 @@ loop-i-preserved g c =
       ahead =
           rw (c.saturating_add-number.ensures, c.max-clock.ensures)
           (one_more c.args.moving.cursor c.args.moving.duration c.args.moving.columns
-          (λ bytes. (g.P.Player.played c.loop-i.player bytes).state.display) (λ bytes. (g.P.Player.played c.push_step.new.player bytes).state.display)
+          (λ bytes. (g.P.Player.session.played (g.P.Player.kept c.loop-i.player) bytes).state.display) (λ bytes. (g.P.Player.session.played (g.P.Player.kept c.push_step.new.player) bytes).state.display)
           c.loop-i.number c.loop-i.clock c.loop-i.i c.loop-i.at _ c.loop-i.numbers _ c.event_at-step.result c.args.steps.now c.args.content.now _ _ _
           kept.within c.event_at-step.ensures (rw c.min.ensures refl) (λ bytes. ap (λ (s : State). s.display) (fed.on bytes))
           (rw (c.saturating_add-number.ensures, c.max-clock.ensures) at fed.items) (rw c.saturating_add-number.ensures at fed.numbers) kept.ahead);

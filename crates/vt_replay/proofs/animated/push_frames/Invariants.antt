@@ -10,12 +10,12 @@ invariant-loop-i g l = record {
   room : 10 ≤ vec_capacity l.reports;
   size : l.before.display.grid.size ≡ g.P.Player.screen l.player;
   numbers : length l.numbers ≡ (g.P.Player.screen l.player).rows;
-  before : l.before ≡ (g.P.Player.played l.player []).state;
+  before : l.before ≡ (g.P.Player.session.played (g.P.Player.kept l.player) []).state;
   ahead : l.out.items
-      ++ frames (λ bytes. (g.P.Player.played l.player bytes).state.display) l.moving.cursor l.moving.duration l.moving.columns l.number l.clock l.numbers
+      ++ frames (λ bytes. (g.P.Player.session.played (g.P.Player.kept l.player) bytes).state.display) l.moving.cursor l.moving.duration l.moving.columns l.number l.clock l.numbers
       (events_of (drop l.i l.steps) (drop l.at l.content))
       ≡ l.initial.out.items
-      ++ frames (λ bytes. (g.P.Player.played l.initial.player bytes).state.display) l.moving.cursor l.moving.duration l.moving.columns 0 0 l.initial.numbers
+      ++ frames (λ bytes. (g.P.Player.session.played (g.P.Player.kept l.initial.player) bytes).state.display) l.moving.cursor l.moving.duration l.moving.columns 0 0 l.initial.numbers
       (events_of l.steps l.content);
 }
 

@@ -1,4 +1,4 @@
-use Rattle.std.proofs.Common.{ℕ, ◌+◌, ◌*◌, ◌∙◌, take, drop, refl, ap, arith, length-drop}
+use Rattle.std.proofs.Common.{◌+◌, ◌∙◌, take, drop, refl, arith, length-drop}
 use Rattle.std.proofs.Math.Seq.{take-add}
 use Rattle.vt_device.proofs.OutputSteps.{rest-of}
 use Rattle.vt_replay.proofs.PagesFed.{utf8-nothing, utf8-both}
@@ -8,7 +8,7 @@ pub loop-at-init : goal.loop-at-init
 loop-at-init c = record {
   within = omega arith;
   some = λ zero. refl;
-  limit = ap (λ (n : ℕ). 44 * n) c.text_limit-limit.ensures;
+  limit = c.xterm_lines_limit-limit.ensures;
   size = refl;
   paged = utf8-nothing c.sized_pages_cut.ensures.two _ _ _ c.sized_cuts.ensures.none c.sized_pages_cut.ensures.none c.width.ensures.sound;
   reports = omega arith;

@@ -1,8 +1,9 @@
-use Rattle.std.proofs.Common.{◌≡◌, ◌<◌, ◌≤◌, take, arith}
+use Rattle.std.proofs.Common.{◌≡◌, ◌<◌, ◌≤◌, take, vec_len, vec_capacity, arith}
 use Rattle.std.proofs.lemmas.Grind.{common_steps}
 use Rattle.std.proofs.lemmas.List.{length-take, take-take}
 use Rattle.std.proofs.lemmas.List.Elements.{All-take}
-use Rattle.vt_replay.proofs.PagesFed.{utf8-ascii}
+use Rattle.vt_term.specs.Text.{row_text_limit}
+use Rattle.vt_replay.proofs.PagesFed.{utf8-ascii, one-fits}
 use Rattle.vt_replay.proofs.page_characters.page_ascii.Goals as goal
 
 pub returns-clause-paged : goal.returns-clause-paged
@@ -21,7 +22,9 @@ returns-clause-paged c =
 pub returns-clause-some : goal.returns-clause-some
 returns-clause-some c =
     let none = c.sized_pages_cut.ensures.none _ c.args.terminal.now c.width.ensures.sound in
-    grind (arith, common_steps, none)
+    let size = c.args.terminal.now.display.grid.size in
+    let room = one-fits size.rows (row_text_limit size) (vec_len c.args.lines.now) (vec_capacity c.args.lines.now) c.requires.room in
+    grind (arith, common_steps, none, room)
 
 pub returns-clause-within : goal.returns-clause-within
 returns-clause-within c = grind (arith, common_steps)

@@ -14,7 +14,7 @@ returns g c =
         at_end = c.carry_out_word-played.new.reader.ended;
         none_left = c.carry_out_word-played.ensures.whole;
         played = c.carry_out_word-played.result;
-        table = moves.holds;
+        table = rw c.deref.ensures.value at moves.holds;
         ended = c.ended_of.ensures;
         replaces = refl;
       };

@@ -1,0 +1,131 @@
+-- A session on a screen that changes its size: a host's bytes, and changes between them. (xterm, if its window changes; what a terminal
+-- becomes at a change is of vt_term and vt_xterm; that a change waits for its bytes is this profile's)
+--
+-- Rows, of a terminal with 3 rows:
+--   `a LF CR b`, a change to 2 rows after 4 bytes, `LF CR c`: rows `b`, `c`; `a` leaves at the top with the LF
+--   `a LF CR b LF CR c`, a change to 2 rows after 7 bytes: the cursor is in row 3, so one row leaves at the change: rows `b`, `c`
+--   the same with the change after 8 bytes: these never come, and there is no change: rows `a`, `b`, `c`
+--   a change after 0 bytes comes before the first byte, and one after as many as there are comes after the last
+use Rattle.std.specs.Prelude.{ℕ, List, [], ◌∷◌, length, take, drop, map, Bool, true, cond, nat_le, nat_lt, Result}
+use Rattle.vt_screen.specs.declared.size.Size.{Size}
+use Rattle.vt_term.specs.State.{State, state_of}
+use Rattle.vt_term.specs.Play.{Played, play, both}
+use Rattle.vt_term.specs.Resizing.{state_on}
+use Rattle.vt_utf8.specs.Decoding.{pending_after}
+use Rattle.vt_utf8.specs.Play.{play_utf8}
+use Rattle.vt_xterm.specs.Play.{Whole, play_xterm, behind, front_of}
+use Rattle.vt_xterm.specs.Resizing.{whole_on}
+use Rattle.vt_replay.specs.declared.language.Language.{Language}
+use Rattle.vt_replay.specs.declared.language.Language.TheVariants.{Dec, Utf8, Xterm}
+use Rattle.vt_replay.specs.declared.resized.Resize.{Resize}
+use Rattle.vt_replay.specs.Playing.{on_terminal, Due, due_by, repainted}
+use Rattle.vt_cli.specs.declared.what.What.{What}
+use Rattle.vt_cli.specs.declared.what.What.TheVariants.{Repaint}
+use Rattle.vt_device.specs.Runs.{Flags}
+use Rattle.vt_device.specs.Output.{OutputTable}
+use Rattle.vt_device.specs.declared.fault.Fault.{Fault}
+
+-- ---- what is kept between a host's bytes, in each language
+
+-- what bytes leave and report, what they leave to be kept, and what a change of the size makes of that
+pub record Session (K : Type 0) : Type 0 where
+  pub played : K → List ℕ → Played
+  pub after : K → List ℕ → K
+  pub on : Size → K → K
+
+-- a state, and what is pending of UTF-8
+pub record Utf8Kept : Type 0 where
+  pub state : State
+  pub pending : List ℕ
+
+-- a terminal with its pages, and what is pending of UTF-8
+pub record XtermKept : Type 0 where
+  pub whole : Whole
+  pub pending : List ℕ
+
+abbrev pub plain_session : Session State
+plain_session = record {
+  played = λ s bytes. play s bytes;
+  after = λ s bytes. (play s bytes).state;
+  on = state_on;
+}
+
+abbrev pub utf8_begun : Size → Utf8Kept
+utf8_begun size = record { state = state_of size; pending = [] }
+
+abbrev pub utf8_session : Session Utf8Kept
+utf8_session = record {
+  played = λ k bytes. play_utf8 k.state k.pending bytes;
+  after = λ k bytes. record { state = (play_utf8 k.state k.pending bytes).state; pending = pending_after k.pending bytes };
+  on = λ size k. record { state = state_on size k.state; pending = k.pending };
+}
+
+abbrev pub xterm_begun : Size → XtermKept
+xterm_begun size = record { whole = behind (state_of size) (front_of size); pending = [] }
+
+abbrev pub xterm_session : Session XtermKept
+xterm_session = record {
+  played = λ k bytes. on_terminal (play_xterm k.whole k.pending bytes);
+  after = λ k bytes. record { whole = (play_xterm k.whole k.pending bytes).whole; pending = pending_after k.pending bytes };
+  on = λ size k. record { whole = whole_on size k.whole; pending = k.pending };
+}
+
+-- ---- bytes and changes
+
+-- what bytes leave and report, with changes between them: each comes after so many bytes more than the one before it. Without a
+-- change it is a play
+abbrev pub played_on : {K : Type 0} → Session K → K → List Resize → List ℕ → Played
+played_on m k [] bytes = m.played k bytes
+played_on m k (r ∷ resizes) bytes =
+    cond (nat_lt (length bytes) r.after) (m.played k bytes)
+    (both (m.played k (take r.after bytes))
+    (played_on m (m.on r.size (m.after k (take r.after bytes))) resizes (drop r.after bytes)))
+
+-- what all the bytes of a host leave and report, from power-up of a terminal of a size
+abbrev pub played_with : Size → List Resize → Language → List ℕ → Played
+played_with size resizes Dec bytes = played_on plain_session (state_of size) resizes bytes
+played_with size resizes Utf8 bytes = played_on utf8_session (utf8_begun size) resizes bytes
+played_with size resizes Xterm bytes = played_on xterm_session (xterm_begun size) resizes bytes
+
+-- ---- what is written
+
+-- a repaint of the session under TERM=xterm is on the first size
+abbrev pub repainted_with : Size → List Resize → Language → Due
+repainted_with size resizes Xterm = repainted size Xterm
+repainted_with size resizes language = due_by (played_with size resizes language) Repaint
+
+-- what is due of a replay
+abbrev pub replayed_with : Size → List Resize → Language → What → Due
+replayed_with size resizes language Repaint = repainted_with size resizes language
+replayed_with size resizes language what = due_by (played_with size resizes language) what
+
+-- what each answer of a replay says of a host's bytes in a language
+abbrev pub ResizedReplayTable : Size → List Resize → Language → What → Result (Unit {0}) Fault → (piece : ℕ) → (b w : List ℕ) → Flags → (limit : ℕ) → Type 0
+ResizedReplayTable size resizes language what result piece b w f limit =
+    let due = replayed_with size resizes language what in
+    OutputTable due.written due.ending due.there result piece b w f limit
+
+-- ---- changes that are still to come
+
+-- as a list has them, each with what it comes after and its size; private contracts alone speak of these
+abbrev pub coming : {L : Type 0} → List L → (after : L → ℕ) → (size : L → Size) → List Resize
+coming later after size = map (λ l. record { after = after l; size = size l }) later
+
+-- the first of them comes after so many bytes
+abbrev pub due : (left : ℕ) → List Resize → List Resize
+due left [] = []
+due left (r ∷ resizes) = record { after = left; size = r.size } ∷ resizes
+
+-- none of them comes before the next byte
+abbrev pub is_settled : {L : Type 0} → (left : ℕ) → List L → Bool
+is_settled left [] = true
+is_settled left (l ∷ later) = nat_lt 0 left
+
+-- so many bytes come before the next one
+abbrev pub is_before : {L : Type 0} → (count left : ℕ) → List L → Bool
+is_before count left [] = true
+is_before count left (l ∷ later) = nat_le count left
+
+-- the sizes that a screen of this size has, now and later
+abbrev pub sizes_of : Size → List Resize → List Size
+sizes_of size resizes = size ∷ map (λ (r : Resize). r.size) resizes

@@ -8,18 +8,23 @@ use alacritty_terminal::term::test::TermSize;
 use alacritty_terminal::term::Term;
 use std::io::{Read, Write};
 
-const ROWS: usize = 24;
-const COLUMNS: usize = 80;
+/// Returns the columns and the rows that the first argument names, as `80x24`.
+fn size() -> Option<(usize, usize)> {
+    let word = std::env::args().nth(1)?;
+    let (columns, rows) = word.split_once('x')?;
+    Some((columns.parse().ok()?, rows.parse().ok()?))
+}
 
 fn main() -> std::io::Result<()> {
+    let (columns, rows) = size().expect("COLUMNSxROWS");
     let mut data = Vec::new();
     std::io::stdin().read_to_end(&mut data)?;
-    let (mut terminal, mut parser) = (Term::new(&Config::default(), &TermSize::new(COLUMNS, ROWS), VoidListener), Processor::new());
+    let (mut terminal, mut parser) = (Term::new(&Config::default(), &TermSize::new(columns, rows), VoidListener), Processor::new());
     for byte in data {
         parser.advance(&mut terminal, byte);
     }
-    for row in 0..ROWS {
-        let cells = (0..COLUMNS).map(|column| &terminal.grid()[Line(row as i32)][Column(column)]);
+    for row in 0..rows {
+        let cells = (0..columns).map(|column| &terminal.grid()[Line(row as i32)][Column(column)]);
         let shown = cells.filter(|cell| !cell.flags.contains(Flags::WIDE_CHAR_SPACER));
         let line: String = shown.map(|cell| if cell.c == '\t' { ' ' } else { cell.c }).collect();
         std::io::stdout().write_all(format!("{}\n", line.trim_end_matches(' ')).as_bytes())?;

@@ -3,6 +3,7 @@ pub mod Playing
 pub mod Session
 pub mod Due
 pub mod Status
+pub mod Resizes
 pub mod Encoding
 pub mod Words
 pub mod Log

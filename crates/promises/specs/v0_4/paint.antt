@@ -1,3 +1,4 @@
+pub mod Limits
 pub mod Changes
 pub mod Spoken
 pub mod Controls
@@ -6,4 +7,3 @@ pub mod Items
 pub mod Same
 pub mod Pieces
 pub mod Repaint
-pub mod Limits

@@ -12,6 +12,6 @@ pub mod Reached
 pub mod Moment
 pub mod Characters
 pub mod Gathered
+pub mod Changes
 pub mod Reading
 pub mod Detection
-pub mod Changes

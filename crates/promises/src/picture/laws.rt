@@ -1,18 +1,21 @@
 //! The calls of vt_picture/src/laws.
 ghost use Rattle.promises.specs.v0_4.picture.Animation.{cells_shown, is_seen, row_shown, same_paper, same_row};
 ghost use Rattle.promises.specs.v0_4.picture.Animation.{seen_at};
-ghost use Rattle.promises.specs.v0_4.picture.Draw.{draw, draw_from, row_bytes, shown};
-ghost use Rattle.promises.specs.v0_4.picture.Limits.{animation_limit, frame_limit, picture_limit, show_limit};
+ghost use Rattle.promises.specs.v0_4.picture.Draw.{draw, draw_at, draw_from, draw_from_at, row_bytes, shown};
+ghost use Rattle.promises.specs.v0_4.picture.Limits.{animation_limit, draw_limit, frame_limit, picture_limit};
+ghost use Rattle.promises.specs.v0_4.picture.Limits.{show_limit};
+ghost use Rattle.promises.specs.v0_4.picture.Window.{Draws, Shows};
 ghost use Rattle.promises.specs.v0_4.screen.Sizes.{vt220_size};
 ghost use Rattle.std.specs.Prelude.{[], List, true, ℕ, ◌≡◌};
 ghost use Rattle.vt_picture.specs.Draw.{LooksLike};
-ghost use Rattle.vt_picture.specs.Window.{Draws, Shows, Window};
+ghost use Rattle.vt_picture.specs.Window.{DrawsAt, ShowsAt, Window};
 ghost use Rattle.vt_picture.specs.declared.drawing.pen.Pen.{Pen};
 ghost use Rattle.vt_picture.specs.declared.looks.CursorShape.{CursorShape};
 ghost use Rattle.vt_screen.specs.declared.cell.Cell.{Cell};
+ghost use Rattle.vt_screen.specs.declared.size.Size.{Size};
 ghost use Rattle.vt_term.specs.State.{Display, State};
 
-use vt_picture::{ANIMATION_LIMIT, FRAME_LIMIT, PICTURE_LIMIT, SHOW_LIMIT};
+use vt_picture::{ANIMATION_LIMIT, DRAW_LIMIT, FRAME_LIMIT, PICTURE_LIMIT, SHOW_LIMIT};
 
 /// Promises what `vt_picture::laws::shows_the_screen` promises.
 pub fn shows_the_screen()
@@ -27,11 +30,24 @@ pub fn shows_the_screen()
 /// Promises what `vt_picture::laws::vt220_limits` promises.
 pub fn vt220_limits()
     ensures show { show_limit vt220_size ≡ SHOW_LIMIT }
+    ensures draw { draw_limit vt220_size ≡ DRAW_LIMIT }
     ensures picture { picture_limit vt220_size ≡ PICTURE_LIMIT }
     ensures frame { frame_limit vt220_size ≡ FRAME_LIMIT }
     ensures animation { animation_limit vt220_size ≡ ANIMATION_LIMIT }
 {
     vt_picture::laws::vt220_limits()
+}
+
+/// Promises what `vt_picture::laws::sized_drawings` promises.
+pub fn sized_drawings()
+    ensures unwritten { (size : Size) (a b : State) → a.display.grid.width ≡ b.display.grid.width
+        → LooksLike (shown a) (shown b) → draw_from_at size a b ≡ [] }
+    ensures whole { (size : Size) (s : State) (w : Window) → DrawsAt size (draw_at size s) w (shown s) }
+    ensures from { (size : Size) (a b : State) (w : Window) → ShowsAt size w (shown a)
+        → DrawsAt size (draw_from_at size a b) w (shown b) }
+    ensures canonical { (size : Size) (a b : State) → LooksLike (shown a) (shown b) → draw_at size a ≡ draw_at size b }
+{
+    vt_picture::laws::sized_drawings()
 }
 
 /// Promises what `vt_picture::laws::unwritten` promises.

@@ -1,5 +1,5 @@
 //! The calls of vt_replay/src/requests.
-ghost use Rattle.promises.specs.v0_4.replay.Request.{format_of, lacks_times, OutcomeTable};
+ghost use Rattle.promises.specs.v0_4.replay.Request.{format_of, keeps_size, lacks_times, OutcomeTable};
 ghost use Rattle.std.specs.Io.KnownBytes.{IsAtEnd};
 ghost use Rattle.std.specs.Prelude.{false, option_map, true, ◌≡◌};
 ghost use Rattle.vt_device.specs.Runs.{Moves};
@@ -42,4 +42,11 @@ pub fn carry_out<R: Read, W: Write>(
     ensures whole { reader.new.ended ≡ true → IsAtEnd (R.remaining reader.new.device) }
 {
     vt_replay::carry_out::<R, W>(alloc, reader, format, timing, writer, request)
+}
+
+/// Promises what `vt_replay::keeps_size` promises.
+pub fn keeps_size(request: &Request, format: Format) -> bool
+    ensures { result ≡ keeps_size request.now format }
+{
+    vt_replay::keeps_size(request, format)
 }

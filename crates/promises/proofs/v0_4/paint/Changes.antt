@@ -7,7 +7,8 @@ use Rattle.std.specs.List.{range_with_len, sum_by}
 use Rattle.std.specs.Prelude.{[], Bool, if◌then◌else◌, List, not, slice_index_or, ℕ, ◌-◌, ◌≡◌, ◌≤◌}
 use Rattle.vt_paint.specs.Changes as today
 use Rattle.vt_paint.specs.Changes.{is_marked, same_cell}
-use Rattle.vt_screen.specs.Grid.{last_row}
+use Rattle.vt_screen.specs.Sizes.{vt220_size}
+use Rattle.vt_screen.specs.declared.size.Size.{Size}
 use Rattle.vt_term.specs.State.{Display, State}
 
 pub same_cell-same : frozen.same_cell ≡ today.same_cell
@@ -22,33 +23,33 @@ differing_from-same = λ ι a b r c n. sum_by (λ c. if (differs_at-same ι) a b
 pub differing_rows-same : frozen.differing_rows ≡ today.differing_rows
 differing_rows-same = λ ι a b r n. sum_by (λ r. (differing_from-same ι) a b r 1 b.width) (range_with_len r n)
 
-pub differing-same : frozen.differing ≡ today.differing
-unfolding frozen.differing today.differing
-differing-same = λ ι a b. (differing_rows-same ι) a b 1 last_row
+pub differing_at-same : frozen.differing_at ≡ today.differing_at
+unfolding frozen.differing_at today.differing_at
+differing_at-same = λ ι size a b. (differing_rows-same ι) a b 1 size.rows
 
 pub is_marked-same : frozen.is_marked ≡ today.is_marked
 is_marked-same = refl
 
-pub AreMarked-same : frozen.AreMarked ≡ today.AreMarked
-AreMarked-same = λ ι marks a b.
-    (r c : ℕ) → 1 ≤ r → r ≤ last_row → 1 ≤ c → c ≤ b.width → is_marked marks r c ≡ (differs_at-same ι) a b r c
+pub AreMarkedAt-same : frozen.AreMarkedAt ≡ today.AreMarkedAt
+AreMarkedAt-same = λ ι size marks a b.
+    (r c : ℕ) → 1 ≤ r → r ≤ size.rows → 1 ≤ c → c ≤ b.width → is_marked marks r c ≡ (differs_at-same ι) a b r c
 
-pub AreCounted-same : frozen.AreCounted ≡ today.AreCounted
-AreCounted-same = λ ι counts a b.
-    (r : ℕ) → 1 ≤ r → r ≤ last_row → slice_index_or counts (r - 1) 0 ≡ (differing_from-same ι) a b r 1 b.width
+pub AreCountedAt-same : frozen.AreCountedAt ≡ today.AreCountedAt
+AreCountedAt-same = λ ι size counts a b.
+    (r : ℕ) → 1 ≤ r → r ≤ size.rows → slice_index_or counts (r - 1) 0 ≡ (differing_from-same ι) a b r 1 b.width
 
-pub AreChanges-made : (marks : List (List Bool)) (s t : Display) → frozen.AreChanges' marks s t → today.AreChanges marks s t
-AreChanges-made marks s t ρ = record {
+pub AreChangesAt-made : (size : Size) (marks : List (List Bool)) (s t : Display) → frozen.AreChangesAt' size marks s t → today.AreChangesAt size marks s t
+AreChangesAt-made size marks s t ρ = record {
   width = ρ.width;
   stops = ρ.stops;
-  marked = coe 0 1 (ι. (AreMarked-same ι) marks s.grid t.grid) ρ.marked;
+  marked = coe 0 1 (ι. (AreMarkedAt-same ι) size marks s.grid t.grid) ρ.marked;
 }
 
-pub AreChanges-read : (marks : List (List Bool)) (s t : Display) → today.AreChanges marks s t → frozen.AreChanges' marks s t
-AreChanges-read marks s t ρ = record {
+pub AreChangesAt-read : (size : Size) (marks : List (List Bool)) (s t : Display) → today.AreChangesAt size marks s t → frozen.AreChangesAt' size marks s t
+AreChangesAt-read size marks s t ρ = record {
   width = ρ.width;
   stops = ρ.stops;
-  marked = coe 1 0 (ι. (AreMarked-same ι) marks s.grid t.grid) ρ.marked;
+  marked = coe 1 0 (ι. (AreMarkedAt-same ι) size marks s.grid t.grid) ρ.marked;
 }
 
 pub Changes-made : (s t : State) (before after : List ℕ) → frozen.Changes' s t before after → today.Changes s t before after
@@ -64,3 +65,15 @@ Changes-read s t before after ρ = record {
   appended = ρ.appended;
   played = coe 1 0 (ι. (play-same ι) s ρ.sent ≡ record { state = t; reports = [] }) ρ.played;
 }
+
+pub differing-same : frozen.differing ≡ today.differing
+differing-same = λ ι a b. (differing_at-same ι) vt220_size a b
+
+pub AreMarked-same : frozen.AreMarked ≡ today.AreMarked
+AreMarked-same = λ ι marks a b. (AreMarkedAt-same ι) vt220_size marks a b
+
+pub AreCounted-same : frozen.AreCounted ≡ today.AreCounted
+AreCounted-same = λ ι counts a b. (AreCountedAt-same ι) vt220_size counts a b
+
+pub AreChanges-same : frozen.AreChanges ≡ today.AreChanges
+AreChanges-same = refl

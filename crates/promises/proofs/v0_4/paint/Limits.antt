@@ -17,3 +17,6 @@ row_limit-same = λ ι size. (cell_limit-same ι) size.rows * size.wide
 
 pub paint_limit-same : frozen.paint_limit ≡ today.paint_limit
 paint_limit-same = λ ι size. size.rows * (row_limit-same ι) size + 10 * size.wide + 320
+
+pub changes_limit-same : frozen.changes_limit ≡ today.changes_limit
+changes_limit-same = λ ι size n. 28 * n + (222 + 4 * (row_digits-same ι) size.rows)

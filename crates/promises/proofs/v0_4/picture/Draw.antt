@@ -11,7 +11,7 @@ use Rattle.vt_picture.specs.Draw.{end_bytes, first_pen, place_bytes, place_pen, 
 use Rattle.vt_picture.specs.Show.{rendition_sequence}
 use Rattle.vt_picture.specs.declared.drawing.pen.Pen.{Pen}
 use Rattle.vt_screen.specs.Cells.{blank, plain}
-use Rattle.vt_screen.specs.Grid.{last_row}
+use Rattle.vt_screen.specs.Sizes.{vt220_size}
 use Rattle.vt_screen.specs.declared.cell.Cell.{Cell}
 use Rattle.vt_syntax.specs.Spelling.{spell_event}
 
@@ -119,11 +119,11 @@ end_bytes-same = refl
 pub first_pen-same : frozen.first_pen ≡ today.first_pen
 first_pen-same = refl
 
-pub changes-same : frozen.changes ≡ today.changes
-unfolding frozen.changes today.changes
-changes-same = λ ι old new.
-    (rows_bytes-same ι) old.cells new.cells last_row (first_pen old)
-    ++ end_bytes ((rows_pen-same ι) old.cells new.cells last_row (first_pen old)) old.has_cursor new
+pub changes_at-same : frozen.changes_at ≡ today.changes_at
+unfolding frozen.changes_at today.changes_at
+changes_at-same = λ ι size old new.
+    (rows_bytes-same ι) old.cells new.cells size.rows (first_pen old)
+    ++ end_bytes ((rows_pen-same ι) old.cells new.cells size.rows (first_pen old)) old.has_cursor new
 
 pub erase-same : frozen.erase ≡ today.erase
 unfolding frozen.erase today.erase
@@ -131,11 +131,24 @@ erase-same = λ ι.
     rendition_sequence plain ++ (spell_event (cursor_position 1 1)
     ++ (spell_event ((sequence_named-same ι) [] (codes "ED")) ++ spell_event (private_mode 25 true)))
 
+pub draw_at-same : frozen.draw_at ≡ today.draw_at
+unfolding frozen.draw_at today.draw_at
+draw_at-same = λ ι size s. (erase-same ι) ++ (changes_at-same ι) size ((erased-same ι) s) ((shown-same ι) s)
+
+pub draw_from_at-same : frozen.draw_from_at ≡ today.draw_from_at
+unfolding frozen.draw_from_at today.draw_from_at
+draw_from_at-same = λ ι size a b.
+    if a.display.grid.width == b.display.grid.width then (changes_at-same ι) size ((shown-same ι) a) ((shown-same ι) b) else (draw_at-same ι) size b
+
+pub sized_draw-same : frozen.sized_draw ≡ today.sized_draw
+sized_draw-same = λ ι s. (draw_at-same ι) s.display.grid.size s
+
+pub sized_draw_from-same : frozen.sized_draw_from ≡ today.sized_draw_from
+sized_draw_from-same = λ ι a b.
+    if a.display.grid.size.rows == b.display.grid.size.rows then (draw_from_at-same ι) b.display.grid.size a b else (sized_draw-same ι) b
+
 pub draw-same : frozen.draw ≡ today.draw
-unfolding frozen.draw today.draw
-draw-same = λ ι s. (erase-same ι) ++ (changes-same ι) ((erased-same ι) s) ((shown-same ι) s)
+draw-same = λ ι s. (draw_at-same ι) vt220_size s
 
 pub draw_from-same : frozen.draw_from ≡ today.draw_from
-unfolding frozen.draw_from today.draw_from
-draw_from-same = λ ι a b.
-    if a.display.grid.width == b.display.grid.width then (changes-same ι) ((shown-same ι) a) ((shown-same ι) b) else (draw-same ι) b
+draw_from-same = λ ι a b. (draw_from_at-same ι) vt220_size a b

@@ -8,8 +8,10 @@ use Rattle.vt_paint.specs.Controls.{cursor_position, private_mode}
 use Rattle.vt_picture.specs.Draw.{Shown}
 use Rattle.vt_picture.specs.Show.{rendition_sequence}
 use Rattle.vt_picture.specs.Window as today
-use Rattle.vt_picture.specs.Window.{after, Attributes, Character, Cursor, Erase, Position, Sent, Shows, Window}
+use Rattle.vt_picture.specs.Window.{Window}
+use Rattle.vt_picture.specs.Window.{after, Attributes, Character, Cursor, Erase, Position, Sent, ShowsAt}
 use Rattle.vt_screen.specs.declared.cell.Cell.{Cell}
+use Rattle.vt_screen.specs.declared.size.Size.{Size}
 use Rattle.vt_syntax.specs.Spelling.{spell_event}
 
 pub Sent-made : frozen.Sent' → today.Sent
@@ -75,30 +77,36 @@ Looks-read a b ρ = record {
   rendition = ρ.rendition;
 }
 
-pub Shows-made : (w : Window) (s : Shown) → frozen.Shows' w s → today.Shows w s
-Shows-made w s ρ = record {
+pub ShowsAt-made : (size : Size) (w : Window) (s : Shown) → frozen.ShowsAt' size w s → today.ShowsAt size w s
+ShowsAt-made size w s ρ = record {
   places = ρ.places;
   pen = ρ.pen;
   has_cursor = ρ.has_cursor;
 }
 
-pub Shows-read : (w : Window) (s : Shown) → today.Shows w s → frozen.Shows' w s
-Shows-read w s ρ = record {
+pub ShowsAt-read : (size : Size) (w : Window) (s : Shown) → today.ShowsAt size w s → frozen.ShowsAt' size w s
+ShowsAt-read size w s ρ = record {
   places = ρ.places;
   pen = ρ.pen;
   has_cursor = ρ.has_cursor;
 }
 
-pub Draws-made : (bytes : List ℕ) (w : Window) (s : Shown) → frozen.Draws' bytes w s → today.Draws bytes w s
-Draws-made bytes w s ρ = record {
+pub DrawsAt-made : (size : Size) (bytes : List ℕ) (w : Window) (s : Shown) → frozen.DrawsAt' size bytes w s → today.DrawsAt size bytes w s
+DrawsAt-made size bytes w s ρ = record {
   sent = ρ.sent;
   spelled = coe 0 1 (ι. flat_map (sent_bytes-same ι) ρ.sent ≡ bytes) ρ.spelled;
-  shows = coe 0 1 (ι. Shows ((all_after-same ι) ρ.sent w) s) ρ.shows;
+  shows = coe 0 1 (ι. ShowsAt size ((all_after-same ι) ρ.sent w) s) ρ.shows;
 }
 
-pub Draws-read : (bytes : List ℕ) (w : Window) (s : Shown) → today.Draws bytes w s → frozen.Draws' bytes w s
-Draws-read bytes w s ρ = record {
+pub DrawsAt-read : (size : Size) (bytes : List ℕ) (w : Window) (s : Shown) → today.DrawsAt size bytes w s → frozen.DrawsAt' size bytes w s
+DrawsAt-read size bytes w s ρ = record {
   sent = ρ.sent;
   spelled = coe 1 0 (ι. flat_map (sent_bytes-same ι) ρ.sent ≡ bytes) ρ.spelled;
-  shows = coe 1 0 (ι. Shows ((all_after-same ι) ρ.sent w) s) ρ.shows;
+  shows = coe 1 0 (ι. ShowsAt size ((all_after-same ι) ρ.sent w) s) ρ.shows;
 }
+
+pub Shows-same : frozen.Shows ≡ today.Shows
+Shows-same = refl
+
+pub Draws-same : frozen.Draws ≡ today.Draws
+Draws-same = refl

@@ -1,4 +1,5 @@
 -- 0.4: vt_replay/specs/Request is today's.
+use Rattle.promises.proofs.v0_4.recording.Changes.{changes_in-same}
 use Rattle.promises.proofs.v0_4.recording.Detection.{detected-same}
 use Rattle.promises.proofs.v0_4.replay.Animated.{IsAnimation-same}
 use Rattle.promises.proofs.v0_4.replay.Host.{host_of-same}
@@ -6,14 +7,17 @@ use Rattle.promises.proofs.v0_4.replay.Search.{IsSearched-same}
 use Rattle.promises.proofs.v0_4.replay.Words.{WordTable-same}
 use Rattle.promises.specs.v0_4.replay.Request as frozen
 use Rattle.std.proofs.Common.{refl, ◌≡◌}
-use Rattle.std.specs.Prelude.{Bool, false, List, None, Option, Some, ℕ, ◌≡◌}
+use Rattle.std.specs.Prelude.{[], Bool, false, length, List, min, None, Option, Some, take, true, ℕ}
+use Rattle.std.specs.Prelude.{◌+◌, ◌-◌, ◌^◌, ◌∷◌, ◌≡◌}
+use Rattle.vt_cli.specs.Source.{size_of}
 use Rattle.vt_cli.specs.declared.asked.Request.{Request}
 use Rattle.vt_cli.specs.declared.what.What.TheVariants.{Picture}
 use Rattle.vt_cli.specs.declared.what.Word.TheVariants.{Animation, Events, Replay, Search}
 use Rattle.vt_cli.specs.declared.what.Word.{Word}
 use Rattle.vt_device.specs.Runs.{Flags}
 use Rattle.vt_device.specs.declared.fault.Break.{Break}
-use Rattle.vt_recording.specs.Reached.{IsTakenBetween}
+use Rattle.vt_recording.specs.Reached.{has_characters, IsAmong, IsTakenBetween, nothing_passed}
+use Rattle.vt_recording.specs.declared.changes.Change.{Change}
 use Rattle.vt_recording.specs.declared.format.Format.TheVariants as format
 use Rattle.vt_recording.specs.declared.format.Format.{Format}
 use Rattle.vt_replay.specs.Animated.{title_of}
@@ -21,10 +25,12 @@ use Rattle.vt_replay.specs.EventTable.{IsTableTaken}
 use Rattle.vt_replay.specs.Host.{opening, plain_host}
 use Rattle.vt_replay.specs.Playing.{language_of}
 use Rattle.vt_replay.specs.Request as today
+use Rattle.vt_replay.specs.Request.{keeps_size, most_changes, resize_then}
 use Rattle.vt_replay.specs.Request.{shown_format}
 use Rattle.vt_replay.specs.Search.{text_of}
 use Rattle.vt_replay.specs.declared.host.Host.{Host}
 use Rattle.vt_replay.specs.declared.requests.Outcome.{Outcome}
+use Rattle.vt_replay.specs.declared.resized.Resize.{Resize}
 
 pub asks_wide-same : frozen.asks_wide ≡ today.asks_wide
 asks_wide-same = refl
@@ -43,38 +49,38 @@ ended_of-same = refl
 
 pub IsStreamed-made : (o : Outcome) (r : Request) (b w : List ℕ) (f : Flags) → frozen.IsStreamed' o r b w f → today.IsStreamed o r b w f
 IsStreamed-made o r b w f ρ = record {
-  table = coe 0 1 (ι. (WordTable-same ι) o.ended r.word (plain_host r).size (plain_host r).terminal (plain_host r).encoding r.piece b w f r.limit) ρ.table;
+  table = coe 0 1 (ι. (WordTable-same ι) o.ended r.word (plain_host r).size [] (plain_host r).terminal (plain_host r).encoding r.piece b w f r.limit) ρ.table;
   none_replaced = ρ.none_replaced;
 }
 
 pub IsStreamed-read : (o : Outcome) (r : Request) (b w : List ℕ) (f : Flags) → today.IsStreamed o r b w f → frozen.IsStreamed' o r b w f
 IsStreamed-read o r b w f ρ = record {
-  table = coe 1 0 (ι. (WordTable-same ι) o.ended r.word (plain_host r).size (plain_host r).terminal (plain_host r).encoding r.piece b w f r.limit) ρ.table;
+  table = coe 1 0 (ι. (WordTable-same ι) o.ended r.word (plain_host r).size [] (plain_host r).terminal (plain_host r).encoding r.piece b w f r.limit) ρ.table;
   none_replaced = ρ.none_replaced;
 }
 
-pub IsPlayed-made : (o : Outcome) (r : Request) (host : Host) (content : List ℕ) (broken : Option Break) (replaced : ℕ) (w : List ℕ) (writer_failed : Bool) → frozen.IsPlayed' o r host content broken replaced w writer_failed → today.IsPlayed o r host content broken replaced w writer_failed
-IsPlayed-made o r host content broken replaced w writer_failed ρ = record {
+pub IsPlayed-made : (o : Outcome) (r : Request) (host : Host) (resizes : List Resize) (content : List ℕ) (broken : Option Break) (replaced : ℕ) (w : List ℕ) (writer_failed : Bool) → frozen.IsPlayed' o r host resizes content broken replaced w writer_failed → today.IsPlayed o r host resizes content broken replaced w writer_failed
+IsPlayed-made o r host resizes content broken replaced w writer_failed ρ = record {
   c = ρ.c;
   rest = ρ.rest;
   joined = ρ.joined;
   at_end = ρ.at_end;
   none_left = ρ.none_left;
   played = ρ.played;
-  table = coe 0 1 (ι. (WordTable-same ι) ρ.played r.word host.size host.terminal host.encoding r.piece ρ.c w (record { reader_failed = false; reader_ended = ρ.at_end; writer_failed = writer_failed }) r.limit) ρ.table;
+  table = coe 0 1 (ι. (WordTable-same ι) ρ.played r.word host.size resizes host.terminal host.encoding r.piece ρ.c w (record { reader_failed = false; reader_ended = ρ.at_end; writer_failed = writer_failed }) r.limit) ρ.table;
   ended = ρ.ended;
   replaces = ρ.replaces;
 }
 
-pub IsPlayed-read : (o : Outcome) (r : Request) (host : Host) (content : List ℕ) (broken : Option Break) (replaced : ℕ) (w : List ℕ) (writer_failed : Bool) → today.IsPlayed o r host content broken replaced w writer_failed → frozen.IsPlayed' o r host content broken replaced w writer_failed
-IsPlayed-read o r host content broken replaced w writer_failed ρ = record {
+pub IsPlayed-read : (o : Outcome) (r : Request) (host : Host) (resizes : List Resize) (content : List ℕ) (broken : Option Break) (replaced : ℕ) (w : List ℕ) (writer_failed : Bool) → today.IsPlayed o r host resizes content broken replaced w writer_failed → frozen.IsPlayed' o r host resizes content broken replaced w writer_failed
+IsPlayed-read o r host resizes content broken replaced w writer_failed ρ = record {
   c = ρ.c;
   rest = ρ.rest;
   joined = ρ.joined;
   at_end = ρ.at_end;
   none_left = ρ.none_left;
   played = ρ.played;
-  table = coe 1 0 (ι. (WordTable-same ι) ρ.played r.word host.size host.terminal host.encoding r.piece ρ.c w (record { reader_failed = false; reader_ended = ρ.at_end; writer_failed = writer_failed }) r.limit) ρ.table;
+  table = coe 1 0 (ι. (WordTable-same ι) ρ.played r.word host.size resizes host.terminal host.encoding r.piece ρ.c w (record { reader_failed = false; reader_ended = ρ.at_end; writer_failed = writer_failed }) r.limit) ρ.table;
   ended = ρ.ended;
   replaces = ρ.replaces;
 }
@@ -94,20 +100,57 @@ IsTakenBy-at word r format host timing bytes content broken replaced = λ ι.
 pub IsTakenBy-same : frozen.IsTakenBy ≡ today.IsTakenBy
 IsTakenBy-same = λ ι x0 x1 x2 x3 timing bytes content broken replaced. IsTakenBy-at x0 x1 x2 x3 timing bytes content broken replaced ι
 
-pub IsPrepared-made : (r : Request) (format : Format) (timing : Option (List ℕ)) (b : List ℕ) (host : Host) (bytes : List ℕ) (broken : Option Break) (replaced : ℕ) → frozen.IsPrepared' r format timing b host bytes broken replaced → today.IsPrepared r format timing b host bytes broken replaced
-IsPrepared-made r format timing b host bytes broken replaced ρ = record {
+pub resize_then-same : frozen.resize_then ≡ today.resize_then
+resize_then-same = refl
+
+pub resizes_of-at : (before : ℕ) (at : ℕ) (x2 : List Change) → frozen.resizes_of before at x2 ≡ today.resizes_of before at x2
+unfolding frozen.resizes_of today.resizes_of
+resizes_of-at before at [] = λ ι. []
+resizes_of-at before at (c ∷ changes) = λ ι.
+    resize_then (size_of c.window.columns c.window.rows) (min (before + (c.place - at)) (2 ^ 64 - 1)) ((resizes_of-at before at changes ι))
+    ((resizes_of-at 0 c.place changes ι))
+
+pub resizes_of-same : frozen.resizes_of ≡ today.resizes_of
+resizes_of-same = λ ι before at x2. resizes_of-at before at x2 ι
+
+pub has_sizes-same : frozen.has_sizes ≡ today.has_sizes
+has_sizes-same = refl
+
+pub changes_size-same : frozen.changes_size ≡ today.changes_size
+changes_size-same = refl
+
+pub keeps_size-same : frozen.keeps_size ≡ today.keeps_size
+keeps_size-same = refl
+
+pub most_changes-same : frozen.most_changes ≡ today.most_changes
+most_changes-same = refl
+
+pub AreResizes-at : (keeps : Bool) (x1 : Request) (x2 : Format) (timing : Option (List ℕ)) (bytes : List ℕ) (x5 : Host) (resizes : List Resize) → frozen.AreResizes keeps x1 x2 timing bytes x5 resizes ≡ today.AreResizes keeps x1 x2 timing bytes x5 resizes
+AreResizes-at true r format timing bytes host resizes = λ ι. resizes ≡ []
+AreResizes-at false r format timing bytes host resizes = λ ι.
+    IsAmong format timing bytes (λ events. resizes
+    ≡ (resizes_of-same ι) (length (opening r.word host)) 0
+    (take most_changes ((changes_in-same ι) (has_characters format host.encoding) r.until nothing_passed events)))
+
+pub AreResizes-same : frozen.AreResizes ≡ today.AreResizes
+AreResizes-same = λ ι keeps x1 x2 timing bytes x5 resizes. AreResizes-at keeps x1 x2 timing bytes x5 resizes ι
+
+pub IsPrepared-made : (r : Request) (format : Format) (timing : Option (List ℕ)) (b : List ℕ) (host : Host) (resizes : List Resize) (bytes : List ℕ) (broken : Option Break) (replaced : ℕ) → frozen.IsPrepared' r format timing b host resizes bytes broken replaced → today.IsPrepared r format timing b host resizes bytes broken replaced
+IsPrepared-made r format timing b host resizes bytes broken replaced ρ = record {
   host_is = coe 0 1 (ι. host ≡ (host_of-same ι) r format b) ρ.host_is;
   content = ρ.content;
   taken = coe 0 1 (ι. (IsTakenBy-same ι) r.word r format host timing b ρ.content broken replaced) ρ.taken;
   joined = ρ.joined;
+  resized = coe 0 1 (ι. (AreResizes-same ι) (keeps_size r format) r format timing b host resizes) ρ.resized;
 }
 
-pub IsPrepared-read : (r : Request) (format : Format) (timing : Option (List ℕ)) (b : List ℕ) (host : Host) (bytes : List ℕ) (broken : Option Break) (replaced : ℕ) → today.IsPrepared r format timing b host bytes broken replaced → frozen.IsPrepared' r format timing b host bytes broken replaced
-IsPrepared-read r format timing b host bytes broken replaced ρ = record {
+pub IsPrepared-read : (r : Request) (format : Format) (timing : Option (List ℕ)) (b : List ℕ) (host : Host) (resizes : List Resize) (bytes : List ℕ) (broken : Option Break) (replaced : ℕ) → today.IsPrepared r format timing b host resizes bytes broken replaced → frozen.IsPrepared' r format timing b host resizes bytes broken replaced
+IsPrepared-read r format timing b host resizes bytes broken replaced ρ = record {
   host_is = coe 1 0 (ι. host ≡ (host_of-same ι) r format b) ρ.host_is;
   content = ρ.content;
   taken = coe 1 0 (ι. (IsTakenBy-same ι) r.word r format host timing b ρ.content broken replaced) ρ.taken;
   joined = ρ.joined;
+  resized = coe 1 0 (ι. (AreResizes-same ι) (keeps_size r format) r format timing b host resizes) ρ.resized;
 }
 
 pub IsTakenApart-made : (o : Outcome) (r : Request) (format : Format) (timing : Option (List ℕ)) (b w : List ℕ) (f : Flags) → frozen.IsTakenApart' o r format timing b w f → today.IsTakenApart o r format timing b w f
@@ -116,6 +159,7 @@ IsTakenApart-made o r format timing b w f ρ = record {
   reader_ended = ρ.reader_ended;
   within = ρ.within;
   host = ρ.host;
+  resizes = ρ.resizes;
   bytes = ρ.bytes;
   broken = ρ.broken;
   replaced = ρ.replaced;
@@ -129,6 +173,7 @@ IsTakenApart-read o r format timing b w f ρ = record {
   reader_ended = ρ.reader_ended;
   within = ρ.within;
   host = ρ.host;
+  resizes = ρ.resizes;
   bytes = ρ.bytes;
   broken = ρ.broken;
   replaced = ρ.replaced;

@@ -3,7 +3,7 @@ use Rattle.promises.proofs.v0_4.replay.Encoding.{decoded-same}
 use Rattle.promises.proofs.v0_4.replay.Log.{lines_at-same, screen_at-same}
 use Rattle.promises.proofs.v0_4.replay.MainPage.{xterm_pages-same}
 use Rattle.promises.proofs.v0_4.replay.Pages.{pages-same}
-use Rattle.promises.proofs.v0_4.replay.Playing.{replayed_at-same}
+use Rattle.promises.proofs.v0_4.replay.Resizes.{replayed_with-same}
 use Rattle.promises.proofs.v0_4.term.State.{state_of-same}
 use Rattle.promises.proofs.v0_4.trace.Summary.{summary_on-same}
 use Rattle.promises.proofs.v0_4.trace.Trace.{end_lines-same, trace-same, tracer_all-same}
@@ -31,6 +31,7 @@ use Rattle.vt_replay.specs.Showing.{ShownTable}
 use Rattle.vt_replay.specs.Words as today
 use Rattle.vt_replay.specs.declared.language.Language.TheVariants as language
 use Rattle.vt_replay.specs.declared.language.Language.{Language}
+use Rattle.vt_replay.specs.declared.resized.Resize.{Resize}
 use Rattle.vt_screen.specs.declared.size.Size.{Size}
 use Rattle.vt_trace.specs.Trace.{tracer_at_start}
 use Rattle.vt_xterm.specs.Play.{behind}
@@ -74,33 +75,33 @@ of_decoded-same = λ ι encoding written ending. record {
   there = always;
 }
 
-pub due_of-at : (x0 : Word) (x1 : Size) (x2 : TerminalType) (x3 : Encoding) → frozen.due_of x0 x1 x2 x3 ≡ today.due_of x0 x1 x2 x3
-due_of-at (Replay what) size terminal encoding = λ ι. (replayed_at-same ι) size (language_of terminal encoding) what
-due_of-at (Animation looks) size terminal encoding = λ ι. (of_decoded-same ι) Dec all nothing
-due_of-at Log size terminal encoding = λ ι.
+pub due_of-at : (x0 : Word) (x1 : Size) (x2 : List Resize) (x3 : TerminalType) (x4 : Encoding) → frozen.due_of x0 x1 x2 x3 x4 ≡ today.due_of x0 x1 x2 x3 x4
+due_of-at (Replay what) size resizes terminal encoding = λ ι. (replayed_with-same ι) size resizes (language_of terminal encoding) what
+due_of-at (Animation looks) size resizes terminal encoding = λ ι. (of_decoded-same ι) Dec all nothing
+due_of-at Log size resizes terminal encoding = λ ι.
     let language = language_of terminal encoding in
     record { written = (lines_at-same ι) size language; ending = (screen_at-same ι) size language; there = always }
-due_of-at Pages size terminal encoding = λ ι.
+due_of-at Pages size resizes terminal encoding = λ ι.
     let language = language_of terminal encoding in
     record { written = (pages_at-same ι) size language; ending = (screen_at-same ι) size language; there = always }
-due_of-at Trace size terminal encoding = λ ι.
+due_of-at Trace size resizes terminal encoding = λ ι.
     let language = language_of terminal encoding in
     record { written = (trace_at-same ι) size language; ending = (trace_end_at-same ι) size language; there = always }
-due_of-at Summary size terminal encoding = λ ι.
+due_of-at Summary size resizes terminal encoding = λ ι.
     let language = language_of terminal encoding in
     record { written = nothing; ending = (summary_at-same ι) size language; there = always }
-due_of-at Events size terminal encoding = λ ι. (of_decoded-same ι) Dec all nothing
-due_of-at Content size terminal encoding = λ ι. (of_decoded-same ι) encoding all nothing
-due_of-at Search size terminal encoding = λ ι. (of_decoded-same ι) Dec all nothing
+due_of-at Events size resizes terminal encoding = λ ι. (of_decoded-same ι) Dec all nothing
+due_of-at Content size resizes terminal encoding = λ ι. (of_decoded-same ι) encoding all nothing
+due_of-at Search size resizes terminal encoding = λ ι. (of_decoded-same ι) Dec all nothing
 
 pub due_of-same : frozen.due_of ≡ today.due_of
-due_of-same = λ ι x0 x1 x2 x3. due_of-at x0 x1 x2 x3 ι
+due_of-same = λ ι x0 x1 x2 x3 x4. due_of-at x0 x1 x2 x3 x4 ι
 
-pub WordTable-at : (x0 : Result (Unit {0}) Fault) (x1 : Word) (x2 : Size) (x3 : TerminalType) (x4 : Encoding) (piece : ℕ) (b : List ℕ) (w : List ℕ) (x8 : Flags) (limit : ℕ) → frozen.WordTable x0 x1 x2 x3 x4 piece b w x8 limit ≡ today.WordTable x0 x1 x2 x3 x4 piece b w x8 limit
-WordTable-at result Content size Xterm encoding piece b w f limit = λ ι. ShownTable result piece b w f limit
-WordTable-at result word size terminal encoding piece b w f limit = λ ι.
-    let due = (due_of-same ι) word size terminal encoding in
+pub WordTable-at : (x0 : Result (Unit {0}) Fault) (x1 : Word) (x2 : Size) (x3 : List Resize) (x4 : TerminalType) (x5 : Encoding) (piece : ℕ) (b : List ℕ) (w : List ℕ) (x9 : Flags) (limit : ℕ) → frozen.WordTable x0 x1 x2 x3 x4 x5 piece b w x9 limit ≡ today.WordTable x0 x1 x2 x3 x4 x5 piece b w x9 limit
+WordTable-at result Content size resizes Xterm encoding piece b w f limit = λ ι. ShownTable result piece b w f limit
+WordTable-at result word size resizes terminal encoding piece b w f limit = λ ι.
+    let due = (due_of-same ι) word size resizes terminal encoding in
     OutputTable due.written due.ending due.there result piece b w f limit
 
 pub WordTable-same : frozen.WordTable ≡ today.WordTable
-WordTable-same = λ ι x0 x1 x2 x3 x4 piece b w x8 limit. WordTable-at x0 x1 x2 x3 x4 piece b w x8 limit ι
+WordTable-same = λ ι x0 x1 x2 x3 x4 x5 piece b w x9 limit. WordTable-at x0 x1 x2 x3 x4 x5 piece b w x9 limit ι

@@ -17,3 +17,8 @@ row_limit size = cell_limit size.rows * size.wide
 -- of a repaint: that of a row for each row, 10 for each tab stop, and 320 for everything else
 abbrev pub paint_limit : Size → ℕ
 paint_limit size = size.rows * row_limit size + 10 * size.wide + 320
+
+-- of changes: 28 for each of n cells that changed (CUP, SGR without its 0 and DECSCA, and a glyph), and everything else, in which
+-- a row is named four times
+abbrev pub changes_limit : Size → ℕ → ℕ
+changes_limit size n = 28 * n + (222 + 4 * row_digits size.rows)

@@ -3,8 +3,9 @@ use Rattle.promises.specs.v0_4.paint.Controls.{cursor_position, private_mode}
 use Rattle.promises.specs.v0_4.paint.Named.{sequence_named}
 use Rattle.promises.specs.v0_4.picture.Show.{change, rendition_sequence}
 use Rattle.promises.specs.v0_4.screen.Cells.{blank, plain}
-use Rattle.promises.specs.v0_4.screen.Grid.{last_row, row_of}
+use Rattle.promises.specs.v0_4.screen.Grid.{row_of}
 use Rattle.promises.specs.v0_4.screen.Same.{same_bool, same_rendition, when}
+use Rattle.promises.specs.v0_4.screen.Sizes.{vt220_size}
 use Rattle.promises.specs.v0_4.syntax.Spelling.{spell_event}
 use Rattle.std.specs.Prelude.{[], Bool, codes, encode_utf8, false, if◌then◌else◌, List, map, not, suc, true, zero, ℕ}
 use Rattle.std.specs.Prelude.{◌&&◌, ◌++◌, ◌+◌, ◌==◌, ◌∷◌, ◌≡◌}
@@ -12,6 +13,7 @@ use Rattle.vt_picture.specs.Draw.{Shown}
 use Rattle.vt_picture.specs.declared.drawing.pen.Pen.{Pen}
 use Rattle.vt_screen.specs.declared.cell.Cell.{Cell}
 use Rattle.vt_screen.specs.declared.cell.Rendition.{Rendition}
+use Rattle.vt_screen.specs.declared.size.Size.{Size}
 use Rattle.vt_term.specs.State.{State}
 
 -- on a reverse screen the attribute `reverse` is inverted
@@ -109,10 +111,11 @@ end_bytes pen was_shown new =
 abbrev pub first_pen : Shown → Pen
 first_pen old = record { row = old.row; col = old.col; look = plain }
 
-unfoldable pub changes : Shown → Shown → List ℕ
-changes old new =
-    rows_bytes old.cells new.cells last_row (first_pen old)
-    ++ end_bytes (rows_pen old.cells new.cells last_row (first_pen old)) old.has_cursor new
+-- from one screen of this size to another one
+unfoldable pub changes_at : Size → Shown → Shown → List ℕ
+changes_at size old new =
+    rows_bytes old.cells new.cells size.rows (first_pen old)
+    ++ end_bytes (rows_pen old.cells new.cells size.rows (first_pen old)) old.has_cursor new
 
 -- no attributes, an empty screen, and the cursor shown in its first place
 unfoldable pub erase : List ℕ
@@ -120,11 +123,25 @@ erase =
     rendition_sequence plain ++ (spell_event (cursor_position 1 1)
     ++ (spell_event (sequence_named [] (codes "ED")) ++ spell_event (private_mode 25 true)))
 
--- from any screen
-unfoldable pub draw : State → List ℕ
-draw s = erase ++ changes (erased s) (shown s)
+-- of a state of this size, from any screen
+unfoldable pub draw_at : Size → State → List ℕ
+draw_at size s = erase ++ changes_at size (erased s) (shown s)
 
--- from the screen of a state. A screen of another width is erased
-unfoldable pub draw_from : State → State → List ℕ
-draw_from a b =
-    if a.display.grid.width == b.display.grid.width then changes (shown a) (shown b) else draw b
+-- of two states of this size, from the screen of the first. A screen of another width is erased
+unfoldable pub draw_from_at : Size → State → State → List ℕ
+draw_from_at size a b =
+    if a.display.grid.width == b.display.grid.width then changes_at size (shown a) (shown b) else draw_at size b
+
+abbrev pub sized_draw : State → List ℕ
+sized_draw s = draw_at s.display.grid.size s
+
+-- a screen with another number of rows is erased, too
+abbrev pub sized_draw_from : State → State → List ℕ
+sized_draw_from a b =
+    if a.display.grid.size.rows == b.display.grid.size.rows then draw_from_at b.display.grid.size a b else sized_draw b
+
+abbrev pub draw : State → List ℕ
+draw s = draw_at vt220_size s
+
+abbrev pub draw_from : State → State → List ℕ
+draw_from a b = draw_from_at vt220_size a b

@@ -1,4 +1,5 @@
 -- 0.4: vt_picture/specs/Limits.
+use Rattle.promises.specs.v0_4.paint.Limits.{row_digits}
 use Rattle.std.specs.Prelude.{ℕ, ◌*◌, ◌+◌}
 use Rattle.vt_screen.specs.declared.size.Size.{Size}
 
@@ -33,3 +34,15 @@ frame_limit size = size.rows * drawn_row_limit size + 500
 -- of what is before the frames, without the title: the text alternative, the first screen, and 2000 for everything else
 abbrev pub animation_limit : Size → ℕ
 animation_limit size = alternative_limit size + frame_limit size + 2000
+
+-- of a place of a drawing: CUP, twelve for the attributes and four for the character
+abbrev pub place_limit : ℕ → ℕ
+place_limit rows = 23 + row_digits rows
+
+-- of a row of a drawing: that of a place, for each cell of the wide screen
+unfoldable pub places_limit : Size → ℕ
+places_limit size = place_limit size.rows * size.wide
+
+-- of a drawing: that of a row for each row, and 70 for everything else
+abbrev pub draw_limit : Size → ℕ
+draw_limit size = size.rows * places_limit size + 70

@@ -3,16 +3,18 @@ use Rattle.promises.specs.v0_4.paint.Controls.{cursor_position, private_mode}
 use Rattle.promises.specs.v0_4.paint.Named.{sequence_named}
 use Rattle.promises.specs.v0_4.picture.Show.{rendition_sequence}
 use Rattle.promises.specs.v0_4.screen.Cells.{blank, plain}
-use Rattle.promises.specs.v0_4.screen.Grid.{last_row}
+use Rattle.promises.specs.v0_4.screen.Sizes.{vt220_size}
 use Rattle.promises.specs.v0_4.syntax.Spelling.{spell_event}
 use Rattle.std.specs.List.{flat_map}
 use Rattle.std.specs.Prelude.{[], Bool, codes, encode_utf8, false, if◌then◌else◌, length, List, nat_lt}
 use Rattle.std.specs.Prelude.{slice_index_or, ℕ, ◌&&◌, ◌+◌, ◌<◌, ◌==◌, ◌||◌, ◌∷◌, ◌≡◌, ◌≤◌}
 use Rattle.vt_picture.specs.Draw.{Shown}
-use Rattle.vt_picture.specs.Window.{Attributes, Character, Cursor, Erase, Looks, Position, Sent, Shows, Window}
+use Rattle.vt_picture.specs.Window.{Attributes, Character, Cursor, DrawsAt, Erase, Looks, Position, Sent, ShowsAt}
+use Rattle.vt_picture.specs.Window.{Window}
 use Rattle.vt_picture.specs.declared.drawing.pen.Pen.{Pen}
 use Rattle.vt_screen.specs.declared.cell.Cell.{Cell}
 use Rattle.vt_screen.specs.declared.cell.Rendition.{Rendition}
+use Rattle.vt_screen.specs.declared.size.Size.{Size}
 
 -- a character in UTF-8; CUP; SGR with 0 and the attributes; ED to the end of the screen; DECTCEM
 pub data Sent' : Type 0 where
@@ -62,15 +64,21 @@ pub record Looks' (a b : Cell) : Type 0 where
   pub glyph : a.glyph ≡ b.glyph
   pub rendition : a.rendition ≡ b.rendition
 
--- each place of 24 rows, the cursor, and no attributes
-pub record Shows' (w : Window) (s : Shown) : Type 0 where
-  pub places : (r k : ℕ) → 1 ≤ r → r ≤ last_row → k < length (s.cells r)
+-- each place of a screen of this size, the cursor, and no attributes
+pub record ShowsAt' (size : Size) (w : Window) (s : Shown) : Type 0 where
+  pub places : (r k : ℕ) → 1 ≤ r → r ≤ size.rows → k < length (s.cells r)
       → Looks (w.place r (k + 1)) (slice_index_or (s.cells r) k blank)
   pub pen : w.pen ≡ record { row = s.row; col = s.col; look = plain }
   pub has_cursor : w.has_cursor ≡ s.has_cursor
 
--- the bytes are functions and characters after which the terminal shows a screen
-pub record Draws' (bytes : List ℕ) (w : Window) (s : Shown) : Type 0 where
+-- the bytes are functions and characters after which the terminal shows a screen of this size
+pub record DrawsAt' (size : Size) (bytes : List ℕ) (w : Window) (s : Shown) : Type 0 where
   pub sent : List Sent
   pub spelled : flat_map sent_bytes sent ≡ bytes
-  pub shows : Shows (all_after sent w) s
+  pub shows : ShowsAt size (all_after sent w) s
+
+abbrev pub Shows : Window → Shown → Type 0
+Shows w s = ShowsAt vt220_size w s
+
+abbrev pub Draws : List ℕ → Window → Shown → Type 0
+Draws bytes w s = DrawsAt vt220_size bytes w s

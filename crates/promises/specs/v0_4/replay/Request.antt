@@ -1,6 +1,9 @@
 -- 0.4: vt_replay/specs/Request.
+use Rattle.promises.specs.v0_4.cli.Source.{size_of}
+use Rattle.promises.specs.v0_4.recording.Changes.{changes_in}
 use Rattle.promises.specs.v0_4.recording.Detection.{detected}
 use Rattle.promises.specs.v0_4.recording.Format.{has_times}
+use Rattle.promises.specs.v0_4.recording.Reached.{has_characters, nothing_passed}
 use Rattle.promises.specs.v0_4.recording.Reading.{ReadTable}
 use Rattle.promises.specs.v0_4.replay.Animated.{IsAnimation, title_of}
 use Rattle.promises.specs.v0_4.replay.EventTable.{IsTableTaken}
@@ -8,8 +11,8 @@ use Rattle.promises.specs.v0_4.replay.Host.{host_of, opening, plain_host}
 use Rattle.promises.specs.v0_4.replay.Playing.{language_of}
 use Rattle.promises.specs.v0_4.replay.Search.{IsSearched, text_of}
 use Rattle.promises.specs.v0_4.replay.Words.{WordTable}
-use Rattle.std.specs.Prelude.{[], Bool, Err, false, is_some, length, List, None, not, Ok, Option, Result, Some, true}
-use Rattle.std.specs.Prelude.{ℕ, ◌&&◌, ◌++◌, ◌||◌, ◌≡◌, ◌≤◌, ◌⊎◌}
+use Rattle.std.specs.Prelude.{[], Bool, Err, false, is_some, length, List, min, None, not, Ok, Option, Result, Some}
+use Rattle.std.specs.Prelude.{take, true, ℕ, ◌&&◌, ◌++◌, ◌+◌, ◌-◌, ◌^◌, ◌||◌, ◌∷◌, ◌≡◌, ◌≤◌, ◌⊎◌}
 use Rattle.vt_cli.specs.declared.asked.Request.{Request}
 use Rattle.vt_cli.specs.declared.what.What.TheVariants.{Picture}
 use Rattle.vt_cli.specs.declared.what.Word.TheVariants.{Animation, Content, Events, Log, Pages, Replay, Search}
@@ -19,7 +22,8 @@ use Rattle.vt_device.specs.Runs.{Flags}
 use Rattle.vt_device.specs.declared.fault.Break.{Break}
 use Rattle.vt_device.specs.declared.fault.Fault.TheVariants as fault
 use Rattle.vt_device.specs.declared.fault.Fault.{Fault}
-use Rattle.vt_recording.specs.Reached.{IsTakenBetween}
+use Rattle.vt_recording.specs.Reached.{IsAmong, IsTakenBetween}
+use Rattle.vt_recording.specs.declared.changes.Change.{Change}
 use Rattle.vt_recording.specs.declared.detection.Detected.TheVariants.{Compressed, Recording}
 use Rattle.vt_recording.specs.declared.detection.Detected.{Detected}
 use Rattle.vt_recording.specs.declared.format.Format.TheVariants as format
@@ -29,6 +33,8 @@ use Rattle.vt_recording.specs.declared.format.Moment.{Moment}
 use Rattle.vt_replay.specs.Request.{IsPlayed, IsPrepared, IsStreamed, IsTakenApart, IsUnread}
 use Rattle.vt_replay.specs.declared.host.Host.{Host}
 use Rattle.vt_replay.specs.declared.requests.Outcome.{Outcome}
+use Rattle.vt_replay.specs.declared.resized.Resize.{Resize}
+use Rattle.vt_screen.specs.declared.size.Size.{Size}
 
 -- 132 columns were asked for
 abbrev pub asks_wide : Option Bool → Bool
@@ -65,12 +71,12 @@ ended_of broken (Err fault) = Err fault
 
 -- the word was carried out on the input as it came
 pub record IsStreamed' (o : Outcome) (r : Request) (b w : List ℕ) (f : Flags) : Type 0 where
-  pub table : WordTable o.ended r.word (plain_host r).size (plain_host r).terminal (plain_host r).encoding r.piece b w f r.limit
+  pub table : WordTable o.ended r.word (plain_host r).size [] (plain_host r).terminal (plain_host r).encoding r.piece b w f r.limit
   pub none_replaced : o.replaced ≡ 0
 
 -- the word was carried out on the content of a recording, of which c was played, from memory: no read fails. At the end
 -- nothing is left
-pub record IsPlayed' (o : Outcome) (r : Request) (host : Host) (content : List ℕ) (broken : Option Break) (replaced : ℕ) (w : List ℕ)
+pub record IsPlayed' (o : Outcome) (r : Request) (host : Host) (resizes : List Resize) (content : List ℕ) (broken : Option Break) (replaced : ℕ) (w : List ℕ)
     (writer_failed : Bool) : Type 0 where
   pub c : List ℕ
   pub rest : List ℕ
@@ -78,7 +84,7 @@ pub record IsPlayed' (o : Outcome) (r : Request) (host : Host) (content : List �
   pub at_end : Bool
   pub none_left : at_end ≡ true → rest ≡ []
   pub played : Result (Unit {0}) Fault
-  pub table : WordTable played r.word host.size host.terminal host.encoding r.piece c w (record { reader_failed = false; reader_ended = at_end; writer_failed = writer_failed }) r.limit
+  pub table : WordTable played r.word host.size resizes host.terminal host.encoding r.piece c w (record { reader_failed = false; reader_ended = at_end; writer_failed = writer_failed }) r.limit
   pub ended : o.ended ≡ ended_of broken played
   pub replaces : o.replaced ≡ replaced
 
@@ -96,13 +102,55 @@ IsTakenBy Search r format host timing bytes content broken replaced =
 IsTakenBy word r format host timing bytes content broken replaced =
     IsTakenBetween format host.encoding r.from r.until timing bytes content broken replaced
 
--- what is played of a recording: the opening and the content
-pub record IsPrepared' (r : Request) (format : Format) (timing : Option (List ℕ)) (b : List ℕ) (host : Host) (bytes : List ℕ)
-    (broken : Option Break) (replaced : ℕ) : Type 0 where
+-- an impossible size isn't used, and the next change comes after the one before it
+abbrev pub resize_then : Option Size → (after : ℕ) → (skipped taken : List Resize) → List Resize
+resize_then None after skipped taken = skipped
+resize_then (Some size) after skipped taken = record { after = after; size = size } ∷ taken
+
+-- changes at places of the content as changes of the screen, after bytes that aren't of the content, and after a place of it. The number
+-- of bytes stops at 2^64 - 1
+unfoldable pub resizes_of : (before at : ℕ) → List Change → List Resize
+resizes_of before at [] = []
+resizes_of before at (c ∷ changes) =
+    resize_then (size_of c.window.columns c.window.rows) (min (before + (c.place - at)) (2 ^ 64 - 1)) (resizes_of before at changes)
+    (resizes_of 0 c.place changes)
+
+-- only asciinema and script(1) write sizes
+abbrev pub has_sizes : Format → Bool
+has_sizes format.Script = true
+has_sizes format.Asciicast = true
+has_sizes format = false
+
+-- the word carries out changes of the size
+abbrev pub changes_size : Word → Bool
+changes_size (Replay what) = true
+changes_size word = false
+
+-- the screen keeps its size: one was asked for, or a width, or no change is carried out. A word that begins in the middle plays no screen
+abbrev pub keeps_size : Request → Format → Bool
+keeps_size r format =
+    is_some r.size || (is_some r.wide || (is_some r.from || (not (changes_size r.word) || not (has_sizes format))))
+
+-- so many changes are carried out at most: each has a screen from the beginning
+abbrev pub most_changes : ℕ
+most_changes = 1000
+
+-- the first changes that a recording has up to the moment
+abbrev pub AreResizes : (keeps : Bool) → Request → Format → (timing : Option (List ℕ)) → (bytes : List ℕ) → Host → (resizes : List Resize) → Type 0
+AreResizes true r format timing bytes host resizes = resizes ≡ []
+AreResizes false r format timing bytes host resizes =
+    IsAmong format timing bytes (λ events. resizes
+    ≡ resizes_of (length (opening r.word host)) 0
+    (take most_changes (changes_in (has_characters format host.encoding) r.until nothing_passed events)))
+
+-- what is played of a recording: the opening and the content, and the changes of the size
+pub record IsPrepared' (r : Request) (format : Format) (timing : Option (List ℕ)) (b : List ℕ) (host : Host) (resizes : List Resize)
+    (bytes : List ℕ) (broken : Option Break) (replaced : ℕ) : Type 0 where
   pub host_is : host ≡ host_of r format b
   pub content : List ℕ
   pub taken : IsTakenBy r.word r format host timing b content broken replaced
   pub joined : bytes ≡ opening r.word host ++ content
+  pub resized : AreResizes (keeps_size r format) r format timing b host resizes
 
 -- the input was read whole and taken apart, and the word was carried out on what is played of it
 pub record IsTakenApart' (o : Outcome) (r : Request) (format : Format) (timing : Option (List ℕ)) (b w : List ℕ) (f : Flags) : Type 0 where
@@ -110,11 +158,12 @@ pub record IsTakenApart' (o : Outcome) (r : Request) (format : Format) (timing :
   pub reader_ended : f.reader_ended ≡ true
   pub within : length b ≤ r.limit
   pub host : Host
+  pub resizes : List Resize
   pub bytes : List ℕ
   pub broken : Option Break
   pub replaced : ℕ
-  pub prepared : IsPrepared r format timing b host bytes broken replaced
-  pub played : IsPlayed o r host bytes broken replaced w f.writer_failed
+  pub prepared : IsPrepared r format timing b host resizes bytes broken replaced
+  pub played : IsPlayed o r host resizes bytes broken replaced w f.writer_failed
 
 -- the input wasn't read whole or taken apart, and nothing was written
 pub record IsUnread' (o : Outcome) (r : Request) (b w : List ℕ) (f : Flags) : Type 0 where

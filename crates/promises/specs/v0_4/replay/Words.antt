@@ -4,7 +4,8 @@ use Rattle.promises.specs.v0_4.replay.Encoding.{decoded}
 use Rattle.promises.specs.v0_4.replay.Log.{lines_at, screen_at}
 use Rattle.promises.specs.v0_4.replay.MainPage.{xterm_pages}
 use Rattle.promises.specs.v0_4.replay.Pages.{pages}
-use Rattle.promises.specs.v0_4.replay.Playing.{language_of, replayed_at}
+use Rattle.promises.specs.v0_4.replay.Playing.{language_of}
+use Rattle.promises.specs.v0_4.replay.Resizes.{replayed_with}
 use Rattle.promises.specs.v0_4.replay.Showing.{ShownTable}
 use Rattle.promises.specs.v0_4.term.State.{state_of}
 use Rattle.promises.specs.v0_4.trace.Summary.{summary_on}
@@ -27,6 +28,7 @@ use Rattle.vt_recording.specs.declared.format.TerminalType.{TerminalType}
 use Rattle.vt_replay.specs.Playing.{Due}
 use Rattle.vt_replay.specs.declared.language.Language.TheVariants as language
 use Rattle.vt_replay.specs.declared.language.Language.{Language}
+use Rattle.vt_replay.specs.declared.resized.Resize.{Resize}
 use Rattle.vt_screen.specs.declared.size.Size.{Size}
 
 -- on a screen of a size, of the host's bytes in each language
@@ -61,29 +63,29 @@ of_decoded encoding written ending = record {
   there = always;
 }
 
--- a row a word, for a terminal of a size and in an encoding. A picture that moves, the table of events and the spans of a search are ready before they are written. What content writes under TERM=xterm is below
-abbrev pub due_of : Word → Size → TerminalType → Encoding → Due
-due_of (Replay what) size terminal encoding = replayed_at size (language_of terminal encoding) what
-due_of (Animation looks) size terminal encoding = of_decoded Dec all nothing
-due_of Log size terminal encoding =
+-- a row a word, for a terminal of a size, whose screen changes its size, and in an encoding. A replay carries the changes out. A picture that moves, the table of events and the spans of a search are ready before they are written. What content writes under TERM=xterm is below
+abbrev pub due_of : Word → Size → List Resize → TerminalType → Encoding → Due
+due_of (Replay what) size resizes terminal encoding = replayed_with size resizes (language_of terminal encoding) what
+due_of (Animation looks) size resizes terminal encoding = of_decoded Dec all nothing
+due_of Log size resizes terminal encoding =
     let language = language_of terminal encoding in
     record { written = lines_at size language; ending = screen_at size language; there = always }
-due_of Pages size terminal encoding =
+due_of Pages size resizes terminal encoding =
     let language = language_of terminal encoding in
     record { written = pages_at size language; ending = screen_at size language; there = always }
-due_of Trace size terminal encoding =
+due_of Trace size resizes terminal encoding =
     let language = language_of terminal encoding in
     record { written = trace_at size language; ending = trace_end_at size language; there = always }
-due_of Summary size terminal encoding =
+due_of Summary size resizes terminal encoding =
     let language = language_of terminal encoding in
     record { written = nothing; ending = summary_at size language; there = always }
-due_of Events size terminal encoding = of_decoded Dec all nothing
-due_of Content size terminal encoding = of_decoded encoding all nothing
-due_of Search size terminal encoding = of_decoded Dec all nothing
+due_of Events size resizes terminal encoding = of_decoded Dec all nothing
+due_of Content size resizes terminal encoding = of_decoded encoding all nothing
+due_of Search size resizes terminal encoding = of_decoded Dec all nothing
 
 -- what each answer says, by the word. Under TERM=xterm content is what a VT220 is sent, so that it shows the same
-abbrev pub WordTable : Result (Unit {0}) Fault → Word → Size → TerminalType → Encoding → (piece : ℕ) → (b w : List ℕ) → Flags → (limit : ℕ) → Type 0
-WordTable result Content size Xterm encoding piece b w f limit = ShownTable result piece b w f limit
-WordTable result word size terminal encoding piece b w f limit =
-    let due = due_of word size terminal encoding in
+abbrev pub WordTable : Result (Unit {0}) Fault → Word → Size → List Resize → TerminalType → Encoding → (piece : ℕ) → (b w : List ℕ) → Flags → (limit : ℕ) → Type 0
+WordTable result Content size resizes Xterm encoding piece b w f limit = ShownTable result piece b w f limit
+WordTable result word size resizes terminal encoding piece b w f limit =
+    let due = due_of word size resizes terminal encoding in
     OutputTable due.written due.ending due.there result piece b w f limit

@@ -1,11 +1,20 @@
 use Rattle.promises.proofs.update.updating.update_reserved.Goals as goal
-use Rattle.promises.proofs.v0_4.paint.Changes.{differing-same}
+use Rattle.promises.proofs.v0_4.paint.Changes.{differing_at-same}
+use Rattle.promises.proofs.v0_4.paint.Limits.{changes_limit-same}
 use Rattle.promises.proofs.v0_4.paint.Repaint.{paint-same}
-use Rattle.std.specs.Prelude.{vec_len, ◌*◌, ◌++◌, ◌+◌, ◌≡◌, ◌≤◌}
+use Rattle.promises.proofs.v0_4.update.Limits.{update_limit-same}
+use Rattle.std.specs.Bool.{OnTrue}
+use Rattle.std.specs.Prelude.{vec_capacity, vec_len, ◌++◌, ◌+◌, ◌≡◌, ◌≤◌}
 use Rattle.vt_update.specs.Leads.{HasOtherColumns}
 
+pub update_reserved-requires-clause-room : goal.update_reserved-requires-clause-room
+update_reserved-requires-clause-room c = coe 0 1 (ι. vec_len c.args.out.now + (update_limit-same ι) c.args.to.now.display.grid.size ≤ vec_capacity c.args.out.now) c.requires.room
+
 pub returns-clause-small : goal.returns-clause-small
-returns-clause-small c = coe 1 0 (ι. c.args.shown.now.display.grid.width ≡ c.args.to.now.display.grid.width → c.args.shown.now.display.stops ≡ c.args.to.now.display.stops → vec_len c.update_reserved.new.out ≤ vec_len c.args.out.now + 28 * (differing-same ι) c.args.shown.now.display.grid c.args.to.now.display.grid + 230) c.update_reserved.ensures.small
+returns-clause-small c = coe 1 0 (ι. OnTrue c.update_reserved.result (c.args.shown.now.display.grid.width ≡ c.args.to.now.display.grid.width → c.args.shown.now.display.stops ≡ c.args.to.now.display.stops → vec_len c.update_reserved.new.out ≤ vec_len c.args.out.now + (changes_limit-same ι) c.args.to.now.display.grid.size ((differing_at-same ι) c.args.to.now.display.grid.size c.args.shown.now.display.grid c.args.to.now.display.grid))) c.update_reserved.ensures.small
 
 pub returns-clause-repaint : goal.returns-clause-repaint
-returns-clause-repaint c = coe 1 0 (ι. HasOtherColumns c.args.shown.now c.args.to.now → c.update_reserved.new.out.items ≡ c.args.out.now.items ++ (paint-same ι) c.args.to.now) c.update_reserved.ensures.repaint
+returns-clause-repaint c = coe 1 0 (ι. OnTrue c.update_reserved.result (HasOtherColumns c.args.shown.now c.args.to.now → c.update_reserved.new.out.items ≡ c.args.out.now.items ++ (paint-same ι) c.args.to.now)) c.update_reserved.ensures.repaint
+
+pub returns-clause-bounded : goal.returns-clause-bounded
+returns-clause-bounded c = coe 1 0 (ι. vec_len c.update_reserved.new.out ≤ vec_len c.args.out.now + (update_limit-same ι) c.args.to.now.display.grid.size) c.update_reserved.ensures.bounded

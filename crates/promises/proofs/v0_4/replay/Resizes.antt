@@ -1,0 +1,120 @@
+-- 0.4: vt_replay/specs/Resizes is today's.
+use Rattle.promises.proofs.v0_4.replay.Playing.{due_by-same, repainted-same}
+use Rattle.promises.proofs.v0_4.term.Play.{play-same}
+use Rattle.promises.proofs.v0_4.term.Resizing.{state_on-same}
+use Rattle.promises.proofs.v0_4.term.State.{state_of-same}
+use Rattle.promises.proofs.v0_4.utf8.Decoding.{pending_after-same}
+use Rattle.promises.proofs.v0_4.utf8.Play.{play_utf8-same}
+use Rattle.promises.proofs.v0_4.xterm.Play.{front_of-same, play_xterm-same}
+use Rattle.promises.proofs.v0_4.xterm.Resizing.{whole_on-same}
+use Rattle.promises.specs.v0_4.replay.Resizes as frozen
+use Rattle.std.proofs.Common.{◌≡◌}
+use Rattle.std.specs.Prelude.{[], cond, drop, length, List, nat_lt, take, ℕ, ◌∷◌}
+use Rattle.vt_cli.specs.declared.what.What.TheVariants.{Repaint}
+use Rattle.vt_cli.specs.declared.what.What.{What}
+use Rattle.vt_replay.specs.Playing.{on_terminal}
+use Rattle.vt_replay.specs.Resizes as today
+use Rattle.vt_replay.specs.Resizes.{Session}
+use Rattle.vt_replay.specs.declared.language.Language.TheVariants.{Dec, Utf8, Xterm}
+use Rattle.vt_replay.specs.declared.language.Language.{Language}
+use Rattle.vt_replay.specs.declared.resized.Resize.{Resize}
+use Rattle.vt_screen.specs.declared.size.Size.{Size}
+use Rattle.vt_term.specs.Play.{both}
+use Rattle.vt_xterm.specs.Play.{behind}
+
+pub Session-made : (K : Type 0) → frozen.Session' K → today.Session K
+Session-made K ρ = record {
+  played = ρ.played;
+  after = ρ.after;
+  on = ρ.on;
+}
+
+pub Session-read : (K : Type 0) → today.Session K → frozen.Session' K
+Session-read K ρ = record {
+  played = ρ.played;
+  after = ρ.after;
+  on = ρ.on;
+}
+
+pub Utf8Kept-made : frozen.Utf8Kept' → today.Utf8Kept
+Utf8Kept-made ρ = record {
+  state = ρ.state;
+  pending = ρ.pending;
+}
+
+pub Utf8Kept-read : today.Utf8Kept → frozen.Utf8Kept'
+Utf8Kept-read ρ = record {
+  state = ρ.state;
+  pending = ρ.pending;
+}
+
+pub XtermKept-made : frozen.XtermKept' → today.XtermKept
+XtermKept-made ρ = record {
+  whole = ρ.whole;
+  pending = ρ.pending;
+}
+
+pub XtermKept-read : today.XtermKept → frozen.XtermKept'
+XtermKept-read ρ = record {
+  whole = ρ.whole;
+  pending = ρ.pending;
+}
+
+pub plain_session-same : frozen.plain_session ≡ today.plain_session
+plain_session-same = λ ι. record {
+  played = λ s bytes. (play-same ι) s bytes;
+  after = λ s bytes. ((play-same ι) s bytes).state;
+  on = (state_on-same ι);
+}
+
+pub utf8_begun-same : frozen.utf8_begun ≡ today.utf8_begun
+utf8_begun-same = λ ι size. record { state = (state_of-same ι) size; pending = [] }
+
+pub utf8_session-same : frozen.utf8_session ≡ today.utf8_session
+utf8_session-same = λ ι. record {
+  played = λ k bytes. (play_utf8-same ι) k.state k.pending bytes;
+  after = λ k bytes. record { state = ((play_utf8-same ι) k.state k.pending bytes).state; pending = (pending_after-same ι) k.pending bytes };
+  on = λ size k. record { state = (state_on-same ι) size k.state; pending = k.pending };
+}
+
+pub xterm_begun-same : frozen.xterm_begun ≡ today.xterm_begun
+xterm_begun-same = λ ι size. record { whole = behind ((state_of-same ι) size) ((front_of-same ι) size); pending = [] }
+
+pub xterm_session-same : frozen.xterm_session ≡ today.xterm_session
+xterm_session-same = λ ι. record {
+  played = λ k bytes. on_terminal ((play_xterm-same ι) k.whole k.pending bytes);
+  after = λ k bytes. record { whole = ((play_xterm-same ι) k.whole k.pending bytes).whole; pending = (pending_after-same ι) k.pending bytes };
+  on = λ size k. record { whole = (whole_on-same ι) size k.whole; pending = k.pending };
+}
+
+pub played_on-at : {K : Type 0} (x1 : Session K) (x2 : K) (x3 : List Resize) (x4 : List ℕ) → frozen.played_on x1 x2 x3 x4 ≡ today.played_on x1 x2 x3 x4
+played_on-at m k [] bytes = λ ι. m.played k bytes
+played_on-at m k (r ∷ resizes) bytes = λ ι.
+    cond (nat_lt (length bytes) r.after) (m.played k bytes)
+    (both (m.played k (take r.after bytes))
+    ((played_on-at m (m.on r.size (m.after k (take r.after bytes))) resizes (drop r.after bytes) ι)))
+
+pub played_on-same : {K : Type 0} → frozen.played_on {K = K} ≡ today.played_on {K = K}
+played_on-same = λ ι x1 x2 x3 x4. played_on-at x1 x2 x3 x4 ι
+
+pub played_with-at : (x0 : Size) (x1 : List Resize) (x2 : Language) (x3 : List ℕ) → frozen.played_with x0 x1 x2 x3 ≡ today.played_with x0 x1 x2 x3
+played_with-at size resizes Dec bytes = λ ι. (played_on-same ι) (plain_session-same ι) ((state_of-same ι) size) resizes bytes
+played_with-at size resizes Utf8 bytes = λ ι. (played_on-same ι) (utf8_session-same ι) ((utf8_begun-same ι) size) resizes bytes
+played_with-at size resizes Xterm bytes = λ ι. (played_on-same ι) (xterm_session-same ι) ((xterm_begun-same ι) size) resizes bytes
+
+pub played_with-same : frozen.played_with ≡ today.played_with
+played_with-same = λ ι x0 x1 x2 x3. played_with-at x0 x1 x2 x3 ι
+
+pub repainted_with-at : (x0 : Size) (x1 : List Resize) (x2 : Language) → frozen.repainted_with x0 x1 x2 ≡ today.repainted_with x0 x1 x2
+repainted_with-at size resizes Xterm = λ ι. (repainted-same ι) size Xterm
+repainted_with-at size resizes language = λ ι. (due_by-same ι) ((played_with-same ι) size resizes language) Repaint
+
+pub repainted_with-same : frozen.repainted_with ≡ today.repainted_with
+repainted_with-same = λ ι x0 x1 x2. repainted_with-at x0 x1 x2 ι
+
+pub replayed_with-at : (x0 : Size) (x1 : List Resize) (x2 : Language) (x3 : What) → frozen.replayed_with x0 x1 x2 x3 ≡ today.replayed_with x0 x1 x2 x3
+replayed_with-at size resizes language Repaint = λ ι. (repainted_with-same ι) size resizes language
+replayed_with-at size resizes language what = λ ι. (due_by-same ι) ((played_with-same ι) size resizes language) what
+
+pub replayed_with-same : frozen.replayed_with ≡ today.replayed_with
+replayed_with-same = λ ι x0 x1 x2 x3. replayed_with-at x0 x1 x2 x3 ι

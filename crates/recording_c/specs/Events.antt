@@ -35,7 +35,7 @@ abbrev pub number_of_part : Part → ℕ
 number_of_part part.Recording = 1
 number_of_part part.Timing = 2
 
--- 0 if it isn't broken
+-- the number of the part that is broken, or 0 if none is
 abbrev pub part_of : Option Break → ℕ
 part_of None = 0
 part_of (Some place) = number_of_part place.part

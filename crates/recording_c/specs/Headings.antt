@@ -11,7 +11,7 @@ use Rattle.vt_recording.specs.Detection.{detected}
 use Rattle.vt_recording.specs.Heading.{heading_of}
 use Rattle.recording_c.specs.declared.heading.RecordingHeading.{RecordingHeading}
 
--- a file with a timing file is by script, and a compressed one is read as it is
+-- the format in which a file is read: one with a timing file is by script, and a compressed one is read as it is
 abbrev pub format_by : (timed : Bool) → Detected → Format
 format_by true found = Script
 format_by false (Recording format) = format

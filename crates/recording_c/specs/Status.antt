@@ -1,7 +1,7 @@
 -- The statuses that the calls return.
 use Rattle.std.specs.Prelude.{ℕ}
 
--- it was done
+-- the call succeeded
 abbrev pub read_ok : ℕ
 read_ok = 0
 

@@ -9,14 +9,16 @@ ghost use Rattle.vt_device.specs.declared.fault.Fault.TheVariants.{Memory, Write
 mod notes;
 mod peeked;
 mod reasons;
+mod skipping;
 
 use crate::notes::print_notes;
 use crate::peeked::Peeked;
 use crate::reasons::{STANDARD_OUTPUT, Seen, print_error, print_reason};
+use crate::skipping::{Skipped, Unused, skipped_by, takes_index};
 use std::alloc::AllocError;
 use std::env::{self, Env};
 use std::fs::{File, Files, OpenFile};
-use std::io::{self, ErrorKind, Input, Read, Write};
+use std::io::{self, ErrorKind, Input, Read, Seek, Write};
 use std::process::ExitCode;
 use vt_replay::{
     Break, Detected, Fault, Format, Moment, Outcome, Part, Refused, Request, Watched, What, Word,
@@ -81,7 +83,7 @@ fn refused_by<R: Print + Eprint + AllocGlobal>(rt: &R, refused: &Refused) -> Exi
     }
 }
 
-/// How a request ended.
+/// The end of a request.
 #[derive(Drop)]
 struct Ended {
     outcome: Outcome,
@@ -95,7 +97,7 @@ struct Ended {
     beginning: Vec<u8>,
 }
 
-/// Returns the end of a request that came to no character.
+/// Returns the end of a request that ended before any byte was played.
 fn ended_early(
     rt: &impl AllocGlobal,
     request: &Request,
@@ -206,7 +208,7 @@ fn carry_out_in<R: Print + AllocGlobal, D: Read + Drop>(
     }
 }
 
-/// Returns whether a file is a regular one that has more bytes than the limit. Then nothing of it needs to be read.
+/// Returns whether a file is a regular one that has more bytes than the limit. Then none of them needs to be read.
 fn is_too_long(file: &impl OpenFile, limit: u64) -> bool {
     match file.metadata() {
         Ok(data) => data.is_file() && limit < data.len(),
@@ -214,18 +216,75 @@ fn is_too_long(file: &impl OpenFile, limit: u64) -> bool {
     }
 }
 
+/// Carries out a request on a file. If an index is named and can be used, the play begins at a checkpoint.
+fn carry_out_on_file<R: Files + Print + Eprint + AllocGlobal, F: OpenFile + Read + Seek + Drop>(
+    rt: &R,
+    file: F,
+    timing: Option<&[u8]>,
+    request: &mut Request,
+) -> Ended {
+    let mut file = file;
+    let Some(name) = &request.index else {
+        return carry_out_on(rt, file, timing, request);
+    };
+    match skipped_by(rt, &mut file, name.as_str(), request) {
+        Ok(skipped) => carry_out_skipped(rt, skipped, request),
+        Err(unused) => {
+            print_unused(rt, request, unused);
+            if !matches!(unused, Unused::NoFile) {
+                if let Err(error) = file.rewind() {
+                    return ended_unread(rt, request, error);
+                }
+            }
+            carry_out_on(rt, file, timing, request)
+        }
+    }
+}
+
+/// Carries out a request on what is played of a recording with its index.
+fn carry_out_skipped<R: Print + AllocGlobal>(
+    rt: &R,
+    skipped: Skipped,
+    request: &mut Request,
+) -> Ended {
+    let Skipped {
+        bytes,
+        format,
+        from,
+        until,
+        beginning,
+    } = skipped;
+    let input = match Peeked::new(rt.alloc(), bytes.as_slice()) {
+        Ok(input) => input,
+        Err(AllocError) => return ended_early(rt, request, Fault::Memory, Part::Recording, None),
+    };
+    let whole = (request.from, request.until);
+    (request.from, request.until) = (from, until);
+    let mut ended = carry_out_in(rt, input, format, None, request);
+    (request.from, request.until) = whole;
+    ended.beginning = beginning;
+    ended
+}
+
+/// Prints why an index isn't used, unless the notes are left out.
+fn print_unused(rt: &impl Eprint, request: &Request, unused: Unused) {
+    if let (Some(index), false) = (&request.index, request.quiet) {
+        let _ = eprintln!(rt; "vt220: {index}: not used, since it {}", unused.text());
+    }
+}
+
 /// Opens the file, if one is named, and carries out the request on it, or on standard input.
-fn carry_out_by_name<R: Files + Input + Print + AllocGlobal>(
+fn carry_out_by_name<R: Files + Input + Print + Eprint + AllocGlobal>(
     rt: &R,
     timing: Option<&[u8]>,
-    request: &Request,
+    request: &mut Request,
 ) -> Ended {
     match &request.file {
         Some(name) => match File::open(rt, name.as_str()) {
             Ok(file) if is_too_long(&file, request.limit) => {
                 ended_early(rt, request, Fault::TooLong, Part::Recording, None)
             }
-            Ok(file) => carry_out_on(rt, file, timing, request),
+            Ok(file) => carry_out_on_file(rt, file, timing, request),
             Err(error) => ended_unread(rt, request, error),
         },
         None => carry_out_on(rt, rt.reader(), timing, request),
@@ -233,9 +292,9 @@ fn carry_out_by_name<R: Files + Input + Print + AllocGlobal>(
 }
 
 /// Reads the timing file, if one is named, and carries out the request.
-fn carry_out_with_timing<R: Files + Input + Print + AllocGlobal>(
+fn carry_out_with_timing<R: Files + Input + Print + Eprint + AllocGlobal>(
     rt: &R,
-    request: &Request,
+    request: &mut Request,
 ) -> Ended {
     let Some(name) = &request.timing else {
         return carry_out_by_name(rt, None, request);
@@ -254,8 +313,8 @@ fn carry_out_with_timing<R: Files + Input + Print + AllocGlobal>(
     }
 }
 
-/// Returns whether the reader of the output ended early, and the word is none of the four of the specification: then it
-/// ends without a line.
+/// Returns whether the reader of the output ended early, and the word is none of the four of the specification. Then
+/// the program ends without a line.
 fn is_silent(word: Word, fault: Fault, error: Option<io::Error>) -> bool {
     let is_left = match error {
         Some(error) => fault == Fault::Write && error.kind() == ErrorKind::BrokenPipe,
@@ -267,9 +326,9 @@ fn is_silent(word: Word, fault: Fault, error: Option<io::Error>) -> bool {
     }
 }
 
-/// Prints how many characters became SUB, if any did, and then a fault's lines and the other notes. Ends the program after
-/// a request: with status 0 if all was written, otherwise with the fault's status. If it is enough what came before the recording
-/// broke its format, that is status 0, too.
+/// Prints how many characters became SUB, if any did, and then a fault's lines and the other notes. Ends the program
+/// after a request: with status 0 if all was written, otherwise with the fault's status. If what came before the
+/// recording broke its format is enough, the status is 0, too.
 fn ended_after<R: Eprint + AllocGlobal>(rt: &R, request: &Request, ended: Ended) -> ExitCode
     ensures { MatchResult ended.outcome.ended (λ _. exit_status result ≡ 0)
         (λ fault. exit_status result ≡ status_with request.now.partial fault) }
@@ -316,10 +375,16 @@ fn main(rt: HostRuntime) -> ExitCode {
         Ok(words) => words,
         Err(ended) => return ended,
     };
-    let request = match request(rt.alloc(), words) {
+    let mut request = match request(rt.alloc(), words) {
         Ok(request) => request,
         Err(refused) => return refused_by(&rt, &refused),
     };
-    let ended = carry_out_with_timing(&rt, &request);
+    if request.index.is_some() && !takes_index(request.word) {
+        let _ = eprintln!(rt;
+            "vt220: --index goes with text, show, picture, repaint and search alone"
+        );
+        return ExitCode::from(BAD_COMMAND_LINE);
+    }
+    let ended = carry_out_with_timing(&rt, &mut request);
     ended_after(&rt, &request, ended)
 }

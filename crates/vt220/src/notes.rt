@@ -1,5 +1,5 @@
-//! The notes on standard error: what the input looks like, for which terminal and at which size it was recorded. They change
-//! nothing else.
+//! The notes on standard error: what the input looks like, and for which terminal and at which size it was recorded.
+//! They have no other effect.
 
 use crate::reasons::{hint_of, name_of};
 use std::alloc::Global;
@@ -9,7 +9,8 @@ use vt_replay::{
     host_for, keeps_size, size_of,
 };
 
-/// The number of first bytes that are looked at for what a host sends. More would cost as much as to play them.
+/// The number of first bytes that are looked at for what a host sends. Looking at more would cost as much as playing
+/// them.
 const LOOKED_AT: usize = 4096;
 
 /// Sequences of xterm that programs send and a VT220 doesn't have: the alternate screen, and a colour of 256.

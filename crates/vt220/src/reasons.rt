@@ -74,8 +74,8 @@ fn print_broken(rt: &impl Eprint, request: &Request, place: Break, seen: Seen) {
     };
 }
 
-/// Returns what a recording looks like that is broken at a place, or none if it looks like the format in which it was read. It
-/// does, too, if it isn't broken at its beginning.
+/// Returns what a recording looks like that is broken at its beginning, or none if it looks like the format in which it
+/// was read. If it is broken elsewhere, the result is none, too.
 fn other_look(place: Break, seen: Seen) -> Option<&'static str> {
     if place.part != Part::Recording || place.at > 0 {
         return None;

@@ -1,5 +1,5 @@
--- A request: what the answers of `request` say. (this profile)
-use Rattle.std.specs.Prelude.{◌≡◌, ◌⊎◌, ℕ, ◌≤◌, List, [], ◌∷◌, ◌++◌, codes, Option, Some, None, string_bytes, Ok, Err}
+-- A request, and what the results of `request` state. (this profile)
+use Rattle.std.specs.Prelude.{◌≡◌, ◌⊎◌, ℕ, ◌≤◌, List, [], ◌∷◌, ◌++◌, codes, Option, Some, None, string_bytes, Ok, Err, unwrap_or}
 use Rattle.std.specs.Option.{option_map}
 use Rattle.std.specs.declared.alloc.Global.{Global}
 use Rattle.std.specs.declared.string.String.{String}
@@ -11,6 +11,7 @@ use Rattle.vt_cli.specs.CommandLine.{faults_in, found_in, word_name, is_set, IsN
 use Rattle.vt_cli.specs.declared.what.Looks.{Looks}
 use Rattle.vt_cli.specs.declared.what.Word.{Word}
 use Rattle.vt_cli.specs.declared.what.Word.TheVariants.{Animation}
+use Rattle.vt_recording.specs.Seconds.{number}
 use Rattle.vt_cli.specs.Source.{source_in, line_of}
 
 -- the numbers and the file of a subcommand's matches
@@ -30,6 +31,11 @@ abbrev pub word_looks : Word → Option Looks
 word_looks (Animation looks) = Some looks
 word_looks word = None
 
+-- the bytes between two checkpoints of an index: 256 KiB if there is no number
+abbrev pub every_of : Option Text → ℕ
+every_of None = 262144
+every_of (Some text) = unwrap_or (number 13 text) 262144
+
 -- r is what the subcommand that clap found, and its matches, ask for
 pub record IsFound (found : Option (Text × List Row)) (r : Request) : Type 0 where
   pub matches : List Row
@@ -39,6 +45,8 @@ pub record IsFound (found : Option (Text × List Row)) (r : Request) : Type 0 wh
   pub timing : option_map (λ f. string_bytes f) r.timing ≡ first_of (codes "timing") matches
   pub title : option_map (λ t. string_bytes t) r.title ≡ first_of (codes "title") matches
   pub pattern : option_map (λ t. string_bytes t) r.pattern ≡ first_of (codes "pattern") matches
+  pub every : r.every ≡ every_of (first_of (codes "every") matches)
+  pub index : option_map (λ f. string_bytes f) r.index ≡ first_of (codes "index") matches
   pub log : r.log ≡ is_set (codes "log") matches
   pub full : r.full ≡ is_set (codes "full") matches
   pub partial : r.partial ≡ is_set (codes "partial") matches
@@ -51,7 +59,7 @@ pub record IsRequest (words : List (String Global)) (r : Request) : Type 0 where
 
 -- ---- refusals
 
--- no request is what clap found
+-- what clap found makes no request
 abbrev pub HasNoRequest : Option (Text × List Row) → Type 0
 HasNoRequest found = (r : Request) → IsFound found r → ⊥
 
@@ -73,7 +81,7 @@ pub record IsMisfit (faults : Kinds) (found : Option (Text × List Row)) (r : Re
   pub status : r.status ≡ 2
   pub text : string_bytes r.text ≡ line_of complaint
 
--- why there is no request, by the faults and the subcommand that clap finds
+-- the refusal, by the faults and the subcommand that clap finds
 abbrev pub IsRequestRefusal : Kinds → Option (Text × List Row) → Refused → Type 0
 IsRequestRefusal faults found r = IsMemory r ⊎ (IsFault faults r ⊎ (IsMisfit faults found r ⊎ IsStrayRequest faults found r))
 

@@ -1,4 +1,4 @@
--- How the input was recorded, as options. (this profile)
+-- The options that say how the input was recorded. (this profile)
 use Rattle.std.specs.Prelude.{List, [], ◌∷◌, ◌++◌, codes, Bool, true, false, not, ◌&&◌, ◌||◌, cond, Option, Some, None, Result, Ok, Err}
 use Rattle.std.specs.Prelude.{bytes_eq, is_some, nat_eq, nat_lt, ℕ, ◌+◌, take, drop, option_map, option_and_then}
 use Rattle.clap.specs.Words.{Row, Text, first_of}
@@ -40,7 +40,7 @@ abbrev pub takes_timing : Option Format → Bool
 takes_timing (Some f) = format.takes_timing f
 takes_timing None = false
 
--- the recording has times. Where its beginning decides, it may have some
+-- the recording has times. If its beginning decides on the format, it may have some
 abbrev pub has_times : Option Format → (timed : Bool) → Bool
 has_times (Some f) timed = format.has_times f timed
 has_times None timed = true
@@ -61,9 +61,10 @@ abbrev pub moment_of : Option Format → (timed : Bool) → Option Text → Resu
 moment_of format timed None = Ok None
 moment_of format timed (Some text) = moment_given format timed (moment text)
 
--- the command of this name takes a part of a recording that begins in the middle. For a screen all that comes before counts
+-- the command of this name takes a part of a recording that begins in the middle. For a screen all that comes before counts: a search plays
+-- that, too
 abbrev pub takes_start : Text → Bool
-takes_start command = bytes_eq command (codes "events") || bytes_eq command (codes "content")
+takes_start command = bytes_eq command (codes "events") || (bytes_eq command (codes "content") || bytes_eq command (codes "search"))
 
 abbrev pub from_of : (command : Text) → Option Format → (timed : Bool) → Option Text → Result (Option Moment) Complaint
 from_of command format timed None = Ok None
@@ -78,7 +79,7 @@ encoding_named name =
     cond (bytes_eq name (codes "dec")) (Ok (Some Dec))
     (cond (bytes_eq name (codes "utf-8")) (Ok (Some Utf8)) (cond (bytes_eq name (codes "auto")) (Ok None) (Err NoEncoding)))
 
--- without a name none is asked for
+-- the encoding with a name; without a name none is asked for
 abbrev pub encoding_of : Option Text → Result (Option Encoding) Complaint
 encoding_of None = Ok None
 encoding_of (Some name) = encoding_named name
@@ -98,7 +99,7 @@ terminal_named encoding name =
     (cond (bytes_eq name (codes "xterm")) (xterm_for encoding)
     (cond (bytes_eq name (codes "auto")) (Ok None) (Err NoTerminal)))
 
--- without a name the recording decides
+-- the terminal with a name; without a name the recording decides
 abbrev pub terminal_of : Option Encoding → Option Text → Result (Option TerminalType) Complaint
 terminal_of encoding None = Ok None
 terminal_of encoding (Some name) = terminal_named encoding name
@@ -111,7 +112,7 @@ wide_named name =
     cond (bytes_eq name (codes "80")) (Ok (Some false))
     (cond (bytes_eq name (codes "132")) (Ok (Some true)) (cond (bytes_eq name (codes "auto")) (Ok None) (Err NoColumns)))
 
--- without a number the recording decides
+-- whether a number of columns is 132; without a number the recording decides
 abbrev pub wide_of : Option Text → Result (Option Bool) Complaint
 wide_of None = Ok None
 wide_of (Some name) = wide_named name
@@ -136,7 +137,7 @@ screen_at columns rows =
     (cond (nat_eq rows 24 && nat_eq columns 132) (Some (record { wide = Some true; size = None }))
     (option_map (λ size. record { wide = None; size = Some size }) (size_of columns rows)))
 
--- by the place of the first `x`: up to three digits before it and after it
+-- the screen of a size's text, by the place of the first `x`: up to three digits before it and after it
 abbrev pub screen_parts : Option ℕ → List ℕ → Option Screen
 screen_parts None text = None
 screen_parts (Some at) text =
@@ -156,7 +157,7 @@ screen_named text =
     cond (bytes_eq text (codes "auto")) (Ok (record { wide = None; size = None }))
     (screen_found (screen_in text))
 
--- by the width that `--columns` asks for, and the text of `--size`: one of the two asks for a screen
+-- the screen by the width that `--columns` asks for, and the text of `--size`. Only one of the two may be given
 abbrev pub screen_with : (wide : Option Bool) → (size : Option Text) → Result Screen Complaint
 screen_with wide None = Ok (record { wide = wide; size = None })
 screen_with None (Some text) = screen_named text
@@ -183,7 +184,7 @@ theme_named name =
     (cond (bytes_eq name (codes "light")) (Ok Light)
     (cond (bytes_eq name (codes "green")) (Ok Green) (cond (bytes_eq name (codes "amber")) (Ok Amber) (Err NoTheme))))
 
--- without a name it is dark
+-- the theme with a name; without a name it is dark
 abbrev pub theme_of : Option Text → Result Theme Complaint
 theme_of None = Ok Dark
 theme_of (Some name) = theme_named name
@@ -194,7 +195,7 @@ cursor_named name =
     (cond (bytes_eq name (codes "block")) (Ok Block)
     (cond (bytes_eq name (codes "underline")) (Ok Underline) (cond (bytes_eq name (codes "hidden")) (Ok Hidden) (Err NoShape))))
 
--- without a name it is the outline
+-- the shape of the cursor with a name; without a name it is the outline
 abbrev pub cursor_of : Option Text → Result CursorShape Complaint
 cursor_of None = Ok Outline
 cursor_of (Some name) = cursor_named name
@@ -207,7 +208,8 @@ looks_with theme cursor =
 abbrev pub may_move : Text → Bool
 may_move command = bytes_eq command (codes "picture")
 
--- by the name of the command, whether `--animate` is used, the texts of its options, and whether there is a title
+-- the looks by the name of the command, whether `--animate` is used, the texts of its options, and whether there is a
+-- title
 abbrev pub looks_of : (command : Text) → (animate : Bool) → (theme cursor : Option Text) → (titled : Bool) → Result (Option Looks) Complaint
 looks_of command animate theme cursor titled =
     cond animate (cond (may_move command) (and_then (λ looks. Ok (Some looks)) (looks_with theme cursor)) (Err OnlyPicture))
@@ -218,7 +220,7 @@ looks_in command matches =
     looks_of command (is_set (codes "animate") matches) (first_of (codes "theme") matches) (first_of (codes "cursor") matches)
     (is_some (first_of (codes "title") matches))
 
--- a picture that moves has a step for each time, and so has a search
+-- the command needs the times of a recording: it writes a picture that moves, or searches
 abbrev pub is_timed : (command : Text) → Option Looks → Bool
 is_timed command looks = is_some looks || bytes_eq command (codes "search")
 
@@ -227,12 +229,13 @@ lacks_steps command format timed looks = is_timed command looks && not (has_time
 
 -- ---- all of them
 
--- without a name it is raw
+-- the format with a name; without a name it is raw
 abbrev pub named : Option Text → Result (Option Format) Complaint
 named None = Ok (Some Raw)
 named (Some name) = format_named name
 
--- by the name of the command, the looks of a picture that moves, whether there is a timing file, and the texts of the other options
+-- the source by the name of the command, the looks of a picture that moves, and the texts of the other options. `timed`
+-- is whether there is a timing file
 abbrev pub source_of : (command : Text) → Option Looks → (format : Option Text) → (timed : Bool) → (from until encoding terminal columns size : Option Text)
     → Result Source Complaint
 source_of command looks format timed from until encoding terminal columns size =
@@ -251,7 +254,7 @@ source_of command looks format timed from until encoding terminal columns size =
     (from_of command format timed from))))
     (named format)
 
--- by a subcommand's name and matches
+-- the source by a subcommand's name and matches
 abbrev pub source_in : (command : Text) → List Row → Result Source Complaint
 source_in command matches =
     and_then (λ looks. source_of command looks (first_of (codes "format") matches) (is_some (first_of (codes "timing") matches))
@@ -265,7 +268,7 @@ line_of NoFormat =
     codes "vt220: --format is raw, script, ttyrec or asciicast" ++ 0x0A ∷ codes "vt220: or it is auto: then the beginning of the input decides" ++ 0x0A ∷ []
 line_of NoTimingFile = codes "vt220: --timing goes with --format script alone" ++ 0x0A ∷ []
 line_of NoMoment = codes "vt220: a moment is seconds, as 12.5 or 12:31, bytes, as 4096b, event:N or marker:N" ++ 0x0A ∷ []
-line_of NoStart = codes "vt220: --from goes with events and content alone" ++ 0x0A ∷ []
+line_of NoStart = codes "vt220: --from goes with events, content and search alone" ++ 0x0A ∷ []
 line_of NoTimes =
     codes "vt220: the input has no times; give the moment in bytes, as 4096b, or script its --timing FILE" ++ 0x0A ∷ codes "vt220: a recording by ttyrec or asciinema has times: add --format ttyrec, asciicast or auto" ++ 0x0A ∷ []
 line_of NoEncoding = codes "vt220: --encoding is dec, utf-8 or auto" ++ 0x0A ∷ []

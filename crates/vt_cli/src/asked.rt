@@ -1,4 +1,4 @@
-//! Has the types for what the arguments of a command line ask for.
+//! The types for what the arguments of a command line ask for.
 
 ghost use Rattle.std.specs.Prelude.{◌≤◌, IfSome};
 ghost use Rattle.std.proofs.Props.{props};
@@ -47,9 +47,9 @@ pub struct Request {
     pub limit: u64,
     /// The file to read, or none for standard input.
     pub file: Option<String>,
-    /// How the input was recorded, or none if its beginning decides.
+    /// The format of the input, or none if its beginning decides.
     pub format: Option<Format>,
-    /// How the host's bytes are read, or none if the terminal and the format decide.
+    /// The encoding of the host's bytes, or none if the terminal and the format decide.
     pub encoding: Option<Encoding>,
     /// The terminal for which the host sends, or none if the recording decides.
     pub terminal: Option<TerminalType>,
@@ -59,9 +59,9 @@ pub struct Request {
     pub size: Option<Size>,
     /// The file with the times of a recording by script(1), if there is one.
     pub timing: Option<String>,
-    /// The moment from which on the input is wanted, or none for all of it.
+    /// The moment at which the wanted input begins, or none for its beginning.
     pub from: Option<Moment>,
-    /// The moment up to which the input is wanted, or none for all of it.
+    /// The moment at which the wanted input ends, or none for its end.
     pub until: Option<Moment>,
     /// Whether the table of events has all that the recording has: its heading, and the bytes of its output.
     pub full: bool,
@@ -71,6 +71,10 @@ pub struct Request {
     pub pattern: Option<String>,
     /// Whether a search also looks through the lines that scrolled off.
     pub log: bool,
+    /// The bytes of the content between two checkpoints of an index.
+    pub every: u64,
+    /// The file with the index from which the input is played, if there is one.
+    pub index: Option<String>,
     /// Whether a recording may break its format: what came before is enough.
     pub partial: bool,
     /// Whether the notes on standard error are left out.
@@ -80,7 +84,7 @@ pub struct Request {
     pub ghost size_in_range: { IfSome size (λ s. IsSize s) } by { Prim.hlevel props },
 }
 
-/// Why the arguments are refused, and what to print.
+/// The refusal of arguments: the exit status, and the text to print.
 #[derive(Debug, PartialEq, Eq, Drop)]
 pub struct Refused {
     /// The exit status: 0 if the help or the version was asked for, 1 if allocation fails, 2 for a fault of the

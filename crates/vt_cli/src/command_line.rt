@@ -5,8 +5,8 @@ ghost use Rattle.clap.specs.Words.{FailsBy, app_of, first_of, first_value, found
 ghost use Rattle.clap.specs.Words.{subcommand_rows_of, with_rule};
 ghost use Rattle.clap.specs.declared.builder.command.Command.TheViews.{out-Command};
 ghost use Rattle.vt_cli.specs.declared.what.What.{What};
-ghost use Rattle.vt_cli.specs.CommandLine.{rule_for, required_argument, flag_option, arguments, subcommand, subcommand_with, with_name, as_program};
-ghost use Rattle.vt_cli.specs.CommandLine.{vt220, faults_in, found_in, name_of, status_for, is_true, is_set, is_plain};
+ghost use Rattle.vt_cli.specs.CommandLine.{rule_for, required_argument, flag_option, every_option, arguments, subcommand, subcommand_with, with_name, as_program};
+ghost use Rattle.vt_cli.specs.CommandLine.{vt220, faults_in, found_in, name_of, status_for, is_true, is_set, is_whole, is_plain};
 ghost use Rattle.vt_cli.specs.CommandLine.{IsNumberOf, AreSettings, IsMemory, IsFault, IsStray, IsRefusal};
 ghost use Rattle.vt_cli.specs.CommandLine.{HasNoSettings};
 ghost use Rattle.vt_cli.specs.Request.{AreOptions, HasNoOptions};
@@ -18,10 +18,10 @@ use clap::error::ErrorKind;
 use clap::{Arg, ArgAction, ArgMatches, Command, Error};
 use std::alloc::{AllocError, Global};
 
-/// The greatest piece.
+/// The greatest value of `--piece`.
 const PIECE_MOST: u64 = 65536;
 
-/// The greatest limit.
+/// The greatest value of `--limit`.
 const LIMIT_MOST: u64 = 1099511627776;
 
 /// The message for arguments that clap takes and that ask for nothing.
@@ -30,55 +30,59 @@ pub(crate) const BAD_COMMAND_LINE: &str = "vt220: bad command line\n";
 /// The version of the program and of all its crates: `vt220 --version` prints it after the name.
 const VERSION: &str = "0.4.0";
 
-/// Says what the program is for.
+/// The purpose of the program, as its help has it.
 const ABOUT: &str =
     "Plays what a host sent to a VT220 terminal, and writes what the terminal then shows or answers";
 
-/// Says what `text` is for.
+/// The purpose of `text`, as the help has it.
 const TEXT: &str = "The screen: 24 lines of UTF-8, each without the spaces at its end";
 
-/// Says what `reports` is for.
+/// The purpose of `reports`, as the help has it.
 const REPORTS: &str = "What the terminal answers to the host, chunk by chunk as the input comes";
 
-/// Says what `repaint` is for.
+/// The purpose of `repaint`, as the help has it.
 const REPAINT: &str = "The bytes that rebuild the terminal, hidden state included, on any terminal";
 
-/// Says what `status` is for.
+/// The purpose of `status`, as the help has it.
 const STATUS: &str =
     "The cursor, the wrap flag, the margins, the unfinished sequence, and how many bytes were answered";
 
-/// Says what `show` is for.
+/// The purpose of `show`, as the help has it.
 const SHOW: &str =
     "The screen with its attributes, for a terminal of today or less -R: lines of UTF-8 with SGR";
 
-/// Says what `picture` is for.
+/// The purpose of `picture`, as the help has it.
 const PICTURE: &str = "The screen as a picture (SVG)";
 
-/// Says what `log` is for.
+/// The purpose of `log`, as the help has it.
 const LOG: &str =
     "The lines that scroll off the top of the screen, as they come, and at the end the screen";
 
-/// Says what `pages` is for.
+/// The purpose of `pages`, as the help has it.
 const PAGES: &str =
     "The log, and the 24 lines of the screen before each event that blanks all of it";
 
-/// Says what `trace` is for.
+/// The purpose of `trace`, as the help has it.
 const TRACE: &str = "A line for each event: its place, its name and its values";
 
-/// Says what `summary` is for.
+/// The purpose of `summary`, as the help has it.
 const SUMMARY: &str = "The names of the events, each with its count; the ignored ones first";
 
-/// Says what `events` is for.
+/// The purpose of `events`, as the help has it.
 const EVENTS: &str =
     "A line for each event of a recording: its time, what it is, its place and its length";
 
-/// Says what `content` is for.
+/// The purpose of `content`, as the help has it.
 const CONTENT: &str = "The host's bytes of a recording, or with --terminal xterm bytes for a VT220";
 
-/// Says what `search` is for.
+/// The purpose of `search`, as the help has it.
 const SEARCH: &str = "When a text was on the screen: a line for each span of time, and its place";
 
-/// The subcommands but `search`, each by its name and what it is for.
+/// The purpose of `index`, as the help has it.
+const INDEX: &str =
+    "An index of a recording, with which text, show, picture, repaint and search skip to a moment";
+
+/// The subcommands but `search` and `index`, each by its name and what it is for.
 const SUBCOMMANDS: &[(&str, &str)] = &[
     ("text", TEXT),
     ("reports", REPORTS),
@@ -123,6 +127,13 @@ const SEARCH_ARGUMENTS: &[(&str, Takes, &str)] = &[
     ),
 ];
 
+/// The argument that `index` alone has.
+const INDEX_ARGUMENTS: &[(&str, Takes, &str)] = &[(
+    "every",
+    Takes::Number(1, LIMIT_MOST, "262144"),
+    "The bytes between two checkpoints, 1 to 1099511627776",
+)];
+
 /// The arguments of each subcommand, each by its name, what it takes, and its help.
 const ARGUMENTS: &[(&str, Takes, &str)] = &[
     (
@@ -153,12 +164,17 @@ const ARGUMENTS: &[(&str, Takes, &str)] = &[
     (
         "from",
         Takes::Text("MOMENT"),
-        "Only what comes from there on, for events and content: as for --until",
+        "Only what comes from there on, for events, content and search: as for --until",
     ),
     (
         "until",
         Takes::Text("MOMENT"),
         "Only what came up to it: seconds, as 12.5 or 12:31, bytes, as 4096b, event:N or marker:N",
+    ),
+    (
+        "index",
+        Takes::Text("FILE"),
+        "For text, show, picture, repaint and search: the index of FILE, by which they skip to the moment",
     ),
     (
         "encoding",
@@ -225,8 +241,9 @@ takes the text to find before FILE.
   --limit N        the most bytes of the input, 0 to 1099511627776 [default: 268435456]
   --format FORMAT  how FILE was recorded: raw, script, ttyrec, asciicast or auto [default: raw]
   --timing FILE    the times of a recording by script(1)
-  --from MOMENT    only what comes from there on, for events and content: as for --until
+  --from MOMENT    only what comes from there on, for events, content and search: as for --until
   --until MOMENT   only what came up to it: 12.5 or 12:31 seconds, 4096b bytes, event:N or marker:N
+  --index FILE     for text, show, picture, repaint and search: skip to the moment by an index of FILE
   --encoding NAME  how the host's bytes are read: dec, utf-8 or auto [default: auto]
   --terminal NAME  the terminal for which the host sends: vt220, xterm or auto [default: auto]
   --columns N      the columns of the screen: 80, 132 or auto [default: auto]
@@ -237,6 +254,7 @@ takes the text to find before FILE.
   --title TEXT     its title [default: VT220 screen]
   --full           for events: all that the recording has, with the bytes of its output
   --log            for search alone: also the lines with the text that scrolled off the screen
+  --every N        for index alone: the bytes between two checkpoints [default: 262144]
   --partial        what came before a recording breaks is enough: that is printed, and no fault
   --quiet          no notes on standard error; faults are printed all the same
 
@@ -258,6 +276,10 @@ Example, when a text was on the screen: from and until, the row and the column:
 
 Example, and also the lines that scrolled off: log, the time, the line of the log and the column:
   vt220 search --log --format ttyrec 'No space left' demo.tty
+
+Example, an index, and the screen at the end of the first hour of a long recording:
+  vt220 index --format ttyrec demo.tty > demo.index
+  vt220 text --format ttyrec --index demo.index --until 1:00:00 demo.tty
 
 Example, the screen as it stood twelve and a half seconds after the start:
   vt220 text --format ttyrec --until 12.5 demo.tty
@@ -326,6 +348,16 @@ fn search<'a>(alloc: Global) -> Result<Command<'a>, AllocError>
     with_arguments(alloc, command, ARGUMENTS)
 }
 
+/// Returns the subcommand `index`.
+fn index<'a>(alloc: Global) -> Result<Command<'a>, AllocError>
+    ensures app { IfOk result (λ c. app_of c ≡ subcommand_with (codes "index") (every_option ∷ arguments)) }
+    ensures local { IfOk result (λ c. (out-Command c).has_globals ≡ false) }
+{
+    let command = Command::new(alloc, "index").about(INDEX);
+    let command = with_arguments(alloc, command, INDEX_ARGUMENTS)?;
+    with_arguments(alloc, command, ARGUMENTS)
+}
+
 /// Adds subcommands, each by its name and what it is for.
 fn with_names<'a>(
     alloc: Global,
@@ -356,7 +388,9 @@ fn program<'a>(alloc: Global) -> Command<'a>
 fn command<'a>(alloc: Global) -> Result<Command<'a>, AllocError>
     ensures { IfOk result (λ c. app_of c ≡ vt220) }
 {
-    with_names(alloc, program(alloc), SUBCOMMANDS)?.subcommand(search(alloc)?)
+    with_names(alloc, program(alloc), SUBCOMMANDS)?
+        .subcommand(search(alloc)?)?
+        .subcommand(index(alloc)?)
 }
 
 /// Returns what clap matches in the arguments.
@@ -494,14 +528,22 @@ fn is_given(matches: &ArgMatches<'_>, name: &str) -> bool
     matches.get_str(name).is_some()
 }
 
-/// Returns whether no option of a recording was used.
-fn is_plain(matches: &ArgMatches<'_>) -> bool
-    ensures { result ≡ is_plain (rows_of (found_of matches.now)) }
+/// Returns whether no option says how a recording was written, or which part of it is wanted.
+fn is_whole(matches: &ArgMatches<'_>) -> bool
+    ensures { result ≡ is_whole (rows_of (found_of matches.now)) }
 {
     !is_given(matches, "format")
         && !is_given(matches, "timing")
         && !is_given(matches, "from")
         && !is_given(matches, "until")
+        && !is_given(matches, "index")
+}
+
+/// Returns whether no option of a recording was used.
+fn is_plain(matches: &ArgMatches<'_>) -> bool
+    ensures { result ≡ is_plain (rows_of (found_of matches.now)) }
+{
+    is_whole(matches)
         && !is_given(matches, "encoding")
         && !is_given(matches, "terminal")
         && !is_given(matches, "columns")
@@ -515,8 +557,8 @@ fn is_plain(matches: &ArgMatches<'_>) -> bool
         && !is_set(matches, "quiet")
 }
 
-/// Returns the settings of a subcommand, if it is one of a replay, no option of a recording was used, and its numbers are
-/// in their ranges.
+/// Returns the settings of a subcommand. There are none unless it is one of a replay, no option of a recording was
+/// used, and its numbers are in their ranges.
 fn settings_of(
     alloc: Global,
     name: &str,
@@ -544,10 +586,12 @@ fn settings_of(
 
 /// Returns the settings that the arguments ask for; the first argument is the program's name.
 ///
-/// The arguments are those of `request`, for one of the six subcommands `text`, `reports`, `repaint`, `status`, `show` and
-/// `picture`, without an option of a recording: `--piece N` (1 to 65536, otherwise 4096), `--limit N` (0 to 1099511627776,
-/// otherwise 268435456) and at most one FILE. `Err` is what to end with if there are no settings: the help or the version
-/// that was asked for (status 0), a failed allocation (1), or what is wrong with the arguments (2). (this profile)
+/// The arguments are those of `request`, for one of the six subcommands `text`, `reports`, `repaint`, `status`, `show`
+/// and `picture`, without an option of a recording. They are `--piece N` (1 to 65536, otherwise 4096), `--limit N` (0
+/// to 1099511627776, otherwise 268435456) and at most one FILE.
+///
+/// If there are no settings, `Err` has the exit status and the text to end with. The status is 0 for the help or the
+/// version, 1 for a failed allocation, and 2 if the arguments are wrong. (this profile)
 pub fn settings(alloc: Global, words: Vec<String>) -> Result<Settings, Refused>
     ensures ok { IfOk result (AreSettings (found_in words.items)) }
     ensures no_fault { IfOk result (λ _. faults_in words.items ≡ []) }

@@ -1,4 +1,5 @@
-//! How the input was recorded: its format, the moments between which it is wanted, the encoding, the terminal, and its size.
+//! The options of a recording: its format, the moments between which it is wanted, the encoding, the terminal, and its
+//! size.
 ghost use Rattle.std.specs.Prelude.{◌≡◌, ◌<◌, option_map, IfOk, IfSome};
 ghost use Rattle.vt_screen.specs.Sizes.{IsSize};
 ghost use Rattle.clap.specs.Words.{found_of, rows_of};
@@ -16,14 +17,15 @@ use vt_picture::{CursorShape, Theme};
 use vt_recording::{Encoding, Format, Moment, TerminalType, number};
 use vt_screen::{ROWS, Size};
 
-/// How the input was recorded, the moments between which it is wanted, the encoding, the terminal, and its size.
+/// What the options of a recording ask for: its format, the moments between which it is wanted, the encoding, the
+/// terminal, and its size.
 #[derive(Clone, Copy)]
 pub(crate) struct Source {
     /// The format, or none if the beginning of the input decides.
     pub(crate) format: Option<Format>,
-    /// The moment from which on the input is wanted, or none for its beginning.
+    /// The moment at which the wanted input begins, or none for its beginning.
     pub(crate) from: Option<Moment>,
-    /// The moment up to which it is wanted, or none for its end.
+    /// The moment at which the wanted input ends, or none for its end.
     pub(crate) until: Option<Moment>,
     /// The encoding, or none if the terminal and the format decide.
     pub(crate) encoding: Option<Encoding>,
@@ -42,11 +44,11 @@ pub(crate) struct Source {
 pub(crate) struct Screen {
     /// Whether it has 132 columns, or none if no VT220's screen was asked for.
     pub(crate) wide: Option<bool>,
-    /// Its size, or none if no other screen was asked for.
+    /// The size of the screen, or none if no other screen was asked for.
     pub(crate) size: Option<Size>,
 }
 
-/// Why the options of a recording are refused.
+/// The reason for which the options of a recording are refused.
 #[derive(Clone, Copy)]
 pub(crate) enum Complaint {
     /// `--format` names no format.
@@ -99,7 +101,7 @@ impl Complaint {
             Complaint::NoMoment => {
                 "vt220: a moment is seconds, as 12.5 or 12:31, bytes, as 4096b, event:N or marker:N\n"
             }
-            Complaint::NoStart => "vt220: --from goes with events and content alone\n",
+            Complaint::NoStart => "vt220: --from goes with events, content and search alone\n",
             Complaint::NoTimes => {
                 "vt220: the input has no times; give the moment in bytes, as 4096b, or script its --timing FILE\n\
                  vt220: a recording by ttyrec or asciinema has times: add --format ttyrec, asciicast or auto\n"
@@ -205,7 +207,7 @@ fn moment_of(
 fn takes_start(command: &str) -> bool
     ensures { result ≡ takes_start command.now }
 {
-    matches!(command, "events" | "content")
+    matches!(command, "events" | "content" | "search")
 }
 
 /// Returns the moment from which on a recording is wanted, for a command.
@@ -375,7 +377,7 @@ fn screen_named(text: &str) -> Result<Screen, Complaint>
     }
 }
 
-/// Returns the screen of a width that was asked for, or of a size's text: one of the two asks for a screen.
+/// Returns the screen of a width that was asked for, or of a size's text. Only one of the two may be given.
 fn screen_with(wide: Option<bool>, size: Option<&str>) -> Result<Screen, Complaint>
     ensures value { result ≡ screen_with wide (option_map (λ s. s.now) size.entry) }
     ensures in_range { IfOk result (λ screen. IfSome screen.size (λ size. IsSize size)) }
@@ -541,8 +543,9 @@ fn lacks_steps(command: &str, format: Option<Format>, timed: bool, looks: Option
     is_timed(command, looks) && !has_times(format, timed)
 }
 
-/// Returns the source that options give for a command: the name of a format, whether there is a timing file, the texts of two
-/// moments, the names of an encoding and of a terminal, a number of columns, a size, and the looks of a picture that moves.
+/// Returns the source that options give for a command. The options are the looks of a picture that moves, the name of a
+/// format, whether there is a timing file, and the texts of two moments. There are also the names of an encoding and of
+/// a terminal, a number of columns, and a size.
 fn source_of(
     command: &str,
     looks: Option<Looks>,

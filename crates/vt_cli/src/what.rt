@@ -1,4 +1,4 @@
-//! Names what the program writes.
+//! What the program writes, and the looks of a picture that moves.
 
 use vt_picture::{CursorShape, Theme};
 
@@ -14,7 +14,7 @@ pub enum What {
     /// The cursor, the wrap flag, the margins, the held part, and how many report bytes there were, after the whole
     /// input.
     Status,
-    /// The text of the screen with its attributes, as today's terminals take them, after the whole input.
+    /// The text of the screen with its attributes, as modern terminals take them, after the whole input.
     Show,
     /// The screen as a picture (SVG), after the whole input.
     Picture,
@@ -50,4 +50,6 @@ pub enum Word {
     Content,
     /// A line for each span of time in which a text was on the screen.
     Search,
+    /// The index of a recording: checkpoints, from which other words play the rest of it.
+    Index,
 }

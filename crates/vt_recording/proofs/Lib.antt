@@ -9,9 +9,15 @@ pub mod Marks
 mod Passing
 mod Casts
 mod Fronts
+mod OutputEnds
 mod Frames
 mod Heard
 mod Replays
 mod Values
 mod Versions
 mod Changing
+mod Words
+mod Searches
+mod Unescaped
+mod UsualTimes
+mod UsualLines

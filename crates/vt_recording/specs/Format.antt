@@ -1,4 +1,5 @@
--- What the command line and the engine ask of a format. A row for each format, or one for all that are alike. (this profile)
+-- The facts about a format that the command line and the engine need. A row for each format, or one for all that are
+-- alike. (this profile)
 use Rattle.std.specs.Prelude.{List, ℕ, Bool, true, false, Option, Some, None, cond, codes, bytes_eq}
 use Rattle.vt_recording.specs.declared.format.Format.{Format}
 use Rattle.vt_recording.specs.declared.format.Format.TheVariants.{Raw, Script, Ttyrec, Asciicast}
@@ -18,7 +19,7 @@ abbrev pub takes_timing : Format → Bool
 takes_timing Script = true
 takes_timing format = false
 
--- it has times: script(1) writes them in a timing file
+-- the recording has times: script(1) writes them in a timing file
 abbrev pub has_times : Format → (timed : Bool) → Bool
 has_times Raw timed = false
 has_times Script timed = timed

@@ -1,5 +1,5 @@
--- What the beginning of a recording names of the terminal that it was made on. (asciicast 1, 2 and 3 of asciinema;
--- script(1) of util-linux)
+-- The facts that the beginning of a recording names of the terminal that it was made on. (asciicast 1, 2 and 3 of
+-- asciinema; script(1) of util-linux)
 use Rattle.std.specs.Prelude.{ℕ, ◌∷◌, ◌&&◌, List, [], length, take, drop, codes, Bool, false, cond, nat_eq}
 use Rattle.std.specs.Prelude.{Option, Some, None, option_and_then, option_map}
 use Rattle.std.specs.Option.{option_or}
@@ -70,7 +70,7 @@ abbrev pub by_version : Option ℕ → Json → Heading
 by_version None header = nothing
 by_version (Some version) header = cond (nat_eq version 3) (by_term header) (by_env header)
 
--- that of version 1 has the members of version 2
+-- the header of version 1 has the members of version 2
 abbrev pub in_header : Json → Heading
 in_header header = cond (names_one header) (by_env header) (by_version (version_of header) header)
 

@@ -9,6 +9,7 @@ pub mod Gathered
 pub mod Heading
 pub mod Lines
 pub mod Moment
+pub mod Places
 pub mod Reached
 pub mod Reading
 pub mod Script
@@ -18,3 +19,4 @@ pub mod Taken
 pub mod Timeline
 pub mod Timing
 pub mod Ttyrec
+pub mod Private

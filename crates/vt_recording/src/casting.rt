@@ -12,8 +12,8 @@ ghost use Rattle.vt_recording.specs.Timeline.{kind_of, told_in, cast_events, fra
 ghost use Rattle.vt_recording.specs.Gathered.{AreGathered, IsRead};
 
 use crate::asciicast::{
-    Event, clock_after, document_in, event_in, frame_of, frames_of, in_time, is_output, is_silent,
-    json_text, version_in,
+    Event, LineScratch, clock_after, document_in, event_in, frame_of, frames_of, in_time,
+    is_output, is_silent, json_text, version_in,
 };
 use crate::characters::Written;
 use crate::format::{Encoding, Moment, Taken};
@@ -58,7 +58,7 @@ fn play_line(
     encoding: Encoding,
     until: Option<Moment>,
     clock: u64,
-    scratch: &mut Scratch,
+    scratch: &mut LineScratch,
     written: &mut Written,
 ) -> Result<Option<u64>, AllocError>
     requires { written.old.replaced ≤ length written.old.bytes.items }
@@ -84,7 +84,7 @@ fn play_lines(
     version: u64,
     encoding: Encoding,
     until: Option<Moment>,
-    scratch: &mut Scratch,
+    scratch: &mut LineScratch,
     written: &mut Written,
 ) -> Result<Option<usize>, AllocError>
     requires from_in_range { from ≤ length bytes.now + 1 }
@@ -167,12 +167,19 @@ pub(crate) fn asciicast_content(
 ) -> Result<Taken, AllocError>
     ensures { IfOk result (λ t. IsOfCast (asciicast (micros_of until) bytes.now) encoding until t.content.items t.broken t.replaced) }
 {
-    let mut scratch = Scratch::new(alloc);
+    let mut scratch = LineScratch::new(alloc);
     let mut written = Written::with_capacity(alloc, bytes.len())?;
     let text = json_text(bytes);
     let header = front_line(text);
-    let Some(version) = version_in(alloc, header, &mut scratch)? else {
-        let broken = play_object(alloc, text, encoding, until, &mut scratch, &mut written)?;
+    let Some(version) = version_in(alloc, header, &mut scratch.json)? else {
+        let broken = play_object(
+            alloc,
+            text,
+            encoding,
+            until,
+            &mut scratch.json,
+            &mut written,
+        )?;
         return Ok(taken_of(written, broken));
     };
     let from = bytes.len() - text.len() + header.len() + 1;
@@ -228,7 +235,7 @@ fn gather_line(
     line: &[u8],
     version: u64,
     clock: u64,
-    scratch: &mut Scratch,
+    scratch: &mut LineScratch,
     gathered: &mut Gathered,
 ) -> Result<Option<u64>, AllocError>
     ensures time { IfOk result (λ time. time
@@ -250,7 +257,7 @@ fn gather_lines(
     bytes: &[u8],
     from: usize,
     version: u64,
-    scratch: &mut Scratch,
+    scratch: &mut LineScratch,
     gathered: &mut Gathered,
 ) -> Result<Option<usize>, AllocError>
     requires from_in_range { from ≤ length bytes.now + 1 }
@@ -317,12 +324,12 @@ fn gather_object(
 pub(crate) fn asciicast_timeline(alloc: Global, bytes: &[u8]) -> Result<Timeline, AllocError>
     ensures { IfOk result (λ t. IsRead (λ x. x ≡ timeline.asciicast bytes.now) t) }
 {
-    let mut scratch = Scratch::new(alloc);
+    let mut scratch = LineScratch::new(alloc);
     let mut gathered = Gathered::with_capacity(alloc, bytes.len())?;
     let text = json_text(bytes);
     let header = front_line(text);
-    let Some(version) = version_in(alloc, header, &mut scratch)? else {
-        let broken = gather_object(alloc, text, &mut scratch, &mut gathered)?;
+    let Some(version) = version_in(alloc, header, &mut scratch.json)? else {
+        let broken = gather_object(alloc, text, &mut scratch.json, &mut gathered)?;
         return Ok(gathered.timeline(in_recording(broken)));
     };
     let from = bytes.len() - text.len() + header.len() + 1;

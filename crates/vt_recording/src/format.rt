@@ -64,12 +64,12 @@ impl Format {
     }
 }
 
-/// How a host's bytes are read.
+/// The encoding of a host's bytes.
 #[derive(Clone, Copy, Debug, PartialEq, Eq)]
 pub enum Encoding {
-    /// As a VT220 reads them.
+    /// The bytes as a VT220 reads them.
     Dec,
-    /// As UTF-8, which is translated to a VT220's bytes.
+    /// UTF-8, which is translated to a VT220's bytes.
     Utf8,
 }
 

@@ -1,4 +1,4 @@
-//! What the first line of a recording names of the terminal that it was made on.
+//! The facts that the first line of a recording names of the terminal that it was made on.
 ghost use Rattle.std.specs.Prelude.{◌≡◌, ◌<◌, IfOk, IfSome, length, option_map};
 ghost use Rattle.json.specs.Value.{value_view};
 ghost use Rattle.vt_recording.specs.Asciicast.{document_in};
@@ -13,7 +13,7 @@ use crate::seconds::number;
 use json::{Scratch, Value};
 use std::alloc::{AllocError, Global};
 
-/// What the first line of a recording names of the terminal that it was made on.
+/// The facts that the first line of a recording names of the terminal that it was made on.
 #[derive(Clone, Copy, Debug, PartialEq, Eq)]
 pub struct Heading {
     /// The terminal, by its TERM.

@@ -6,8 +6,8 @@ ghost use Rattle.vt_recording.specs.declared.format.Moment.{Moment};
 ghost use Rattle.vt_recording.specs.Taken.{IsTaken};
 ghost use Rattle.vt_recording.specs.Timeline.{Timeline, IsTimelineOf, IsContentOf};
 
-/// States that the content of a recording up to a moment is the output among its events up to then, and that both break the format
-/// at the same place.
+/// States that the content of a recording up to a moment is the output among its events up to then. Both break the
+/// format at the same place.
 pub fn content()
     ensures { (format : Format) (encoding : Encoding) (until : Option Moment) (timing : Option (List ℕ)) (bytes content : List ℕ)
         (timeline : Timeline) (replaced : ℕ) → IsTimelineOf format timing bytes timeline

@@ -1,4 +1,4 @@
-//! Cuts a recording at a moment.
+//! The part of a recording up to a moment.
 ghost use Rattle.std.specs.Prelude.{◌≡◌};
 ghost use Rattle.vt_recording.specs.Moment.{micros_of, cut, wanted_after};
 

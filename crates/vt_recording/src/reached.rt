@@ -14,7 +14,7 @@ use crate::taking::{take_apart, timeline_of};
 use crate::timeline::{Event, EventKind, Timeline};
 use std::alloc::{AllocError, Global};
 
-/// What passes of a recording up to a moment.
+/// The part of a recording up to a moment, in numbers.
 #[derive(Clone, Copy, Debug, PartialEq, Eq)]
 pub struct Passed {
     /// The number of events.
@@ -312,11 +312,10 @@ fn after_front(alloc: Global, count: u64, bytes: Vec<u8>) -> Result<Vec<u8>, All
 /// Returns the content of a recording between two moments, as `take_apart` does up to one. Either may be missing. Without `from`
 /// it begins with the first byte.
 ///
-/// - A time: from it on, what comes before the first event that isn't earlier is left out. Up to it, the content is that of all
-///   events that aren't later.
-/// - A number of bytes: from it on, so many bytes are left out. Up to it, there are so many.
-/// - An event or a marker: from it on, what comes before it is left out. Up to it, it is the last one. Of fewer events or markers all
-///   come before it.
+/// - A time: the content begins with the first event that isn't earlier, and ends with the last event that isn't later.
+/// - A number of bytes: with `from` so many bytes are left out. With `until` there are so many.
+/// - An event or a marker: with `from` what comes before it is left out. With `until` it is the last one. If there are
+///   fewer events or markers, all come before it.
 ///
 /// The place of a break, and the number of characters without a byte, are those up to `until`. Returns `Err` if allocation
 /// fails.

@@ -4,6 +4,7 @@ ghost use Rattle.vt_recording.specs.Script.{begins_with, first_words, first_line
 ghost use Rattle.vt_recording.specs.Script.{is_joint, is_end, EndsAt, IsSession};
 
 use crate::lines::front_line;
+use memchr::memchr;
 
 /// The beginning of a first line.
 pub(crate) const FIRST_WORDS: &[u8] = b"Script started on ";
@@ -16,7 +17,7 @@ pub(crate) fn line_feed(bytes: &[u8]) -> Option<usize>
     ensures value { result ≡ line_feed bytes.now }
     ensures within { IfSome result (λ at. at < length bytes.now) }
 {
-    bytes.iter().position(|b| *b == b'\n')
+    memchr(b'\n', bytes)
 }
 
 /// Returns the index of the LF that ends the first line, if the bytes begin with such a line.

@@ -1,4 +1,4 @@
-//! Takes a recording apart.
+//! The content of a recording, and its events.
 ghost use Rattle.std.specs.Prelude.{◌≡◌, None, IfOk, option_map};
 ghost use Rattle.vt_recording.specs.Script.{IsOfScript};
 ghost use Rattle.vt_recording.specs.Ttyrec.{IsOfTtyrec};
@@ -17,10 +17,10 @@ use crate::ttyrec::{HEADER, header_of, is_due, time_of};
 use std::alloc::{AllocError, Global};
 use vt_device::{Break, Part};
 
-/// Returns the content of a recording up to a time or a number of bytes, and the place at which it breaks its format, if it does.
-/// An event or a marker doesn't end it: `take_between` finds these. The
-/// content is what came before that place. Only script(1) has a timing file. Only asciinema keeps characters: the content
-/// has their bytes in the encoding. A recording breaks its format:
+/// Returns the content of a recording up to a time or a number of bytes, and the place at which the recording breaks
+/// its format. The content is what came before that place. An event or a marker doesn't end it: `take_between` finds
+/// these. Only script(1) has a timing file. Only asciinema keeps characters: the content has their bytes in the
+/// encoding. A recording breaks its format:
 ///
 /// - of script, at byte 0 if it has no first line
 /// - of script without a timing file, at the LF before the line between two sessions, if `script -a` appended a session
@@ -75,7 +75,7 @@ fn taken_of(whole: Whole, until: Option<Moment>) -> Taken
     }
 }
 
-/// Returns the bytes.
+/// Returns the content of raw bytes: all of them.
 fn raw_content(alloc: Global, bytes: &[u8]) -> Result<Whole, AllocError>
     ensures content { IfOk result (λ w. w.content.items ≡ bytes.now) }
     ensures broken { IfOk result (λ w. w.broken ≡ None) }

@@ -7,7 +7,7 @@ use crate::taking::in_recording;
 use std::alloc::{AllocError, Global};
 use vt_device::Break;
 
-/// What an event of a recording is.
+/// The kind of an event of a recording.
 #[derive(Clone, Copy, Debug, PartialEq, Eq)]
 pub enum EventKind {
     /// Bytes that the host sent.
@@ -25,11 +25,11 @@ pub enum EventKind {
 /// An event of a recording, without its bytes.
 #[derive(Clone, Copy, Debug, PartialEq, Eq)]
 pub struct Event {
-    /// Its time, in microseconds after the beginning.
+    /// The time, in microseconds after the beginning.
     pub micros: u64,
-    /// What it is.
+    /// The kind of the event.
     pub kind: EventKind,
-    /// The number of its bytes.
+    /// The number of the event's bytes.
     pub length: usize,
 }
 
@@ -49,7 +49,7 @@ pub struct Timeline {
 pub(crate) struct Gathered {
     /// The events in turn.
     pub(crate) events: Vec<Event>,
-    /// Their bytes, joined.
+    /// The bytes of the events, joined.
     pub(crate) text: Vec<u8>,
 }
 
@@ -84,7 +84,7 @@ impl Gathered {
         Ok(())
     }
 
-    /// Returns the events as the timeline of a recording that breaks its format there, if it does.
+    /// Returns the events as the timeline of a recording. It breaks its format at `broken`, or nowhere.
     pub(crate) fn timeline(self, broken: Option<Break>) -> Timeline
         ensures events { result.events.items ≡ self.events.items }
         ensures text { result.text.items ≡ self.text.items }
@@ -115,7 +115,8 @@ impl Gathered {
     }
 }
 
-/// Returns the timeline of a recording without times, which breaks its format there, if it does: all of its content comes at once.
+/// Returns the timeline of a recording without times: all of its content comes at once. It breaks its format at
+/// `broken`, or nowhere.
 pub(crate) fn at_once(
     alloc: Global,
     content: &[u8],

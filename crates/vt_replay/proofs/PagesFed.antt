@@ -1,14 +1,10 @@
 -- The lines and pages of UTF-8 and of what a host sends under TERM=xterm, a part of a chunk after another.
-use Rattle.std.proofs.Common.{◌≡◌, ℕ, zero, suc, ◌+◌, ◌-◌, ◌*◌, ◌<◌, ◌≤◌, max, List, [], ◌∷◌, ◌++◌, Bool, true, false, length, take, drop, All}
-use Rattle.std.proofs.Common.{refl, sym, ap, ◌∙◌, subst, arith, append_assoc, append-nil, length-append, inl, inr}
-use Rattle.std.specs.Prelude.{flat_map, get_or, if◌then◌else◌, nat_lt, nat_le, ◌==◌, ◌||◌, Option, Some, None, IfSome, ◌⊎◌}
-use Rattle.std.specs.Option.{option_to_list}
-use Rattle.std.proofs.lemmas.List.Elements.{All-nil, All-cons, All-head, All-tail}
-use Rattle.std.proofs.Math.Seq.{take-add}
+use Rattle.std.proofs.Common.{◌≡◌, ℕ, zero, suc, ◌+◌, ◌-◌, ◌*◌, ◌<◌, ◌≤◌, max, List, [], ◌∷◌, ◌++◌, Bool, true, false, length, take, All}
+use Rattle.std.proofs.Common.{refl, sym, ap, ◌∙◌, subst, arith, append_assoc, append-nil, inl, inr}
+use Rattle.std.specs.Prelude.{flat_map, if◌then◌else◌, nat_lt, nat_le, ◌==◌, ◌||◌, ◌⊎◌, Some, None}
 use Rattle.std.proofs.lemmas.Nat.{mul-le}
 use Rattle.std.proofs.lemmas.Grind.{flat_map-append}
 use Rattle.std.proofs.lemmas.Bool.Decides.{nat_tests, leb_tells}
-use Rattle.bstr.specs.Utf8.{decoded, replacement, or_replacement}
 use Rattle.vt_syntax.specs.declared.event.Event.{Event}
 use Rattle.vt_syntax.specs.declared.event.Event.TheVariants.{Print, Control, Escape, Sequence}
 use Rattle.vt_syntax.specs.declared.held.Held.{Held}
@@ -27,17 +23,17 @@ use Rattle.vt_term.specs.Play.{Played, play, both}
 use Rattle.vt_term.specs.Scrolling.{log, line_off, lines_off, scrolled_off}
 use Rattle.vt_term.specs.Text.{line_text, text}
 use Rattle.vt_utf8.specs.Translation.{translation}
-use Rattle.vt_utf8.specs.Decoding.{Read, read, read_last, read_apart, given_up, is_begun, characters, pending_after}
+use Rattle.vt_utf8.specs.Decoding.{read, characters, pending_after}
 use Rattle.vt_utf8.specs.Play.{play_utf8, translated, translated_all}
-use Rattle.vt_utf8.proofs.Cuts.{characters-append, pending-append, ascii-characters, ascii-pending}
+use Rattle.vt_utf8.proofs.Cuts.{characters-append, pending-append, ascii-characters}
 use Rattle.vt_utf8.proofs.Silence.{is_part, AreSilent, character-events}
 use Rattle.vt_xterm.specs.Pages.{Screens, PagesState}
 use Rattle.vt_xterm.specs.Play.{Whole, WholePlayed, FrontState, behind, screens_of, play_bytes, play_character, play_characters, play_xterm, xterm_log, both as both_whole}
-use Rattle.vt_xterm.specs.Private.Feeds.{whole_of}
+use Rattle.vt_xterm.specs.Play.{whole_of}
 use Rattle.vt_xterm.proofs.Cuts.{characters-two, character-ascii}
-use Rattle.vt_xterm.proofs.Fed.{character-beyond, one-byte}
+use Rattle.vt_xterm.proofs.Fed.{one-byte}
 use Rattle.vt_device.specs.Output.{IsAfter, always}
-use Rattle.vt_replay.specs.MainPage.{page_before, pages_before, pages_at_byte, character_pages, pages_of_characters, xterm_pages}
+use Rattle.vt_replay.specs.MainPage.{page_before, pages_before, pages_at_byte, character_pages, pages_of_characters, xterm_pages, page_at}
 use Rattle.vt_replay.specs.Pages.{blanks_screen, page, pages, pages_off}
 use Rattle.vt_replay.specs.PageCuts.{PagesUtf8, PagesXterm, IsText}
 
@@ -106,9 +102,6 @@ module _ (pages_two : (s : State) (a b : List ℕ) → pages s (a ++ b) ≡ page
         lines_are = second_lines ∙ ap (λ (x : List ℕ). x ++ pages t rest) first_lines
             ∙ append_assoc before (pages s front) (pages t rest) ∙ ap (λ (x : List ℕ). before ++ x) (sym joint);
       }
-
-one-low : (b : ℕ) → b < 0x80 → All (λ b. b < 0x80) (b ∷ [])
-one-low b low = All-cons (λ b. b < 0x80) b [] low (All-nil (λ b. b < 0x80))
 
 pub utf8-ascii : (s t : State) (run before out : List ℕ) → translated s [] run ≡ run → pending_after [] run ≡ []
     → t ≡ (play s run).state → out ≡ before ++ pages s run → PagesUtf8 s [] run t [] before out
@@ -240,44 +233,6 @@ of-both : {X : Type 0} (G : X → Type 0) (b : Bool) (x y : X) → G x → G y �
 of-both G true x y first second = first
 of-both G false x y first second = second
 
--- a list that ends with an element isn't empty, and if it has one element it is this
-ends-not : (lost : List ℕ) (c : ℕ) {X : Type 0} → lost ++ c ∷ [] ≡ [] → X
-ends-not lost c e =
-    absurd (omega (arith, ap (λ (l : List ℕ). length l) e, length-append lost (c ∷ [])))
-
-ends-one : (lost : List ℕ) (c d : ℕ) → lost ++ c ∷ [] ≡ d ∷ [] → c ≡ d
-ends-one [] c d e = ap (λ (l : List ℕ). get_or l 0 0) e
-ends-one (x ∷ lost) c d e =
-    absurd (omega (arith, ap (λ (l : List ℕ). length l) e, length-append lost (c ∷ [])))
-
--- U+FFFD isn't in ASCII
-not-given : (pending lost : List ℕ) (c : ℕ) {X : Type 0} → lost ++ c ∷ [] ≡ given_up pending ++ [] → c < 0x80 → X
-not-given [] lost c e low = ends-not lost c e
-not-given (p ∷ pending) lost c e low = absurd (omega (arith, ends-one lost c replacement e, low))
-
-first-left : (first : Bool) (pending lost : List ℕ) (b c d : ℕ) → c < 0x80
-    → lost ++ c ∷ [] ≡ (read_apart pending (if first then record { characters = []; pending = b ∷ [] }
-    else record { characters = d ∷ []; pending = [] })).characters
-    → (read_apart pending (if first then record { characters = []; pending = b ∷ [] }
-    else record { characters = d ∷ []; pending = [] })).pending ≡ []
-first-left true pending lost b c d low are = not-given pending lost c are low
-first-left false pending lost b c d low are = refl
-
-last-left : (found : Option ℕ) (pending lost : List ℕ) (b c : ℕ) → c < 0x80
-    → lost ++ c ∷ [] ≡ (read_last pending b found).characters → (read_last pending b found).pending ≡ []
-last-left (Some e) pending lost b c low are = refl
-last-left None pending lost b c low are =
-    first-left (is_begun (b ∷ [])) pending lost b c (or_replacement (decoded (b ∷ [])).char) low are
-
--- if the last character that a byte completes is one of ASCII, nothing is pending after it
-pub nothing-pending : (pending : List ℕ) (b c : ℕ) (lost : List ℕ) → lost ++ c ∷ [] ≡ (read pending b).characters → c < 0x80
-    → (read pending b).pending ≡ []
-unfolding read
-nothing-pending pending b c lost are low =
-    of-both (λ (r : Read). lost ++ c ∷ [] ≡ r.characters → r.pending ≡ []) (is_begun (pending ++ b ∷ []))
-    (record { characters = []; pending = pending ++ b ∷ [] }) (read_last pending b (decoded (pending ++ b ∷ [])).char)
-    (λ e. ends-not lost c e) (λ e. last-left (decoded (pending ++ b ∷ [])).char pending lost b c low e) are
-
 -- ---- text between sequences
 
 opens-nothing : (b : ℕ) → IsText b → is_opener b ≡ false
@@ -338,70 +293,23 @@ pub whole-is : (t : State) (front : FrontState) (w : Whole) → t ≡ w.state �
 whole-is t front w state pages =
     ap (λ (x : State). whole_of x front.pages) state ∙ ap (λ (q : PagesState). whole_of w.state q) pages
 
-log-if : (alternate : Bool) (rows : List (List Cell))
-    → flat_map line_text (if alternate then [] else rows) ≡ (if alternate then [] else flat_map line_text rows)
-log-if true rows = refl
-log-if false rows = refl
+-- the page before its event, and its lines
+pub character-lines : (s : State) (front inside : FrontState) (c : ℕ) (before middle out : List ℕ) → inside ≡ front
+    → middle ≡ before ++ page_at (behind s front) c
+    → out ≡ middle ++ flat_map line_text (play_characters (whole_of s inside.pages) (c ∷ [])).lines
+    → out ≡ before ++ pages_of_characters (behind s front) (c ∷ [])
+character-lines s front inside c before middle out is first second =
+    let w : Whole = behind s front in
+    let lines : List ℕ = flat_map line_text (play_character w c).lines in
+    second
+    ∙ ap (λ (f : FrontState). middle ++ flat_map line_text (play_characters (behind s f) (c ∷ [])).lines) is
+    ∙ ap (λ (rows : List (List Cell)). middle ++ flat_map line_text rows) (append-nil (play_character w c).lines)
+    ∙ ap (λ (l : List ℕ). l ++ lines) first ∙ append_assoc before (page_at w c) lines
+    ∙ ap (λ (l : List ℕ). before ++ l) (sym (append-nil (character_pages w c)))
 
-beyond-log : (s : State) (front : FrontState) (c : ℕ) → 0x80 ≤ c → pages_of_characters (behind s front) (c ∷ [])
-    ≡ (if front.pages.alternate then [] else log s (translation s c))
-unfolding log
-beyond-log s front c beyond =
-    let high : nat_lt c 0x80 ≡ false = grind (arith, nat_tests, beyond) in
-    append-nil (character_pages (behind s front) c)
-    ∙ ap (λ (t : Bool). (if t then pages_at_byte (behind s front) c else []) ++ flat_map line_text (play_character (behind s front) c).lines) high
-    ∙ ap (λ (p : WholePlayed). flat_map line_text p.lines) (character-beyond s front.pages c beyond)
-    ∙ log-if front.pages.alternate (scrolled_off s (translation s c))
-
-pub beyond-alternate : (s : State) (front : FrontState) (c : ℕ) → 0x80 ≤ c → front.pages.alternate ≡ true
-    → pages_of_characters (behind s front) (c ∷ []) ≡ []
-beyond-alternate s front c beyond is = beyond-log s front c beyond ∙ rw (is) refl
-
-pub beyond-main : (s : State) (front : FrontState) (c : ℕ) → 0x80 ≤ c → front.pages.alternate ≡ false
-    → pages_of_characters (behind s front) (c ∷ []) ≡ log s (translation s c)
-beyond-main s front c beyond is = beyond-log s front c beyond ∙ rw (is) refl
-
-pub beyond-whole : (s t : State) (front : FrontState) (c : ℕ) → 0x80 ≤ c → t ≡ (play s (translation s c)).state
-    → behind t front ≡ (play_characters (behind s front) (c ∷ [])).whole
-beyond-whole s t front c beyond state =
-    ap (λ (x : State). whole_of x front.pages) state ∙ sym (ap (λ (p : WholePlayed). p.whole) (character-beyond s front.pages c beyond))
-
--- an ASCII character with nothing pending
-ascii-played : (w : Whole) (pending : List ℕ) (b : ℕ) → pending ≡ [] → b < 0x80
-    → play_xterm w pending (b ∷ []) ≡ play_characters w (b ∷ [])
-unfolding play_xterm
-ascii-played w pending b nothing low =
-    ap (λ (q : List ℕ). play_characters w (characters q (b ∷ []))) nothing
-    ∙ ap (λ (cs : List ℕ). play_characters w cs) (ascii-characters (b ∷ []) (one-low b low))
-
-pub ascii-whole : (w z : Whole) (pending : List ℕ) (b : ℕ) → pending ≡ [] → b < 0x80 → z ≡ (play_xterm w pending (b ∷ [])).whole
-    → z ≡ (play_characters w (b ∷ [])).whole
-ascii-whole w z pending b nothing low is = is ∙ ap (λ (p : WholePlayed). p.whole) (ascii-played w pending b nothing low)
-
-pub ascii-left : (pending after : List ℕ) (b : ℕ) → pending ≡ [] → b < 0x80 → after ≡ pending_after pending (b ∷ []) → after ≡ []
-ascii-left pending after b nothing low is =
-    is ∙ ap (λ (q : List ℕ). pending_after q (b ∷ [])) nothing ∙ ascii-pending (b ∷ []) (one-low b low)
-
-pub ascii-lines : (w : Whole) (pending : List ℕ) (b : ℕ) (before middle out : List ℕ) → pending ≡ [] → b < 0x80
-    → middle ≡ before ++ pages_at_byte w b → out ≡ middle ++ xterm_log w pending (b ∷ [])
-    → out ≡ before ++ pages_of_characters w (b ∷ [])
-ascii-lines w pending b before middle out nothing low first second =
-    let is : nat_lt b 0x80 ≡ true = grind (arith, nat_tests, low) in
-    let one : WholePlayed = play_character w b in
-    let lines : xterm_log w pending (b ∷ []) ≡ flat_map line_text one.lines =
-    ap (λ (p : WholePlayed). flat_map line_text p.lines) (ascii-played w pending b nothing low)
-    ∙ ap (λ (rows : List (List Cell)). flat_map line_text rows) (append-nil one.lines) in
-    let whole : pages_of_characters w (b ∷ []) ≡ pages_at_byte w b ++ flat_map line_text one.lines =
-    append-nil (character_pages w b)
-    ∙ ap (λ (t : Bool). (if t then pages_at_byte w b else []) ++ flat_map line_text one.lines) is in
-    second ∙ ap (λ (l : List ℕ). middle ++ l) lines ∙ ap (λ (l : List ℕ). l ++ flat_map line_text one.lines) first
-    ∙ append_assoc before (pages_at_byte w b) (flat_map line_text one.lines) ∙ ap (λ (l : List ℕ). before ++ l) (sym whole)
-
-pub completed-nothing : (completed : Option ℕ) (lost pending after : List ℕ) (b : ℕ)
-    → lost ++ option_to_list completed ≡ (read pending b).characters → after ≡ (read pending b).pending
-    → IfSome completed (λ c. c < 0x80 → after ≡ [])
-completed-nothing None lost pending after b are left = tt
-completed-nothing (Some c) lost pending after b are left = λ low. left ∙ nothing-pending pending b c lost are low
+pub front-whole : (s : State) (v : Whole) (front inside : FrontState) (c : ℕ) → inside ≡ front
+    → v ≡ (play_characters (whole_of s inside.pages) (c ∷ [])).whole → v ≡ (play_characters (behind s front) (c ∷ [])).whole
+front-whole s v front inside c is made = made ∙ ap (λ (f : FrontState). (play_characters (behind s f) (c ∷ [])).whole) is
 
 -- the page before the event that a byte completes, if it completes one
 completes : (w : Whole) (h : Held) (b n : ℕ) (events : List Event) → h ≡ w.state.held → 1 ≤ n
@@ -448,17 +356,6 @@ no-lines w pending bytes before out r none lines is =
     (same ∙ ap (λ (l : List ℕ). before ++ l) (none w pending) ∙ append-nil before)
 
 -- ---- capacities
-
-pub lines-fit : (rows row : ℕ) → 22 * row ≤ 2 * (max rows 22 * row)
-lines-fit rows row = elim (leb_tells rows 22) [
-  | inl low ↦
-      let most : max rows 22 ≡ 22 = omega (arith, low.1) in
-      rw (most) (omega arith)
-  | inr high ↦
-      let most : max rows 22 ≡ rows = omega (arith, high.1) in
-      let more = mul-le 22 row rows row (omega (arith, high.1)) (omega arith) in
-      rw (most) (omega (arith, more))
-]
 
 -- a page takes at most as much as the lines of an event or a character
 pub text-fits : (rows row : ℕ) → rows * row ≤ max rows 22 * row

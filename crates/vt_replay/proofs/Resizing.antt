@@ -1,7 +1,7 @@
 -- Bytes and changes of the size: what is left after bytes that come before the next change, and after a change.
-use Rattle.std.proofs.Common.{◌≡◌, ◌∙◌, ◌+◌, ◌-◌, ◌<◌, ◌≤◌, ◌++◌, ◌∷◌, [], ℕ, List, length, take, drop, map, get_or, Bool, true, false, nat_le, nat_lt, nat_eq, not, min, max, ◌&&◌, slice_index_or, append-nil, refl, sym, ap, arith, append_assoc}
+use Rattle.std.proofs.Common.{◌≡◌, ◌∙◌, ◌+◌, ◌-◌, ◌<◌, ◌≤◌, ◌++◌, ◌∷◌, [], ℕ, List, length, take, drop, map, get_or, Bool, true, false, nat_le, nat_lt, nat_eq, not, max, ◌&&◌, slice_index_or, append-nil, refl, sym, ap, arith, append_assoc}
 use Rattle.std.proofs.lemmas.Bool.Decides.{nat_tests}
-use Rattle.std.proofs.lemmas.List.{length-append, take_all, take_more, map-append, map_more}
+use Rattle.std.proofs.lemmas.List.{length-append, take_all, map_more}
 use Rattle.std.proofs.lemmas.Simd.{map-map}
 use Rattle.std.proofs.lemmas.List.Folds.{list_all-append}
 use Rattle.std.specs.List.{list_all}
@@ -76,19 +76,10 @@ pub settled_without : {L : Type 0} (items : List L) (left : ℕ) → false ≡ n
 settled_without [] left none = refl
 settled_without (l ∷ more) left none = grind (arith, nat_tests, none)
 
--- bytes before the next one
-pub front_before : {L : Type 0} (items : List L) (count left : ℕ) → is_before (min count left) left items ≡ true
-front_before [] count left = refl
-front_before (l ∷ more) count left = grind (arith, nat_tests)
-
+-- bytes if no other is to come
 pub front_all : {L : Type 0} (items : List L) (count left : ℕ) → false ≡ nat_lt 0 (length items) → is_before count left items ≡ true
 front_all [] count left none = refl
 front_all (l ∷ more) count left none = grind (arith, nat_tests, none)
-
-pub front_some : {L : Type 0} (items : List L) (count left : ℕ) → true ≡ nat_lt 0 (length items) → is_settled left items ≡ true → 1 ≤ count
-    → 1 ≤ min count left
-front_some [] count left some settled one = grind (arith, nat_tests, some)
-front_some (l ∷ more) count left some settled one = grind (arith, nat_tests, settled, one)
 
 -- there are fewer
 pub fewer : {L : Type 0} (items rest : List L) (left : ℕ) → is_settled left items ≡ false → rest ≡ drop 1 items → length rest < length items
@@ -127,15 +118,6 @@ module _ {L : Type 0} (items : List L) (after : L → ℕ) (size : L → Size) w
       by [] comes on is all = absurd (cc comes)
       by (l ∷ more) comes on is all =
           rw (is, on l more refl) (and_right (holds old) (list_all holds (sizes_of (size l) (coming more after size))) all)
-
-  -- one more of a list of changes
-  pub one_more_coming : (l : L) (i : ℕ) (resizes : List Resize) (d : Resize) → i < length resizes
-      → coming items after size ≡ take i resizes → record { after = after l; size = size l } ≡ get_or resizes i d
-      → coming (items ++ l ∷ []) after size ≡ take (i + 1) resizes
-  one_more_coming l i resizes d there front is =
-      map-append (λ (l : L). record { after = after l; size = size l }) items (l ∷ [])
-      ∙ ap (λ (r : Resize). coming items after size ++ r ∷ []) is
-      ∙ ap (λ (rs : List Resize). rs ++ get_or resizes i d ∷ []) front ∙ sym (take_more resizes i d there)
 
   -- the bytes before the first one
   pub first_due : (n : ℕ) (d : L) → true ≡ nat_lt 0 (length items) → d ≡ slice_index_or items 0 d → n ≡ after d

@@ -1,12 +1,12 @@
--- For what a host sends: the terminal, the encoding and the width, as a request and the first line of a recording give them.
--- (this profile)
+-- The terminal, encoding, width and size for which a host sends, as a request and the first line of a recording give
+-- them. (this profile)
 use Rattle.std.specs.Prelude.{ℕ, List, [], ◌∷◌, ◌++◌, codes, Bool, true, false, cond, nat_eq, Option, Some, None, unwrap_or, ◌&&◌, ◌||◌}
 use Rattle.vt_screen.specs.declared.size.Size.{Size}
 use Rattle.vt_screen.specs.Sizes.{vt220_size}
 use Rattle.vt_cli.specs.declared.asked.Request.{Request}
 use Rattle.vt_cli.specs.Source.{size_of}
 use Rattle.vt_cli.specs.declared.what.Word.{Word}
-use Rattle.vt_cli.specs.declared.what.Word.TheVariants.{Replay, Animation, Log, Pages, Trace, Summary, Events, Content, Search}
+use Rattle.vt_cli.specs.declared.what.Word.TheVariants.{Replay, Animation, Log, Pages, Trace, Summary, Events, Content, Search, Index}
 use Rattle.vt_recording.specs.declared.format.Encoding.{Encoding}
 use Rattle.vt_recording.specs.declared.format.Encoding.TheVariants.{Dec, Utf8}
 use Rattle.vt_recording.specs.declared.format.Format.{Format}
@@ -36,7 +36,8 @@ wide_for (Some wide) columns = wide
 wide_for None (Some columns) = nat_eq columns 132
 wide_for None None = false
 
--- whether the terminal that the recording names decides: events and content are what the host sent, for whatever terminal that is
+-- the terminal that a recording names, if it decides on what the word plays. Events and content are what the host sent,
+-- for whatever terminal that is
 abbrev pub named_for : Word → (named : Option TerminalType) → Option TerminalType
 named_for (Replay what) named = named
 named_for (Animation looks) named = named
@@ -47,6 +48,7 @@ named_for Summary named = named
 named_for Events named = None
 named_for Content named = None
 named_for Search named = named
+named_for Index named = named
 
 -- ---- the size
 
@@ -59,6 +61,7 @@ takes_size Pages = true
 takes_size Trace = true
 takes_size Summary = true
 takes_size Search = true
+takes_size Index = true
 takes_size word = false
 
 -- a VT220's screen: 24 rows of 80 or 132 columns
@@ -94,11 +97,12 @@ abbrev pub host_for : Request → Format → Heading → Host
 host_for r format heading =
     host_by (terminal_for r.terminal r.encoding (named_for r.word heading.terminal)) r format heading.columns heading.rows
 
--- for what the host of a recording sent
+-- the terminal, the encoding, the width and the size for which the host of a recording sent
 abbrev pub host_of : Request → Format → (bytes : List ℕ) → Host
 host_of r format bytes = host_for r format (heading_of format bytes)
 
--- the host of bytes that no recorder wrote: no line names anything
+-- the terminal, the encoding, the width and the size for which a host sends, if no recorder wrote the bytes: no line
+-- names anything
 abbrev pub plain_host : Request → Host
 plain_host r = host_for r format.Raw (record { terminal = None; columns = None; rows = None })
 
@@ -107,7 +111,7 @@ abbrev pub widening : TerminalType → List ℕ
 widening Vt220 = 0x1B ∷ codes "[?3h"
 widening Xterm = 0x1B ∷ codes "[?40h" ++ 0x1B ∷ codes "[?3h" ++ 0x1B ∷ codes "[?40l"
 
--- content for an xterm makes the VT220 so wide that is sent it. Otherwise it is what the host sent
+-- content for an xterm widens the VT220 that is sent it. Otherwise content is what the host sent
 abbrev pub widening_shown : TerminalType → List ℕ
 widening_shown Vt220 = []
 widening_shown Xterm = widening Xterm
@@ -124,3 +128,4 @@ opening Summary host = []
 opening Events host = []
 opening Content host = cond host.wide (widening_shown host.terminal) []
 opening Search host = []
+opening Index host = []

@@ -3,6 +3,7 @@ pub mod Due
 pub mod Encoding
 pub mod EventTable
 pub mod Host
+pub mod Index
 pub mod Log
 pub mod LogSearch
 pub mod MainPage

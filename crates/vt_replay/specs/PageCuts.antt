@@ -17,7 +17,7 @@ use Rattle.vt_term.specs.Observing.{AreJoined}
 use Rattle.vt_term.specs.Scrolling.{scrolls_off}
 use Rattle.vt_utf8.specs.Decoding.{pending_after}
 use Rattle.vt_utf8.specs.Play.{translated, play_utf8}
-use Rattle.vt_xterm.specs.Limits.{xterm_lines_limit}
+use Rattle.vt_xterm.specs.Limits.{lines_limit, xterm_lines_limit}
 use Rattle.vt_xterm.specs.Play.{Whole, play_xterm}
 use Rattle.vt_replay.specs.MainPage.{xterm_pages}
 use Rattle.vt_replay.specs.Pages.{blanks_screen, taken_off, pages_off, pages}
@@ -26,7 +26,7 @@ use Rattle.vt_replay.specs.Pages.{blanks_screen, taken_off, pages_off, pages}
 abbrev pub takes_off : Event → Display → Bool
 takes_off event s = blanks_screen event s || scrolls_off event s
 
--- what a happening takes off the screen, and all of it of happenings
+-- what a happening takes off the screen, and what happenings take off together
 abbrev pub pages_at : Happening → List ℕ
 pages_at h = pages_off h.events h.before
 
@@ -109,13 +109,18 @@ pub record PagesUtf8 (s : State) (pending bytes : List ℕ) (t : State) (after b
   pub left : after ≡ pending_after pending bytes
   pub lines_are : out ≡ before ++ pages s (translated s pending bytes)
 
--- and bytes under TERM=xterm
+-- bytes under TERM=xterm were played: the screens and the pending part that they leave, and their lines and pages after
+-- what was before
 pub record PagesXterm (w : Whole) (pending bytes : List ℕ) (z : Whole) (after before out : List ℕ) : Type 0 where
   pub whole : z ≡ (play_xterm w pending bytes).whole
   pub left : after ≡ pending_after pending bytes
   pub lines_are : out ≡ before ++ xterm_pages w pending bytes
 
--- a page, and twice the lines of a byte under TERM=xterm
+-- a page, and the lines of a character under TERM=xterm
+abbrev pub character_room : Size → ℕ
+character_room size = text_limit size + lines_limit size
+
+-- a page, and twice the lines of a byte
 abbrev pub main_room : Size → ℕ
 main_room size = text_limit size + 2 * xterm_lines_limit size
 

@@ -89,17 +89,17 @@ played_with size resizes Xterm bytes = played_on xterm_session (xterm_begun size
 
 -- ---- what is written
 
--- a repaint of the session under TERM=xterm is on the first size
+-- what is due of a repaint: under TERM=xterm it is of the session on a screen of the first size
 abbrev pub repainted_with : Size → List Resize → Language → Due
 repainted_with size resizes Xterm = repainted size Xterm
 repainted_with size resizes language = due_by (played_with size resizes language) Repaint
 
--- what is due of a replay
+-- what is due of a replay on a screen that changes its size
 abbrev pub replayed_with : Size → List Resize → Language → What → Due
 replayed_with size resizes language Repaint = repainted_with size resizes language
 replayed_with size resizes language what = due_by (played_with size resizes language) what
 
--- what each answer of a replay says of a host's bytes in a language
+-- what each result of a replay states of a host's bytes in a language
 abbrev pub ResizedReplayTable : Size → List Resize → Language → What → Result (Unit {0}) Fault → (piece : ℕ) → (b w : List ℕ) → Flags → (limit : ℕ) → Type 0
 ResizedReplayTable size resizes language what result piece b w f limit =
     let due = replayed_with size resizes language what in
@@ -107,21 +107,22 @@ ResizedReplayTable size resizes language what result piece b w f limit =
 
 -- ---- changes that are still to come
 
--- as a list has them, each with what it comes after and its size; private contracts alone speak of these
+-- the changes of a list, each with the number of bytes that it comes after and its size; private contracts alone speak
+-- of them
 abbrev pub coming : {L : Type 0} → List L → (after : L → ℕ) → (size : L → Size) → List Resize
 coming later after size = map (λ l. record { after = after l; size = size l }) later
 
--- the first of them comes after so many bytes
+-- the changes, of which the first comes after so many bytes
 abbrev pub due : (left : ℕ) → List Resize → List Resize
 due left [] = []
 due left (r ∷ resizes) = record { after = left; size = r.size } ∷ resizes
 
--- none of them comes before the next byte
+-- no change comes before the next byte
 abbrev pub is_settled : {L : Type 0} → (left : ℕ) → List L → Bool
 is_settled left [] = true
 is_settled left (l ∷ later) = nat_lt 0 left
 
--- so many bytes come before the next one
+-- so many bytes come before the next change
 abbrev pub is_before : {L : Type 0} → (count left : ℕ) → List L → Bool
 is_before count left [] = true
 is_before count left (l ∷ later) = nat_le count left

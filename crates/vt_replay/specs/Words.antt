@@ -16,7 +16,7 @@ use Rattle.vt_replay.specs.declared.language.Language.TheVariants as language
 use Rattle.vt_recording.specs.declared.format.TerminalType.{TerminalType}
 use Rattle.vt_recording.specs.declared.format.TerminalType.TheVariants.{Xterm}
 use Rattle.vt_cli.specs.declared.what.Word.{Word}
-use Rattle.vt_cli.specs.declared.what.Word.TheVariants.{Replay, Animation, Log, Pages, Trace, Summary, Events, Content, Search}
+use Rattle.vt_cli.specs.declared.what.Word.TheVariants.{Replay, Animation, Log, Pages, Trace, Summary, Events, Content, Search, Index}
 use Rattle.vt_device.specs.declared.fault.Fault.{Fault}
 use Rattle.vt_recording.specs.declared.format.Encoding.{Encoding}
 use Rattle.vt_recording.specs.declared.format.Encoding.TheVariants.{Dec, Utf8}
@@ -31,7 +31,7 @@ use Rattle.vt_replay.specs.Showing.{ShownTable}
 
 -- ---- pages
 
--- on a screen of a size, of the host's bytes in each language
+-- the lines and pages of the host's bytes in each language, on a screen of a size
 abbrev pub pages_at : Size → Language → List ℕ → List ℕ
 pages_at size language.Dec bytes = pages (state_of size) bytes
 pages_at size language.Utf8 bytes = pages (state_of size) (translated (state_of size) [] bytes)
@@ -39,7 +39,8 @@ pages_at size language.Xterm bytes = xterm_pages (behind (state_of size) (front_
 
 -- ---- trace
 
--- on a screen of a size, of the host's bytes in each language: the events have the host's own characters and places
+-- the trace of the host's bytes in each language, on a screen of a size: the events have the host's own characters and
+-- places
 abbrev pub trace_at : Size → Language → List ℕ → List ℕ
 trace_at size language.Dec bytes = trace (state_of size) tracer_at_start bytes
 trace_at size language.Utf8 bytes = trace_utf8 (state_of size) tracer_at_start [] bytes
@@ -53,7 +54,7 @@ trace_end_at size language.Xterm bytes = end_lines (tracer_xterm (behind (state_
 
 -- ---- summary
 
--- of the host's bytes in each language. Under TERM=xterm the events have its names
+-- the summary of the host's bytes in each language. Under TERM=xterm the events have its names
 abbrev pub summary_at : Size → Language → List ℕ → List ℕ
 summary_at size language.Dec bytes = summary_on size.rows bytes
 summary_at size language.Utf8 bytes = summary_utf8_on size.rows bytes
@@ -61,7 +62,7 @@ summary_at size language.Xterm bytes = summary_utf8_by xterm_listing size.rows b
 
 -- ---- words
 
--- of the terminal's bytes for the host's
+-- what is due of the terminal's bytes for the host's
 abbrev pub of_decoded : Encoding → (written ending : List ℕ → List ℕ) → Due
 of_decoded encoding written ending = record {
   written = λ bytes. written (decoded encoding bytes);
@@ -69,7 +70,9 @@ of_decoded encoding written ending = record {
   there = always;
 }
 
--- a row a word, for a terminal of a size, whose screen changes its size, and in an encoding. A replay carries the changes out. A picture that moves, the table of events and the spans of a search are ready before they are written. What content writes under TERM=xterm is below
+-- what is due by each word, a row a word, for a terminal of a size, whose screen changes its size, and in an encoding.
+-- A replay carries the changes out. A picture that moves, the table of events, the spans of a search and an index are
+-- ready before they are written. What content writes under TERM=xterm is below
 abbrev pub due_of : Word → Size → List Resize → TerminalType → Encoding → Due
 due_of (Replay what) size resizes terminal encoding = replayed_with size resizes (language_of terminal encoding) what
 due_of (Animation looks) size resizes terminal encoding = of_decoded Dec all nothing
@@ -88,8 +91,9 @@ due_of Summary size resizes terminal encoding =
 due_of Events size resizes terminal encoding = of_decoded Dec all nothing
 due_of Content size resizes terminal encoding = of_decoded encoding all nothing
 due_of Search size resizes terminal encoding = of_decoded Dec all nothing
+due_of Index size resizes terminal encoding = of_decoded Dec all nothing
 
--- what each answer says, by the word. Under TERM=xterm content is what a VT220 is sent, so that it shows the same
+-- what each result states, by the word. Under TERM=xterm content is what a VT220 is sent, so that it shows the same
 abbrev pub WordTable : Result (Unit {0}) Fault → Word → Size → List Resize → TerminalType → Encoding → (piece : ℕ) → (b w : List ℕ) → Flags → (limit : ℕ) → Type 0
 WordTable result Content size resizes Xterm encoding piece b w f limit = ShownTable result piece b w f limit
 WordTable result word size resizes terminal encoding piece b w f limit =

@@ -26,7 +26,7 @@ pub(crate) const PIECE: usize = 4096;
 /// The microseconds for which the last frame is shown.
 const LAST_FRAME: u64 = 1_000_000;
 
-/// Returns the title of a picture that moves, by the one that is asked for.
+/// Returns the title of a picture that moves: the one that is asked for, otherwise `VT220 screen`.
 pub(crate) fn title_of(title: &Option<String>) -> &[u8]
     ensures { result.now ≡ title_of title.now }
 {
@@ -267,7 +267,7 @@ fn animation_by<P: Player>(
     Ok(picture)
 }
 
-/// Returns the picture of steps, as a terminal of a size shows them on which a language is played.
+/// Returns the picture of steps, as a terminal of a size shows them that plays a language.
 fn animation_in(
     alloc: Global,
     size: Size,
@@ -295,8 +295,8 @@ fn animation_in(
     }
 }
 
-/// Returns a recording up to a moment as a picture that moves, in the place of its content. The opening is played before it. It has a
-/// frame for each event of output, and begins again a second after the last one.
+/// Returns a recording up to a moment with a picture that moves instead of its content. The opening is played before
+/// it. The picture has a frame for each event of output, and begins again a second after the last one.
 pub(crate) fn animation_taken(
     alloc: Global,
     bytes: &[u8],

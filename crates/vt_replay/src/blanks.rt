@@ -1,4 +1,4 @@
-//! Which events blank the whole screen, and what is written before one.
+//! The events that blank the whole screen, and the lines that are written before such an event.
 ghost use Rattle.std.specs.Prelude.{◌≡◌, ◌+◌, ◌≤◌, ◌++◌, List, ℕ, vec_len, vec_capacity};
 ghost use Rattle.vt_syntax.specs.Event.{event_of};
 ghost use Rattle.vt_glyph.specs.LookUp.{contains};
@@ -11,7 +11,7 @@ use vt_syntax::EventKind;
 use vt_term::SizedTerminal;
 
 /// Returns the first value, or 0 if there is none.
-fn first(values: &[u16]) -> u16
+pub(crate) fn first(values: &[u16]) -> u16
     ensures { result ≡ first values.now }
 {
     values.first().copied().unwrap_or(0)
@@ -30,7 +30,7 @@ fn has_column_mode(values: &[u16]) -> bool
 }
 
 /// Returns whether ED with this parameter erases every cell.
-fn erases_all(terminal: &SizedTerminal, p: u16) -> bool
+pub(crate) fn erases_all(terminal: &SizedTerminal, p: u16) -> bool
     ensures { result ≡ erases_all p terminal.now.display }
 {
     let cursor = terminal.cursor();
@@ -52,8 +52,8 @@ fn moves_all(terminal: &SizedTerminal, values: &[u16]) -> bool
         && (first(values) as usize).max(1) >= rows
 }
 
-/// Returns whether a control sequence is an ED that erases every cell, an IL or DL that moves every line off, or sets or
-/// resets DECCOLM.
+/// Returns whether a control sequence blanks the screen: an ED that erases every cell, an IL or DL that moves every
+/// line off, or DECCOLM set or reset.
 pub(crate) fn blanks_by(
     terminal: &SizedTerminal,
     marker: Option<u8>,

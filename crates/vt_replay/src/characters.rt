@@ -32,8 +32,8 @@ use vt_xterm_trace::XtermNames;
 use vt_xterm_trace::laws::cuts as xterm_cuts;
 use vt_xterm_trace::sized::trace_xterm_reserved;
 
-/// Writes the trace of a source's bytes in a language, on a screen of a size. The source hasn't failed or ended before. Its
-/// places are those of the host's bytes, and `piece` and `limit` count them.
+/// Writes the trace of a source's bytes in a language, on a screen of a size. The source hasn't failed or ended before.
+/// The places of the trace count the host's bytes, and so do `piece` and `limit`.
 ///
 /// `Err` is what `write_log` returns.
 pub(crate) fn write_trace<S: Source, W: Write>(
@@ -108,7 +108,7 @@ pub(crate) fn write_summary<S: Source, W: Write>(
     }
 }
 
-/// The trace of UTF-8.
+/// The output of the trace of UTF-8.
 #[derive(Drop)]
 struct Utf8TraceOutput {
     terminal: SizedTerminal,
@@ -174,7 +174,7 @@ impl SizedWordOutput for Utf8TraceOutput {
     }
 }
 
-/// The trace under TERM=xterm. The terminal and the front have one size.
+/// The output of the trace under TERM=xterm. The terminal and the front have one size.
 #[derive(Drop)]
 struct XtermTraceOutput {
     terminal: SizedTerminal,
@@ -242,7 +242,7 @@ impl SizedWordOutput for XtermTraceOutput {
     }
 }
 
-/// The summary of UTF-8.
+/// The output of the summary of UTF-8.
 #[derive(Drop)]
 struct Utf8SummaryOutput {
     counts: Summary,
@@ -302,9 +302,9 @@ impl SizedWordOutput for Utf8SummaryOutput {
 }
 
 /// The most bytes of a summary under TERM=xterm.
-const XTERM_SUMMARY_LIMIT: usize = IGNORED_LIMIT + 45 * 89;
+const XTERM_SUMMARY_LIMIT: usize = IGNORED_LIMIT + 45 * 90;
 
-/// The summary under TERM=xterm.
+/// The output of the summary under TERM=xterm.
 #[derive(Drop)]
 struct XtermSummaryOutput {
     counts: Summary,
@@ -323,7 +323,7 @@ impl Output for XtermSummaryOutput {
 
     ghost counted = { λ o. 0 };
 
-    ghost reserve = { λ o. 310237 };
+    ghost reserve = { λ o. 310282 };
 
     fn capacity(&self) -> usize {
         XTERM_SUMMARY_LIMIT

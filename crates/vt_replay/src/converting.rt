@@ -1,4 +1,4 @@
-//! Writes what a host sends under TERM=xterm as updates of a VT220.
+//! What a host sends under TERM=xterm as updates of a VT220.
 ghost use Rattle.std.specs.Prelude.{◌≡◌, ◌*◌, ◌/◌, ◌≤◌, [], min, vec_capacity};
 ghost use Rattle.vt_syntax.specs.declared.held.Held.TheVariants.{Nothing};
 ghost use Rattle.vt_term.specs.State.{power_up};
@@ -18,11 +18,11 @@ use vt_update::{UPDATE_LIMIT, update_reserved};
 use vt_xterm::laws::cuts as xterm_cuts;
 use vt_xterm::{Front, feed_xterm_reserved};
 
-/// ESC and CAN: a sequence that has begun is left, and nothing else changes.
+/// ESC and CAN, which end a sequence that has begun, and change nothing else.
 const CANCEL: &[u8] = b"\x1b\x18";
 
-/// The host's bytes are UTF-8, with the functions of xterm. The terminal's bytes for a chunk are an update from what a VT220 shows
-/// to what the chunk leaves.
+/// The decoding for a host that sends UTF-8, with the functions of xterm. The terminal's bytes for a chunk are an
+/// update from what a VT220 shows to what the chunk leaves.
 #[derive(Drop)]
 pub(crate) struct Converter {
     terminal: Terminal,

@@ -1,4 +1,4 @@
-//! How the host's bytes become the terminal's from UTF-8.
+//! The decoding of a host's UTF-8 into the terminal's bytes.
 ghost use Rattle.std.specs.Prelude.{◌≡◌, ◌+◌, ◌*◌, ◌/◌, ◌<◌, ◌≤◌, ◌++◌, [], ◌∷◌, ℕ, List, All, length, take, min, vec_len, vec_capacity, IfOk};
 ghost use Rattle.std.specs.Option.{option_to_list};
 ghost use Rattle.vt_term.specs.State.{power_up};
@@ -13,7 +13,7 @@ use vt_term::{REPORT_LIMIT, Terminal};
 use vt_utf8::laws::{ascii, cuts as utf8_cuts, one_byte};
 use vt_utf8::{BYTE_LIMIT, Decoder, ascii_run, translated};
 
-/// The host's bytes are UTF-8.
+/// The decoding for a host that sends UTF-8.
 #[derive(Drop)]
 pub(crate) struct Utf8 {
     /// The terminal after the bytes so far: what a character becomes depends on it.
@@ -85,8 +85,8 @@ fn decode_chunk(
     }
 }
 
-/// Appends the terminal's bytes for the front of a chunk that isn't empty, and plays them: the ASCII bytes there if nothing
-/// is pending, otherwise a byte. Returns how many bytes it took.
+/// Appends the terminal's bytes for the front of a chunk that isn't empty, and plays them: the ASCII bytes there if
+/// nothing is pending, otherwise a byte. Returns how many bytes of the chunk it took.
 fn decode_next(
     terminal: &mut Terminal,
     decoder: &mut Decoder,

@@ -35,9 +35,9 @@ use vt_term::{Size, SizedTerminal};
 /// `Err` is `Memory` if allocation fails, `Read` or `Write` if that device failed, `TooLong` if the input has more than
 /// `limit` bytes, and `Partial` if a repaint is asked for and the input ends inside a sequence.
 ///
-/// The table of answers is stated for the bytes that the reader reports as its own (`remaining`) and those of the writer
-/// (`contents`), as devices over memory do. A file, a pipe, standard input and standard output report none. For these it
-/// states which flags go with which result, and that what was written is what is due for some bytes.
+/// The table of results is about the bytes that the reader reports as its own (`remaining`) and those of the writer
+/// (`contents`). Devices over memory report these. A file, a pipe, standard input and standard output report none. For
+/// these the table states which flags go with which result, and that what was written is what is due for some bytes.
 pub fn run<R: Read, W: Write>(
     alloc: Global,
     reader: &mut Watched<R>,
@@ -101,7 +101,8 @@ pub fn run_from<S: Source, W: Write>(
     )
 }
 
-/// Plays a source's bytes in a language on a new terminal of a size, whose screen has these changes, and writes the repaint, as `run_from` does on a VT220's.
+/// Plays a source's bytes in a language on a new terminal of a size, whose screen has these changes. Writes the
+/// repaint, as `run_from` does on a VT220's screen.
 fn run_repaint<S: Source, W: Write>(
     alloc: Global,
     reader: &mut S,
@@ -161,7 +162,8 @@ fn run_session<S: Source, W: Write>(
     write_output_from(alloc, &mut output, dec, reader, writer, piece, limit)
 }
 
-/// Plays a source's bytes in a language on a new terminal of a size, whose screen has these changes, and writes what is due, as `run_from` does on a VT220's.
+/// Plays a source's bytes in a language on a new terminal of a size, whose screen has these changes. Writes what is
+/// due, as `run_from` does on a VT220's screen.
 ///
 /// `Err` is what `run_from` returns.
 pub(crate) fn run_at<S: Source, W: Write>(
@@ -207,7 +209,8 @@ pub(crate) fn run_at<S: Source, W: Write>(
     }
 }
 
-/// Plays a source's bytes in a language on a new terminal of a size, whose screen has these changes, and writes what is due of the terminal.
+/// Plays a source's bytes in a language on a new terminal of a size, whose screen has these changes. Writes what is due
+/// of the terminal.
 fn run_sized<S: Source, W: Write>(
     alloc: Global,
     reader: &mut S,
@@ -272,9 +275,9 @@ fn run_by<P: Player, S: Source, W: Write>(
     write_output_from(alloc, &mut output, dec, reader, writer, piece, limit)
 }
 
-/// Plays the reader's bytes as the settings ask, and writes what is due: by `run`, with their kind, chunk size and limit.
-/// It doesn't look at their file: the caller opens it as the reader. Neither device has failed before, and the reader
-/// hasn't ended.
+/// Plays the reader's bytes as the settings ask, and writes what is due: by `run`, with the kind, chunk size and limit
+/// of the settings. It doesn't look at the file that they name: the caller opens it as the reader. Neither device has
+/// failed before, and the reader hasn't ended.
 ///
 /// `Err` is what `run` returns.
 pub fn replay<R: Read, W: Write>(

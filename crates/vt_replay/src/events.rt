@@ -98,7 +98,7 @@ fn push_text(full: bool, kind: EventKind, text: &[u8], out: &mut Vec<u8>) -> Res
     push_all_shown(text, out)
 }
 
-/// Which events a table has, and how it shows them.
+/// The choice of the events that a table has, and of what it shows of them.
 #[derive(Clone, Copy)]
 struct Listing {
     /// Whether the format has times.
@@ -148,7 +148,7 @@ fn is_listed(until: Option<Moment>, place: u64, micros: u64) -> bool
     }
 }
 
-/// Returns whether an index is one of the first `last`, if there is such a number.
+/// Returns whether an index is less than `last`, if there is such a number.
 fn is_before(last: Option<u64>, i: u64) -> bool
     ensures { result ≡ is_before last i }
 {
@@ -165,7 +165,8 @@ fn is_asked(first: u64, last: Option<u64>, i: u64) -> bool
     first <= i && is_before(last, i)
 }
 
-/// Appends the line of an event with these bytes, if it is asked for and comes up to a moment, and returns the place after it.
+/// Appends the line of an event with these bytes, if it is asked for and comes up to a moment. Returns the place after
+/// the event.
 fn push_listed(
     listing: Listing,
     asked: bool,
@@ -202,7 +203,7 @@ pub(crate) fn event_at(events: &[Event], i: usize) -> Event
     events[i]
 }
 
-/// Appends the lines of events, by their marks and their bytes joined.
+/// Appends the lines of events, given their marks and their bytes joined.
 fn push_table(
     listing: Listing,
     events: &[Event],
@@ -322,8 +323,9 @@ fn push_break(full: bool, broken: Option<Break>, out: &mut Vec<u8>) -> Result<()
     Ok(())
 }
 
-/// Returns the table of a recording's events between two moments in the place of its content. A full table has the heading of the
-/// recording before it, the bytes of output, and at its end the place at which the recording breaks its format.
+/// Returns the table of a recording's events between two moments instead of its content. A full table begins with the
+/// heading of the recording, and has the bytes of output. It ends with the place at which the recording breaks its
+/// format.
 pub(crate) fn events_taken(
     alloc: Global,
     bytes: &[u8],

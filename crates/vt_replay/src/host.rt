@@ -1,4 +1,5 @@
-//! For what a host sends: the terminal, the encoding and the width, as a request and the first line of a recording give them.
+//! The terminal, encoding, width and size for which a host sends, as a request and the first line of a recording give
+//! them.
 ghost use Rattle.std.specs.Prelude.{◌≡◌, IfSome};
 ghost use Rattle.vt_screen.specs.Sizes.{IsSize, width_of};
 ghost use Rattle.vt_replay.specs.Host.{takes_size, is_vt220, size_named, size_for};
@@ -9,12 +10,12 @@ use vt_cli::{Encoding, Format, Request, TerminalType, Word, size_of};
 use vt_recording::Heading;
 use vt_term::Size;
 
-/// For what a host sends.
+/// The terminal, the encoding, the width and the size for which a host sends.
 #[derive(Clone, Copy, Debug, PartialEq, Eq)]
 pub struct Host {
-    /// The terminal.
+    /// The terminal for which the host sends.
     pub terminal: TerminalType,
-    /// The encoding.
+    /// The encoding in which the host sends.
     pub encoding: Encoding,
     /// Whether a VT220's screen has 132 columns, and not 80.
     pub wide: bool,
@@ -60,7 +61,7 @@ fn encoding_for(terminal: TerminalType, wanted: Option<Encoding>, format: Format
     }
 }
 
-/// Returns whether the screen has 132 columns: as was asked for, otherwise as the recording names them.
+/// Returns whether the screen has 132 columns: as was asked for, otherwise if the recording names 132.
 fn wide_for(wanted: Option<bool>, columns: Option<u32>) -> bool
     ensures { result ≡ wide_for wanted columns }
 {
@@ -73,8 +74,8 @@ fn wide_for(wanted: Option<bool>, columns: Option<u32>) -> bool
     }
 }
 
-/// Returns the terminal that a recording names, if that decides on what a word plays. Content is the host's bytes, for whatever
-/// terminal they are.
+/// Returns the terminal that a recording names, if it decides on what a word plays. Content is the host's bytes, for
+/// whatever terminal they are.
 fn named_for(word: Word, named: Option<TerminalType>) -> Option<TerminalType>
     ensures { result ≡ named_for word named }
 {
@@ -88,6 +89,7 @@ fn named_for(word: Word, named: Option<TerminalType>) -> Option<TerminalType>
         Word::Events => None,
         Word::Content => None,
         Word::Search => named,
+        Word::Index => named,
     }
 }
 
@@ -102,7 +104,8 @@ fn takes_size(word: Word) -> bool
         | Word::Pages
         | Word::Trace
         | Word::Summary
-        | Word::Search => { true }
+        | Word::Search
+        | Word::Index => { true }
         _ => false,
     }
 }
@@ -171,7 +174,7 @@ pub fn host_for(request: &Request, format: Format, heading: Heading) -> Host
     }
 }
 
-/// Returns for what the host of bytes sends that no recorder wrote.
+/// Returns for what a host sends whose bytes no recorder wrote.
 pub(crate) fn plain_host(request: &Request) -> Host
     ensures host { result ≡ plain_host request.now }
     ensures sized { IsSize result.size }
@@ -194,7 +197,7 @@ fn widening(terminal: TerminalType) -> &'static [u8]
     }
 }
 
-/// Returns the bytes that make the VT220 132 columns wide that is sent the content for a terminal.
+/// Returns the bytes that widen to 132 columns the VT220 that is sent the content for a terminal.
 fn widening_shown(terminal: TerminalType) -> &'static [u8]
     ensures { result.now ≡ widening_shown terminal }
 {
@@ -221,5 +224,6 @@ pub(crate) fn opening(word: Word, host: Host) -> &'static [u8]
         Word::Events => b"",
         Word::Content => widening_shown(host.terminal),
         Word::Search => b"",
+        Word::Index => b"",
     }
 }

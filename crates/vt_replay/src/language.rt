@@ -1,4 +1,4 @@
-//! Names the languages in which a host sends.
+//! The languages in which a host sends.
 ghost use Rattle.std.specs.Prelude.{◌≡◌};
 ghost use Rattle.vt_replay.specs.Playing.{language_of};
 
@@ -16,7 +16,8 @@ pub enum Language {
 }
 
 impl Language {
-    /// Returns what a host sends for a terminal, in an encoding. For xterm it sends UTF-8, whatever the encoding.
+    /// Returns the language in which a host sends for a terminal, in an encoding. For xterm it sends UTF-8, whatever
+    /// the encoding.
     pub fn of(terminal: TerminalType, encoding: Encoding) -> Language
         ensures { result ≡ language_of terminal encoding }
     {

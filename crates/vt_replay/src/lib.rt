@@ -1,15 +1,17 @@
-//! The engine: carries out a request of the command line on a reader's bytes, and writes what is due to a writer. It
-//! re-exports the command line of the crate vt_cli.
+//! The engine, which carries out a request of the command line on a reader's bytes, and writes what is due to a writer.
+//! It re-exports the command line of the crate vt_cli.
 #![tactic(auto)]
 
 mod animated;
 mod blanks;
 mod characters;
+mod checkpoints;
 mod converting;
 mod decoding;
 mod engine;
 mod events;
 mod host;
+mod index;
 mod language;
 pub mod laws;
 mod log_search;
@@ -25,19 +27,23 @@ mod player;
 mod requests;
 mod resized;
 mod search;
+mod search_start;
 mod session;
 mod sized;
 mod status;
 mod steps;
+mod sums;
 
 pub use engine::{replay, run, run_from};
 pub use host::{Host, host_for};
+pub use index::{FRONT_LENGTH, Stretch, are_summed, head_of, index_head};
 pub use language::Language;
 pub use logging::{write_log, write_log_from};
 pub use output::{front_for, write_output_from};
 pub use pages::{PAGE_LIMIT, feed_pages, feed_pages_reserved};
 pub use requests::{Outcome, carry_out, format_of, keeps_size, lacks_times};
 pub use resized::Resize;
+pub use sums::sum_of;
 pub use vt_cli::{
     CursorShape, Encoding, Format, Looks, Moment, Refused, Request, Settings, TerminalType, Theme,
     What, Word, request, settings, size_of,

@@ -17,7 +17,7 @@ use vt_term::Size;
 
 /// The output of a log, which counts nothing.
 pub(crate) trait LogLines: SizedWordOutput {
-    /// States that it has counted nothing, for proofs. It does nothing when it runs.
+    /// States that the output has counted nothing, for proofs. It does nothing when it runs.
     fn counts_nothing(&self)
         ensures { Self.counted self.now ≡ 0 };
 }
@@ -111,7 +111,8 @@ fn search_line(
     Ok(())
 }
 
-/// Takes a byte of the log in a line that has begun, of this number, and returns the number of the line after it.
+/// Takes a byte of the log in line `number`, of which `line` has begun, and returns the number of the line after the
+/// byte.
 fn search_byte(
     utf8: bool,
     wanted: &[u8],
@@ -134,8 +135,8 @@ fn search_byte(
     Ok(number)
 }
 
-/// Searches bytes of the log, of which the first line has this number, and returns the number of the line after them. `line` is
-/// overwritten.
+/// Searches bytes of the log, of which the first line has this number, and returns the number of the line after the
+/// bytes. `line` is overwritten.
 fn search_lines(
     utf8: bool,
     wanted: &[u8],
@@ -256,7 +257,7 @@ fn push_log_by<O: LogLines>(
     )
 }
 
-/// Appends what is found in the log of steps, as it is on a terminal of a size on which a language is played.
+/// Appends what is found in the log of steps, on a terminal of a size that plays a language.
 pub(crate) fn push_log_found(
     alloc: Global,
     size: Size,

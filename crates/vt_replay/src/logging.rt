@@ -134,7 +134,7 @@ pub(crate) fn write_log_at<S: Source, W: Write>(
     }
 }
 
-/// The lines that scroll off, and at the end the screen.
+/// The output of the lines that scroll off, and at the end of the screen.
 #[derive(Drop)]
 pub(crate) struct LogOutput {
     terminal: SizedTerminal,
@@ -197,7 +197,7 @@ impl SizedWordOutput for LogOutput {
     }
 }
 
-/// The lines that UTF-8 scrolls off, and at the end the screen.
+/// The output of the lines that UTF-8 scrolls off, and at the end of the screen.
 #[derive(Drop)]
 pub(crate) struct Utf8LogOutput {
     terminal: SizedTerminal,
@@ -270,7 +270,8 @@ impl SizedWordOutput for Utf8LogOutput {
     }
 }
 
-/// The lines that scroll off under TERM=xterm, and at the end the screen. The terminal and the front have one size.
+/// The output of the lines that scroll off under TERM=xterm, and at the end of the screen. The terminal and the front
+/// have one size.
 #[derive(Drop)]
 pub(crate) struct XtermLogOutput {
     terminal: SizedTerminal,

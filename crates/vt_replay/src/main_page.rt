@@ -1,13 +1,13 @@
-//! Under TERM=xterm: which events blank the whole main page, and what is written before one.
+//! The events that blank the whole main page under TERM=xterm, and the lines that are written before such an event.
 ghost use Rattle.std.specs.Prelude.{◌≡◌, ◌+◌, ◌≤◌, ◌++◌, vec_len, vec_capacity};
 ghost use Rattle.vt_syntax.specs.Event.{event_of};
 ghost use Rattle.vt_term.specs.Text.{text_limit};
 ghost use Rattle.vt_xterm.specs.Pages.{screens};
 ghost use Rattle.vt_xterm.specs.Play.{behind};
 ghost use Rattle.vt_replay.specs.MainPage.{moves_down, is_down, shows_alternate, changes_columns, blanks_by_mode};
-ghost use Rattle.vt_replay.specs.MainPage.{blanks_main_by, blanks_main, page_before, pages_at_byte};
+ghost use Rattle.vt_replay.specs.MainPage.{blanks_plain, blanks_main_by, blanks_main, page_before, pages_at_byte};
 
-use crate::blanks::{blanks_by, is_reset, push_page};
+use crate::blanks::{blanks_by, erases_all, first, is_reset, push_page};
 use vt_syntax::{EventKind, Taken, Values};
 use vt_term::{SizedTerminal, count};
 use vt_xterm::SizedFront;
@@ -28,7 +28,7 @@ fn is_down(last: u8, values: &[u16]) -> bool
     last == b'^' || (last == b'T' && values.len() == 1)
 }
 
-/// Returns whether this private mode shows the alternate page if it is set.
+/// Returns whether a private mode shows the alternate page if it is set.
 fn shows_alternate(p: u16) -> bool
     ensures { result ≡ shows_alternate p }
 {
@@ -65,32 +65,45 @@ fn blanks_by_mode(resizes: bool, last: u8, values: &[u16]) -> bool
         || (last == b'l' && changes_columns(false, resizes, values))
 }
 
+/// Returns whether a control sequence without a marker and an intermediate blanks the whole main page, which is shown.
+fn blanks_plain(terminal: &SizedTerminal, front: &SizedFront, last: u8, values: &[u16]) -> bool
+    ensures { result ≡ blanks_plain values.now last (screens terminal.now front.now.pages) }
+{
+    if front.is_bounded(terminal.width()) {
+        return last == b'J' && erases_all(terminal, first(values));
+    }
+    blanks_by(terminal, None, None, last, values)
+        || (is_down(last, values) && moves_down(terminal, values))
+}
+
 /// Returns whether a control sequence blanks the whole main page, which is shown.
 fn blanks_main_by(
     terminal: &SizedTerminal,
-    resizes: bool,
+    front: &SizedFront,
     marker: Option<u8>,
     inter: Option<u8>,
     last: u8,
     values: &[u16],
 ) -> bool
-    ensures { result ≡ blanks_main_by resizes marker inter values.now last terminal.now.display }
+    ensures { result ≡ blanks_main_by marker inter values.now last (screens terminal.now front.now.pages) }
 {
     if inter.is_some() {
         return false;
     }
     match marker {
-        None => {
-            blanks_by(terminal, None, None, last, values)
-                || (is_down(last, values) && moves_down(terminal, values))
-        }
-        Some(marker) => marker == b'?' && blanks_by_mode(resizes, last, values),
+        None => blanks_plain(terminal, front, last, values),
+        Some(marker) => marker == b'?' && blanks_by_mode(front.resizes(), last, values),
     }
 }
 
 /// Returns whether an event blanks the whole main page, which is shown.
-fn blanks_main(terminal: &SizedTerminal, resizes: bool, kind: EventKind, values: &[u16]) -> bool
-    ensures { result ≡ blanks_main resizes (event_of kind values.now) terminal.now.display }
+fn blanks_main(
+    terminal: &SizedTerminal,
+    front: &SizedFront,
+    kind: EventKind,
+    values: &[u16],
+) -> bool
+    ensures { result ≡ blanks_main (event_of kind values.now) (screens terminal.now front.now.pages) }
 {
     match kind {
         EventKind::Print(_) => false,
@@ -100,11 +113,12 @@ fn blanks_main(terminal: &SizedTerminal, resizes: bool, kind: EventKind, values:
             marker,
             inter,
             last,
-        } => blanks_main_by(terminal, resizes, marker, inter, last, values),
+        } => blanks_main_by(terminal, front, marker, inter, last, values),
     }
 }
 
-/// Appends the page before the event that a byte completes, if it completes one that blanks the main page, and this is shown.
+/// Appends the page before the event that a byte completes, if it completes one that blanks the main page, and the main
+/// page is shown.
 pub(crate) fn push_page_before(
     terminal: &SizedTerminal,
     front: &SizedFront,
@@ -125,7 +139,7 @@ pub(crate) fn push_page_before(
     }
 }
 
-/// Appends the page before an event if it blanks the main page, and this is shown.
+/// Appends the page before an event if the event blanks the main page, and the main page is shown.
 fn push_page_of(
     terminal: &SizedTerminal,
     front: &SizedFront,
@@ -142,7 +156,7 @@ fn push_page_of(
     if front.is_alternate() {
         return;
     }
-    if blanks_main(terminal, front.resizes(), kind, values) {
+    if blanks_main(terminal, front, kind, values) {
         push_page(terminal, lines);
     }
 }

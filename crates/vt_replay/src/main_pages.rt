@@ -1,22 +1,20 @@
 //! Feeding what a host sends under TERM=xterm with a log of the main page and its pages, on a screen of any size.
-ghost use Rattle.std.specs.Prelude.{◌≡◌, ◌<◌, ◌≤◌, ◌+◌, ◌*◌, ◌++◌, [], ◌∷◌, All, IfSome, length, take, vec_len, vec_capacity};
+ghost use Rattle.std.specs.Prelude.{◌≡◌, ◌<◌, ◌≤◌, ◌+◌, ◌*◌, ◌++◌, [], ◌∷◌, All, length, take, vec_len, vec_capacity};
 ghost use Rattle.std.specs.Option.{option_to_list};
 ghost use Rattle.vt_syntax.specs.declared.held.Held.TheVariants.{Nothing};
 ghost use Rattle.vt_term.specs.Text.{text_limit};
-ghost use Rattle.bstr.specs.Utf8.{replacement};
 ghost use Rattle.vt_xterm.specs.Limits.{xterm_lines_limit};
 ghost use Rattle.vt_xterm.specs.Play.{behind, play_characters};
-ghost use Rattle.vt_replay.specs.MainPage.{pages_of_characters};
-ghost use Rattle.vt_replay.specs.PageCuts.{PagesXterm, IsText, main_room};
+ghost use Rattle.vt_replay.specs.MainPage.{page_at, pages_of_characters};
+ghost use Rattle.vt_replay.specs.PageCuts.{PagesXterm, IsText, character_room, main_room};
 
 use crate::main_page::push_page_before;
 use crate::output::front_for;
 use vt_syntax::laws::{one_split, spelled};
 use vt_term::SizedTerminal;
-use vt_utf8::sized::{feed_beyond_ascii, feed_beyond_ascii_log};
 use vt_xterm::SizedFront;
 use vt_xterm::laws::{cuts, log_cuts};
-use vt_xterm::sized::{feed_xterm_log_reserved, xterm_lines_limit};
+use vt_xterm::sized::{feed_xterm_character_log, feed_xterm_log_reserved, xterm_lines_limit};
 
 /// Returns the capacity for lines without which a feed stops: a page, and twice the lines of a byte.
 fn main_room(terminal: &SizedTerminal) -> usize
@@ -26,9 +24,9 @@ fn main_room(terminal: &SizedTerminal) -> usize
     terminal.text_limit() + 2 * xterm_lines_limit(terminal)
 }
 
-/// Plays the front of a chunk of what a host sends under TERM=xterm, and appends the lines that scroll off the main page, and its pages, to
-/// `lines`. Returns how many bytes it played. `front` keeps what is pending between chunks, and the page that isn't shown. The reports
-/// are dropped.
+/// Plays the front of a chunk of what a host sends under TERM=xterm. Appends the lines that scroll off the main page,
+/// and its pages, to `lines`. Returns how many bytes it played. `front` keeps what is pending between chunks, and the
+/// page that isn't shown. The reports are dropped.
 ///
 /// If it stops early, `lines` has fewer than `main_room` bytes free. It never fails, and it allocates nothing.
 pub(crate) fn feed_main_pages(
@@ -159,65 +157,39 @@ fn main_byte(
     ensures capacity { vec_capacity lines.old ≤ vec_capacity lines.new }
 {
     let (lost, completed) = front.decoder.push(byte);
-    main_lost(terminal, front, lost, reports, lines);
-    main_completed(terminal, front, completed, reports, lines);
+    main_some(terminal, front, lost, reports, lines);
+    main_some(terminal, front, completed, reports, lines);
 }
 
-/// Plays U+FFFD if what was pending is ill-formed.
-fn main_lost(
-    terminal: &mut SizedTerminal,
-    front: &SizedFront,
-    lost: Option<char>,
-    reports: &mut Vec<u8>,
-    lines: &mut Vec<u8>,
-)
-    requires lost { IfSome lost (λ c. c ≡ replacement) }
-    requires reports { 10 ≤ vec_capacity reports.old }
-    requires room { vec_len lines.old + xterm_lines_limit terminal.old.display.grid.size ≤ vec_capacity lines.old }
-    ensures size { terminal.new.display.grid.size ≡ terminal.old.display.grid.size }
-    ensures whole { behind terminal.new front.now ≡ (play_characters (behind terminal.old front.now) (option_to_list lost)).whole }
-    ensures lines { lines.new.items ≡ lines.old.items ++ pages_of_characters (behind terminal.old front.now) (option_to_list lost) }
-    ensures bounded { vec_len lines.new ≤ vec_len lines.old + xterm_lines_limit terminal.old.display.grid.size }
-    ensures reports { vec_capacity reports.old ≤ vec_capacity reports.new }
-    ensures capacity { vec_capacity lines.old ≤ vec_capacity lines.new }
-{
-    let _ = front;
-    match lost {
-        Some(c) => main_beyond(terminal, front, c, reports, lines),
-        None => {}
-    }
-}
-
-/// Plays the character that a byte completes, if it completes one. If it is one of ASCII, nothing is pending.
-fn main_completed(
+/// Plays a character, if there is one.
+fn main_some(
     terminal: &mut SizedTerminal,
     front: &mut SizedFront,
-    completed: Option<char>,
+    character: Option<char>,
     reports: &mut Vec<u8>,
     lines: &mut Vec<u8>,
 )
-    requires nothing { IfSome completed (λ c. c < 0x80 → front.old.pending ≡ []) }
     requires one_size { front.old.pages.other.grid.size ≡ terminal.old.display.grid.size }
     requires reports { 10 ≤ vec_capacity reports.old }
-    requires room { vec_len lines.old + (text_limit terminal.old.display.grid.size + xterm_lines_limit terminal.old.display.grid.size)
-        ≤ vec_capacity lines.old }
+    requires room { vec_len lines.old + character_room terminal.old.display.grid.size ≤ vec_capacity lines.old }
     ensures size { terminal.new.display.grid.size ≡ terminal.old.display.grid.size }
     ensures other_size { front.new.pages.other.grid.size ≡ front.old.pages.other.grid.size }
     ensures whole { behind terminal.new front.new
-        ≡ (play_characters (behind terminal.old front.old) (option_to_list completed)).whole }
+        ≡ (play_characters (behind terminal.old front.old) (option_to_list character)).whole }
     ensures pending { front.new.pending ≡ front.old.pending }
     ensures lines { lines.new.items ≡ lines.old.items
-        ++ pages_of_characters (behind terminal.old front.old) (option_to_list completed) }
+        ++ pages_of_characters (behind terminal.old front.old) (option_to_list character) }
+    ensures bounded { vec_len lines.new ≤ vec_len lines.old + character_room terminal.old.display.grid.size }
     ensures reports { vec_capacity reports.old ≤ vec_capacity reports.new }
     ensures capacity { vec_capacity lines.old ≤ vec_capacity lines.new }
 {
-    match completed {
+    match character {
         Some(c) => main_character(terminal, front, c, reports, lines),
         None => {}
     }
 }
 
-/// Plays a character. If it is one of ASCII, nothing is pending.
+/// Plays a character, and appends the page before its event, and the lines that it scrolls off.
 fn main_character(
     terminal: &mut SizedTerminal,
     front: &mut SizedFront,
@@ -225,79 +197,31 @@ fn main_character(
     reports: &mut Vec<u8>,
     lines: &mut Vec<u8>,
 )
-    requires nothing { c < 0x80 → front.old.pending ≡ [] }
     requires one_size { front.old.pages.other.grid.size ≡ terminal.old.display.grid.size }
     requires reports { 10 ≤ vec_capacity reports.old }
-    requires room { vec_len lines.old + (text_limit terminal.old.display.grid.size + xterm_lines_limit terminal.old.display.grid.size)
-        ≤ vec_capacity lines.old }
+    requires room { vec_len lines.old + character_room terminal.old.display.grid.size ≤ vec_capacity lines.old }
     ensures size { terminal.new.display.grid.size ≡ terminal.old.display.grid.size }
     ensures other_size { front.new.pages.other.grid.size ≡ front.old.pages.other.grid.size }
     ensures whole { behind terminal.new front.new ≡ (play_characters (behind terminal.old front.old) (c ∷ [])).whole }
     ensures pending { front.new.pending ≡ front.old.pending }
     ensures lines { lines.new.items ≡ lines.old.items ++ pages_of_characters (behind terminal.old front.old) (c ∷ []) }
+    ensures bounded { vec_len lines.new ≤ vec_len lines.old + character_room terminal.old.display.grid.size }
     ensures reports { vec_capacity reports.old ≤ vec_capacity reports.new }
+    ensures capacity { vec_capacity lines.old ≤ vec_capacity lines.new }
+{
+    push_page_at(terminal, front, c, lines);
+    reports.clear();
+    feed_xterm_character_log(terminal, &mut front.pages, c, reports, lines);
+}
+
+/// Appends the page before the event that a character completes. One beyond ASCII blanks no page.
+fn push_page_at(terminal: &SizedTerminal, front: &SizedFront, c: char, lines: &mut Vec<u8>)
+    requires { vec_len lines.old + text_limit terminal.now.display.grid.size ≤ vec_capacity lines.old }
+    ensures items { lines.new.items ≡ lines.old.items ++ page_at (behind terminal.now front.now) c }
+    ensures bounded { vec_len lines.new ≤ vec_len lines.old + text_limit terminal.now.display.grid.size }
     ensures capacity { vec_capacity lines.old ≤ vec_capacity lines.new }
 {
     if (c as u32) < 0x80 {
-        main_ascii(terminal, front, c as u8, reports, lines);
-    } else {
-        main_beyond(terminal, front, c, reports, lines);
-    }
-}
-
-/// Plays an ASCII character, with nothing pending, and appends the page before its event.
-fn main_ascii(
-    terminal: &mut SizedTerminal,
-    front: &mut SizedFront,
-    b: u8,
-    reports: &mut Vec<u8>,
-    lines: &mut Vec<u8>,
-)
-    requires low { b < 0x80 }
-    requires nothing { front.old.pending ≡ [] }
-    requires one_size { front.old.pages.other.grid.size ≡ terminal.old.display.grid.size }
-    requires reports { 10 ≤ vec_capacity reports.old }
-    requires room { vec_len lines.old + (text_limit terminal.old.display.grid.size + xterm_lines_limit terminal.old.display.grid.size)
-        ≤ vec_capacity lines.old }
-    ensures size { terminal.new.display.grid.size ≡ terminal.old.display.grid.size }
-    ensures other_size { front.new.pages.other.grid.size ≡ front.old.pages.other.grid.size }
-    ensures whole { behind terminal.new front.new ≡ (play_characters (behind terminal.old front.old) (b ∷ [])).whole }
-    ensures pending { front.new.pending ≡ [] }
-    ensures lines { lines.new.items ≡ lines.old.items ++ pages_of_characters (behind terminal.old front.old) (b ∷ []) }
-    ensures reports { vec_capacity reports.old ≤ vec_capacity reports.new }
-    ensures capacity { vec_capacity lines.old ≤ vec_capacity lines.new }
-{
-    cuts();
-    log_cuts();
-    push_page_before(terminal, front, b, lines);
-    reports.clear();
-    let most = lines.capacity() - lines.len();
-    let _ = feed_xterm_log_reserved(terminal, front, &[b], reports, lines, most);
-}
-
-/// Plays a character beyond ASCII, which blanks no page.
-fn main_beyond(
-    terminal: &mut SizedTerminal,
-    front: &SizedFront,
-    c: char,
-    reports: &mut Vec<u8>,
-    lines: &mut Vec<u8>,
-)
-    requires beyond { 0x80 ≤ c }
-    requires reports { 10 ≤ vec_capacity reports.old }
-    requires room { vec_len lines.old + xterm_lines_limit terminal.old.display.grid.size ≤ vec_capacity lines.old }
-    ensures size { terminal.new.display.grid.size ≡ terminal.old.display.grid.size }
-    ensures whole { behind terminal.new front.now ≡ (play_characters (behind terminal.old front.now) (c ∷ [])).whole }
-    ensures lines { lines.new.items ≡ lines.old.items ++ pages_of_characters (behind terminal.old front.now) (c ∷ []) }
-    ensures bounded { vec_len lines.new ≤ vec_len lines.old + xterm_lines_limit terminal.old.display.grid.size }
-    ensures reports { vec_capacity reports.old ≤ vec_capacity reports.new }
-    ensures capacity { vec_capacity lines.old ≤ vec_capacity lines.new }
-{
-    let _ = terminal.size();
-    reports.clear();
-    if front.is_alternate() {
-        feed_beyond_ascii(terminal, c, reports);
-    } else {
-        feed_beyond_ascii_log(terminal, c, reports, lines);
+        push_page_before(terminal, front, c as u8, lines);
     }
 }

@@ -12,7 +12,7 @@ use vt_device::{Output, Plain, Source, Watched, write_by};
 use vt_recording::Fault;
 use vt_term::REPORT_LIMIT;
 
-/// Returns how many bytes at the front of a chunk have so few reports that these have capacity.
+/// Returns how many bytes at the front of a chunk have so few reports that `reports` has capacity for them.
 pub fn front_for(chunk: &[u8], reports: &Vec<u8>) -> usize
     ensures within { result ≤ length chunk.now }
     ensures room { 10 * result ≤ vec_capacity reports.now }

@@ -1,4 +1,4 @@
-//! The outputs: what each word writes of the host's bytes as they come, and at their end.
+//! The outputs, which write by word what is due of the host's bytes as they come, and at their end.
 ghost use Rattle.std.specs.Prelude.{◌≡◌, ⊤, ◌+◌, ◌*◌, ◌/◌, ◌^◌, ◌≤◌, ◌<◌, ◌++◌, [], true, false, length, take, vec_capacity, IfOk, List, ℕ, Bool};
 ghost use Rattle.std.specs.Io.KnownBytes.{IsAtEnd};
 ghost use Rattle.vt_device.specs.Runs.{Moves};
@@ -116,7 +116,7 @@ pub(crate) fn write_word_at<O: SizedWordOutput, S: Source, W: Write>(
     write_output_from(alloc, &mut output, dec, reader, writer, piece, limit)
 }
 
-/// The trace.
+/// The output of the trace.
 #[derive(Drop)]
 pub(crate) struct TraceOutput {
     terminal: SizedTerminal,
@@ -180,7 +180,7 @@ impl SizedWordOutput for TraceOutput {
     }
 }
 
-/// The summary.
+/// The output of the summary.
 #[derive(Drop)]
 pub(crate) struct SummaryOutput {
     counts: Summary,
@@ -240,7 +240,7 @@ impl SizedWordOutput for SummaryOutput {
 /// The most bytes of the content that are written at once.
 const CONTENT_LIMIT: usize = 65536;
 
-/// The bytes.
+/// The output of the bytes themselves.
 #[derive(Drop)]
 pub(crate) struct ContentOutput;
 

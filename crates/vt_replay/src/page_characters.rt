@@ -18,10 +18,11 @@ use vt_utf8::sized::feed_beyond_ascii_log;
 use vt_utf8::{Decoder, ascii_run};
 use vt_xterm::sized::xterm_lines_limit;
 
-/// Plays the front of a chunk of a host's UTF-8, and appends the lines that scroll off and the pages to `lines`. Returns how many bytes
-/// it played. `decoder` keeps what is pending between chunks. The reports are dropped.
+/// Plays the front of a chunk of a host's UTF-8, and appends the lines that scroll off and the pages to `lines`.
+/// Returns how many bytes it played. `decoder` keeps what is pending between chunks. The reports are dropped.
 ///
-/// If it stops early, `lines` has fewer than `xterm_lines_limit` bytes free, the most of a byte. It never fails, and it allocates nothing.
+/// If it stops early, `lines` has fewer than `xterm_lines_limit` bytes free, which the lines and pages of a byte may
+/// need. It never fails, and it allocates nothing.
 pub(crate) fn feed_utf8_pages(
     terminal: &mut SizedTerminal,
     decoder: &mut Decoder,
@@ -164,7 +165,7 @@ fn page_character(
     }
 }
 
-/// Plays a character. Only one of ASCII blanks the screen.
+/// Plays a character. Only an ASCII character blanks the screen.
 fn page_one(terminal: &mut SizedTerminal, c: char, reports: &mut Vec<u8>, lines: &mut Vec<u8>)
     requires reports { 10 ≤ vec_capacity reports.old }
     requires room { vec_len lines.old + lines_limit terminal.old.display.grid.size ≤ vec_capacity lines.old }

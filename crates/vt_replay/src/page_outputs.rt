@@ -83,7 +83,7 @@ pub(crate) fn write_pages_at<S: Source, W: Write>(
     }
 }
 
-/// The log with pages.
+/// The output of the log with pages.
 #[derive(Drop)]
 struct PageOutput {
     terminal: SizedTerminal,
@@ -145,7 +145,7 @@ impl SizedWordOutput for PageOutput {
     }
 }
 
-/// The log with pages of UTF-8.
+/// The output of the log with pages of UTF-8.
 #[derive(Drop)]
 struct Utf8PageOutput {
     terminal: SizedTerminal,
@@ -214,7 +214,7 @@ impl SizedWordOutput for Utf8PageOutput {
     }
 }
 
-/// The log with pages under TERM=xterm. The terminal and the front have one size.
+/// The output of the log with pages under TERM=xterm. The terminal and the front have one size.
 #[derive(Drop)]
 struct XtermPageOutput {
     terminal: SizedTerminal,

@@ -1,4 +1,5 @@
-//! Feeding with a log and pages: as `feeding`, and the 24 lines of the screen before each event that blanks all of it.
+//! Feeding with a log and pages: the lines that scroll off, and the 24 lines of the screen before each event that
+//! blanks all of it.
 ghost use Rattle.std.specs.Prelude.{◌≡◌, ◌+◌, ◌*◌, ◌≤◌, ◌<◌, ◌++◌, true, length, take};
 ghost use Rattle.std.specs.Prelude.{vec_len, vec_capacity, OnOk, OnErr, IsOk};
 ghost use Rattle.vt_term.specs.Play.{play};
@@ -15,16 +16,16 @@ use vt_syntax::laws::{one_split, spelled};
 use vt_term::laws::sized_happened;
 use vt_term::{Observer, REPORT_LIMIT, SizedTerminal, TEXT_LIMIT, Terminal};
 
-/// The most bytes of lines for each byte of a piece: the 24 lines of the screen.
+/// The most bytes of lines for each byte of a chunk: the 24 lines of the screen.
 pub const PAGE_LIMIT: usize = TEXT_LIMIT;
 
 const _: () = prove!(PAGE_LIMIT == 9528);
 
-/// Plays a piece of the host's bytes, and appends the reports to `reports`, and to `lines` the lines that scroll off and
-/// the 24 lines of the screen before each event that blanks all of it.
+/// Plays a chunk of the host's bytes, and appends the reports to `reports`. Appends to `lines` the lines that scroll
+/// off and the 24 lines of the screen before each event that blanks all of it.
 ///
-/// Reserves ten bytes for each byte of the piece in `reports` and `PAGE_LIMIT` in `lines` first. Returns `Err` if that
-/// fails, or is more than any vector may hold. Then the terminal and the contents of both are unchanged.
+/// Reserves ten bytes for each byte of the chunk in `reports` and `PAGE_LIMIT` in `lines` first. Returns `Err` if that
+/// fails, or is more than any vector may hold. Then the terminal and the contents of both vectors are unchanged.
 pub fn feed_pages(
     terminal: &mut Terminal,
     piece: &[u8],
@@ -56,8 +57,9 @@ pub fn feed_pages(
     Ok(())
 }
 
-/// Plays the front of a piece of the host's bytes, and appends the reports to `reports`, and to `lines` the lines that
-/// scroll off and the 24 lines of the screen before each event that blanks all of it. Returns how many bytes it played.
+/// Plays the front of a chunk of the host's bytes, and appends the reports to `reports`. Appends to `lines` the lines
+/// that scroll off and the 24 lines of the screen before each event that blanks all of it. Returns how many bytes it
+/// played.
 ///
 /// If it stops early, `lines` has fewer than `PAGE_LIMIT` bytes free, the capacity of one page. With
 /// capacity for a page for each byte, it plays the whole chunk. `reports` has capacity for ten bytes for each byte of the
@@ -87,8 +89,8 @@ pub fn feed_pages_reserved(
     terminal.feed_observed(piece, &mut observer, reports)
 }
 
-/// Plays the front of a piece of the host's bytes on a screen of any size, as `feed_pages_reserved` does on a VT220's. Returns how many
-/// bytes it played.
+/// Plays the front of a chunk of the host's bytes on a screen of any size, as `feed_pages_reserved` does on a VT220's.
+/// Returns how many bytes it played.
 ///
 /// If it stops early, `lines` has fewer than `text_limit` bytes free, the capacity of one page.
 pub(crate) fn feed_pages_at(

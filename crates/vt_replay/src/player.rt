@@ -1,4 +1,4 @@
-//! A player: how a host's bytes are played on a terminal.
+//! The players, which play a host's bytes on a terminal.
 ghost use Rattle.std.specs.Prelude.{◌≡◌, ◌+◌, ◌*◌, ◌≤◌, ◌++◌, [], ℕ, List, length, vec_len, vec_capacity, IfOk};
 ghost use Rattle.vt_screen.specs.declared.size.Size.{Size};
 ghost use Rattle.vt_screen.specs.Sizes.{IsSize};
@@ -17,7 +17,7 @@ use vt_xterm::SizedFront;
 use vt_xterm::laws::cuts as xterm_cuts;
 use vt_xterm::sized::feed_xterm_reserved;
 
-/// How a host's bytes are played on a terminal.
+/// A player, which plays a host's bytes on a terminal.
 pub(crate) trait Player: Drop {
     /// What is kept between bytes.
     ghost Kept: { Type 0 };
@@ -65,7 +65,7 @@ pub(crate) trait Player: Drop {
         ensures screen { screen target.new ≡ screen target.old };
 }
 
-/// The host's bytes are the terminal's.
+/// The player of a host whose bytes are the terminal's.
 #[derive(Drop)]
 pub(crate) struct PlainPlayer {
     terminal: SizedTerminal,
@@ -106,11 +106,11 @@ impl Player for PlainPlayer {
     }
 }
 
-/// The host's bytes are UTF-8.
+/// The player of a host that sends UTF-8.
 #[derive(Drop)]
 pub(crate) struct Utf8Player {
-    terminal: SizedTerminal,
-    decoder: Decoder,
+    pub(crate) terminal: SizedTerminal,
+    pub(crate) decoder: Decoder,
 }
 
 impl Player for Utf8Player {
@@ -131,6 +131,8 @@ impl Player for Utf8Player {
         })
     }
 
+    /// Speed: this is the only call of `feed_utf8_reserved`, so the compiler inlines its loop.
+    #[inline(never)]
     fn feed(&mut self, chunk: &[u8], out: &mut Vec<u8>) {
         let _ = self.terminal.width();
         utf8_cuts();
@@ -150,7 +152,7 @@ impl Player for Utf8Player {
     }
 }
 
-/// The host's bytes are UTF-8, with the functions of xterm. The terminal and the front have one size.
+/// The player of a host that sends UTF-8, with the functions of xterm. The terminal and the front have one size.
 #[derive(Drop)]
 pub(crate) struct XtermPlayer {
     pub(crate) terminal: SizedTerminal,

@@ -1,4 +1,4 @@
-//! A request, carried out by its word.
+//! The carrying out of a request, by its word.
 ghost use Rattle.std.specs.Prelude.{◌≡◌, ◌≤◌, ◌<◌, ◌+◌, ◌++◌, ◌∷◌, List, length, take, drop, true, false, Err, option_map, All, IfOk};
 ghost use Rattle.std.proofs.Props.{props};
 ghost use Rattle.std.specs.Io.KnownBytes.{IsAtEnd};
@@ -16,6 +16,7 @@ use crate::converting::Converter;
 use crate::engine::run_at;
 use crate::events::events_taken;
 use crate::host::{Host, host_for, opening, plain_host};
+use crate::index::index_taken;
 use crate::language::Language;
 use crate::logging::write_log_at;
 use crate::outputs::{ContentOutput, write_word};
@@ -64,7 +65,7 @@ fn carry_out_word<S: Source, W: Write>(
         Word::Pages => write_pages_at(alloc, reader, writer, language, size, piece, limit),
         Word::Trace => write_trace(alloc, reader, writer, language, size, piece, limit),
         Word::Summary => write_summary(alloc, reader, writer, language, size, piece, limit),
-        Word::Events | Word::Animation(_) | Word::Search => {
+        Word::Events | Word::Animation(_) | Word::Search | Word::Index => {
             write_word::<ContentOutput, S, W>(alloc, reader, writer, Encoding::Dec, piece, limit)
         }
         Word::Content => match host.terminal {
@@ -81,12 +82,12 @@ fn carry_out_word<S: Source, W: Write>(
     }
 }
 
-/// How a request ended.
+/// The outcome of a request.
 #[derive(Clone, Copy, Debug, PartialEq, Eq)]
 pub struct Outcome {
-    /// How many characters of the recording have no byte: SUB was played in their place.
+    /// The number of characters of the recording that have no byte: SUB was played for each of them.
     pub replaced: u64,
-    /// Why the request ended early, if it did.
+    /// The fault with which the request ended early, if it did.
     pub ended: Result<(), Fault>,
 }
 
@@ -111,7 +112,10 @@ fn is_streamed(format: Format, until: Option<Moment>, wide: Option<bool>, whole:
 fn takes_whole(word: Word) -> bool
     ensures { result ≡ takes_whole word }
 {
-    matches!(word, Word::Events | Word::Animation(_) | Word::Search)
+    matches!(
+        word,
+        Word::Events | Word::Animation(_) | Word::Search | Word::Index
+    )
 }
 
 /// Returns whether a request needs the whole input, since its word writes what is made of it or begins in the middle.
@@ -121,7 +125,7 @@ fn needs_whole(request: &Request) -> bool
     takes_whole(request.word) || request.from.is_some()
 }
 
-/// Returns how a request ends whose word ended so, on a recording that is broken there.
+/// Returns how a request ends whose word ended as `played`, on a recording that is broken at `broken`.
 fn ended_of(broken: Option<Break>, played: Result<(), Fault>) -> Result<(), Fault>
     ensures { result ≡ ended_of broken played }
 {
@@ -170,27 +174,34 @@ pub fn lacks_times(format: Format, timed: bool, until: Option<Moment>) -> bool
 }
 
 /// Carries out a request on the reader's bytes in a format, and writes what is due. The caller knows the format by
-/// `format_of`. It doesn't look at the request's files: the caller opens its file as the reader, and reads its timing file.
-/// Neither device has failed before, and the reader hasn't ended.
+/// `format_of`. It doesn't look at the request's files: the caller opens its file as the reader, and reads its timing
+/// file. Neither device has failed before, and the reader hasn't ended.
 ///
-/// The terminal is the request's, otherwise the one that the first line of a recording by asciinema or by script names,
-/// otherwise a VT220. If the request's encoding is dec, it is a VT220. For an xterm the host sends UTF-8. For a VT220 it sends in
-/// the request's encoding, otherwise in dec, and in a recording by asciinema in UTF-8. Content is the host's bytes, unless the request is for xterm. Then it is bytes with which a VT220 shows the same: an update for each chunk.
+/// The terminal is the request's. If the request names none, it is the one that the first line of a recording by
+/// asciinema or by script names, otherwise a VT220. If the request's encoding is dec, it is a VT220. For an xterm the
+/// host sends UTF-8. For a VT220 it sends in the request's encoding, otherwise in dec, and in a recording by asciinema
+/// in UTF-8. Content is the host's bytes, unless the request is for xterm. Then it is bytes with which a VT220 shows
+/// the same: an update for each chunk.
 ///
 /// The screen has 132 columns if the request asks for them, or if it leaves the width to a recording whose first line names
 /// 132. Then bytes that set DECCOLM are played first, except for trace and summary.
 ///
-/// All replays but a repaint, log, pages, trace and summary are of a screen of the size that the request asks for. If it leaves the size to a recording, they are
-/// of the size that its first line names, if a screen may have that. DECCOLM leaves the width of such a screen, unless it is a VT220's.
+/// All replays, log, pages, trace and summary are on a screen of the size that the request asks for. So are a picture
+/// that moves, a search and an index. If the request leaves the size to a recording, they are on the size that its
+/// first line names, if a screen may have that. DECCOLM leaves the width of such a screen, unless it is a VT220's.
 ///
-/// A replay carries out the changes of the size that a recording has up to the moment, each after the content that comes before it,
-/// unless a size or a width is asked for. DECCOLM leaves the width of a screen after a change. A change to a size that no screen may
-/// have is passed over. Under TERM=xterm a repaint is of the first size, and so are all other words.
+/// A replay carries out the changes of the size that a recording has up to the moment, each after the content that
+/// comes before it. It doesn't if a size or a width is asked for, or if it begins in the middle. DECCOLM leaves the
+/// width of a screen after a change. A change to a size that no screen may have is passed over. Under TERM=xterm a
+/// repaint is of the first size, and so are all other words.
 ///
-/// If the format is raw, all of the input is wanted, and 132 columns weren't asked for, the word is carried out on the bytes as they come. Events
-/// are a table of the whole recording, a picture that moves has a frame for each event of output, and a search has a line for each span of time. They are written in the place of its content. Otherwise the
-/// input is read whole, and the word is carried out on its content between the moments. If the recording is broken, that is
-/// the fault, after what came before was played and written.
+/// The word is carried out on the bytes of raw input as they come, if all of it is wanted and 132 columns weren't asked
+/// for. Otherwise the input is read whole, and the word is carried out on its content between the moments. If the
+/// recording is broken, that is the fault, after what came before was played and written.
+///
+/// Four words write what is made of a whole recording instead of its content. Events are a table of the recording. A
+/// picture that moves has a frame for each event of output. A search has a line for each span of time, and an index has
+/// checkpoints.
 pub fn carry_out<R: Read, W: Write>(
     alloc: Global,
     reader: &mut Watched<R>,
@@ -241,16 +252,16 @@ fn stream<R: Read, W: Write>(
     }
 }
 
-/// What is played of a recording.
+/// The part of a recording that is played, and how.
 #[derive(Drop)]
 struct Prepared {
-    /// For what its host sent.
+    /// The terminal, the encoding, the width and the size for which the host sent.
     host: Host,
     /// The changes of the screen's size.
     resizes: Vec<Resize>,
     /// The opening, and the content between the moments.
     bytes: Vec<u8>,
-    /// The place at which the recording is broken, or none.
+    /// The place at which the recording is broken, if it is.
     broken: Option<Break>,
     /// The number of characters that have no byte.
     replaced: u64,
@@ -287,7 +298,8 @@ pub fn keeps_size(request: &Request, format: Format) -> bool
         || !has_sizes(format)
 }
 
-/// A place in what is played: so many bytes that aren't of the content come next, and so much of the content came before.
+/// A place in what is played: the number of bytes after it that aren't of the content, and the number of bytes of the
+/// content before it.
 #[derive(Clone, Copy)]
 struct Spot {
     before: usize,
@@ -302,8 +314,8 @@ fn change_at(changes: &[Change], i: usize) -> Change
     changes[i]
 }
 
-/// Appends a change of the window as a change of the screen that comes after a place, and returns the place of it. A change to a size
-/// that no screen may have is left out.
+/// Appends a change of the window as a change of the screen that comes after a place, and returns the place of the
+/// change. A change to a size that no screen may have is left out.
 fn push_resize(spot: Spot, change: Change, resizes: &mut Vec<Resize>) -> Result<Spot, AllocError>
     ensures ahead { IfOk result (λ next. (changes : List Change) → resizes.new.items ++ resizes_of next.before next.at changes
         ≡ resizes.old.items ++ resizes_of spot.before spot.at (change ∷ changes)) }
@@ -369,8 +381,8 @@ fn resizes_for(
     resizes_of(alloc, opening(request.word, host).len(), first)
 }
 
-/// Takes out of a recording what a request's word is for: the table of its events, a picture that moves, the spans of a search, or its
-/// content.
+/// Takes out of a recording what the word of a request needs: the table of its events, a picture that moves, the spans
+/// of a search, an index, or its content.
 fn taken_for(
     alloc: Global,
     bytes: &[u8],
@@ -396,7 +408,13 @@ fn taken_for(
             let first = opening(Word::Replay(What::Picture), host);
             let text = text_of(&request.pattern);
             let log = request.log;
-            search_taken(alloc, bytes, timing, format, host, log, first, text, until)
+            search_taken(
+                alloc, bytes, timing, format, host, log, first, text, from, until,
+            )
+        }
+        Word::Index => {
+            let first = opening(Word::Replay(What::Picture), host);
+            index_taken(alloc, bytes, timing, format, host, request.every, first)
         }
         Word::Replay(_) | Word::Log | Word::Pages | Word::Trace | Word::Summary | Word::Content => {
             take_between(alloc, bytes, timing, format, host.encoding, from, until)

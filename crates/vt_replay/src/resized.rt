@@ -34,7 +34,7 @@ pub(crate) struct Later<P: Drop> {
     target: P,
 }
 
-/// How a host's bytes are played on a terminal whose screen changes its size.
+/// A player of a host's bytes on a terminal whose screen changes its size.
 pub(crate) trait Playing: Drop {
     /// The state and the reports that bytes leave as they come.
     ghost played: { Self → List ℕ → Played };

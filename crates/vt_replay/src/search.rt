@@ -7,7 +7,7 @@ ghost use Rattle.vt_term.specs.Text.{glyphs_of, trimmed};
 ghost use Rattle.vt_recording.specs.Gathered.{events_of};
 ghost use Rattle.vt_replay.specs.Playing.{language_of};
 ghost use Rattle.vt_replay.specs.Search.{text_of, in_cells, shown_for, is_utf8, wanted, goes_on, line_end, line_of, lines, place_of, first_at, first_place};
-ghost use Rattle.vt_replay.specs.Search.{found_then, until_column, span_line, ended, left_open, spans, spans_at, searched, IsSearched};
+ghost use Rattle.vt_replay.specs.Search.{found_then, until_column, span_line, ended, left_open, spans, spans_at, searched, searched_after, searched_from, IsSearched};
 
 use crate::animated::{PIECE, is_empty, opened, play};
 use crate::events::{event_at, push_decimal, push_time};
@@ -15,6 +15,7 @@ use crate::host::Host;
 use crate::language::Language;
 use crate::log_search::{column_of, push_log_found};
 use crate::player::{PlainPlayer, Player, Utf8Player, XtermPlayer};
+use crate::search_start::{begin_of, played_before, start_at, steps_left};
 use crate::steps::steps_taken;
 use memchr::memmem;
 use std::alloc::{AllocError, Global};
@@ -24,14 +25,14 @@ use vt_screen::Cell;
 use vt_term::{REPORT_LIMIT, Size, SizedTerminal};
 use vt_utf8::{cells, shown_as};
 
-/// A place on the screen, from 1.
+/// A place on the screen: its row and its column, counted from 1.
 #[derive(Clone, Copy)]
 pub(crate) struct Place {
     row: usize,
     column: usize,
 }
 
-/// A text that is on the screen from a time on, first at a place.
+/// A text that came on the screen at a time, first at a place.
 #[derive(Clone, Copy)]
 struct Found {
     micros: u64,
@@ -39,7 +40,7 @@ struct Found {
     column: usize,
 }
 
-/// Returns the text that is asked for.
+/// Returns the text that is asked for, or an empty one.
 pub(crate) fn text_of(text: &Option<String>) -> &str
     ensures { result.now ≡ text_of text.now }
 {
@@ -351,7 +352,7 @@ fn spans_by<P: Player>(
     Ok(lines)
 }
 
-/// Returns the lines of the spans of steps, as a terminal of a size shows them on which a language is played.
+/// Returns the lines of the spans of steps, on a terminal of a size that plays a language.
 fn spans_in(
     alloc: Global,
     size: Size,
@@ -406,8 +407,52 @@ fn found_in(
     Ok(lines)
 }
 
-/// Returns what a search for a text finds in a recording up to a moment, in the place of its content: a line for each span of time in
-/// which the text was on the screen, and if `log` is set a line for each line with it that scrolled off. The opening is played before it.
+/// Returns what a search finds from a moment on. What comes before it is played after the opening, and not searched.
+fn found_after(
+    alloc: Global,
+    host: Host,
+    log: bool,
+    text: &str,
+    opening: &[u8],
+    from: Moment,
+    content: &[u8],
+    steps: &[Event],
+) -> Result<Vec<u8>, AllocError>
+    requires { IsSize host.size }
+    ensures { IfOk result (λ lines. lines.items
+        ≡ searched_after from host.size (language_of host.terminal host.encoding) log text.now opening.now content.now steps.now) }
+{
+    let start = start_at(from, content, steps);
+    let before = played_before(alloc, opening, &content[..start.content])?;
+    let content = &content[start.content..];
+    let steps = steps_left(content, &steps[start.steps..]);
+    found_in(alloc, host, log, text, &before, content, steps)
+}
+
+/// Returns what a search finds, from a moment on if there is one.
+fn found_from(
+    alloc: Global,
+    host: Host,
+    log: bool,
+    text: &str,
+    opening: &[u8],
+    from: Option<Moment>,
+    content: &[u8],
+    steps: &[Event],
+) -> Result<Vec<u8>, AllocError>
+    requires { IsSize host.size }
+    ensures { IfOk result (λ lines. lines.items
+        ≡ searched_from from host.size (language_of host.terminal host.encoding) log text.now opening.now content.now steps.now) }
+{
+    match from {
+        Some(from) => found_after(alloc, host, log, text, opening, from, content, steps),
+        None => found_in(alloc, host, log, text, opening, content, steps),
+    }
+}
+
+/// Returns what a search for a text finds in a recording from a moment on and up to another one, instead of its content.
+/// This is a line for each span of time in which the text was on the screen. If `log` is set, it is also a line for each
+/// line with the text that scrolled off. The opening is played before the content.
 pub(crate) fn search_taken(
     alloc: Global,
     bytes: &[u8],
@@ -417,17 +462,28 @@ pub(crate) fn search_taken(
     log: bool,
     opening: &[u8],
     text: &str,
+    from: Option<Moment>,
     until: Option<Moment>,
 ) -> Result<Taken, AllocError>
     requires { IsSize host.size }
-    ensures { IfOk result (λ t. IsSearched host.size log text.now opening.now (language_of host.terminal host.encoding) format host.encoding until (option_map (λ b. b.now) timing.entry) bytes.now t.content.items t.broken t.replaced) }
+    ensures { IfOk result (λ t. IsSearched host.size log text.now opening.now (language_of host.terminal host.encoding) format host.encoding from until (option_map (λ b. b.now) timing.entry) bytes.now t.content.items t.broken t.replaced) }
 {
+    let begin = begin_of(alloc, bytes, timing, format, host.encoding, from)?;
     let stepped = steps_taken(alloc, bytes, timing, format, host.encoding, until)?;
     let broken = stepped.taken.broken;
     let replaced = stepped.taken.replaced;
     let content = &stepped.taken.content;
     Ok(Taken {
-        content: found_in(alloc, host, log, text, opening, content, &stepped.steps)?,
+        content: found_from(
+            alloc,
+            host,
+            log,
+            text,
+            opening,
+            begin,
+            content,
+            &stepped.steps,
+        )?,
         broken,
         replaced,
     })

@@ -17,7 +17,7 @@ use vt_xterm::laws::cuts as xterm_cuts;
 use vt_xterm::sized::feed_xterm_reserved;
 use vt_xterm_paint::sized::{repaint_xterm_reserved, xterm_paint_limit};
 
-/// The repaint of a session: of the terminal, the page that isn't shown, and the modes of the front.
+/// The output of the repaint of a session: of the terminal, the page that isn't shown, and the modes of the front.
 #[derive(Drop)]
 pub(crate) struct SessionOutput {
     terminal: SizedTerminal,

@@ -97,7 +97,7 @@ fn is_due(terminal: &SizedTerminal, what: What) -> bool
     }
 }
 
-/// Returns whether the reports go out.
+/// Returns whether the reports are written.
 fn is_sent(what: What) -> bool
     ensures { result ≡ is_sent what }
 {

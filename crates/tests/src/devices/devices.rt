@@ -109,6 +109,8 @@ fn replayed(
         until: None,
         title: None,
         pattern: None,
+        every: 262144,
+        index: None,
         log: false,
         full: false,
         partial: false,

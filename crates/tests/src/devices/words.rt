@@ -49,6 +49,8 @@ fn carried_out(
         until: asked.until,
         title: None,
         pattern: None,
+        every: 262144,
+        index: None,
         log: false,
         full: false,
         partial: false,

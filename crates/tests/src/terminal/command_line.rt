@@ -163,8 +163,8 @@ fn words_ask_for_a_log(rt: HostRuntime) {
 }
 
 /// The request that the options of a line make: the format (none for auto), the timing file, the moments, the encoding, the terminal,
-/// the title, the text of a search, whether the log is searched, whether a table is full, whether what came before a break is enough, and
-/// whether the notes are left out.
+/// the title, the text of a search, the bytes between two checkpoints, the index, whether the log is searched, whether a table is full,
+/// whether what came before a break is enough, and whether the notes are left out.
 #[derive(Clone, Copy)]
 struct Options {
     format: Option<Format>,
@@ -176,6 +176,8 @@ struct Options {
     wide: Option<bool>,
     title: Option<&'static str>,
     pattern: Option<&'static str>,
+    every: u64,
+    index: Option<&'static str>,
     log: bool,
     full: bool,
     partial: bool,
@@ -193,6 +195,8 @@ const NONE: Options = Options {
     wide: None,
     title: None,
     pattern: None,
+    every: 262144,
+    index: None,
     log: false,
     full: false,
     partial: false,
@@ -259,6 +263,7 @@ const RECORDED: &[Asked] = &[
     ("vt220 summary a", Word::Summary, NONE),
     ("vt220 events a", Word::Events, NONE),
     ("vt220 content a", Word::Content, NONE),
+    ("vt220 index a", Word::Index, NONE),
     ("vt220 text --format raw", Word::Replay(What::Text), NONE),
     ("vt220 log --format script a", Word::Log, SCRIPT),
     (
@@ -554,6 +559,34 @@ const SEARCHES: &[Asked] = &[
     ),
 ];
 
+/// Lines that make an index, or name one.
+const INDEXES: &[Asked] = &[
+    (
+        "vt220 index --every 4096 a",
+        Word::Index,
+        Options {
+            every: 4096,
+            ..NONE
+        },
+    ),
+    (
+        "vt220 index --every=1099511627776 --format ttyrec a",
+        Word::Index,
+        Options {
+            every: 1099511627776,
+            ..TTYREC
+        },
+    ),
+    (
+        "vt220 text --index i --format ttyrec a",
+        Word::Replay(What::Text),
+        Options {
+            index: Some("i"),
+            ..TTYREC
+        },
+    ),
+];
+
 /// Returns whether a request asks for a recording as these options do.
 fn is_recorded(found: &Request, options: &Options) -> bool {
     found.format == options.format
@@ -569,6 +602,8 @@ fn is_played(found: &Request, options: &Options) -> bool {
         && found.wide == options.wide
         && is_name(&found.title, &options.title)
         && is_name(&found.pattern, &options.pattern)
+        && found.every == options.every
+        && is_name(&found.index, &options.index)
         && found.log == options.log
         && found.full == options.full
         && found.partial == options.partial
@@ -613,6 +648,14 @@ fn words_search_for_a_text(rt: HostRuntime) {
     all_have_options(&rt, rt.alloc(), SEARCHES);
     let line = "vt220 search two --format auto";
     holds(&rt, line, is_refused(rt.alloc(), line, 2, NO_SETTINGS));
+}
+
+#[test]
+fn words_ask_for_indexes(rt: HostRuntime) {
+    all_have_options(&rt, rt.alloc(), INDEXES);
+    for line in ["vt220 index --every 0 a", "vt220 text --every 5 a"] {
+        holds(&rt, line, has_no_request(rt.alloc(), line, 2, "error: "));
+    }
 }
 
 #[test]
@@ -733,7 +776,7 @@ const NO_ENCODING: &str = "vt220: --encoding is dec, utf-8 or auto\n";
 const NO_MOMENT: &str =
     "vt220: a moment is seconds, as 12.5 or 12:31, bytes, as 4096b, event:N or marker:N\n";
 
-const NO_START: &str = "vt220: --from goes with events and content alone\n";
+const NO_START: &str = "vt220: --from goes with events, content and search alone\n";
 
 const NO_TIMES: &str =
     "vt220: the input has no times; give the moment in bytes, as 4096b, or script its --timing FILE\n\

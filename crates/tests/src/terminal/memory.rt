@@ -296,6 +296,8 @@ fn request_is_refused(alloc: Global, input: &[u8], word: Word, what: What) -> Re
             until: None,
             title: None,
             pattern: None,
+            every: 262144,
+            index: None,
             log: false,
             full: false,
             partial: false,

@@ -1,4 +1,4 @@
-use Rattle.std.proofs.Common.{◌+◌, ◌∙◌, take, drop, refl, ap, arith, length-drop}
+use Rattle.std.proofs.Common.{◌∙◌, take, drop, refl, ap, arith, length-drop}
 use Rattle.std.proofs.Math.Seq.{take-add}
 use Rattle.vt_device.proofs.OutputSteps.{rest-of}
 use Rattle.vt_xterm.specs.Play.{WholePlayed}

@@ -1,5 +1,5 @@
 -- The bytes before the place are played, and their lines and pages are written.
-use Rattle.std.proofs.Common.{◌≡◌, ◌-◌, ◌*◌, ◌≤◌, length, take, vec_len, vec_capacity}
+use Rattle.std.proofs.Common.{◌≡◌, ◌-◌, ◌≤◌, length, take, vec_len, vec_capacity}
 use Rattle.vt_xterm.specs.Play.{behind}
 use Rattle.vt_replay.specs.PageCuts.{PagesXterm, main_room}
 use Rattle.vt_replay.proofs.main_pages.feed_main_pages.Given as goal

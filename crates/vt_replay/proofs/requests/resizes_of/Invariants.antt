@@ -1,4 +1,4 @@
-use Rattle.std.proofs.Common.{◌≡◌, ◌-◌, ◌≤◌, ◌++◌, length, drop, All}
+use Rattle.std.proofs.Common.{◌≡◌, ◌-◌, ◌++◌, length, drop, All}
 use Rattle.vt_screen.specs.Sizes.{IsSize}
 use Rattle.vt_replay.specs.Request.{resizes_of}
 use Rattle.vt_replay.proofs.requests.resizes_of.Given as goal

@@ -1,7 +1,5 @@
-use Rattle.std.proofs.Common.{rules, ◌≡◌, ◌∙◌, ap, arith, length, refl}
-use Rattle.std.specs.VecDeque.{deque_len}
+use Rattle.std.proofs.Common.{◌∙◌}
 use Rattle.std.proofs.lemmas.List.{take_all}
-use Rattle.vt_replay.proofs.Resizing.{one_more_coming}
 use Rattle.vt_replay.proofs.resized.later_for.Goals as goal
 
 pub returns : goal.returns

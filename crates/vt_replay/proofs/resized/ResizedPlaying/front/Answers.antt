@@ -1,4 +1,4 @@
-use Rattle.vt_replay.proofs.Resizing.{front_before, front_all, front_some}
+use Rattle.vt_replay.proofs.Resizing.{front_all}
 use Rattle.vt_replay.proofs.resized.ResizedPlaying.front.Goals as goal
 
 pub returns-in-None-clause-takes : goal.returns-in-None-clause-takes

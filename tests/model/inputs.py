@@ -166,18 +166,29 @@ XTERM_SCENES = [
     b'\033[?7l\033[!p\033[3;80HAB\033[?7l\033[62;1"p\033[3;80HAB',
     b"\033[2;80H#\033[3d\033[2;80H#\033[80G\033[2;80H#\033[a\033[2;80H#\033[e",
 ]
+# Left and right margins, and a cursor in them, left of them, right of them, or in the column of one.
+SIDES = [b"\033[?69h\033[5;20s", b"\033[?69h\033[10;40s\033[5;10r", b"\033[5;10r\033[?69h\033[?6h\033[3;30s", b"\033[?69h\033[2;79s", b"\033[?69h\033[41;80s"]
+SIDED = [b"\033[%d;3H", b"\033[%d;5H", b"\033[%d;12H", b"\033[%d;19Hab", b"\033[%d;20H#", b"\033[%d;30H", b"\033[%d;79Hab", b"\033[%d;80H#"]
 
 
 class XtermChance(Utf8Chance):
     """Makes inputs for TERM=xterm."""
 
-    finals = Chance.finals + "G`adeEFIZbST^su" + "hlbST"
+    finals = Chance.finals + "G`adeEFIZbST^su" + "hlbSTs"
     numbers = {of: values for of, values in NUMBERS.items() if of not in "hlm"} | {
-        "h": NUMBERS["h"] + [3, 40, 40, 47, 47, 1047, 1047, 1048, 1049, 1049, 2004],
+        "h": NUMBERS["h"] + [3, 40, 40, 47, 47, 69, 69, 69, 1047, 1047, 1048, 1049, 1049, 2004],
         "m": NUMBERS["m"] + [38, 48, 58, 39, 91, 107],
-        "s": [0, 0, 1],
+        "s": [0, 0, 1, 5, 10, 20, 40, 79, 80],
         "u": [0, 0, 1],
     }
     numbers["l"] = numbers["h"]
     scenes = Utf8Chance.scenes + XTERM_SCENES * 2
     touched_by = TOUCHING + [b"\033[" + rest for rest in (b"G", b"9`", b"a", b"3d", b"9e", b"9E", b"9F", b"I", b"Z", b"2b", b"99b", b"2S", b"T", b"2^", b"s", b"u", b"?47h", b"?1049h", b"?1049l", b"!p")]
+
+    def sided(self):
+        """A few characters and functions between left and right margins."""
+        places = [self.choice(SIDED) % self.choice([1, 5, 7, 10, 24]) + self.choice([self.choice(self.touched_by), self.letters(), b"\r", b"\033[2b", "日".encode()]) for _ in range(self.length())]
+        return self.choice(SIDES) + b"".join(places[:5])
+
+    def part(self):
+        return self.sided() if self.random() < 0.1 else super().part()

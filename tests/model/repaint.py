@@ -44,9 +44,9 @@ def saved_bytes(saved: Saved):
     return made + (b"\033[?6l" if saved.origin else b"")
 
 
-def cells_bytes(terminal):
+def cells_bytes(terminal, wrap):
     blank = [BLANK] * terminal.width
-    if not terminal.wrap and all(line == blank for line in terminal.cells):
+    if not wrap and all(line == blank for line in terminal.cells):
         return b""
     return SPELLING_SETS + b"".join(row_bytes(row, line) for row, line in enumerate(terminal.cells, 1) if line != blank)
 
@@ -62,9 +62,9 @@ def row_bytes(row, line):
     return b"".join(pieces)
 
 
-def cursor_bytes(terminal):
-    made = csi(terminal.row - terminal.origin() + 1, terminal.column, final="H")
-    if terminal.wrap:
+def cursor_bytes(terminal, column, wrap):
+    made = csi(terminal.row - terminal.origin() + 1, column, final="H")
+    if wrap:
         glyph, brush = terminal.cells[terminal.row - 1][terminal.column - 1]
         made += brush_bytes(brush) + spelling(glyph)
     return made
@@ -80,15 +80,16 @@ def modes_bytes(terminal):
     return made + (b"\033=" if terminal.keypad else b"") + (b"\033 G" if terminal.eight_bit else b"")
 
 
-def items(terminal):
-    """Returns the items after RIS."""
+def items(terminal, column, wrap, sides=b""):
+    """Returns the items after RIS. The column is the one that CUP names. Left and right margins are set after the other margins."""
     return b"".join([
         stops_bytes(terminal),
         saved_bytes(terminal.saved),
-        cells_bytes(terminal),
+        cells_bytes(terminal, wrap),
         b"" if (terminal.top, terminal.bottom) == (1, ROWS) else csi(terminal.top, terminal.bottom, final="r"),
+        sides,
         b"\033[?6h" if "DECOM" in terminal.modes else b"",
-        cursor_bytes(terminal),
+        cursor_bytes(terminal, column, wrap),
         brush_bytes(terminal.brush),
         sets_bytes(terminal.sets),
         modes_bytes(terminal),
@@ -98,7 +99,7 @@ def items(terminal):
 
 def repaint(terminal):
     """Returns the repaint of a terminal that is between sequences."""
-    return b"\033c" + items(terminal)
+    return b"\033c" + items(terminal, terminal.column, terminal.wrap_flag())
 
 
 def session_repaint(session):
@@ -108,13 +109,17 @@ def session_repaint(session):
     return b"".join([
         b"\033[?40h\033c",
         switch(47, not session.is_alternate),
-        items(other),
+        items(other, other.column, other.wrap),
         switch(47, session.is_alternate),
         switch(3, False),
-        items(session),
+        items(session, session.column - (session.left() - 1 if "DECOM" in session.modes else 0), session.wrap, sides_bytes(session)),
         switch(40, session.allows_columns),
         switch(2004, True) if session.paste else b"",
     ])
+
+
+def sides_bytes(session):
+    return switch(69, True) + csi(*session.sides, final="s") if session.sides else b""
 
 
 def switch(mode, is_set):

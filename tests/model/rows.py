@@ -73,7 +73,7 @@ def attributes(brush):
 
 def screen(model):
     """Returns what a vector wants, by the names of lib/rows/vectors.py."""
-    flags = {"wrap": model.wrap, "alternate": getattr(model, "is_alternate", False), "paste": getattr(model, "paste", False)}
+    flags = {"wrap": model.wrap_flag(), "alternate": getattr(model, "is_alternate", False), "paste": getattr(model, "paste", False)}
     return {of: str(int(flag)) for of, flag in flags.items()} | {
         "text": "\n".join(map(with_attributes, model.cells)).rstrip("\n"), "cursor": f"{model.row};{model.column}",
         "brush": " ".join(attributes(model.brush)), "pending": getattr(model, "pending", b""), "lines": "".join(model.scrolled_off)}

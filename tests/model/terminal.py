@@ -238,7 +238,7 @@ class Terminal:
     def plain_escape(self, final):
         if final == "7":
             origin = "DECOM" in self.modes
-            self.saved = Saved(self.row, self.column, self.wrap, self.brush, self.sets.copy(), origin)
+            self.saved = Saved(self.row, self.column, self.wrap_flag(), self.brush, self.sets.copy(), origin)
         elif final == "8":
             self.restore()
         elif final in "=>":
@@ -392,6 +392,9 @@ class Terminal:
 
     def origin(self):
         return self.top if "DECOM" in self.modes else 1
+
+    def wrap_flag(self):
+        return self.wrap
 
     def move_to(self, row, column):
         self.row, self.column, self.wrap = row, column, False

@@ -126,9 +126,12 @@ class Utf8Terminal(Terminal):
             self.sequence = None
             self.write_character(character, cells_of(character))
 
+    def is_at_end(self):
+        return self.column == self.width
+
     def write_character(self, character, cells):
         """Writes a character in its cells. One of two doesn't begin in the last column."""
-        if cells == 2 and self.column == self.width and not self.wrap:
+        if cells == 2 and self.is_at_end() and not self.wrap:
             if "DECAWM" not in self.modes:
                 return
             self.next_line()

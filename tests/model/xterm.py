@@ -13,6 +13,7 @@ class Xterm(Utf8Terminal):
 
     def power_up(self, width=NARROW):
         super().power_up(width)
+        self.sides = None
         self.is_alternate = self.paste = False
         self.other_cells, self.other_saved = blank_cells(NARROW), Saved()
 
@@ -24,15 +25,30 @@ class Xterm(Utf8Terminal):
         else:
             super().plain_escape(final)
 
+    def control(self, byte):
+        if byte == 0x08:
+            self.left_by(1)
+        elif byte == 0x0D:
+            self.carriage_return()
+        else:
+            super().control(byte)
+
+    def escape(self, intermediate, final):
+        if intermediate + final == "#8":
+            self.fill_sides(self.width)
+        super().escape(intermediate, final)
+
     def control_sequence(self, marker, values, intermediate, final):
         name = marker + intermediate + final
         n = max(1, values[0])
-        if name in FUNCTIONS:
+        if name == "s" and self.sides:
+            self.set_sides(n, values[1] if len(values) > 1 else 0)
+        elif name in FUNCTIONS:
             FUNCTIONS[name](self, n)
         elif name == "T" and len(values) == 1:
             self.scroll_by(-n)
         elif name in ("s", "u") and values == [0]:
-            super().plain_escape("7" if name == "s" else "8")
+            self.plain_escape("7" if name == "s" else "8")
         elif name == "m":
             for value in without_colours(values):
                 self.rendition(value)
@@ -42,22 +58,96 @@ class Xterm(Utf8Terminal):
     def soft_reset(self):
         super().soft_reset()
         self.set_mode("DECAWM", True)
+        self.sides = None
+
+    # Left and right margins. Without them, these are the first and the last column.
+
+    def left(self):
+        return self.sides[0] if self.sides else 1
+
+    def right(self):
+        return self.sides[1] if self.sides else self.width
+
+    def is_between(self):
+        return self.left() <= self.column <= self.right()
+
+    def first_reached(self):
+        return self.left() if self.column >= self.left() else 1
+
+    def last_reached(self):
+        return self.right() if self.column <= self.right() else self.width
+
+    def set_sides(self, left, right):
+        """DECSLRM."""
+        if not 0 < right < self.width:
+            right = self.width
+        if left < right:
+            self.sides = (left, right)
+            self.home()
+
+    def fill_sides(self, width):
+        if self.sides:
+            self.sides = (1, width)
+
+    def allow_sides(self, is_allowed):
+        """DECLRMM."""
+        if is_allowed:
+            self.sides = self.sides or (1, self.width)
+        else:
+            self.wrap = self.wrap_flag()
+            self.sides = None
+
+    def wrap_flag(self):
+        """Returns whether a wrap is pending in the last column, and not at a right margin left of it."""
+        return self.wrap and self.column == self.width
 
     # The cursor.
 
+    def carriage_return(self):
+        self.move_to(self.row, self.left() if "DECOM" in self.modes else self.first_reached())
+
+    def next_line(self):
+        self.carriage_return()
+        self.index()
+
+    def left_by(self, n):
+        self.move_to(self.row, max(self.column - n, self.first_reached()))
+
+    def right_by(self, n):
+        self.move_to(self.row, min(self.column + n, self.last_reached()))
+
+    def home(self):
+        self.move_to(self.origin(), self.left() if "DECOM" in self.modes else 1)
+
+    def position(self, line, column):
+        super().position(line, 1)
+        self.to_column(column)
+
     def to_column(self, n):
-        self.move_to(self.row, min(n, self.width))
+        self.move_to(self.row, min(self.left() + n - 1, self.right()) if "DECOM" in self.modes else min(n, self.width))
+
+    def columns_right(self, n):
+        self.move_to(self.row, min(self.column + n, self.right() if "DECOM" in self.modes else self.width))
+
+    def to_line(self, n):
+        column = self.column
+        super().position(n, 1)
+        self.column = column
 
     def lines_down(self, n):
         self.move_to(min(self.row + n, self.bottom if "DECOM" in self.modes else ROWS), self.column)
 
     def next_lines(self, n):
         self.down(n)
-        self.column = 1
+        self.carriage_return()
 
     def previous_lines(self, n):
         self.up(n)
-        self.column = 1
+        self.carriage_return()
+
+    def tab(self):
+        super().tab()
+        self.column = min(self.column, self.right())
 
     def tabs(self, n):
         for _ in range(n):
@@ -65,9 +155,67 @@ class Xterm(Utf8Terminal):
 
     def tabs_back(self, n):
         for _ in range(n):
-            self.move_to(self.row, max([stop for stop in self.stops if stop < self.column], default=1))
+            stop = max([stop for stop in self.stops if stop < self.column], default=1)
+            self.move_to(self.row, max(stop, self.left()) if "DECOM" in self.modes else stop)
+
+    def restore(self):
+        super().restore()
+        if "DECOM" in self.modes and not self.is_between():
+            self.move_to(self.row, min(max(self.column, self.left()), self.right()))
 
     # The cells.
+
+    def write(self, glyph):
+        if self.wrap:
+            self.index()
+            self.column = self.left()
+        cells = self.cells[self.row - 1]
+        if "IRM" in self.modes and self.is_between():
+            cells.insert(self.column - 1, BLANK)
+            cells.pop(self.right())
+        cells[self.column - 1] = (glyph, self.brush)
+        if self.column < self.last_reached():
+            self.column += 1
+        else:
+            self.wrap = "DECAWM" in self.modes
+
+    def is_at_end(self):
+        return self.column == self.last_reached()
+
+    def index(self):
+        if self.row != self.bottom or self.is_between():
+            super().index()
+        self.wrap = False
+
+    def reverse_index(self):
+        if self.row != self.top or self.is_between():
+            super().reverse_index()
+        self.wrap = False
+
+    def insert_or_delete_lines(self, n, is_insert):
+        if self.is_between():
+            is_inside = self.top <= self.row <= self.bottom
+            super().insert_or_delete_lines(n, is_insert)
+            self.column = self.left() if is_inside else self.column
+        self.wrap = False
+
+    def change_cells(self, n, final):
+        line = self.cells[self.row - 1]
+        if final == "X":
+            super().change_cells(n, final)
+        elif self.is_between():
+            kept = line[self.right():]
+            del line[self.right():]
+            super().change_cells(min(n, self.right() - self.column + 1), final)
+            line[self.right():] = kept
+        self.wrap = False
+
+    def scroll(self, first, n):
+        """Moves the rows in the columns between the margins."""
+        old = [list(line) for line in self.cells]
+        super().scroll(first, n)
+        for line, kept in zip(self.cells, old):
+            line[:self.left() - 1], line[self.right():] = kept[:self.left() - 1], kept[self.right():]
 
     def scroll_by(self, n):
         """Moves the rows between the margins up by n, or down by -n."""
@@ -75,13 +223,13 @@ class Xterm(Utf8Terminal):
         self.scroll(self.top, n)
 
     def scroll_off(self, n):
-        if not self.is_alternate:
+        if not self.is_alternate and (self.left(), self.right()) == (1, self.width):
             super().scroll_off(n)
 
     def repeat(self, n):
         """Writes the glyph before the cursor n times, or with the wrap flag the one under it. The end of the row is the end."""
         column = self.column if self.wrap else self.column - 1
-        room = self.width if self.wrap else self.width - column
+        room = self.right() - self.left() + 1 if self.wrap else self.last_reached() - column
         if column:
             glyph, _ = self.cells[self.row - 1][column - 1]
             for _ in range(min(n, room)):
@@ -94,6 +242,10 @@ class Xterm(Utf8Terminal):
             MODES[number](self, is_set)
         elif not is_private or number != 3 or self.allows_columns:
             super().change_mode(number, is_private, is_set)
+
+    def column_mode(self, width):
+        self.fill_sides(width)
+        super().column_mode(width)
 
     def show(self, is_alternate):
         """Shows a page. If it has another width than the screen, it first changes as by DECCOLM."""
@@ -116,7 +268,7 @@ class Xterm(Utf8Terminal):
 
     def save_or_restore(self, is_saved):
         """?1048."""
-        super().plain_escape("7" if is_saved else "8")
+        self.plain_escape("7" if is_saved else "8")
 
     def show_and_save(self, is_alternate):
         """?1049."""
@@ -154,8 +306,10 @@ def without_colours(values):
 FUNCTIONS = {
     "G": Xterm.to_column,
     "`": Xterm.to_column,
-    "a": lambda terminal, n: terminal.to_column(terminal.column + n),
-    "d": lambda terminal, n: terminal.position(n, terminal.column),
+    "C": Xterm.right_by,
+    "D": Xterm.left_by,
+    "a": Xterm.columns_right,
+    "d": Xterm.to_line,
     "e": Xterm.lines_down,
     "E": Xterm.next_lines,
     "F": Xterm.previous_lines,
@@ -168,6 +322,7 @@ FUNCTIONS = {
 MODES = {
     40: Xterm.allow_columns,
     47: Xterm.show,
+    69: Xterm.allow_sides,
     1047: Xterm.show_and_leave_blank,
     1048: Xterm.save_or_restore,
     1049: Xterm.show_and_save,

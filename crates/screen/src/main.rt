@@ -1,4 +1,5 @@
-//! Plays the bytes of standard input on a terminal, and prints its screen as text. It is the smallest program over the core.
+//! The smallest program over the core, which plays the bytes of standard input on a terminal, and prints its screen as
+//! text.
 #![tactic(auto)]
 
 use std::io::{self, Input, Read, Write};

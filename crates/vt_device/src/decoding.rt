@@ -1,9 +1,9 @@
-//! How the host's bytes become the terminal's: here as they are. A further one is a type of a crate above.
+//! Decodings of the host's bytes to the terminal's. One leaves them as they are. The others are types of crates above.
 ghost use Rattle.std.specs.Prelude.{◌≡◌, ◌*◌, ◌≤◌, ◌++◌, [], ℕ, List, length, IfOk};
 
 use std::alloc::{AllocError, Global};
 
-/// How the host's bytes become the terminal's.
+/// A decoding of the host's bytes to the terminal's.
 pub trait Decoding: Drop {
     /// The terminal's bytes may be these, if the host's are those.
     ghost Translates: { List ℕ → List ℕ → Type 0 };
@@ -40,7 +40,7 @@ pub trait Decoding: Drop {
         ensures { result.now ≡ held self.now chunk.now };
 }
 
-/// The host's bytes are the terminal's.
+/// The decoding that leaves the host's bytes as they are.
 #[derive(Drop)]
 pub struct Plain;
 

@@ -1,4 +1,4 @@
-//! Why a request ends early.
+//! The reasons for which a request ends early.
 ghost use Rattle.std.specs.Prelude.{◌≡◌, Some};
 ghost use Rattle.vt_device.specs.Fault.{status_of, has_front, status_with, line_of, message_of};
 
@@ -24,7 +24,7 @@ pub struct Break {
     pub at: u64,
 }
 
-/// Why a request ends early. The message is the line that the program prints.
+/// The reason for which a request ends early. The message is the line that the program prints.
 #[derive(Clone, Copy, Debug, PartialEq, Eq)]
 pub enum Fault {
     /// An allocation failed.
@@ -39,7 +39,8 @@ pub enum Fault {
     TooLong,
     /// The recording breaks its format at this place. The bytes before it were played, and the output that is due was written.
     Broken(Break),
-    /// The beginning of the input decided on its format, which has no times, and the moment is one. Nothing was written.
+    /// The beginning of the input decided on its format, which has no times, but the request has a time as its moment.
+    /// Nothing was written.
     NoTimes,
 }
 
@@ -69,7 +70,8 @@ impl Fault {
         }
     }
 
-    /// Returns the status with which the program ends, by whether it is enough what came before the recording broke its format.
+    /// Returns the status with which the program ends. `partial` says whether what came before the recording broke its
+    /// format is enough.
     pub fn status_with(&self, partial: bool) -> u8
         ensures { result ≡ status_with partial self.now }
     {

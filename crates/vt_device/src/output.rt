@@ -22,13 +22,13 @@ pub trait Output: Drop {
     /// The bytes that are written at the end of those that come.
     ghost ending: { Self → List ℕ → List ℕ };
 
-    /// Whether the bytes for the end of those that come are there.
+    /// Whether the output has bytes to write at the end of those that come.
     ghost there: { Self → List ℕ → Bool };
 
-    /// The most bytes that it takes at once.
+    /// The most bytes that the output takes at once.
     ghost most: { Self → ℕ };
 
-    /// How many bytes and report bytes were counted.
+    /// The number of bytes and report bytes that were counted.
     ghost counted: { Self → ℕ };
 
     /// The capacity of what is written at once.

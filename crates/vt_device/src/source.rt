@@ -1,4 +1,4 @@
-//! Reads bytes from a watched device, or from memory.
+//! Sources of bytes: watched devices, and memory.
 ghost use Rattle.std.specs.Prelude.{◌≡◌, ◌||◌, ℕ, List, Bool, Option};
 ghost use Rattle.std.specs.Io.{ReadsAtMost};
 ghost use Rattle.std.specs.Io.KnownBytes.{ReadConsumes};

@@ -1,4 +1,4 @@
--- How a glyph is encoded in one byte: by its spelling. Among the public clauses only those of `Glyph::code` use it.
+-- The encoding of a glyph in one byte, by its spelling. Among the public clauses only those of `Glyph::code` use it.
 use Rattle.std.specs.Prelude.{◌≡◌, ℕ, ◌+◌, ◌-◌, List, nat_lt, if◌then◌else◌}
 use Rattle.std.proofs.Common.{arith, sym, ap, ◌∙◌}
 use Rattle.std.proofs.lemmas.Bool.Decides.{nat_tests}
@@ -49,7 +49,7 @@ pub encoding_of-encoded_glyph : (byte : ℕ) → IsEncoding byte → encoding_of
 unfolding encoding_of
 encoding_of-encoded_glyph byte h = rw h.spelling (grind (arith, nat_tests))
 
--- the fields of a `Glyph` are had back from its Unicode number
+-- the fields of a `Glyph` follow from its Unicode number
 pub fields_back : (g : Inside) → IsEncoding g.byte → g.second ≡ 0 → g.third ≡ 0
     → record { byte = encoding_of (encoded_glyph g.byte); second = 0; third = 0 } ≡ g
 fields_back g h second third =

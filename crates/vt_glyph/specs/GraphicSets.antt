@@ -18,7 +18,7 @@ pub record AreSoundSets (sets : GraphicSets) : Type 0 where
   pub right : (1 ≤ sets.right) × (sets.right < 4)
   pub pending : ForSome sets.pending (λ slot. (2 ≤ slot) × (slot < 4))
 
--- none is 0
+-- a pending single shift as a number, 0 if there is none
 abbrev pub pending_number : Option ℕ → ℕ
 pending_number None = 0
 pending_number (Some slot) = slot + 1

@@ -1,4 +1,4 @@
-//! Has the glyphs that cells show, and how they are spelled.
+//! The glyphs that cells show, and their spelling.
 ghost use Rattle.std.specs.Prelude.{◌≡◌, ◌≤◌, ◌<◌};
 
 use std::marker::Model;
@@ -12,8 +12,8 @@ use std::marker::Model;
 #[derive(Clone, Copy, Debug)]
 pub struct Glyph {
     byte: u8,
-    // Always 0. With these two a cell of the screen is eight bytes without a gap. They are written and compared as one
-    // word.
+    // `second` and `third` are always 0. With them a cell of the screen is eight bytes without a gap, which are written
+    // and compared as one word.
     second: u8,
     third: u8,
 }

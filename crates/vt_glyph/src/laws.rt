@@ -18,7 +18,7 @@ pub fn glyphs()
 {}
 
 /// States that a byte with a glyph in either half is read through the sets in GL and GR if no single shift is pending.
-/// It leaves the sets.
+/// Reading it leaves the sets unchanged.
 pub fn in_use()
     ensures { InUseLaws }
 {}

@@ -25,7 +25,7 @@ use Rattle.vt_utf8.specs.Translation.{is_at_end, unshifted, translation, write_w
 use Rattle.vt_utf8.proofs.Wide.{silently, PlaysTwo, is-beyond}
 use Rattle.vt_laws.specs.Wide.{left_wide}
 use Rattle.vt_xterm.proofs.Stays.{Fits, next_line-fits, write_glyph-fits, chosen-fits}
-use Rattle.vt_laws.specs.Characters.{held_beyond}
+use Rattle.vt_xterm.specs.Bounded.{held_beyond}
 
 -- a play that leaves the width, and this held part
 pub record Leaves (p : Played) (s : State) (h : Held) : Type 0 where

@@ -16,4 +16,5 @@ mod Returned
 mod RepeatedGlyphs
 mod Found
 mod PlainTables
+mod XtermBounded
 mod XtermIgnored

@@ -14,7 +14,7 @@ use Rattle.vt_recording.specs.declared.format.TerminalType.TheVariants.{Vt220}
 use Rattle.vt_cli.specs.declared.asked.Request.{Request}
 use Rattle.vt_cli.specs.declared.what.What.TheVariants as what
 use Rattle.vt_cli.specs.declared.what.Word.{Word}
-use Rattle.vt_cli.specs.declared.what.Word.TheVariants.{Replay, Animation, Log, Pages, Trace, Summary, Events, Content, Search}
+use Rattle.vt_cli.specs.declared.what.Word.TheVariants.{Replay, Animation, Log, Pages, Trace, Summary, Events, Content, Search, Index}
 use Rattle.vt_cli.specs.CommandLine.{vt220, word_name, found_in}
 use Rattle.vt_cli.specs.declared.what.Looks.{Looks}
 use Rattle.vt_cli.specs.Request.{word_looks, IsFound, IsRequest}
@@ -43,7 +43,8 @@ word_of name None =
     if bytes_eq name (codes "trace") then Some Trace else (
     if bytes_eq name (codes "summary") then Some Summary else (
     if bytes_eq name (codes "events") then Some Events else (
-    if bytes_eq name (codes "content") then Some Content else Some Search)))))))))))
+    if bytes_eq name (codes "content") then Some Content else (
+    if bytes_eq name (codes "search") then Some Search else Some Index))))))))))))
 
 own-name : (word : Word) → word_of (word_name word) (word_looks word) ≡ Some word
 own-name (Replay what.Text) = refl
@@ -60,6 +61,7 @@ own-name Summary = refl
 own-name Events = refl
 own-name Content = refl
 own-name Search = refl
+own-name Index = refl
 
 some-word : (a b : Word) → Some a ≡ Some b → a ≡ b
 some-word a b h = cc
@@ -118,6 +120,7 @@ named-none Summary = refl
 named-none Events = refl
 named-none Content = refl
 named-none Search = refl
+named-none Index = refl
 
 plain-terminal : (word : Word) (file : Option Text) (r : Request) → AsksFor word file r → (plain_host r).terminal ≡ Vt220
 plain-terminal word file r asks =

@@ -444,7 +444,7 @@ taken_as taken f name h = go (f.takes 24 taken) h
     go true k = refl
     go false k = absurd (no_some name k)
 
-print_test : (b : ℕ) → print_name b ≡ None → has_no_glyph b ≡ true
+pub print_test : (b : ℕ) → print_name b ≡ None → has_no_glyph b ≡ true
 print_test b h = go (has_no_glyph b) h
   where
     go : (t : Bool) → (if t then None else Some (codes "text")) ≡ None → t ≡ true

@@ -6,6 +6,7 @@ use Rattle.std.proofs.lemmas.Bool.Decides.{nat_tests}
 use Rattle.arrayvec.specs.ArrayVec.{ArrayVec}
 use Rattle.vt_syntax.specs.declared.event.Event.{Event}
 use Rattle.vt_syntax.specs.declared.event.Event.TheVariants.{Print, Control, Escape, Sequence}
+use Rattle.vt_screen.specs.declared.cell.Cell.{Cell}
 use Rattle.vt_screen.specs.Cells.{blank}
 use Rattle.vt_screen.specs.Grid.{Grid, cell_at, row_of, scroll_up, is_within}
 use Rattle.vt_screen.proofs.Places.{length-row_of, get_or-row_of, row_of-same}
@@ -15,9 +16,11 @@ use Rattle.vt_term.specs.Parameters.{count}
 use Rattle.vt_term.specs.Moving.{next_line}
 use Rattle.vt_term.specs.Writing.{after_wrap, put_glyph, write_glyph}
 use Rattle.vt_term.specs.Scrolling.{is_at_end, line_off}
-use Rattle.vt_xterm.specs.Pages.{Screens}
+use Rattle.vt_xterm.specs.declared.sides.Sides.{Sides}
+use Rattle.vt_xterm.specs.Pages.{Screens, bounds_of}
 use Rattle.vt_xterm.specs.Front.{functions_of, function_in, xterm_effect}
-use Rattle.vt_xterm.specs.Log.{first_rows, function_off, page_line_off, xterm_line_off}
+use Rattle.vt_xterm.specs.Log.{first_rows, function_off, page_line_off, line_off_between, xterm_line_off}
+use Rattle.vt_xterm.proofs.NoSides.{effect-unbounded, line-by}
 use Rattle.vt_laws.specs.Scrolls.{scroll_up_event, is_scrolling}
 
 -- row 1 stays if the rows that move begin below it
@@ -36,29 +39,32 @@ not-one top some other = grind (arith, nat_tests)
 same-one : (n : ℕ) → n ≡ 1 → (n == 1) ≡ true
 same-one n is = grind (arith, nat_tests)
 
-pub rows-move : (params : ArrayVec ℕ) (s : Screens) → s.display.margins.top ≡ 1
+pub rows-move : (params : ArrayVec ℕ) (s : Screens) → bounds_of s ≡ None → s.display.margins.top ≡ 1
     → ((xterm_effect (scroll_up_event params) s).display.grid
     ≡ scroll_up s.display.grid 1 s.display.margins.bottom (count params.items))
     × (page_line_off (scroll_up_event params) s.display
     ≡ first_rows (min s.display.margins.bottom (count params.items)) s.display.grid)
 unfolding functions_of function_in function_off
-rows-move params s first =
+rows-move params s none first =
     let bottom = s.display.margins.bottom in
     let n = count params.items in
     let g = s.display.grid in (
-      ap (λ (t : ℕ). scroll_up g t bottom n) first,
+      ap (λ (t : Screens). t.display.grid) (effect-unbounded (scroll_up_event params) s none)
+          ∙ ap (λ (t : ℕ). scroll_up g t bottom n) first,
       ap (λ (b : Bool). if b then first_rows (min bottom n) g else []) (same-one s.display.margins.top first),
     )
 
-pub rows-stay : (params : ArrayVec ℕ) (s : Screens) → IsSoundDisplay s.display → (s.display.margins.top == 1) ≡ false
+pub rows-stay : (params : ArrayVec ℕ) (s : Screens) → bounds_of s ≡ None → IsSoundDisplay s.display
+    → (s.display.margins.top == 1) ≡ false
     → (row_of (xterm_effect (scroll_up_event params) s).display.grid 1 ≡ row_of s.display.grid 1)
     × (page_line_off (scroll_up_event params) s.display ≡ [])
 unfolding functions_of function_in function_off
-rows-stay params s sound other =
+rows-stay params s none sound other =
     let bottom = s.display.margins.bottom in
     let n = count params.items in
     let g = s.display.grid in (
-      above-stays g s.display.margins.top bottom n sound.grid.shape.size.rows.0 (not-one s.display.margins.top sound.margins.from_row_1 other),
+      ap (λ (t : Screens). row_of t.display.grid 1) (effect-unbounded (scroll_up_event params) s none)
+          ∙ above-stays g s.display.margins.top bottom n sound.grid.shape.size.rows.0 (not-one s.display.margins.top sound.margins.from_row_1 other),
       ap (λ (b : Bool). if b then first_rows (min bottom n) g else []) other,
     )
 
@@ -126,8 +132,18 @@ others-off (Sequence (Some marker) params None last) s h = refl
 others-off (Sequence (Some marker) params (Some inter) last) s h = refl
 
 pub alternate-off : (event : Event) (s : Screens) → s.pages.alternate ≡ true → xterm_line_off event s ≡ []
-alternate-off event s is = ap (λ (b : Bool). if b then [] else page_line_off event s.display) is
+alternate-off event s is =
+    ap (λ (b : Bool). if b then [] else line_off_between event (bounds_of s) s.display) is
 
-pub main-off : (event : Event) (s : Screens) → s.pages.alternate ≡ false
+pub main-off : (event : Event) (s : Screens) → bounds_of s ≡ None → s.pages.alternate ≡ false
     → xterm_line_off event s ≡ page_line_off event s.display
-main-off event s is = ap (λ (b : Bool). if b then [] else page_line_off event s.display) is
+main-off event s none is =
+    line-by event s None none ∙ ap (λ (b : Bool). if b then [] else page_line_off event s.display) is
+
+-- between left and right margins
+none-either : (b : Bool) (rows : List (List Cell)) → rows ≡ [] → (if b then [] else rows) ≡ []
+none-either true rows none = refl
+none-either false rows none = none
+
+pub between-off : (event : Event) (s : Screens) (m : Sides) → bounds_of s ≡ Some m → xterm_line_off event s ≡ []
+between-off event s m is = line-by event s (Some m) is ∙ none-either s.pages.alternate [] refl

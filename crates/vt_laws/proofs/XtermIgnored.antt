@@ -18,20 +18,23 @@ use Rattle.vt_term.specs.Rendition.{rendition_changes, with_attribute, with_rend
 use Rattle.vt_term.specs.Resets.{is_level}
 use Rattle.vt_term.specs.Functions.{numbers_of, sequences_of, effect}
 use Rattle.vt_term.specs.Reports.{report, sequence_report}
-use Rattle.vt_term.specs.Names.{name_of, plain_escape_name, sequence_name_on}
-use Rattle.vt_term.specs.Saving.{save_cursor, restore_cursor}
-use Rattle.vt_trace.proofs.Tables.{no_some, absent, none_known}
+use Rattle.vt_term.specs.Names.{name_of, plain_escape_name, escape_with_name, sequence_name_on}
+use Rattle.vt_trace.proofs.Tables.{absent, none_known}
 use Rattle.vt_xterm.specs.Attributes.{without_colours}
-use Rattle.vt_xterm.specs.Pages.{Screens, on_display, page_modes, with_page_mode, change_page_modes}
+use Rattle.vt_xterm.specs.declared.sides.Sides.{Sides}
+use Rattle.vt_xterm.specs.Pages.{Screens, on_display, page_modes, with_page_mode, change_page_modes, restore_screens, bounds_of}
+use Rattle.vt_xterm.specs.Bounded.{is_bare}
 use Rattle.vt_xterm.specs.Scroll.{rows_down_by}
-use Rattle.vt_xterm.specs.Front.{FunctionTable, is_bare, set_level_wrapping, plain_functions, private_functions, functions_of, function_in, xterm_effect}
+use Rattle.vt_xterm.specs.Front.{FunctionTable, set_level_without_sides, plain_functions, private_functions, functions_of, function_in}
+use Rattle.vt_xterm.specs.Front.{screen_effect, effect_between, xterm_effect}
 use Rattle.vt_xterm_trace.specs.Names.{Named, NameTable, taking, is_one, has_attribute, has_mode, plain_names, private_names}
 use Rattle.vt_xterm_trace.specs.Names.{name_with, name_in, xterm_sequence_name, xterm_names}
 use Rattle.vt_laws.proofs.Rows.{nameless_alone}
+use Rattle.vt_laws.proofs.XtermBounded.{by_none, bounded-same}
 
--- a control sequence leaves the screens as they are, and reports nothing
+-- without left and right margins an event leaves the screens as they are, and reports nothing
 abbrev Alone : Event → Screens → Type 0
-Alone event s = (xterm_effect event s ≡ s) × (report event s.display ≡ [])
+Alone event s = (screen_effect event s ≡ s) × (report event s.display ≡ [])
 
 -- ---- two tables, of functions and of names
 
@@ -76,9 +79,6 @@ walk marker (f ∷ fs) (n ∷ ns) idle params last otherwise s h alone =
 
 -- ---- the rows
 
-by_none : {X : Type 0} (name : List ℕ) → Some name ≡ None → X
-by_none name h = absurd (no_some name (sym h))
-
 one-idle : (f : List ℕ → Display → Display) → (name values : List ℕ) → ((values : List ℕ) → (length values == 1) ≡ false → (d : Display) → f values d ≡ d)
     → name_with values (taking is_one name) ≡ None → (s : Screens) → on_display (f values) s ≡ s
 one-idle f name [] idle h s = ap (λ (d : Display). record s { display = d }) (idle [] refl s.display)
@@ -87,11 +87,11 @@ one-idle f name (v ∷ (w ∷ values)) idle h s =
     let many : (length (v ∷ (w ∷ values)) == 1) ≡ false = grind (arith, nat_tests) in
     ap (λ (d : Display). record s { display = d }) (idle (v ∷ (w ∷ values)) many s.display)
 
-bare-idle : (f : Display → Display) → (name values : List ℕ) → name_with values (taking is_bare name) ≡ None → (s : Screens)
-    → on_display (λ d. if is_bare values then f d else d) s ≡ s
+bare-idle : (f : Screens → Screens) → (name values : List ℕ) → name_with values (taking is_bare name) ≡ None → (s : Screens)
+    → (if is_bare values then f s else s) ≡ s
 bare-idle f name values h s = go (is_bare values) refl
   where
-    go : (b : Bool) → is_bare values ≡ b → on_display (λ d. if is_bare values then f d else d) s ≡ s
+    go : (b : Bool) → is_bare values ≡ b → (if is_bare values then f s else s) ≡ s
     go true is = by_none name (rw is at h)
     go false is = rw is refl
 
@@ -144,7 +144,7 @@ private-idle = (
 plain-idle : AllIdle None plain_functions plain_names
 unfolding sequence_report sequences_of
 plain-idle =
-    ((refl, (λ values h s. by_none _ h, λ params d. refl)), ((refl, (λ values h s. by_none _ h, λ params d. refl)), ((refl, (λ values h s. by_none _ h, λ params d. refl)), ((refl, (λ values h s. by_none _ h, λ params d. refl)), ((refl, (λ values h s. by_none _ h, λ params d. refl)), ((refl, (λ values h s. one-idle rows_down_by _ values (λ values many d. rw many refl) h s, λ params d. refl)), ((refl, (λ values h s. by_none _ h, λ params d. refl)), ((refl, (λ values h s. by_none _ h, λ params d. refl)), ((refl, (λ values h s. by_none _ h, λ params d. refl)), ((refl, (λ values h s. by_none _ h, λ params d. refl)), ((refl, (λ values h s. by_none _ h, λ params d. refl)), ((refl, (λ values h s. by_none _ h, λ params d. refl)), ((refl, (λ values h s. by_none _ h, λ params d. refl)), ((refl, (λ values h s. rendition-idle _ values h s, λ params d. refl)), ((refl, (λ values h s. bare-idle save_cursor _ values h s, λ params d. refl)), ((refl, (λ values h s. bare-idle restore_cursor _ values h s, λ params d. refl)), tt))))))))))))))))
+    ((refl, (λ values h s. by_none _ h, λ params d. refl)), ((refl, (λ values h s. by_none _ h, λ params d. refl)), ((refl, (λ values h s. by_none _ h, λ params d. refl)), ((refl, (λ values h s. by_none _ h, λ params d. refl)), ((refl, (λ values h s. by_none _ h, λ params d. refl)), ((refl, (λ values h s. one-idle rows_down_by _ values (λ values many d. rw many refl) h s, λ params d. refl)), ((refl, (λ values h s. by_none _ h, λ params d. refl)), ((refl, (λ values h s. by_none _ h, λ params d. refl)), ((refl, (λ values h s. by_none _ h, λ params d. refl)), ((refl, (λ values h s. by_none _ h, λ params d. refl)), ((refl, (λ values h s. by_none _ h, λ params d. refl)), ((refl, (λ values h s. by_none _ h, λ params d. refl)), ((refl, (λ values h s. by_none _ h, λ params d. refl)), ((refl, (λ values h s. rendition-idle _ values h s, λ params d. refl)), ((refl, (λ values h s. by_none _ h, λ params d. refl)), ((refl, (λ values h s. bare-idle restore_screens _ values h s, λ params d. refl)), tt))))))))))))))))
 
 -- ---- events
 
@@ -159,11 +159,29 @@ module _ (base : IsSoundDisplay display_at_power_up) where
   escape-alone : (last : ℕ) (s : Screens) → name_of (Escape None last) ≡ None → s.display.grid.size ≡ vt220_size
       → Alone (Escape None last) s
   unfolding function_in plain_escape_name
-  escape-alone last s h sized = go (last == 0x63) refl
+  escape-alone last s h sized = go (last == 0x38) refl (last == 0x63) refl
     where
-      go : (b : Bool) → (last == 0x63) ≡ b → Alone (Escape None last) s
-      go true is = by_none _ (subst (λ k. name_of (Escape None k) ≡ None) (eqb-true last 0x63 is) h)
-      go false is = let left = terminals-alone (Escape None last) s h sized in (rw is left.0, left.1)
+      go : (back : Bool) → (last == 0x38) ≡ back → (reset : Bool) → (last == 0x63) ≡ reset → Alone (Escape None last) s
+      go true is reset other = by_none _ (subst (λ k. name_of (Escape None k) ≡ None) (eqb-true last 0x38 is) h)
+      go false not_back true is = by_none _ (subst (λ k. name_of (Escape None k) ≡ None) (eqb-true last 0x63 is) h)
+      go false not_back false is =
+          let left = terminals-alone (Escape None last) s h sized in (rw (not_back, is) left.0, left.1)
+
+  -- DECALN
+  alignment-alone : (inter last : ℕ) (s : Screens) → name_of (Escape (Some inter) last) ≡ None → s.display.grid.size ≡ vt220_size
+      → Alone (Escape (Some inter) last) s
+  unfolding function_in escape_with_name
+  alignment-alone inter last s h sized = go (inter == 0x23) refl (last == 0x38) refl
+    where
+      named : (i : ℕ) → inter ≡ i → last ≡ 0x38 → name_of (Escape (Some i) 0x38) ≡ None
+      named i is at =
+          subst (λ k. name_of (Escape (Some i) k) ≡ None) at (subst (λ j. name_of (Escape (Some j) last) ≡ None) is h)
+
+      go : (a : Bool) → (inter == 0x23) ≡ a → (b : Bool) → (last == 0x38) ≡ b → Alone (Escape (Some inter) last) s
+      go true is true at = by_none _ (named 0x23 (eqb-true inter 0x23 is) (eqb-true last 0x38 at))
+      go true is false at =
+          let left = terminals-alone (Escape (Some inter) last) s h sized in (rw (is, at) left.0, left.1)
+      go false is b at = let left = terminals-alone (Escape (Some inter) last) s h sized in (rw is left.0, left.1)
 
   no-table : (marker : Option ℕ) (params : ArrayVec ℕ) (last : ℕ) (s : Screens) → s.display.grid.size ≡ vt220_size
       → sequence_name_on last_row marker None last params.items ≡ None → Does marker [] params last s
@@ -209,34 +227,43 @@ module _ (base : IsSoundDisplay display_at_power_up) where
           subst (λ k. name_of (Sequence None params (Some i) k) ≡ None) at
           (subst (λ j. name_of (Sequence None params (Some j) last) ≡ None) is h)
 
-      level : is_level (first params.items) (second params.items) ≡ false → set_level_wrapping params.items s.display ≡ s.display
+      level : is_level (first params.items) (second params.items) ≡ false → set_level_without_sides params.items s ≡ s
       level low = rw low refl
 
       quoted : (b : Bool) → is_level (first params.items) (second params.items) ≡ b → name_of (Sequence None params (Some 0x22) 0x70) ≡ None
-          → set_level_wrapping params.items s.display ≡ s.display
+          → set_level_without_sides params.items s ≡ s
       quoted true high k = by_none _ (rw high at k)
       quoted false low k = level low
 
       go : (q e p : Bool) → (inter == 0x22) ≡ q → (inter == 0x21) ≡ e → (last == 0x70) ≡ p
           → on_display (effect (Sequence None params (Some inter) last)) s ≡ s
-          → xterm_effect (Sequence None params (Some inter) last) s ≡ s
+          → screen_effect (Sequence None params (Some inter) last) s ≡ s
       go true e true is other at left =
-          rw (is, at) (ap (λ (d : Display). record s { display = d })
-          (quoted (is_level (first params.items) (second params.items)) refl (named 0x22 (eqb-true inter 0x22 is) (eqb-true last 0x70 at))))
+          rw (is, at) (quoted (is_level (first params.items) (second params.items)) refl
+          (named 0x22 (eqb-true inter 0x22 is) (eqb-true last 0x70 at)))
       go true e false is other at left = rw (is, at) (rw is at left)
       go false true true not_quote is at left = by_none _ (named 0x21 (eqb-true inter 0x21 is) (eqb-true last 0x70 at))
       go false true false not_quote is at left = rw (not_quote, is, at) (rw (not_quote, is) at left)
       go false false p not_quote other at left = rw (not_quote, other) (rw (not_quote, other) at left)
 
-  pub xterm-alone : (event : Event) (s : Screens) → xterm_names last_row event ≡ None → s.display.grid.size ≡ vt220_size
+  screen-alone : (event : Event) (s : Screens) → xterm_names last_row event ≡ None → s.display.grid.size ≡ vt220_size
       → Alone event s
   unfolding functions_of xterm_sequence_name function_in
-  xterm-alone (Print b) s h sized = terminals-alone (Print b) s h sized
-  xterm-alone (Control b) s h sized = terminals-alone (Control b) s h sized
-  xterm-alone (Escape None last) s h sized = escape-alone last s h sized
-  xterm-alone (Escape (Some inter) last) s h sized = terminals-alone (Escape (Some inter) last) s h sized
-  xterm-alone (Sequence None params None last) s h sized = plain-alone params last s h sized
-  xterm-alone (Sequence (Some marker) params None last) s h sized = marked-alone marker params last s h sized
-  xterm-alone (Sequence None params (Some inter) last) s h sized = inter-alone inter params last s h sized
-  xterm-alone (Sequence (Some marker) params (Some inter) last) s h sized =
+  screen-alone (Print b) s h sized = terminals-alone (Print b) s h sized
+  screen-alone (Control b) s h sized = terminals-alone (Control b) s h sized
+  screen-alone (Escape None last) s h sized = escape-alone last s h sized
+  screen-alone (Escape (Some inter) last) s h sized = alignment-alone inter last s h sized
+  screen-alone (Sequence None params None last) s h sized = plain-alone params last s h sized
+  screen-alone (Sequence (Some marker) params None last) s h sized = marked-alone marker params last s h sized
+  screen-alone (Sequence None params (Some inter) last) s h sized = inter-alone inter params last s h sized
+  screen-alone (Sequence (Some marker) params (Some inter) last) s h sized =
       terminals-alone (Sequence (Some marker) params (Some inter) last) s h sized
+
+  -- with any margins
+  pub xterm-alone : (event : Event) (s : Screens) → xterm_names last_row event ≡ None → s.display.grid.size ≡ vt220_size
+      → (xterm_effect event s ≡ s) × (report event s.display ≡ [])
+  xterm-alone event s h sized = let alone = screen-alone event s h sized in (go (bounds_of s) alone.0, alone.1)
+    where
+      go : (b : Option Sides) → screen_effect event s ≡ s → effect_between event b s ≡ s
+      go None same = same
+      go (Some m) same = bounded-same event m s sized h same

@@ -2,15 +2,10 @@
 use Rattle.std.specs.Prelude.{ℕ, List, [], ◌∷◌, ◌++◌, nat_lt, if◌then◌else◌}
 use Rattle.vt_syntax.specs.declared.event.Event.{Event}
 use Rattle.vt_syntax.specs.declared.held.Held.{Held}
-use Rattle.vt_syntax.specs.declared.held.Held.TheVariants as held
 use Rattle.vt_syntax.specs.Held.{events_from, held_from}
+use Rattle.vt_xterm.specs.Bounded.{held_beyond}
 
--- what is held after such a character: a string goes on, and a sequence is cut off
-abbrev pub held_beyond : Held → Held
-held_beyond (held.Text osc) = held.Text osc
-held_beyond _ = held.Nothing
-
--- of characters after a held part, each ASCII character by its byte
+-- the events of characters after a held part, each ASCII character by its byte
 abbrev pub events_of_characters : Held → List ℕ → List Event
 events_of_characters h [] = []
 events_of_characters h (c ∷ cs) =

@@ -63,9 +63,10 @@ pub fn moves()
     soundness();
 }
 
-/// States that the text of a screen comes back. If its rows are placed in UTF-8 on a screen of spaces as wide as it, that
-/// screen has the same text. The terminal takes text there: it is between sequences, reads ASCII as itself, writes over
-/// cells and counts rows from the top. Each glyph's character writes that glyph. None of this causes a report.
+/// States that the text of a screen comes back. If its rows are placed in UTF-8 on a screen of spaces of the same
+/// width, that screen has the same text. The terminal takes text there: it is between sequences, reads ASCII as itself,
+/// writes over cells and counts rows from the top. Each glyph's character writes that glyph. None of this causes a
+/// report.
 pub fn round_trip()
     ensures glyph { (s : State) (n : ℕ) → IsSound s → TakesText s → IsGlyph n
         → play_utf8 s [] (encode_utf8 n)

@@ -24,7 +24,7 @@ use Rattle.vt_paint.specs.Same.{same_saved}
 use Rattle.vt_paint.specs.Controls.{margins_to, brush_events, sets_events, spelling_sets_events, private_mode}
 use Rattle.vt_paint.specs.Controls.{cursor_position, save_cursor}
 use Rattle.vt_paint.specs.Pieces.{glyph_events, pieces, is_blank_grid}
-use Rattle.vt_paint.specs.Items.{cells_item, margins_item, origin_item, position_item, wrap_item, last_items}
+use Rattle.vt_paint.specs.Items.{cells_item, margins_item, origin_item, wrap_item, modes_item, shift_item, placed_items, last_items}
 use Rattle.vt_paint.specs.Items.{saved_events, saved_item}
 use Rattle.vt_paint.proofs.AfterEvents.{display_after, display_after-append, Makes, MakesSome, then_makes, one_makes}
 use Rattle.vt_paint.proofs.AfterEvents.{none_makes}
@@ -57,7 +57,7 @@ part s modes cursor brush sets margins origin = record s {
 
 -- ---- margins and origin
 
-margins_leaves : (s : Display) (modes : Modes) (cursor : Cursor) (brush : Brush) (sets : GraphicSets) (m : Margins)
+pub margins_leaves : (s : Display) (modes : Modes) (cursor : Cursor) (brush : Brush) (sets : GraphicSets) (m : Margins)
     (origin : Bool) → AreSoundMargins s.grid.size.rows m
     → MakesSome (margins_item (bottom_row s) m) (part s modes cursor brush sets (margins_of s.grid.size) origin)
     (λ cursor. part s modes cursor brush sets m origin)
@@ -104,7 +104,7 @@ origin_leaves false s modes cursor brush sets m now false h = record { some = at
 
 -- ---- the cursor
 
-line_back : (s : Display) → IsSoundSizedDisplay s
+pub line_back : (s : Display) → IsSoundSizedDisplay s
     → (cond s.modes.decom (min (s.margins.top + max (line_of_cursor s) 1 - 1) s.margins.bottom)
     (min (max (line_of_cursor s) 1) s.grid.size.rows)) ≡ s.cursor.row
 line_back s i = go s.modes.decom refl
@@ -117,7 +117,7 @@ line_back s i = go s.modes.decom refl
 
 position_leaves : (s : Display) (modes : Modes) (cursor : Cursor) (brush : Brush) (sets : GraphicSets)
     → IsSoundSizedDisplay s
-    → Makes (position_item s) (part s modes cursor brush sets s.margins s.modes.decom)
+    → Makes (cursor_position (line_of_cursor s) s.cursor.col ∷ []) (part s modes cursor brush sets s.margins s.modes.decom)
     (part s modes (at_place s.cursor.row s.cursor.col) brush sets s.margins s.modes.decom)
 position_leaves s modes cursor brush sets i =
     one_makes (cursor_leaves (part s modes cursor brush sets s.margins s.modes.decom) (line_of_cursor s) s.cursor.row
@@ -288,14 +288,14 @@ saved_leaves size wide s cursor sized place sets = go (same_saved s.saved saved_
 
 -- ---- the cells
 
-pub record HasCells (s x : Display) : Type 0 where
+pub record HasCells (s : Display) (wrap : Bool) (x : Display) : Type 0 where
   pub cursor : Cursor
   pub brush : Brush
   pub sets : GraphicSets
   pub is : x ≡ part s modes_at_power_up cursor brush sets (margins_of s.grid.size) false
   pub four : length sets.g ≡ 4
   pub none : sets.pending ≡ None
-  pub spells : s.cursor.wrap ≡ true → AreSpellingSets sets
+  pub spells : wrap ≡ true → AreSpellingSets sets
 
 blank_grid-is : (wide : Bool) (g : Grid) → g.width ≡ width_of g.size wide → IsGrid g → is_blank_grid g ≡ true
     → blank_grid g.size wide ≡ g
@@ -306,11 +306,11 @@ blank_grid-is wide g w is h =
     (λ r c r1 rn c1 cw. sym (is_blank-is (cell_at g r c) (blank_at g g.size.rows r c h r1 (omega arith) c1 cw)))
     ∙ grid_of-cell_at g is.cells
 
-pub cells_leaves : (wide : Bool) (s : Display) (cursor : Cursor) → s.grid.width ≡ width_of s.grid.size wide → IsGrid s.grid
+pub cells_leaves : (wide : Bool) (s : Display) (wrap : Bool) (cursor : Cursor) → s.grid.width ≡ width_of s.grid.size wide → IsGrid s.grid
     → AreGlyphs s.grid → AreSoundSets (saved_sets s.saved)
-    → HasCells s (display_after (with_saved s.grid.size wide s.stops s.saved cursor) (cells_item s.grid s.cursor.wrap))
+    → HasCells s wrap (display_after (with_saved s.grid.size wide s.stops s.saved cursor) (cells_item s.grid wrap))
 unfolding display_after cells_item
-cells_leaves wide s cursor w is are sets = go (is_blank_grid s.grid && not s.cursor.wrap) refl
+cells_leaves wide s wrap cursor w is are sets = go (is_blank_grid s.grid && not wrap) refl
   where
     x0 : Display
     x0 = with_saved s.grid.size wide s.stops s.saved cursor
@@ -321,10 +321,10 @@ cells_leaves wide s cursor w is are sets = go (is_blank_grid s.grid && not s.cur
     base : Display
     base = record x0 { sets = t }
 
-    go : (b : Bool) → is_blank_grid s.grid && not s.cursor.wrap ≡ b
-        → HasCells s (display_after x0 (cond b [] (spelling_sets_events ++ pieces s.grid)))
+    go : (b : Bool) → is_blank_grid s.grid && not wrap ≡ b
+        → HasCells s wrap (display_after x0 (cond b [] (spelling_sets_events ++ pieces s.grid)))
     go true e =
-        let p = and_parts (is_blank_grid s.grid) (not s.cursor.wrap) e in
+        let p = and_parts (is_blank_grid s.grid) (not wrap) e in
         record {
           cursor = cursor;
           brush = s.saved.brush;
@@ -332,7 +332,7 @@ cells_leaves wide s cursor w is are sets = go (is_blank_grid s.grid && not s.cur
           is = ap (λ g. record x0 { grid = g }) (blank_grid-is wide s.grid w is p.0);
           four = sets.four;
           none = refl;
-          spells = λ h. absurd (cc (h, not_true s.cursor.wrap p.1));
+          spells = λ h. absurd (cc (h, not_true wrap p.1));
         }
     go false e =
         let spells = spelling_sets_are (saved_sets s.saved) sets.four refl in
@@ -354,6 +354,31 @@ cells_leaves wide s cursor w is are sets = go (is_blank_grid s.grid && not s.cur
 
 -- ---- the last items
 
+-- 8 to 11, at the cursor
+pub rest_leaves : (known : Bool) (s : Display) (modes : Modes) (brush : Brush) (sets : GraphicSets)
+    → (known ≡ true → modes ≡ modes_at_power_up) → IsSoundSizedDisplay s → length sets.g ≡ 4 → sets.pending ≡ None
+    → Makes (brush_events s.brush ++ (sets_events s.sets ++ (modes_item known s.modes ++ shift_item s.sets.pending)))
+    (part s modes s.cursor brush sets s.margins s.modes.decom) s
+rest_leaves known s modes brush sets is_known i four none =
+    let x5 = part s modes s.cursor s.brush sets s.margins s.modes.decom in
+    let x6 = with_sets x5 s.sets.g s.sets.left s.sets.right in
+    then_makes (brush_leaves _ s.brush) (then_makes (sets_leaves x5 s.sets four i.sets)
+    (then_makes (modes_leave known x6 modes s.modes is_known i.wrap)
+    (shift_leaves (record x6 { modes = s.modes }) s.sets.pending i.sets.pending none)))
+
+pub placed_leaves : (known : Bool) (s : Display) (modes : Modes) (cursor : Cursor) (brush : Brush) (sets : GraphicSets)
+    (origin : Bool)
+    → (known ≡ true → modes ≡ modes_at_power_up) → (known ≡ true → origin ≡ false)
+    → modes.irm ≡ false → modes.decawm ≡ true → IsSoundSizedDisplay s → AreGlyphs s.grid
+    → length sets.g ≡ 4 → sets.pending ≡ None → (s.cursor.wrap ≡ true → AreSpellingSets sets)
+    → Makes (placed_items known s s.cursor.col s.cursor.wrap) (part s modes cursor brush sets s.margins origin) s
+unfolding placed_items
+placed_leaves known s modes cursor brush sets origin is_known was irm decawm i are four none spells =
+    let w2 = origin_leaves known s modes cursor brush sets s.margins origin s.modes.decom was in
+    let w4 = wrap_leaves s modes brush sets irm decawm i.grid.shape i.cursor.wrap_last are spells in
+    then_makes w2.makes (then_makes (position_leaves s modes w2.some brush sets i)
+    (then_makes w4.makes (rest_leaves known s modes w4.some sets is_known i four none)))
+
 pub last_leaves : (known : Bool) (s : Display) (modes : Modes) (cursor : Cursor) (brush : Brush) (sets : GraphicSets)
     (origin : Bool)
     → (known ≡ true → modes ≡ modes_at_power_up) → (known ≡ true → origin ≡ false)
@@ -363,11 +388,5 @@ pub last_leaves : (known : Bool) (s : Display) (modes : Modes) (cursor : Cursor)
 unfolding last_items
 last_leaves known s modes cursor brush sets origin is_known was irm decawm i are four none spells =
     let w1 = margins_leaves s modes cursor brush sets s.margins origin i.margins in
-    let w2 = origin_leaves known s modes w1.some brush sets s.margins origin s.modes.decom was in
-    let w4 = wrap_leaves s modes brush sets irm decawm i.grid.shape i.cursor.wrap_last are spells in
-    let x5 = part s modes s.cursor s.brush sets s.margins s.modes.decom in
-    let x6 = with_sets x5 s.sets.g s.sets.left s.sets.right in
-    then_makes w1.makes (then_makes w2.makes (then_makes (position_leaves s modes w2.some brush sets i)
-    (then_makes w4.makes (then_makes (brush_leaves _ s.brush) (then_makes (sets_leaves x5 s.sets four i.sets)
-    (then_makes (modes_leave known x6 modes s.modes is_known i.wrap)
-    (shift_leaves (record x6 { modes = s.modes }) s.sets.pending i.sets.pending none)))))))
+    then_makes w1.makes
+    (placed_leaves known s modes w1.some brush sets origin is_known was irm decawm i are four none spells)

@@ -90,7 +90,7 @@ painted_put under g r c =
     grind (arith, nat_tests, was))
 
 -- a cell that is put again
-put_same : (g : Grid) (r c : ℕ) → IsGrid g → put g r c (cell_at g r c) ≡ g
+pub put_same : (g : Grid) (r c : ℕ) → IsGrid g → put g r c (cell_at g r c) ≡ g
 put_same g r c is =
     grid_of-same g.size g.width
     (λ i j. cond (eqb i r) (cond (eqb j c) (cell_at g r c) (cell_at g r j)) (cell_at g i j)) (cell_at g)

@@ -1,10 +1,13 @@
 -- The whole repaint and all changes: what is made of any display, and how the bytes are played.
 use Rattle.std.proofs.Common.{Bool, true, false, List, [], refl, ap, ◌∙◌, ◌≡◌, ◌+◌, ◌*◌, ◌≤◌, ℕ, ◌∷◌, ◌++◌, length}
-use Rattle.std.proofs.Common.{length-append, drop, sym, subst, arith}
+use Rattle.std.proofs.Common.{length-append, drop, sym, subst, arith, None}
 use Rattle.vt_glyph.specs.GraphicSets.{GraphicSets}
 use Rattle.vt_glyph.specs.Invocation.{sets_at_power_up}
 use Rattle.vt_screen.specs.Cells.{plain_brush}
+use Rattle.vt_term.specs.declared.state.Cursor.{Cursor}
 use Rattle.vt_term.specs.declared.state.Modes.{Modes}
+use Rattle.vt_screen.specs.declared.cell.Brush.{Brush}
+use Rattle.vt_glyph.specs.Spell.{AreSpellingSets}
 use Rattle.vt_term.specs.State.{Display, saved_at_power_up, display_at_power_up, display_of, State, margins_of}
 use Rattle.vt_term.specs.State.{modes_at_power_up}
 use Rattle.vt_term.specs.Sound.{IsSoundDisplayAt, IsSoundSizedDisplay, IsPlace, IsSoundAt}
@@ -19,7 +22,7 @@ use Rattle.vt_paint.proofs.Brushes.{spelling_sets, spelling_sets_leaves, spellin
 use Rattle.vt_paint.proofs.Brushes.{spelling_sets_none}
 use Rattle.vt_paint.proofs.Painting.{shown, IsReady, AreGlyphs, changed_cells_leaves}
 use Rattle.vt_paint.proofs.Chain.{part, recorded, record_leaves, wrap_leaves, last_leaves, with_saved, saved_leaves}
-use Rattle.vt_paint.proofs.Chain.{cells_leaves}
+use Rattle.vt_paint.proofs.Chain.{cells_leaves, margins_leaves, placed_leaves}
 use Rattle.std.proofs.Math.Seq.{drop-append_seam}
 use Rattle.std.specs.Str.{IsAscii}
 use Rattle.vt_syntax.specs.declared.event.Event.{Event}
@@ -33,8 +36,8 @@ use Rattle.vt_syntax.proofs.Cutting.{read, escape}
 use Rattle.vt_screen.specs.declared.size.Size.{Size}
 use Rattle.vt_term.specs.Play.{after_events, play}
 use Rattle.vt_paint.specs.Controls.{reset_to_initial_state}
-use Rattle.vt_paint.specs.Limits.{paint_limit, changes_limit}
-use Rattle.vt_paint.specs.Items.{stops_item, cells_item}
+use Rattle.vt_paint.specs.Limits.{paint_limit, changes_limit, row_digits}
+use Rattle.vt_paint.specs.Items.{stops_item, cells_item, first_items}
 use Rattle.vt_paint.specs.Repaint.{made_events, paint}
 use Rattle.vt_paint.specs.Spoken.{Speaks}
 use Rattle.vt_paint.proofs.Speech.{speaks-ascii}
@@ -101,10 +104,19 @@ played n es more s t fine begins held between leaves =
     let shown : after_events es t.display ≡ s.display = sym (display_after-after_events t.display es) ∙ leaves.is in
     rw (events, rest, shown, fine.silent t.display) refl
 
--- the items lead there from power-up
-pub made_leaves : (s : Display) → IsSoundSizedDisplay s → Makes (made_events s) (display_of s.grid.size) s
-unfolding made_events
-made_leaves s i =
+-- the first items leave all but the cursor, the brush, the sets and the modes; the sets are those of the spellings if a wrap is pending
+pub record HasFirst (s : Display) (wrap : Bool) (es : List Event) : Type 0 where
+  pub cursor : Cursor
+  pub brush : Brush
+  pub sets : GraphicSets
+  pub makes : Makes es (display_of s.grid.size) (part s modes_at_power_up cursor brush sets s.margins false)
+  pub four : length sets.g ≡ 4
+  pub none : sets.pending ≡ None
+  pub spells : wrap ≡ true → AreSpellingSets sets
+
+pub first_leaves : (s : Display) (wrap : Bool) → IsSoundSizedDisplay s → HasFirst s wrap (first_items s wrap)
+unfolding first_items
+first_leaves s wrap i =
     let size : Size = s.grid.size in
     let sized = i.grid.shape.size in
     let wide = i.grid.shape.width.0 in
@@ -113,14 +125,29 @@ made_leaves s i =
     let place = subst (λ (w : ℕ). IsPlace size.rows w s.saved.row s.saved.col s.saved.wrap) is_width i.saved in
     let w1 = stops_leaves size wide s.stops sized i.stops in
     let w2 = saved_leaves size wide s w1.some sized place i.saved_sets in
-    let w3 = cells_leaves wide s w2.some is_width i.grid.shape are i.saved_sets in
-    let cells : Makes (cells_item s.grid s.cursor.wrap) (with_saved size wide s.stops s.saved w2.some)
+    let w3 = cells_leaves wide s wrap w2.some is_width i.grid.shape are i.saved_sets in
+    let cells : Makes (cells_item s.grid wrap) (with_saved size wide s.stops s.saved w2.some)
     (part s modes_at_power_up w3.cursor w3.brush w3.sets (margins_of size) false) = record { is = w3.is } in
     let stops = subst (λ (n : ℕ). Makes (stops_item size n s.stops) (display_of size) (with_stops size wide s.stops w1.some))
     (sym is_width) w1.makes in
-    then_makes stops (then_makes w2.makes (then_makes cells
-    (last_leaves true s modes_at_power_up w3.cursor w3.brush w3.sets false (λ e. refl) (λ e. refl) refl refl i are
-    w3.four w3.none w3.spells)))
+    let w4 = margins_leaves s modes_at_power_up w3.cursor w3.brush w3.sets s.margins false i.margins in
+    record {
+      cursor = w4.some;
+      brush = w3.brush;
+      sets = w3.sets;
+      makes = then_makes stops (then_makes w2.makes (then_makes cells w4.makes));
+      four = w3.four;
+      none = w3.none;
+      spells = w3.spells;
+    }
+
+-- the items lead there from power-up
+pub made_leaves : (s : Display) → IsSoundSizedDisplay s → Makes (made_events s) (display_of s.grid.size) s
+unfolding made_events
+made_leaves s i =
+    let first = first_leaves s s.cursor.wrap i in
+    then_makes first.makes (placed_leaves true s modes_at_power_up first.cursor first.brush first.sets false (λ e. refl)
+    (λ e. refl) refl refl i (sound_glyphs s i) first.four first.none first.spells)
 
 repaint_leaves : (s t : Display) → IsSoundSizedDisplay s → t.grid.size ≡ s.grid.size → Makes (repaint_events s) t s
 repaint_leaves s t i size =

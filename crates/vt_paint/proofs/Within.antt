@@ -53,7 +53,7 @@ use Rattle.vt_paint.specs.Limits.{row_digits, cell_limit, row_limit, paint_limit
 use Rattle.vt_paint.specs.Items.{is_wide, width_events, stop_events, made_stops, stops_item, saved_events, saved_item, cells_item}
 use Rattle.vt_paint.specs.Controls.{ModeRow, mode_rows}
 use Rattle.vt_paint.specs.Items.{margins_item, origin_item, wrap_item, row_item, modes_item}
-use Rattle.vt_paint.specs.Items.{shift_item, last_items}
+use Rattle.vt_paint.specs.Items.{shift_item, first_items, placed_items, last_items}
 use Rattle.vt_glyph.specs.declared.glyph.Spelling.TheVariants.{Plain, Second, Third}
 use Rattle.vt_screen.specs.declared.cell.Brush.{Brush}
 use Rattle.vt_screen.specs.declared.cell.Cell.{Cell}
@@ -195,7 +195,7 @@ cursor_within rows r c h most k =
     (length-decimal-le 3 c (omega arith) (omega arith) (omega arith)) (omega arith) (omega arith)
     (λ a b t. rw (a, b, t) refl))
 
-brush_within : (brush : Brush) → AreSpelledWithin 17 (brush_events brush)
+pub brush_within : (brush : Brush) → AreSpelledWithin 17 (brush_events brush)
 unfolding brush_events digits all_brushes both_pass
 brush_within brush = computed 17 _ (at_brush (λ brush. are_within 17 (brush_events brush)) refl brush)
 
@@ -404,33 +404,59 @@ changed_within marks b g are marked w most =
 
 -- ---- the whole
 
+-- 8 to 11
+pub rest_within : (known : Bool) (s : Display)
+    → AreSpelledWithin 89
+    (brush_events s.brush ++ (sets_events s.sets ++ (modes_item known s.modes ++ shift_item s.sets.pending)))
+rest_within known s =
+    then_within (brush_within s.brush) (then_within (sets_within s.sets)
+    (then_within (modes_within known s.modes) (shift_within s.sets.pending)))
+
+pub placed_within : (known : Bool) (s : Display) (col : ℕ) (wrap : Bool) → IsSoundSizedDisplay s → col ≤ 255
+    → AreSpelledWithin (121 + row_digits s.grid.size.rows) (placed_items known s col wrap)
+unfolding placed_items
+placed_within known s col wrap i few =
+    let rows = s.grid.size.rows in
+    let most : rows ≤ 255 = i.grid.shape.size.rows.1 in
+    upto (omega arith) (then_within (origin_within known s.modes.decom)
+    (then_within (cursor_within rows (line_of_cursor s) col (line_small s i) most few)
+    (then_within (wrap_within s.grid (record s.cursor { wrap = wrap }) (sound_glyphs s i)) (rest_within known s))))
+
+margins_small : (s : Display) → IsSoundSizedDisplay s
+    → AreSpelledWithin (4 + 2 * row_digits s.grid.size.rows) (margins_item s.grid.size.rows s.margins)
+margins_small s i =
+    let rows = s.grid.size.rows in
+    let top : s.margins.top ≤ rows = omega (arith, i.margins.two_rows, i.margins.to_last_row) in
+    margins_within rows s.margins top i.margins.to_last_row i.grid.shape.size.rows.1
+
+col_small : (s : Display) → IsSoundSizedDisplay s → s.cursor.col ≤ 255
+col_small s i = omega (arith, i.cursor.col_last, width_small s.grid i.grid.shape, i.grid.shape.size.columns)
+
 last_within : (known : Bool) (s : Display) → IsSoundSizedDisplay s
     → AreSpelledWithin (125 + 3 * row_digits s.grid.size.rows) (last_items known s)
 unfolding last_items
 last_within known s i =
-    let rows = s.grid.size.rows in
-    let sized = i.grid.shape.size in
-    let most : rows ≤ 255 = sized.rows.1 in
-    let col : s.cursor.col ≤ 255 = omega (arith, i.cursor.col_last, width_small s.grid i.grid.shape, sized.columns) in
-    let top : s.margins.top ≤ rows = omega (arith, i.margins.two_rows, i.margins.to_last_row) in
-    upto (omega arith) (then_within (margins_within rows s.margins top i.margins.to_last_row most)
-    (then_within (origin_within known s.modes.decom)
-    (then_within (cursor_within rows (line_of_cursor s) s.cursor.col (line_small s i) most col)
-    (then_within (wrap_within s.grid s.cursor (sound_glyphs s i))
-    (then_within (brush_within s.brush) (then_within (sets_within s.sets)
-    (then_within (modes_within known s.modes) (shift_within s.sets.pending))))))))
+    upto (omega arith) (then_within (margins_small s i)
+    (placed_within known s s.cursor.col s.cursor.wrap i (col_small s i)))
 
-pub made_within : (s : Display) → IsSoundSizedDisplay s
-    → AreSpelledWithin (s.grid.size.rows * row_limit s.grid.size + 10 * s.grid.size.wide + 318) (made_events s)
-unfolding made_events
-made_within s i =
+pub first_within : (s : Display) (wrap : Bool) → IsSoundSizedDisplay s
+    → AreSpelledWithin (s.grid.size.rows * row_limit s.grid.size + 10 * s.grid.size.wide + 174) (first_items s wrap)
+unfolding first_items
+first_within s wrap i =
     let rows = s.grid.size.rows in
     let sized = i.grid.shape.size in
     let w = width_small s.grid i.grid.shape in
     let saved_col : s.saved.col ≤ 255 = omega (arith, i.saved.col_last, w, sized.columns) in
     upto (omega (arith, three_digits rows)) (then_within (stops_within s.grid.size (last_column s) s.stops sized.columns)
     (then_within (saved_within rows s.saved i.saved.row_last sized.rows.1 saved_col)
-    (then_within (cells_within s.grid s.cursor.wrap (sound_glyphs s i) w sized) (last_within true s i))))
+    (then_within (cells_within s.grid wrap (sound_glyphs s i) w sized) (margins_small s i))))
+
+pub made_within : (s : Display) → IsSoundSizedDisplay s
+    → AreSpelledWithin (s.grid.size.rows * row_limit s.grid.size + 10 * s.grid.size.wide + 318) (made_events s)
+unfolding made_events
+made_within s i =
+    upto (omega (arith, three_digits s.grid.size.rows)) (then_within (first_within s s.cursor.wrap i)
+    (placed_within true s s.cursor.col s.cursor.wrap i (col_small s i)))
 
 -- the events of a repaint
 abbrev pub repaint_events : Display → List Event

@@ -4,19 +4,15 @@ use Rattle.vt_syntax.specs.declared.event.Event.{Event}
 use Rattle.vt_syntax.specs.Spelling.{spell_events}
 use Rattle.vt_screen.specs.declared.size.Size.{Size}
 use Rattle.vt_screen.specs.Sizes.{vt220_size}
-use Rattle.vt_term.specs.State.{Display, State, last_column, state_of}
+use Rattle.vt_term.specs.State.{Display, State, state_of}
 use Rattle.vt_term.specs.Sound.{IsSoundAt}
 use Rattle.vt_term.specs.Play.{play}
 use Rattle.vt_paint.specs.Controls.{reset_to_initial_state}
-use Rattle.vt_paint.specs.Items.{stops_item, saved_item, cells_item, last_items}
+use Rattle.vt_paint.specs.Items.{first_items, placed_items}
 
 -- the items in order: from power-up they lead to a display
 unfoldable pub made_events : Display → List Event
-made_events s =
-    stops_item s.grid.size (last_column s) s.stops
-    ++ (saved_item s.saved
-    ++ (cells_item s.grid s.cursor.wrap
-    ++ last_items true s))
+made_events s = first_items s s.cursor.wrap ++ placed_items true s s.cursor.col s.cursor.wrap
 
 -- a repaint: RIS, and the items, in 7-bit form
 unfoldable pub paint : State → List ℕ

@@ -1,4 +1,4 @@
--- Whether two parts of a state are equal, as tests.
+-- Tests whether two parts of a state are equal.
 use Rattle.std.specs.Prelude.{Bool, ◌==◌, ◌&&◌}
 use Rattle.std.specs.Cmp.Lexicographic.{pointwise}
 use Rattle.vt_glyph.specs.declared.set.Set.{Set}
@@ -11,7 +11,7 @@ use Rattle.vt_term.specs.declared.state.Saved.{Saved}
 abbrev pub is_blank : Cell → Bool
 is_blank cell = cell.glyph == blank.glyph && same_brush (brush_of cell) (brush_of blank)
 
--- a set is told by its final byte
+-- two sets are equal if their final bytes are
 abbrev pub same_set : Set → Set → Bool
 same_set a b = final_of a == final_of b
 

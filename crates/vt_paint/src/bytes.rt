@@ -51,7 +51,7 @@ pub fn put_part<const N: usize>(part: &[u8], at: usize, all: &mut [u8; N]) -> us
     put_front(part, part.len(), at, all)
 }
 
-/// Speed: writes the first `len` bytes of a part, which is copied whole. Returns the position after them.
+/// Writes the first `len` bytes of a part. Returns the position after them. Speed: the part is copied whole.
 #[inline(always)]
 pub fn put_front<const N: usize>(part: &[u8], len: usize, at: usize, all: &mut [u8; N]) -> usize
     requires len { len ≤ length part.now }

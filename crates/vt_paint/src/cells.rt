@@ -1,4 +1,4 @@
-//! The cells of the screen. The output has capacity for them.
+//! The cells of a repaint, appended to an output that has capacity for them.
 ghost use Rattle.std.specs.Prelude.{◌≡◌, ◌+◌, ◌*◌, ◌^◌, ◌≤◌, ◌<◌, ◌++◌, ◌||◌, ◌&&◌, not, true, false, length, take, vec_len};
 ghost use Rattle.std.specs.Prelude.{vec_capacity};
 ghost use Rattle.vt_glyph.specs.Spell.{spelling_of};
@@ -50,7 +50,8 @@ fn is_blank(cell: &Cell) -> bool
     cell.word() == BLANK
 }
 
-/// Speed: does the same as `put_glyph`, out of line, so that the loop over plain cells of a run copies no register.
+/// Writes a glyph as `put_glyph` does. Speed: it is out of line, so that the loop over plain cells of a run copies no
+/// register.
 #[inline(never)]
 fn put_rare(glyph: Glyph, at: usize, line: &mut [u8; LINE]) -> usize
     requires { at + 3 ≤ LINE }

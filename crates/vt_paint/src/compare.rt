@@ -39,10 +39,10 @@ fn changed_in_row<const C: usize>(a: &[Cell], b: &[Cell]) -> ([bool; C], usize)
     (marks, count)
 }
 
-/// Marks exactly the positions at which the screens of two terminals of the same size and width have different cells. The
-/// marks and the counts have at least as many rows and columns as the screens. The index of row r and column c is r - 1, c - 1.
-/// It counts them in each row, and returns their total. (It isn't inlined, so that its rows aren't on the stack of what comes
-/// after it.)
+/// Marks exactly the positions at which the screens of two terminals of the same size and width have different cells.
+/// Counts these positions in each row, and returns their total. The marks and the counts have at least as many rows and
+/// columns as the screens. The index of row r and column c is r - 1, c - 1. (It isn't inlined, so that its rows aren't
+/// on the stack of what comes after it.)
 #[inline(never)]
 pub fn changed_places<const R: usize, const C: usize>(
     a: &SizedTerminal,

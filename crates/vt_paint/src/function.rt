@@ -155,7 +155,7 @@ impl Function {
 
     // ---- the cursor and the margins
 
-    /// Returns CUP, with both numbers.
+    /// Returns CUP to a line and a column, with both numbers.
     #[inline(always)]
     pub fn cursor_to(line: u8, col: u8) -> Function
         ensures value { result ≡ spell_event (cursor_position line col) }
@@ -166,7 +166,7 @@ impl Function {
         Function::numbered_twice(line, col, b'H')
     }
 
-    /// Returns CUP to column 1.
+    /// Returns CUP to column 1 of a line.
     #[inline(always)]
     #[tactic(auto, unfolding(crate::specs::Named::byte_named))]
     pub fn cursor_to_line(line: u8) -> Function
@@ -175,7 +175,7 @@ impl Function {
         Function::numbered(line, b'H')
     }
 
-    /// Returns CUF.
+    /// Returns CUF, which moves the cursor right by `columns`.
     #[inline(always)]
     #[tactic(auto, unfolding(crate::specs::Named::byte_named))]
     pub fn forward(columns: u8) -> Function
@@ -184,7 +184,7 @@ impl Function {
         Function::numbered(columns, b'C')
     }
 
-    /// Returns CUB.
+    /// Returns CUB, which moves the cursor left by `columns`.
     #[inline(always)]
     #[tactic(auto, unfolding(crate::specs::Named::byte_named))]
     pub fn backward(columns: u8) -> Function
@@ -193,7 +193,7 @@ impl Function {
         Function::numbered(columns, b'D')
     }
 
-    /// Returns BS.
+    /// Returns BS, which moves the cursor left by one column.
     #[inline(always)]
     #[tactic(auto, unfolding(crate::specs::Named::byte_named))]
     pub fn backspace() -> Function
@@ -202,7 +202,7 @@ impl Function {
         Function::control(0x08)
     }
 
-    /// Returns LF.
+    /// Returns LF, which moves the cursor down by one row, and under LNM to column 1.
     #[inline(always)]
     #[tactic(auto, unfolding(crate::specs::Named::byte_named))]
     pub fn line_feed() -> Function
@@ -211,7 +211,7 @@ impl Function {
         Function::control(b'\n')
     }
 
-    /// Returns CR.
+    /// Returns CR, which moves the cursor to column 1.
     #[inline(always)]
     #[tactic(auto, unfolding(crate::specs::Named::byte_named))]
     pub fn carriage_return() -> Function
@@ -220,7 +220,7 @@ impl Function {
         Function::control(b'\r')
     }
 
-    /// Returns DECSTBM.
+    /// Returns DECSTBM, which sets the margins, and moves the cursor home.
     #[inline(always)]
     pub fn margins_to(top: u8, bottom: u8) -> Function
         ensures value { result ≡ spell_event (margins_to top bottom) }
@@ -230,7 +230,7 @@ impl Function {
         Function::numbered_twice(top, bottom, b'r')
     }
 
-    /// Returns HTS.
+    /// Returns HTS, which sets a tab stop at the cursor's column.
     #[inline(always)]
     pub fn set_tab() -> Function
         ensures value { result ≡ spell_event set_tab }
@@ -239,7 +239,7 @@ impl Function {
         Function::escape(b"H")
     }
 
-    /// Returns TBC of all stops.
+    /// Returns TBC that clears all tab stops.
     #[inline(always)]
     pub fn clear_all_tabs() -> Function
         ensures value { result ≡ spell_event clear_all_tabs }
@@ -250,7 +250,7 @@ impl Function {
 
     // ---- cells
 
-    /// Returns IL.
+    /// Returns IL, which inserts `lines` blank rows at the cursor's row.
     #[inline(always)]
     #[tactic(auto, unfolding(crate::specs::Named::byte_named))]
     pub fn insert_lines(lines: u8) -> Function
@@ -259,7 +259,7 @@ impl Function {
         Function::numbered(lines, b'L')
     }
 
-    /// Returns DL.
+    /// Returns DL, which deletes `lines` rows starting at the cursor's row.
     #[inline(always)]
     #[tactic(auto, unfolding(crate::specs::Named::byte_named))]
     pub fn delete_lines(lines: u8) -> Function
@@ -288,8 +288,8 @@ impl Function {
 
     // ---- attributes and protection
 
-    /// Returns SGR that changes attributes: those that are newly set. If one is reset, all are reset first, by an empty
-    /// parameter.
+    /// Returns SGR that changes the attributes from `old` to `new`. It sets those that are new. If an attribute is
+    /// reset, an empty parameter first resets all, and those of `new` are set again.
     #[inline]
     pub fn rendition_change(old: Rendition, new: Rendition) -> Function
         ensures { result ≡ rendition_change old new }
@@ -306,7 +306,7 @@ impl Function {
         Function::sequence(&text[1..at], b"m")
     }
 
-    /// Returns DECSCA.
+    /// Returns DECSCA, which sets or resets the protection of what is written next.
     #[inline(always)]
     pub fn protection(protected: bool) -> Function
         ensures value { result ≡ spell_event (protection_to protected) }
@@ -339,7 +339,7 @@ impl Function {
 
     // ---- sets
 
-    /// Returns SCS of G0 to G3.
+    /// Returns SCS, which designates a set as G0 to G3: `slot` is 0 to 3.
     #[inline(always)]
     pub fn designation(slot: u8, set: Set) -> Function
         ensures value { result ≡ spell_event (designation_of slot set) }
@@ -354,7 +354,7 @@ impl Function {
         Function::escape(&[inter, set.last()])
     }
 
-    /// Returns LS0 to LS3.
+    /// Returns the locking shift of a slot into GL: LS0 to LS3, for 0 to 3.
     #[inline(always)]
     pub fn lock_left(slot: u8) -> Function
         ensures value { result ≡ spell_event (left_event slot) }
@@ -368,7 +368,7 @@ impl Function {
         }
     }
 
-    /// Returns LS1R to LS3R.
+    /// Returns the locking shift of a slot into GR: LS1R to LS3R, for 1 to 3.
     #[inline(always)]
     pub fn lock_right(slot: u8) -> Function
         ensures value { result ≡ spell_event (right_event slot) }
@@ -381,7 +381,7 @@ impl Function {
         }
     }
 
-    /// Returns SS2 or SS3.
+    /// Returns the single shift to a slot: SS2 for 2, and SS3 for 3.
     #[inline(always)]
     pub fn single_shift(slot: u8) -> Function
         ensures value { result ≡ spell_event (shift_to slot) }
@@ -392,7 +392,7 @@ impl Function {
 
     // ---- the whole state
 
-    /// Returns RIS.
+    /// Returns RIS, which resets the terminal to its power-up state.
     #[inline(always)]
     pub fn reset() -> Function
         ensures value { result ≡ spell_event reset_to_initial_state }
@@ -401,7 +401,7 @@ impl Function {
         Function::escape(b"c")
     }
 
-    /// Returns DECSTR.
+    /// Returns DECSTR, a soft reset.
     #[inline(always)]
     pub fn soft_reset() -> Function
         ensures value { result ≡ spell_event soft_reset }
@@ -410,7 +410,7 @@ impl Function {
         Function::sequence(b"0", b"!p")
     }
 
-    /// Returns DECSC.
+    /// Returns DECSC, which saves the cursor.
     #[inline(always)]
     pub fn save_cursor() -> Function
         ensures value { result ≡ spell_event save_cursor }
@@ -419,7 +419,7 @@ impl Function {
         Function::escape(b"7")
     }
 
-    /// Returns what sets or resets a mode, by its index in the table of modes.
+    /// Returns the function that sets or resets a mode, by the mode's index in the table of modes.
     #[inline]
     pub fn mode(index: usize, on: bool) -> Function
         requires { index < ALL_MODES }

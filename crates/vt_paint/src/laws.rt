@@ -39,7 +39,9 @@ pub fn sized_canonical()
     sized_soundness();
 }
 
-/// States the same of the states of a size that bytes reach from power-up, in terms of playing alone.
+/// States the promise of a repaint in terms of playing alone, for the states of a size that bytes reach from power-up.
+/// Between sequences a repaint rebuilds the state on every terminal of its size, and gives no report. Two such states
+/// are equal if and only if their repaints are.
 pub fn sized_from_power_up()
     ensures rebuilds { (size : Size) (s t : State) → IsSize size → IsReachedAt size s → IsReachedAt size t → s.held ≡ Nothing
         → play t (paint s) ≡ record { state = s; reports = [] } }
@@ -73,7 +75,7 @@ pub fn sized_spoken()
     ensures { (size : Size) (s : State) → IsSoundAt size s → Speaks (paint s) }
 {}
 
-/// States that the constant is the limit of a VT220's size.
+/// States that `PAINT_LIMIT` is the limit of a VT220's size.
 pub fn vt220_limit()
     ensures { paint_limit vt220_size ≡ PAINT_LIMIT }
 {}
@@ -102,8 +104,9 @@ pub fn canonical()
     reached();
 }
 
-/// States the same of the states that bytes reach from power-up, in terms of playing alone. Between sequences a repaint
-/// rebuilds the state on every terminal, and gives no report. Two such states are equal if and only if their repaints are.
+/// States the promise of a repaint in terms of playing alone, for the states that bytes reach from power-up. Between
+/// sequences a repaint rebuilds the state on every terminal, and gives no report. Two such states are equal if and only
+/// if their repaints are.
 pub fn from_power_up()
     ensures rebuilds { (s t : State) → IsReached s → IsReached t → s.held ≡ Nothing
         → play t (paint s) ≡ record { state = s; reports = [] } }

@@ -1,7 +1,7 @@
 //! The repaint: one byte string for each state of a terminal. It rebuilds that state on any terminal of its size.
 //!
-//! The control functions that repaints, updates and pictures send, each spelled once, in its 7-bit form. Bytes and numbers
-//! that are appended.
+//! [`Function`] has the control functions that repaints, updates and pictures send, each spelled once, in its 7-bit
+//! form.
 #![tactic(auto)]
 
 mod bytes;

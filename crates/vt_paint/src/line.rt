@@ -16,8 +16,8 @@ use vt_screen::MOST;
 /// The capacity for bytes that aren't appended yet.
 pub(crate) const LINE: usize = 2048;
 
-/// If there are this many bytes, they are appended before the next header. After fewer there is capacity for a run: a
-/// header, and the glyphs of a row.
+/// The number of bytes that are appended before the next header. After fewer there is capacity for a run: a header, and
+/// the glyphs of a row.
 pub(crate) const MANY: usize = 1248;
 
 /// Writes a byte.

@@ -23,7 +23,7 @@ pub const DECOM: usize = MODES + 1;
 /// The number of all modes.
 pub const ALL_MODES: usize = MODES + 2;
 
-/// Lists the bytes that set and reset each mode, without the last one.
+/// The bytes that set and reset each mode, without the last one.
 pub(crate) const FRONTS: [[u8; 5]; ALL_MODES] = [
     // KAM, IRM, SRM and LNM
     *b"\x1B[2  ",
@@ -45,13 +45,13 @@ pub(crate) const FRONTS: [[u8; 5]; ALL_MODES] = [
     *b"\x1B[?6 ",
 ];
 
-/// The lengths of these.
+/// The lengths of the entries of `FRONTS`, without the spaces at their end.
 pub(crate) const LENGTHS: [usize; ALL_MODES] = [3, 3, 4, 4, 4, 4, 4, 4, 4, 5, 1, 2, 4, 4];
 
-/// The last bytes of what sets them.
+/// The last byte of what sets each mode.
 const SET: [u8; ALL_MODES] = *b"hhhhhhhhhh=Ghh";
 
-/// The last bytes of what resets them.
+/// The last byte of what resets each mode.
 const RESET: [u8; ALL_MODES] = *b"llllllllll>Fll";
 
 /// Returns the last byte of what sets or resets a mode.

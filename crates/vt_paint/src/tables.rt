@@ -15,7 +15,7 @@ const COLUMN_LEN: usize = 8;
 
 const BRUSH_LEN: usize = 16;
 
-/// CUP up to the column, for each row from 1 to 255. The last byte of an entry is the length of this.
+/// CUP up to the column, for each row from 1 to 255. The last byte of an entry is the length of this part.
 const ROW_PARTS: [u8; 2040] =
     *b"\x1B[1;   \x04\x1B[2;   \x04\x1B[3;   \x04\x1B[4;   \x04\x1B[5;   \x04\x1B[6;   \x04\
     \x1B[7;   \x04\x1B[8;   \x04\x1B[9;   \x04\x1B[10;  \x05\x1B[11;  \x05\x1B[12;  \x05\
@@ -61,8 +61,8 @@ const ROW_PARTS: [u8; 2040] =
     \x1B[247; \x06\x1B[248; \x06\x1B[249; \x06\x1B[250; \x06\x1B[251; \x06\x1B[252; \x06\
     \x1B[253; \x06\x1B[254; \x06\x1B[255; \x06";
 
-/// The column of CUP and its final byte, and SGR up to its 0, for each column from 1 to 255. The last byte of an entry is the
-/// length of this.
+/// The column of CUP and its final byte, and SGR up to its 0, for each column from 1 to 255. The last byte of an entry
+/// is the length of this part.
 const COLUMN_PARTS: [u8; 2040] =
     *b"1H\x1B[0  \x052H\x1B[0  \x053H\x1B[0  \x054H\x1B[0  \x055H\x1B[0  \x056H\x1B[0  \x05\
     7H\x1B[0  \x058H\x1B[0  \x059H\x1B[0  \x0510H\x1B[0 \x0611H\x1B[0 \x0612H\x1B[0 \x06\
@@ -119,7 +119,7 @@ const BRUSHES: [u8; 512] =
     ;7m\x1B[1\"q        ;1;7m\x1B[1\"q      ;4;7m\x1B[1\"q      ;1;4;7m\x1B[1\"q    \
     ;5;7m\x1B[1\"q      ;1;5;7m\x1B[1\"q    ;4;5;7m\x1B[1\"q    ;1;4;5;7m\x1B[1\"q  ";
 
-/// The lengths of these entries.
+/// The lengths of the entries of `BRUSHES`, without the spaces at their end.
 const BRUSH_LENGTHS: [u8; 32] = [
     6, 8, 8, 10, 8, 10, 10, 12, 8, 10, 10, 12, 10, 12, 12, 14, 6, 8, 8, 10, 8, 10, 10, 12, 8, 10,
     10, 12, 10, 12, 12, 14,

@@ -1,4 +1,4 @@
-//! The repaint of a VT220: the calls for `SizedTerminal` at its size.
+//! The calls of the repaint for a VT220's `Terminal`. Each calls that for its `SizedTerminal`.
 ghost use Rattle.std.specs.Prelude.{◌≡◌, ◌↔◌, ◌+◌, ◌-◌, ◌*◌, ◌≤◌, ◌<◌, ◌++◌, ◌≢◌, IsErrOf, OnOk, OnErr, vec_len, vec_capacity};
 ghost use Rattle.std.specs.Prelude.{drop};
 ghost use Rattle.vt_syntax.specs.declared.held.Held.TheVariants.{Nothing};
@@ -66,8 +66,8 @@ pub fn repaint_items_reserved(t: &Terminal, out: &mut Vec<u8>)
     sized_repaint_items_reserved(&t.sized, out);
 }
 
-/// Marks exactly the positions at which the screens of two terminals of the same width have different cells. The index
-/// of row r and column c is r - 1, c - 1. It counts them in each row, and returns their total.
+/// Marks exactly the positions at which the screens of two terminals of the same width have different cells. Counts
+/// these positions in each row, and returns their total. The index of row r and column c is r - 1, c - 1.
 #[inline(always)]
 pub fn changed_places(
     a: &Terminal,

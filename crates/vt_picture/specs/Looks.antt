@@ -1,4 +1,4 @@
--- How cells look. (this profile)
+-- The looks of cells. (this profile)
 use Rattle.std.specs.Prelude.{List, [], ◌∷◌, length, Bool, true, false, ◌==◌, ◌&&◌, if◌then◌else◌}
 use Rattle.vt_glyph.specs.Tables.{space}
 use Rattle.vt_screen.specs.declared.cell.Cell.{Cell}
@@ -13,7 +13,7 @@ is_empty (cell ∷ cells) = false
 abbrev pub is_blank : Cell → Bool
 is_blank cell = cell.glyph == space && same_rendition cell.rendition plain
 
--- the same glyph and the same attributes, protected or not
+-- two cells have the same glyph and the same attributes, protected or not
 abbrev pub same_look : Cell → Cell → Bool
 same_look a b = a.glyph == b.glyph && same_rendition a.rendition b.rendition
 

@@ -1,4 +1,4 @@
--- What a terminal of today shows after what a drawing sends. (CUP, ED and SGR: ECMA-48; DECTCEM: xterm)
+-- What a modern terminal shows after what a drawing sends. (CUP, ED and SGR: ECMA-48; DECTCEM: xterm)
 use Rattle.std.specs.Prelude.{◌≡◌, ◌≤◌, ◌<◌, ℕ, ◌+◌, List, [], ◌∷◌, Bool, false, ◌==◌, ◌&&◌, ◌||◌, if◌then◌else◌}
 use Rattle.std.specs.Prelude.{codes, length, nat_lt, encode_utf8, slice_index_or}
 use Rattle.std.specs.List.{flat_map}
@@ -63,12 +63,12 @@ all_after (sent ∷ more) w = all_after more (after sent w)
 
 -- ---- the promise
 
--- the same glyph with the same attributes
+-- two cells have the same glyph with the same attributes
 pub record Looks (a b : Cell) : Type 0 where
   pub glyph : a.glyph ≡ b.glyph
   pub rendition : a.rendition ≡ b.rendition
 
--- each place of a screen of this size, the cursor, and no attributes
+-- the window shows each place of a screen of this size, and its cursor; the pen has no attributes
 pub record ShowsAt (size : Size) (w : Window) (s : Shown) : Type 0 where
   pub places : (r k : ℕ) → 1 ≤ r → r ≤ size.rows → k < length (s.cells r)
       → Looks (w.place r (k + 1)) (slice_index_or (s.cells r) k blank)

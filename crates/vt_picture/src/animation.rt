@@ -36,11 +36,11 @@ const _: () = prove!(ANIMATION_LIMIT == 670108);
 /// What all frames of a picture that moves have in common.
 #[derive(Clone, Copy, Debug, PartialEq, Eq)]
 pub struct Moving {
-    /// The shape of its cursor.
+    /// The shape of the cursor.
     pub cursor: CursorShape,
-    /// The microseconds after which it begins again: more than the time of the last frame.
+    /// The microseconds after which the picture begins again: more than the time of the last frame.
     pub duration: u64,
-    /// The columns of its last screen: it is as wide as that.
+    /// The number of columns of the last screen, which the picture has, too.
     pub columns: usize,
 }
 

@@ -1,4 +1,4 @@
-//! The bytes that make a terminal of today show a screen.
+//! The bytes that make a modern terminal show a screen.
 ghost use Rattle.std.specs.Prelude.{◌≡◌, ◌+◌, ◌*◌, ◌≤◌, ◌++◌, vec_len, vec_capacity, OnOk, OnErr, IsOk};
 ghost use Rattle.vt_screen.specs.Grid.{row_of};
 ghost use Rattle.vt_picture.specs.Draw.{shown, sized_draw, sized_draw_from, end_bytes, erase, rows_bytes, rows_pen};
@@ -28,7 +28,7 @@ const _: () = prove!(DRAW_LIMIT == 79270);
 /// The index of DECTCEM in the table of modes.
 const DECTCEM: usize = 9;
 
-/// Appends the places that show something else. Returns the pen after them.
+/// Appends the places that show something else than before. Returns the pen after them.
 fn push_rows(
     looks: Looks,
     shown: &SizedTerminal,
@@ -54,7 +54,7 @@ fn push_rows(
     pen
 }
 
-/// Appends the cursor's place, resets the attributes, and shows or hides the cursor if that isn't so.
+/// Appends CUP to the cursor's place, resets the attributes, and shows or hides the cursor if it isn't so yet.
 fn push_end(pen: Pen, was_shown: bool, t: &SizedTerminal, out: &mut Vec<u8>)
     requires room { vec_len out.old + 28 ≤ vec_capacity out.old }
     ensures items { out.new.items ≡ out.old.items ++ end_bytes pen was_shown (shown t.now) }
@@ -85,9 +85,9 @@ fn push_erase(out: &mut Vec<u8>)
     Function::mode(DECTCEM, true).push(out);
 }
 
-/// Appends the bytes that make a terminal of today show the screen of `t`, whatever it shows. It has at least as many
-/// rows and columns as `t`. The bytes are UTF-8, CUP, ED, SGR and DECTCEM. On a reverse screen (DECSCNM) the attribute
-/// `reverse` of each cell is inverted. What is shown decides the bytes.
+/// Appends the bytes that make a modern terminal show the screen of `t`, whatever it shows before. That terminal has at
+/// least as many rows and columns as `t`. The bytes are UTF-8, CUP, ED, SGR and DECTCEM. On a reverse screen (DECSCNM)
+/// the attribute `reverse` of each cell is inverted. What is shown decides the bytes.
 ///
 /// It first reserves `draw_limit` bytes of capacity. Returns `Err` if that fails. Then the contents of `out` are unchanged.
 pub fn draw(t: &SizedTerminal, out: &mut Vec<u8>) -> Result<(), AllocError>
@@ -126,9 +126,9 @@ pub fn draw_reserved(t: &SizedTerminal, out: &mut Vec<u8>)
     push_end(pen, true, t, out);
 }
 
-/// Appends the bytes that make a terminal of today show the screen of `t`, if it shows that of `shown` and was drawn by this
-/// call or by [`draw`]. Only places that show something else are written. If the widths or the numbers of rows differ,
-/// the bytes are those of [`draw`].
+/// Appends the bytes that make a modern terminal show the screen of `t`, if it shows that of `shown`, drawn by this
+/// call or [`draw`]. Only places that show something else than before are written. If the widths or the numbers of rows
+/// differ, the bytes are those of [`draw`].
 ///
 /// It first reserves `draw_limit` bytes of capacity. Returns `Err` if that fails. Then the contents of `out` are unchanged.
 pub fn draw_from(

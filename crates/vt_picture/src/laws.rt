@@ -25,7 +25,7 @@ pub fn shows_the_screen()
         → is_seen before s row ≡ true → cells_shown before (seen_at before s row) ≡ cells_shown s row }
 {}
 
-/// States that the constants are the limits of a VT220's size.
+/// States that the constants of this crate are the limits of a VT220's size.
 pub fn vt220_limits()
     ensures show { show_limit vt220_size ≡ SHOW_LIMIT }
     ensures draw { draw_limit vt220_size ≡ DRAW_LIMIT }
@@ -44,16 +44,17 @@ pub fn sized_drawings()
     ensures canonical { (size : Size) (a b : State) → LooksLike (shown a) (shown b) → draw_at size a ≡ draw_at size b }
 {}
 
-/// States that nothing is written where nothing changed: of a row that shows the same, and of a screen that looks the same.
+/// States that nothing is written if nothing changed: for a row that shows the same, and for a screen that looks the
+/// same.
 pub fn unwritten()
     ensures row { (row col : ℕ) (cells : List Cell) (pen : Pen) → row_bytes row col cells cells pen ≡ [] }
     ensures screen { (a b : State) → a.display.grid.width ≡ b.display.grid.width → LooksLike (shown a) (shown b)
         → draw_from a b ≡ [] }
 {}
 
-/// States what a terminal of today shows after a drawing: the screen of the state, if it reads the functions and characters
-/// that the bytes spell as `Window` defines. A whole drawing may be sent to any terminal, and one from a state to a terminal
-/// that shows that state.
+/// States that a modern terminal shows the screen of the state after a drawing. It has to read the functions and
+/// characters that the bytes spell as `Window` defines. A whole drawing may be sent to any terminal, and one from a
+/// state to a terminal that shows that state.
 pub fn shows()
     ensures whole { (s : State) (w : Window) → Draws (draw s) w (shown s) }
     ensures from { (a b : State) (w : Window) → Shows w (shown a) → Draws (draw_from a b) w (shown b) }

@@ -1,5 +1,5 @@
-//! The screen for people: as text with its attributes, as a picture, and as a picture that moves. Drawing on today's terminals: the
-//! bytes that make one show a screen, given what it shows.
+//! The screen for people: as text with its attributes, as a picture, and as a picture that moves. Drawing on modern
+//! terminals: the bytes that make one show a screen, given what it shows before.
 #![tactic(auto)]
 
 mod animation;

@@ -7,8 +7,8 @@ ghost use Rattle.vt_picture.specs.Limits.{draw_limit, picture_limit, places_limi
 
 use vt_screen::Size;
 
-/// Returns the limit of a screen with its attributes in bytes. Each row has twelve for attributes and four for a character for
-/// each cell of the wide screen, twelve for the attributes at its end, and LF.
+/// Returns the limit of a screen with its attributes in bytes. Each row has twelve for attributes and four for a
+/// character for each cell of the wide screen. At its end it has twelve for attributes, and LF.
 pub fn show_limit(size: Size) -> usize
     requires { IsSize size }
     ensures { result ≡ show_limit size }

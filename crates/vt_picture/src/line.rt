@@ -14,11 +14,11 @@ use vt_screen::{Cell, MOST, Rendition};
 /// The capacity for bytes that aren't appended yet.
 pub(crate) const LINE: usize = 2048;
 
-/// If there are this many bytes, they are appended before the next run. After fewer there is capacity for a run: its
-/// attributes, and the characters of a row.
+/// The number of bytes that are appended before the next run. After fewer there is capacity for a run: its attributes,
+/// and the characters of a row.
 const MANY: usize = 1248;
 
-/// A cell's word has the number of its attributes above this.
+/// The factor of the number of a cell's attributes in its word.
 const ATTRIBUTES: u64 = 0x100_0000;
 
 /// Writes bytes if a test passes.
@@ -89,7 +89,7 @@ fn put_character(cell: &Cell, at: usize, line: &mut [u8; LINE]) -> usize
     }
 }
 
-/// Does the same as `put_character`, by the character's number.
+/// Writes the character of a cell as `put_character` does, by the character's number.
 ///
 /// Speed: out of line, so that the loop over plain cells copies no register. A glyph by value would be put together from its
 /// three bytes.

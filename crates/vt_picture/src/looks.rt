@@ -1,4 +1,4 @@
-//! What cells look like, and what a picture does with it: its colours and its cursor.
+//! The looks of cells, and the colours and the cursor of a picture.
 ghost use Rattle.std.specs.Prelude.{◌≡◌, ◌≤◌, ◌<◌, length};
 ghost use Rattle.vt_glyph.specs.Encoding.{encoded_glyph, encoding_of};
 ghost use Rattle.vt_picture.specs.Looks.{is_blank as is_blank_cell, trimmed};
@@ -23,11 +23,11 @@ pub enum Theme {
 /// The shape of the cursor in a picture that moves.
 #[derive(Clone, Copy, Debug, PartialEq, Eq)]
 pub enum CursorShape {
-    /// The outline of its cell.
+    /// The outline of the cursor's cell.
     Outline,
-    /// Its whole cell.
+    /// The whole cell.
     Block,
-    /// A line under its character.
+    /// A line under the character.
     Underline,
     /// No cursor.
     Hidden,

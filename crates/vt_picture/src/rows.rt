@@ -416,7 +416,7 @@ fn same_row(shape: CursorShape, before: &SizedTerminal, t: &SizedTerminal, row: 
         && cursor_column(shape, row, before) == cursor_column(shape, row, t)
 }
 
-/// Returns the first row of the screen before that looks like a row, and otherwise the row after its last.
+/// Returns the first row of the former screen that looks like a row, and otherwise the row after its last.
 fn seen_at(before: &SizedTerminal, t: &SizedTerminal, row: usize) -> usize
     requires { (1 ≤ row) × (row ≤ t.now.display.grid.size.rows) }
     ensures seen { result ≡ seen_at before.now.display t.now.display row }
@@ -425,7 +425,7 @@ fn seen_at(before: &SizedTerminal, t: &SizedTerminal, row: usize) -> usize
     first_like(t.row(row), before, before.size().rows)
 }
 
-/// Returns the number of a row of a frame: that of a row of the screen before that looks like it, and otherwise a new one.
+/// Returns the number of a row of a frame: that of a row of the former screen that looks like it, or a new one.
 pub(crate) fn number_after(
     frame: u32,
     numbers: &[u64],

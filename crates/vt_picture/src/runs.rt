@@ -81,7 +81,7 @@ pub(crate) fn push_rectangle(
 
 /// Returns whether a cell shows anything but a space without attributes.
 ///
-/// Speed: `is_blank` is faster where most cells are blank, and this where most cells have another glyph.
+/// Speed: `is_blank` is faster if most cells are blank, and this if most cells have another glyph.
 fn is_shown(cell: &Cell) -> bool
     ensures { result ≡ not (is_blank_cell cell.now) }
 {
@@ -220,7 +220,7 @@ fn push_shown_cell(
 
 /// Appends the cells of a row.
 ///
-/// Speed: a function of its own, so that the compiler keeps the loop's values in registers.
+/// Speed: a separate function, so that the compiler keeps the loop's values in registers.
 #[inline(never)]
 pub(crate) fn push_row(reversed: bool, row: usize, cells: &[Cell], out: &mut Vec<u8>)
     requires row { (1 ≤ row) × (row ≤ MOST) }

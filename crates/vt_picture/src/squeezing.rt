@@ -78,7 +78,7 @@ fn push_ratio(upper: usize, lower: usize, out: &mut Vec<u8>)
     push_places(upper % lower, lower, out);
 }
 
-/// Appends how many times the other width of a size is one of them.
+/// Appends the ratio of the other width of a size to this one.
 fn push_stretch(size: Size, width: usize, out: &mut Vec<u8>)
     requires size { IsSize size }
     requires room { vec_len out.old + 26 ≤ vec_capacity out.old }

@@ -1,4 +1,4 @@
-//! A VT220's screen for people: the calls for `SizedTerminal` at its size.
+//! The calls for a VT220's `Terminal`. Each calls that for its `SizedTerminal`.
 ghost use Rattle.std.specs.Prelude.{◌≡◌, ◌+◌, ◌*◌, ◌≤◌, ◌<◌, ◌++◌, ℕ, length, vec_len, vec_capacity, OnOk, OnErr, IfOk, IsOk, slice_index_or};
 ghost use Rattle.vt_screen.specs.Grid.{last_row};
 ghost use Rattle.vt_picture.specs.Show.{show};
@@ -117,8 +117,8 @@ pub fn frame(
 }
 
 /// Appends everything of a picture that moves up to its first frame: the screen at the beginning, `first`. The title is
-/// UTF-8. The text of `last`, the screen at the end, is the text alternative. `moving.columns` is its width. Returns the numbers
-/// of the rows, for the first frame.
+/// UTF-8. The text of `last`, the screen at the end, is the text alternative. `moving.columns` is the width of `last`.
+/// Returns the numbers of the rows, for the first frame.
 ///
 /// It first reserves `ANIMATION_LIMIT` bytes of capacity, and 5 for each byte of the title. Returns `Err` if that fails. Then
 /// the contents of `out` are unchanged.
@@ -154,9 +154,9 @@ pub fn animation_start(
     Ok(numbers)
 }
 
-/// Appends the bytes that make a terminal of today show the screen of `t`, whatever it shows. It has at least 24 rows, and as
-/// many columns as `t`. The bytes are UTF-8, CUP, ED, SGR and DECTCEM. On a reverse screen (DECSCNM) the attribute
-/// `reverse` of each cell is inverted. What is shown decides the bytes.
+/// Appends the bytes that make a modern terminal show the screen of `t`, whatever it shows before. That terminal has at
+/// least 24 rows, and as many columns as `t`. The bytes are UTF-8, CUP, ED, SGR and DECTCEM. On a reverse screen
+/// (DECSCNM) the attribute `reverse` of each cell is inverted. What is shown decides the bytes.
 ///
 /// It first reserves `DRAW_LIMIT` bytes of capacity. Returns `Err` if that fails. Then the contents of `out` are unchanged.
 #[inline(always)]
@@ -182,9 +182,9 @@ pub fn draw_reserved(t: &Terminal, out: &mut Vec<u8>)
     sized_draw_reserved(&t.sized, out);
 }
 
-/// Appends the bytes that make a terminal of today show the screen of `t`, if it shows that of `shown` and was drawn by this
-/// call or by [`draw`]. Only places that show something else are written. If the widths differ, the bytes are those of
-/// [`draw`].
+/// Appends the bytes that make a modern terminal show the screen of `t`, if it shows that of `shown`, drawn by this
+/// call or [`draw`]. Only places that show something else than before are written. If the widths differ, the bytes are
+/// those of [`draw`].
 ///
 /// It first reserves `DRAW_LIMIT` bytes of capacity. Returns `Err` if that fails. Then the contents of `out` are unchanged.
 #[inline(always)]

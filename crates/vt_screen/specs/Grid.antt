@@ -54,7 +54,7 @@ pub record IsSoundGrid (g : Grid) : Type 0 where
 abbrev pub AllCells : (Cell → Bool) → Grid → Type 0
 AllCells test g = All (λ cell. IsTrue (test cell)) g.cells
 
--- from a to b, both included
+-- a number is from a to b, both included
 abbrev pub is_within : ℕ → ℕ → ℕ → Bool
 is_within a b n = nat_le a n && nat_le n b
 
@@ -132,7 +132,8 @@ scroll_down g top bottom n = grid_of g.size g.width (λ r c.
 abbrev pub row_from : Grid → ℕ → Grid → ℕ → Grid
 row_from g row other from = with_row g row (λ c. if nat_le c other.width then cell_at other from c else cell_at g row c)
 
--- the width of a grid on a screen of another size: that of the wide form, if it had this one
+-- the width of a grid on a screen of another size: that of its wide form if the grid is wide, otherwise of the narrow
+-- one
 abbrev pub width_on : Size → Grid → ℕ
 width_on size g = width_of size (g.width == g.size.wide)
 

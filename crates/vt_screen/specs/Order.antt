@@ -16,7 +16,7 @@ pub record Order : Type 0 where
   pub size : Size
   pub rows : List ℕ
 
--- each of these once
+-- a size that a screen may have, and each of its starts once
 pub record IsOrder (order : Order) : Type 0 where
   pub size : IsSize order.size
   pub rows : IsPermutation (starts order.size) order.rows

@@ -1,4 +1,4 @@
-//! What moves between left and right margins. A VT220 has none; an xterm and a VT420 do.
+//! Moves of cells between left and right margins. A VT220 has no such margins; an xterm and a VT420 have.
 ghost use Rattle.std.specs.Prelude.{◌≡◌, ◌≢◌, ◌≤◌, ◌+◌};
 ghost use Rattle.vt_screen.specs.Between.{changed, rectangle, columns_up, columns_down, insert_between, delete_between, put_between};
 ghost use Rattle.vt_screen.specs.Cells.{blank};

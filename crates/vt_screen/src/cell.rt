@@ -69,7 +69,7 @@ impl Brush {
     }
 }
 
-/// A position of the screen: a glyph, its attributes and its protection.
+/// The content of a position of the screen: a glyph, its attributes and its protection.
 #[derive(Clone, Copy, Debug, PartialEq, Eq)]
 pub struct Cell {
     /// The glyph that it shows.

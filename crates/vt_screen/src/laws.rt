@@ -28,7 +28,8 @@ pub fn tests()
     ensures { TestLaws }
 {}
 
-/// States that a grid on its own size is the same one, that what is inside two sizes stays, and that a sound grid is sound on any size.
+/// States that a grid on a screen of its own size is the same one, if no row leaves. What is inside both sizes stays,
+/// and a sound grid is sound on any size.
 pub fn sizes()
     ensures { SizeLaws }
 {}

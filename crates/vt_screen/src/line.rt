@@ -8,7 +8,7 @@ ghost use Rattle.vt_glyph.specs.Invocation.{HasGlyph, glyph_in_use};
 use crate::cell::Cell;
 use vt_glyph::{Glyph, InUse};
 
-/// How many cells are filled at a time: a block of a fixed size is filled without a loop.
+/// The number of cells that are filled at a time. A block of a fixed size is filled without a loop.
 const BLOCK: usize = 16;
 
 /// Writes one cell at every position.
@@ -24,8 +24,8 @@ pub fn fill_cells(cells: &mut [Cell], cell: &Cell)
     fill_each(&mut cells[at..], cell);
 }
 
-/// Writes one cell at every position of a line. Speed: of a line of at least 80 cells the first part is filled by a loop
-/// of a fixed length.
+/// Writes one cell at every position of a line of at least 80 cells. Speed: the first 80 are filled by a loop of a
+/// fixed length.
 #[inline(always)]
 pub fn fill_line(line: &mut [Cell], cell: &Cell)
     requires { 80 ≤ length line.old }
@@ -119,7 +119,7 @@ pub fn remove_cells(line: &mut [Cell], at: usize, n: usize)
     fill_cells(&mut line[len - n..], &Cell::blank());
 }
 
-/// Writes a cell like another one, with its own glyph.
+/// Writes a glyph with the attributes and the protection of `like`.
 #[inline(always)]
 fn write_like(place: &mut Cell, like: &Cell, glyph: Glyph)
     ensures { place.new ≡ cell_like like.now glyph }
@@ -152,8 +152,8 @@ pub fn write_codes(cells: &mut [Cell], codes: &[u8], like: Cell)
     }
 }
 
-/// Writes at least eight codes. (Out of line: next to the test of a brush in a short run, the compiler would take the
-/// cell apart for both.)
+/// Writes at least eight codes. (Out of line: inlined, the test of the brush would make the compiler take the cell
+/// apart for short runs too.)
 #[inline(never)]
 fn write_many(cells: &mut [Cell], codes: &[u8], like: &Cell)
     requires codes { All (λ code. (0x20 ≤ code) × (code ≤ 0x7E)) codes.now }

@@ -1,10 +1,10 @@
 //! The size of a screen.
 ghost use Rattle.std.specs.Prelude.{◌≡◌, ◌↔◌, IsTrue};
 
-/// The rows of a VT220.
+/// The number of rows of a VT220's screen.
 pub const ROWS: usize = 24;
 
-/// The columns of a VT220's wide screen.
+/// The number of columns of a VT220's wide screen.
 pub const COLUMNS: usize = 132;
 
 /// The most rows of a screen, and the most columns.
@@ -13,11 +13,11 @@ pub const MOST: usize = 255;
 /// The number of rows of a screen, and of its columns when narrow and when wide. (DECCOLM chooses one of the two.)
 #[derive(Clone, Copy, Debug, PartialEq, Eq)]
 pub struct Size {
-    /// The rows.
+    /// The number of rows. A screen has 2 to 255.
     pub rows: usize,
-    /// The columns of the narrow screen.
+    /// The number of columns of the narrow screen, at least 80.
     pub narrow: usize,
-    /// The columns of the wide screen.
+    /// The number of columns of the wide screen: at least those of the narrow one, at most 255.
     pub wide: usize,
 }
 

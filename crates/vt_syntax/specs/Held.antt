@@ -1,4 +1,5 @@
--- The held part of a rest: what of it decides how it goes on. Its spelling: short bytes that leave it.
+-- The held part of a rest: the parts that decide how the rest goes on. The spelling of a held part: short bytes that
+-- leave it.
 use Rattle.std.specs.Prelude.{◌≡◌, ◌+◌, ◌≤◌, ℕ, List, [], ◌∷◌, ◌++◌, map, length, Bool, false, Option, Some, None}
 use Rattle.std.specs.Prelude.{nat_le, nat_lt, ◌&&◌, if◌then◌else◌, decimal}
 use Rattle.std.specs.List.{join_with_byte}
@@ -16,7 +17,7 @@ use Rattle.vt_syntax.specs.Items.{Beginning, OfEscape, OfControl, OfString, inte
 use Rattle.vt_syntax.specs.Split.{split_of}
 use Rattle.vt_syntax.specs.Reading.{without_quiet, marker_of, values_of, params_of, is_spoilt, events_of}
 
--- `Start` with nothing after the introducer, `Inter` with an intermediate, else `Values`
+-- `Start` if nothing follows the introducer, `Inter` after an intermediate, otherwise `Values`
 abbrev pub phase_by : List ℕ → Inters → Phase
 phase_by [] _ = Start
 phase_by (b ∷ bytes) (One i) = Inter i
@@ -25,7 +26,7 @@ phase_by (b ∷ bytes) _ = Values
 abbrev pub phase_of : List ℕ → Phase
 phase_of bytes = phase_by bytes (inters_of bytes)
 
--- of the bytes inside a control sequence, the quiet bytes taken out
+-- the held part after bytes inside a control sequence, from which the quiet bytes are taken out
 abbrev pub held_control : List ℕ → Held
 held_control bytes =
     if is_spoilt bytes then Spoilt
@@ -84,8 +85,9 @@ held_from held bytes = held_after (spell held ++ bytes)
 
 -- ---- the final byte of a sequence
 
--- the byte is a final of the sequence that is held, which then has a function: 40..7E of a control sequence that isn't
--- spoilt, 30..7E of an escape sequence with at most one intermediate, and with none no letter that opens something
+-- the byte is the final byte of the held sequence, which then has a function: 40..7E of a control sequence that isn't
+-- spoilt. Of an escape sequence with at most one intermediate it is 30..7E; without one, letters that open something
+-- are none
 abbrev pub IsEnding : Held → ℕ → Type 0
 IsEnding (Control marker params full phase) last = (0x40 ≤ last) × (last ≤ 0x7E)
 IsEnding (Escape Zero) last = (0x30 ≤ last) × (last ≤ 0x7E) × (opens (last + 0x40) ≡ false)
@@ -96,8 +98,8 @@ abbrev pub phase_inter : Phase → Option ℕ
 phase_inter (Inter i) = Some i
 phase_inter _ = None
 
--- the sequence that is held, with its final byte; after ESC alone, 40..5F is the 7-bit form of a C1 control. Where none
--- is held, the byte alone
+-- the held sequence with its final byte; after ESC alone, 40..5F is the 7-bit form of a C1 control. If no sequence is
+-- held, the byte alone
 abbrev pub ended_by : Held → ℕ → Event
 ended_by (Control marker params full phase) last = event.Sequence marker params (phase_inter phase) last
 ended_by (Escape Zero) last =

@@ -1,4 +1,5 @@
--- Which events there are, and their 7-bit form (ECMA-48 5.3 and 5.4, ECMA-35 13): bytes that read as just that event.
+-- The events that there are, and their 7-bit form (ECMA-48 5.3 and 5.4, ECMA-35 13): bytes that read as just that
+-- event.
 use Rattle.std.specs.Prelude.{◌≡◌, ◌≢◌, ℕ, ◌-◌, ◌<◌, ◌≤◌, ◌⊎◌, List, [], ◌∷◌, ◌++◌, length, All, Option, Some, None}
 use Rattle.std.specs.Prelude.{false, IfSome, nat_lt, if◌then◌else◌}
 use Rattle.std.specs.List.{flat_map}

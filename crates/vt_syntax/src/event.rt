@@ -12,9 +12,9 @@ pub enum Event {
     Control(u8),
     /// An escape sequence (ECMA-35 13) that is no 7-bit form of a C1 control.
     Escape {
-        /// Its intermediate, 20..2F.
+        /// The intermediate, 20..2F.
         inter: Option<u8>,
-        /// Its final byte, 30..7E.
+        /// The final byte, 30..7E.
         last: u8,
     },
     /// A control sequence (ECMA-48 5.4).
@@ -23,9 +23,9 @@ pub enum Event {
         marker: Option<u8>,
         /// 1 to 16 values, each at most 9999; an empty parameter is 0.
         params: ArrayVec<u16, 16>,
-        /// Its intermediate, 20..2F.
+        /// The intermediate, 20..2F.
         inter: Option<u8>,
-        /// Its final byte, 40..7E.
+        /// The final byte, 40..7E.
         last: u8,
     },
 }
@@ -39,18 +39,18 @@ pub enum EventKind {
     Control(u8),
     /// An escape sequence.
     Escape {
-        /// Its intermediate, 20..2F.
+        /// The intermediate, 20..2F.
         inter: Option<u8>,
-        /// Its final byte, 30..7E.
+        /// The final byte, 30..7E.
         last: u8,
     },
     /// A control sequence.
     Sequence {
         /// The private marker, 3C..3F.
         marker: Option<u8>,
-        /// Its intermediate, 20..2F.
+        /// The intermediate, 20..2F.
         inter: Option<u8>,
-        /// Its final byte, 40..7E.
+        /// The final byte, 40..7E.
         last: u8,
     },
 }

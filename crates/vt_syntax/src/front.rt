@@ -1,8 +1,9 @@
 //! Fronts: events that are whole at the front of a chunk, between sequences. They are read from the chunk, and never
 //! held.
 //!
-//! A terminal asks [`Front::of`] for the kind of the front. A function of that kind reads what is frequent, so that the
-//! kind is known when its dispatcher is compiled. Speed: [`front_event`] reads all other fronts, for `Parser::next`.
+//! A terminal calls [`Front::of`], and reads each frequent kind of front by a function for this kind. So the kind of
+//! the event is known when the terminal's dispatcher is compiled. `Parser::next` reads all kinds by [`front_event`],
+//! for speed.
 ghost use Rattle.std.specs.Prelude.{◌≡◌, ◌+◌, ◌-◌, ◌<◌, ◌≤◌, ℕ, List, [], ◌∷◌, ◌++◌, Option, Some, None, IfSome, IsTrue, ◌↔◌};
 ghost use Rattle.std.specs.Prelude.{IsSome, length, take, slice_index};
 ghost use Rattle.std.specs.Bool.{OnTrue};
@@ -201,7 +202,7 @@ fn is_single_control(b: u8) -> bool
 /// Reads the event that is whole at the front of a chunk: a byte by itself, or a sequence. Returns its length and kind.
 ///
 /// Returns `None` if there is none, and for rare forms: more than 16 values, a value of four digits, or a control
-/// inside. It also returns `None` if fewer than four bytes remain.
+/// inside. It also returns `None` if fewer than four bytes follow the place of a value.
 #[inline(always)]
 #[tactic(auto, using(crate::proofs::Fronts::front_events))]
 pub(crate) fn front_event(piece: &[u8], values: &mut Values) -> Option<(usize, EventKind)>
@@ -302,7 +303,7 @@ fn marker_at(piece: &[u8], from: usize) -> (Option<u8>, usize)
 }
 
 /// Reads the values that begin at `start`, and returns the position after them. Returns `None` after the 16th, and if
-/// fewer than four bytes remain.
+/// fewer than four bytes follow the place of a value.
 #[inline(always)]
 fn read_values(piece: &[u8], start: usize, marker: Option<u8>, values: &mut Values) -> Option<usize>
     requires within { start ≤ length piece.now }
@@ -314,7 +315,8 @@ fn read_values(piece: &[u8], start: usize, marker: Option<u8>, values: &mut Valu
     Some(at)
 }
 
-/// Reads values into the front of a list, and returns how many there are. (Speed: they are counted in a register.)
+/// Reads values into the front of a list. Returns the position after them, and how many there are. (Speed: they are
+/// counted in a register.)
 #[inline(always)]
 #[tactic(auto, using(crate::proofs::Fronts::read_none))]
 fn read_list(

@@ -20,7 +20,7 @@ pub enum Held {
         params: ArrayVec<u16, 16>,
         /// Whether a 17th parameter began; it and later ones are dropped.
         full: bool,
-        /// How far it has come.
+        /// How far the control sequence has come.
         phase: Phase,
     },
     /// A spoilt control sequence: it has no function, whatever comes before its final byte.
@@ -72,7 +72,7 @@ pub enum Inters {
     Many,
 }
 
-/// How far a control sequence has come.
+/// The progress of a control sequence.
 #[derive(Clone, Copy, Debug, PartialEq, Eq)]
 pub enum Phase {
     /// No parameter byte, marker or intermediate has come, and the values are one 0.

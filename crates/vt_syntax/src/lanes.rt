@@ -56,7 +56,8 @@ pub(crate) fn end_from<C: ByteClass>(piece: &[u8], from: usize) -> usize
     end_of_8::<C>(piece, at)
 }
 
-/// Returns the same starting at `at`, if fewer than 16 bytes remain.
+/// Returns the position of the first byte at or after `at` that isn't of the class, or the length, if fewer than 16
+/// bytes remain.
 #[inline(always)]
 fn end_of_8<C: ByteClass>(piece: &[u8], at: usize) -> usize
     requires { at ≤ length piece.now }
@@ -72,7 +73,8 @@ fn end_of_8<C: ByteClass>(piece: &[u8], at: usize) -> usize
     end_of_slowly::<C>(piece, at + 8)
 }
 
-/// Returns the same, byte by byte.
+/// Returns the position of the first byte at or after `from` that isn't of the class, or the length. Searches byte by
+/// byte.
 #[inline(always)]
 fn end_of_slowly<C: ByteClass>(piece: &[u8], from: usize) -> usize
     requires { from ≤ length piece.now }

@@ -71,7 +71,8 @@ pub(crate) fn step(held: &mut Held, b: u8, values: &mut Values) -> Option<EventK
     }
 }
 
-/// Returns how many bytes of a string's content at the front of a chunk can be read at once: all of it or a part.
+/// Returns how many bytes at the front of a chunk are content of the string that is held, or 0 if none is held. Content
+/// may follow them.
 #[inline(always)]
 #[tactic(auto, unfolding(crate::specs::Steps::steps))]
 pub(crate) fn hold_content(held: &Held, piece: &[u8]) -> usize
@@ -151,7 +152,7 @@ fn quiet_control(b: u8) -> Option<EventKind>
     }
 }
 
-/// Ends the held part at CAN or SUB. SUB is an event.
+/// Ends the held part at CAN, SUB or ST. Only SUB is an event.
 #[tactic(auto, using(std::proofs::lemmas::Bool::Decides::nat_tests))]
 fn cancel(held: &mut Held, b: u8) -> Option<EventKind>
     ensures holds { held.new ≡ Held.Nothing }
@@ -220,7 +221,7 @@ fn introduces(inters: Inters, b: u8) -> bool
     }
 }
 
-/// Returns the event of an escape sequence. If it has two or more intermediates, it has none.
+/// Returns the event of an escape sequence. A sequence with two or more intermediates has none.
 #[tactic(auto, using(std::proofs::lemmas::Bool::Decides::nat_tests))]
 fn escape_function(inters: Inters, last: u8) -> Option<EventKind>
     requires { last < 0x80 }
@@ -253,8 +254,8 @@ fn step_spoilt(held: &mut Held, b: u8) -> Option<EventKind>
     }
 }
 
-/// Reads an intermediate in a control sequence. Returns whether the sequence may still have a function: it is the
-/// first.
+/// Reads an intermediate in a control sequence. Returns whether the sequence may still have a function. It may if this
+/// is the first intermediate.
 fn intermediate(phase: &mut Phase, b: u8) -> bool
     ensures goes_on { (marker : Option ℕ) (params : List ℕ) (full : Bool) → OnTrue result
         (step_intermediate marker params full phase.old b

@@ -1,7 +1,7 @@
 -- The parameters of a control sequence: the one place of the rules on empty ones. (ECMA-48 5.4.2)
 use Rattle.std.specs.Prelude.{ℕ, List, max, slice_index}
 
--- one that isn't there is 0, as `slice_index` is past the end
+-- the first parameter; one that isn't there is 0, as `slice_index` is past the end
 abbrev pub first : List ℕ → ℕ
 first params = slice_index params 0
 

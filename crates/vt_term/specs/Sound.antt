@@ -8,7 +8,7 @@ use Rattle.vt_screen.specs.Grid.{IsSoundGrid}
 use Rattle.vt_term.specs.declared.state.Margins.{Margins}
 use Rattle.vt_term.specs.State.{Display, State, last_column, saved_sets}
 
--- at least two rows of so many
+-- margins of at least two rows, on a screen of so many
 pub record AreSoundMargins (rows : ℕ) (m : Margins) : Type 0 where
   pub from_row_1 : 1 ≤ m.top
   pub two_rows : m.top < m.bottom
@@ -42,14 +42,14 @@ pub record IsSoundAt (size : Size) (s : State) : Type 0 where
   pub display : IsSoundDisplayAt size s.display
   pub held : IsHeldPart s.held
 
--- of any size
+-- the display is sound at its own size
 abbrev pub IsSoundSizedDisplay : Display → Type 0
 IsSoundSizedDisplay s = IsSoundDisplayAt s.grid.size s
 
 abbrev pub IsSoundSized : State → Type 0
 IsSoundSized s = IsSoundAt s.display.grid.size s
 
--- a VT220's
+-- the display is sound at a VT220's size
 abbrev pub IsSoundDisplay : Display → Type 0
 IsSoundDisplay s = IsSoundDisplayAt vt220_size s
 

@@ -45,7 +45,7 @@ last_column s = s.grid.width
 abbrev pub at_place : ℕ → ℕ → Cursor
 at_place row col = record { row = row; col = col; wrap = false }
 
--- all rows
+-- the margins of all rows
 abbrev pub margins_of : Size → Margins
 margins_of size = record { top = 1; bottom = size.rows }
 
@@ -116,7 +116,7 @@ display_of size = record {
 abbrev pub state_of : Size → State
 state_of size = record { display = display_of size; held = Nothing }
 
--- ---- those of a VT220
+-- ---- the values of a VT220 at power-up
 
 abbrev pub full_margins : Margins
 full_margins = margins_of vt220_size

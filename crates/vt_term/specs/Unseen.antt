@@ -1,7 +1,7 @@
 -- Line feeds in bytes. Contracts of private functions cite this, and no public clause does.
 use Rattle.std.specs.Prelude.{ℕ, ◌+◌, List, [], ◌∷◌, ◌==◌, if◌then◌else◌}
 
--- one for LF
+-- 1 for LF, and 0 for any other byte
 abbrev pub fed : ℕ → ℕ
 fed b = if b == 0x0A then 1 else 0
 

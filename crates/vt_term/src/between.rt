@@ -1,4 +1,4 @@
-//! Calls for a front with left and right margins.
+//! Calls for a front with left and right margins, which a VT220 lacks (see `fronts.rt`).
 ghost use Rattle.std.specs.Prelude.{◌≡◌, ◌≤◌, ◌⊎◌, ◌+◌, ◌==◌, ◌&&◌, nat_lt, if◌then◌else◌};
 ghost use Rattle.vt_syntax.specs.declared.held.Held.TheVariants.{Nothing};
 ghost use Rattle.vt_glyph.specs.Invocation.{glyph_read, after_read};
@@ -72,8 +72,8 @@ impl SizedTerminal {
         between::delete_between(&mut self.display.screen, row, col, right, n);
     }
 
-    /// Writes a glyph at the cursor, whose wrap flag is reset. If `inserts`, the cells up to the column `last` move right first. Then the
-    /// cursor moves on, up to that column. In the last column of the screen the wrap flag is set under DECAWM.
+    /// Writes a glyph at the cursor. If `inserts`, the cells up to the column `last` first move right. Then the cursor
+    /// moves on, up to that column. The wrap flag is reset, but set in the last column of the screen under DECAWM.
     pub fn put_glyph(&mut self, glyph: Glyph, last: usize, inserts: bool)
         requires columns { (self.old.display.cursor.col ≤ last) × (last ≤ self.old.display.grid.width) }
         ensures { self.new ≡ record self.old {

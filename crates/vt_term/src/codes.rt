@@ -35,7 +35,7 @@ pub(crate) const DECID: u8 = 0x9A;
 /// Control sequence introducer.
 pub(crate) const CSI: u8 = 0x9B;
 
-/// How many codes each half of the code table has.
+/// The number of codes in each half of the code table.
 pub(crate) const HALF: u8 = 0x80;
 /// The first code of the right graphic area.
 pub(crate) const RIGHT: u8 = 0xA0;

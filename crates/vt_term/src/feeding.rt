@@ -29,7 +29,7 @@ use vt_syntax::{
 /// The least number of plain bytes that are written separately even if bytes of the right half follow.
 const LONG_RUN: usize = 8;
 
-/// The most bytes that are played before it is asked again whether nobody sees the next ones.
+/// The most bytes that are played before the next search for lines that nobody sees.
 const BLOCK: usize = 16384;
 
 /// Returns whether there is a byte at a position, and it is of the right half.
@@ -38,7 +38,7 @@ fn right_half_at(piece: &[u8], at: usize) -> bool {
     at < piece.len() && piece[at] >= RIGHT
 }
 
-/// Returns whether playing so many bytes says that the observer stops: it is none.
+/// Returns whether the observer stopped the feed: it may do so, and no byte was played.
 #[inline(always)]
 fn is_stop<O: Observer>(observer: &O, bytes: usize) -> bool
     ensures { result ≡ (O.Stops && (bytes == 0)) }
@@ -86,9 +86,11 @@ impl SizedTerminal {
         }
     }
 
-    /// Does the same, and passes no lines. (Speed: as the only place with this feed, it has the whole dispatcher inline.)
+    /// Plays a chunk as `feed_reserved` does, and doesn't look for lines that nobody sees. `out` has capacity for ten
+    /// more bytes for each byte of the chunk. It never fails and allocates nothing. (Speed: as the only place with this
+    /// feed, it has the whole dispatcher inline.)
     #[inline(never)]
-    fn feed_unobserved(&mut self, piece: &[u8], out: &mut Vec<u8>)
+    pub fn feed_unobserved(&mut self, piece: &[u8], out: &mut Vec<u8>)
         requires { vec_len out.old + 10 * length piece.now ≤ vec_capacity out.old }
         ensures state { self.new ≡ (play self.old piece.now).state }
         ensures reports { out.new.items ≡ out.old.items ++ (play self.old piece.now).reports }
@@ -98,7 +100,8 @@ impl SizedTerminal {
         self.feed_observed(piece, &mut Nobody, out);
     }
 
-    /// Does the same for a chunk in which lines may be passed. (Speed: a small chunk needs no loop over blocks.)
+    /// Plays a chunk as `feed_reserved` does, if lines may be passed in it. (Speed: a small chunk needs no loop over
+    /// blocks.)
     #[inline(never)]
     fn feed_large(&mut self, piece: &[u8], out: &mut Vec<u8>)
         requires { vec_len out.old + 10 * length piece.now ≤ vec_capacity out.old }
@@ -145,7 +148,8 @@ impl SizedTerminal {
         self.feed_as(&mut Vt220, piece, observer, out)
     }
 
-    /// Does the same for a profile: the functions are the profile's, and `profile` is what it keeps.
+    /// Plays a chunk as `feed_observed` does, by the functions of a profile. `profile` is what such a terminal keeps
+    /// besides a VT220's state.
     ///
     /// Speed: the types of profile and observer are known when this is compiled. So a VT220 pays nothing for another profile.
     #[inline(always)]
@@ -649,12 +653,12 @@ impl SizedTerminal {
         bytes
     }
 
-    /// Returns the parser if the observer may stop the feed, so that it may be put back.
+    /// Returns the parser if the observer may stop the feed, so that it may be put back. Speed: between sequences nothing is copied.
     #[inline(always)]
     fn parser_before<O: Observer>(&self, observer: &O) -> Parser
         ensures { O.Stops ≡ true → result ≡ self.now.held }
     {
-        if observer.stops() {
+        if observer.stops() && !self.parser.is_between() {
             self.parser.copied()
         } else {
             Parser::new()

@@ -1,4 +1,4 @@
-//! What a VT220's terminal plays, and the calls for a front: those of `SizedTerminal`.
+//! The feeds of a `Terminal`, and its calls for a front (see `fronts.rt`). Each calls that of its `SizedTerminal`.
 ghost use Rattle.std.specs.Prelude.{◌≡◌, ◌+◌, ◌*◌, ◌≤◌, ◌<◌, ◌++◌, ◌&&◌, [], ℕ, List, All, true, false, length, take, drop};
 ghost use Rattle.std.specs.Prelude.{vec_len, vec_capacity, OnOk, OnErr, IsOk, IfSome, IfNone, flat_map};
 ghost use Rattle.vt_syntax.specs.Class.{IsOfLines};
@@ -143,8 +143,8 @@ impl Terminal {
         self.sized.feed_log_reserved(piece, reports, lines)
     }
 
-    /// Appends the text of line 1 to `lines` if an event scrolls it off. Then `lines` has capacity for `ROW_TEXT_LIMIT` more
-    /// bytes.
+    /// Appends the text of line 1 to `lines` if an event scrolls it off. In this case `lines` has capacity for
+    /// `ROW_TEXT_LIMIT` more bytes.
     #[inline(always)]
     pub fn line_off_reserved(&self, kind: EventKind, lines: &mut Vec<u8>)
         requires { (values : List ℕ) → scrolls_off (event_of kind values) self.now.display ≡ true
@@ -187,9 +187,9 @@ impl Terminal {
         self.sized.row_limit(has_room)
     }
 
-    /// Passes lines at the front of a chunk that scroll out of the scroll region before the chunk ends. It doesn't write
-    /// them. Playing what is left of the chunk then leaves the state and the reports of the whole chunk. So does playing what
-    /// is left of the bytes that were looked at, which cause no report.
+    /// Passes lines at the front of a chunk that scroll out of the scroll region before the chunk ends. It doesn't
+    /// write them. Playing what is left of the chunk then leaves the state and the reports of the whole chunk. The same
+    /// holds of the bytes that were looked at, which cause no report.
     ///
     /// It passes lines if nothing is held, no single shift is pending and the cursor is in the row of the bottom margin.
     /// They consist of graphic bytes, BS, HT, LF, VT, FF, CR and DEL, and 24 line feeds follow them.

@@ -160,7 +160,7 @@ impl Display {
         self.rare_escape(inter, last);
     }
 
-    /// Carries out an escape sequence with an intermediate. Speed: those of G0, which are frequent, come before it.
+    /// Carries out an escape sequence with an intermediate. Speed: `escape_with` tests for G0 first, which is frequent.
     #[inline(never)]
     #[tactic(auto, unfolding(crate::specs::Functions::escape_with))]
     fn rare_escape(&mut self, inter: u8, last: u8)

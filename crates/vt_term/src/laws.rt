@@ -67,8 +67,8 @@ pub fn cuts()
     sized_cuts();
 }
 
-/// States that what happens at bytes are their events, and the lines that they scroll off, one happening for each byte, all on a
-/// screen of one size. It may be told in parts.
+/// States that the happenings of bytes, one for each byte, have the events of the bytes and the lines that they scroll
+/// off. They may be told in parts. All are on a screen of the same size.
 pub fn sized_happened()
     ensures events { (size : Size) (s : State) (bytes : List ℕ) → IsSoundAt size s
         → events_in (happenings s bytes) ≡ events_from s.held bytes }
@@ -84,8 +84,8 @@ pub fn sized_happened()
     sized_soundness();
 }
 
-/// States that what happens at bytes are their events, and the lines that they scroll off, one happening for each byte. It may
-/// be told in parts.
+/// States that the happenings of bytes, one for each byte, have the events of the bytes and the lines that they scroll
+/// off. They may be told in parts.
 pub fn happened()
     ensures events { (s : State) (bytes : List ℕ) → IsSound s → events_in (happenings s bytes) ≡ events_from s.held bytes }
     ensures lines { (s : State) (bytes : List ℕ) → IsSound s → lines_in (happenings s bytes) ≡ scrolled_off s bytes }
@@ -134,9 +134,9 @@ pub fn scrolls()
         }) }
 {}
 
-/// States what a change of the screen's size keeps. At its own size a state stays as it is, and nothing goes to the log. So does a
-/// page of which no row leaves. Cells that both screens have stay, and the cursor stays in its line. A sound state is sound at the
-/// other size, and so is a page.
+/// States what a change of the screen's size keeps. At its own size a state stays as it is, and nothing goes to the
+/// log. A page of which no row leaves stays, too. Cells that both screens have stay, and the cursor stays in its line.
+/// A sound state is sound at the other size, and so is a page.
 pub fn resizes()
     ensures own { (s : State) → IsSoundSized s → state_on s.display.grid.size s ≡ s }
     ensures own_log { (s : State) → IsSoundSized s → log_on s.display.grid.size s ≡ [] }

@@ -14,7 +14,7 @@ use vt_syntax::plain_run;
 /// The most bytes of the text of a row of ASCII glyphs: one for each cell, and LF.
 const LINE: usize = MOST + 1;
 
-/// How many spaces at the end are looked for at a time.
+/// The number of codes that are compared with spaces at a time, at the end of a row.
 const BLOCK: usize = 8;
 
 /// Appends the text of a row: its characters without the spaces at its end, and LF. `out` has capacity for it.
@@ -68,7 +68,7 @@ fn push_characters(cells: &[Cell], codes: &[u8], out: &mut Vec<u8>)
     }
 }
 
-/// Appends the characters of the first cells: a run of ASCII, or one character. Returns of how many cells.
+/// Appends the characters of the first cells: a run of ASCII, or one character. Returns the number of these cells.
 #[inline(always)]
 fn push_next(cells: &[Cell], codes: &[u8], out: &mut Vec<u8>) -> usize
     requires some { 1 ≤ length cells.now }

@@ -1,4 +1,4 @@
-//! Modes.
+//! The control functions that change modes.
 ghost use Rattle.std.specs.Prelude.{◌≡◌};
 ghost use Rattle.vt_term.specs.Modes.{origin_mode, autowrap_mode, column_mode, keypad_mode, report_form, with_mode};
 ghost use Rattle.vt_term.specs.Modes.{change_modes, ansi_modes, private_modes};

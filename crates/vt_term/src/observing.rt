@@ -15,11 +15,11 @@ ghost use Rattle.vt_term.specs.Observing.{AreJoined};
 use crate::sized::SizedTerminal;
 use vt_syntax::EventKind;
 
-/// An observer of a feed. A feed asks it before each event whether the event may be carried out, and then tells it of the
-/// event, in the state before it. It also tells it of bytes without an event. The feed stops before an event that the
-/// observer doesn't let.
+/// An observer of a feed. Before each event, the feed asks the observer whether the event may be carried out. If it
+/// may, the observer is told of the event, in the state before the event. Otherwise the feed stops. The observer is
+/// also told of bytes without an event.
 ///
-/// What it is told of is a list of happenings, one for each byte.
+/// In contracts, an observer is told of a list of happenings, one for each byte.
 pub trait Observer {
     /// The observer after it was told of happenings.
     ghost Saw: { Self → List Happening → Self → Type 0 };
@@ -39,11 +39,12 @@ pub trait Observer {
     /// The observer may stop the feed. Speed: otherwise nothing is kept to go back to.
     ghost Stops: { Bool };
 
-    /// Returns whether it may stop the feed. (A constant of a trait has no proof yet in an `impl` with a lifetime.)
+    /// Returns whether the observer may stop the feed. (It is no constant: the toolchain proves none in an `impl` with
+    /// a lifetime.)
     fn stops(&self) -> bool
         ensures { result ≡ Stops };
 
-    /// Returns whether it lets an event be carried out. `terminal` has the display before the event.
+    /// Returns whether the observer lets an event be carried out. `terminal` has the display before the event.
     fn lets(&self, terminal: &SizedTerminal, kind: EventKind, values: &[u16]) -> bool
         ensures lets { OnTrue result (Lets self.now terminal.now.display (event_of kind values.now)) }
         ensures stops { OnFalse result (Stops ≡ true) }
@@ -60,7 +61,8 @@ pub trait Observer {
             → events_from s.held (take (length bytes.now - 1) bytes.now) ≡ []
             → Saw self.old (happenings s bytes.now) self.new };
 
-    /// Returns how many graphic bytes it lets be written at once. If it is none, the feed stops before the first one.
+    /// Returns how many graphic bytes the observer lets be written at once. If it is none, the feed stops before the
+    /// first one.
     fn limit(&self, terminal: &SizedTerminal) -> usize
         ensures fits { (n : ℕ) → n ≤ result → Fits self.now terminal.now.display n }
         ensures stops { result ≡ 0 → Stops ≡ true }

@@ -77,8 +77,8 @@ impl SizedPage {
         self.screen.size()
     }
 
-    /// Makes another page, of any size, show what this one shows after its first `off` rows have left at the top, and brings the
-    /// saved place inside. It never fails and allocates nothing. (xterm: a window that changes its size)
+    /// Makes another page, of any size, show what this one shows after its first `off` rows have left at the top.
+    /// Brings the saved place inside. It never fails and allocates nothing. (xterm: a window that changes its size)
     pub fn resize_into(&self, off: usize, target: &mut SizedPage)
         requires { off ≤ self.now.grid.size.rows }
         ensures { target.new ≡ page_on target.old.grid.size off self.now }
@@ -97,7 +97,7 @@ impl SizedPage {
         let _ = &self.saved;
     }
 
-    /// Gives the page a width. If it has another one, it changes as by DECCOLM.
+    /// Brings the page to a width. A page of another width changes as by DECCOLM.
     fn fit(&mut self, width: usize)
         requires { (wide : Bool) × (width ≡ width_of self.old.grid.size wide) }
         ensures page { self.new ≡ fitted width self.old }

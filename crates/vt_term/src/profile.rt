@@ -10,19 +10,19 @@ ghost use Rattle.vt_term.specs.Machines.{KeepsSize, Machine, PrintsAlike};
 use crate::sized::SizedTerminal;
 use vt_syntax::{EventKind, FrontValues};
 
-/// A profile: what events do. A value of it is what such a terminal keeps besides a VT220's state, as a page that isn't shown.
-/// Graphic bytes are a VT220's in every profile.
+/// A profile: what events do. A value of it is what such a terminal keeps besides a VT220's state, such as a page that
+/// isn't shown. In every profile, graphic bytes do what they do on a VT220.
 pub trait Profile {
-    /// What events change.
+    /// The type of the screens, which events change.
     ghost Screens: { Type 0 };
 
-    /// The screens, by the display and by what the profile keeps.
+    /// The screens of a display and of what the profile keeps.
     ghost screens: { Display → Self → Screens };
 
     /// What events do.
     ghost machine: { Machine Screens };
 
-    /// The screens are of one size: what the profile keeps is of the display's.
+    /// What the profile keeps is of the display's size.
     ghost OneSize: { Screens → Type 0 };
 
     /// Carries out an event: its kind, and the values of a control sequence. It appends the report in the state before the
@@ -71,7 +71,7 @@ pub trait Profile {
     fn keeps_size(&self)
         ensures { KeepsSize machine OneSize };
 
-    /// Graphic bytes are a VT220's.
+    /// Graphic bytes do what they do on a VT220.
     ghost prints: { PrintsAlike machine screens };
 }
 

@@ -10,7 +10,7 @@ use crate::state::{Cursor, Margins, Modes, Saved};
 use std::alloc::AllocError;
 use vt_screen::Size;
 
-/// Returns a column brought inside a screen of a width. From a wrap flag it is the next column, if the screen has that.
+/// Returns a column brought inside a screen of a width. If the wrap flag is set, it is first moved to the next column.
 fn col_on(width: usize, col: usize, wrap: bool) -> usize
     ensures { result ≡ col_on width col wrap }
 {
@@ -52,7 +52,7 @@ impl Display {
         self.cursor.row.saturating_sub(size.rows)
     }
 
-    /// Returns whether a screen of another size has as many rows and columns.
+    /// Returns whether a screen of another size has as many rows and columns as this one.
     fn is_as_large(&self, size: Size) -> bool
         ensures { result ≡ is_as_large size self.now }
     {

@@ -26,7 +26,7 @@ fn is_line_feed(b: u8) -> bool
     b == LF || b == VT || b == FF || b == IND || b == NEL
 }
 
-/// Returns whether a graphic byte is no character: A0 and FF.
+/// Returns whether a graphic byte has no glyph: A0 and FF have none.
 #[inline(always)]
 fn has_no_glyph(b: u8) -> bool
     ensures { result ≡ has_no_glyph b }
@@ -110,8 +110,8 @@ impl SizedTerminal {
         self.feed_observed(piece, &mut observer, reports)
     }
 
-    /// Appends the text of line 1 to `lines` if an event scrolls it off. Then `lines` has capacity for `row_text_limit` more
-    /// bytes.
+    /// Appends the text of line 1 to `lines` if an event scrolls it off. In this case `lines` has capacity for
+    /// `row_text_limit` more bytes.
     #[inline(always)]
     pub fn line_off_reserved(&self, kind: EventKind, lines: &mut Vec<u8>)
         requires { (values : List ℕ) → scrolls_off (event_of kind values) self.now.display ≡ true
@@ -178,11 +178,11 @@ impl SizedTerminal {
     }
 }
 
-/// Keeps the texts of the lines that scroll off, and passes everything on to another observer. Stops the feed before a line that
-/// might not fit.
+/// An observer that keeps the texts of the lines that scroll off, and passes everything on to another observer. It
+/// stops the feed before a line that might not fit.
 #[derive(Drop)]
 pub struct Lines<'a, A: Drop> {
-    /// The texts, after those that were there before.
+    /// The vector to which the texts are appended.
     pub lines: &'a mut Vec<u8>,
     /// The limit of a text in bytes: `row_text_limit` of the terminal. A line that might be longer isn't kept.
     pub limit: usize,
@@ -204,8 +204,8 @@ fn has_room(lines: &Vec<u8>, limit: usize, end: usize) -> bool
     lines.len() <= last && limit <= last - lines.len()
 }
 
-/// Appends the text of line 1 to `lines` if an event scrolls it off, and the text of a row has at most `limit` bytes. Then `lines`
-/// has capacity for as many.
+/// Appends the text of line 1 to `lines` if an event scrolls it off. In this case `lines` has capacity for `limit` more
+/// bytes. The text of a row has at most as many.
 #[inline(always)]
 fn push_line_off(terminal: &SizedTerminal, kind: EventKind, limit: usize, lines: &mut Vec<u8>)
     requires { (values : List ℕ) → scrolls_off (event_of kind values) terminal.now.display ≡ true

@@ -13,7 +13,7 @@ use vt_screen::{COLUMNS, MOST};
 /// The number of columns of a VT220 that may have a tab stop, at any width.
 pub const STOPS: usize = COLUMNS;
 
-/// The tab stops of a screen: of each column of its wide form, at any width.
+/// The tab stops of a screen: for each column of its wide form, at any width, whether it has one.
 #[derive(Drop)]
 pub(crate) struct TabStops {
     /// Index c - 1 for column c. (Speed: an array of a fixed length costs no pointer.)

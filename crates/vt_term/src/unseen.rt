@@ -1,5 +1,5 @@
 //! Speed: lines that nobody sees aren't written. At the bottom margin each line feed moves the scroll region up by one
-//! row. So what stood in it is gone after as many line feeds as the screen has rows.
+//! row. So what the region showed is gone after as many line feeds as the screen has rows.
 ghost use Rattle.std.specs.Prelude.{◌≡◌, ◌≤◌, ◌-◌, [], ℕ, All, None, length, take, drop, slice_index};
 ghost use Rattle.std.specs.Bool.{OnTrue};
 ghost use Rattle.vt_syntax.specs.Class.{IsOfLines};
@@ -18,7 +18,8 @@ use vt_syntax::lines_run;
 /// The fewest bytes of lines in which it is worth while to look for lines that nobody sees.
 pub(crate) const LEAST: usize = 1024;
 
-/// How far the first CR may be. Where lines end with LF alone, none is passed.
+/// The number of bytes at the front of a chunk among which there must be a CR. If lines end with LF alone, none is
+/// passed.
 const NEAR: usize = 512;
 
 /// The front of a chunk, as `pass_unseen` found it.
@@ -26,12 +27,12 @@ const NEAR: usize = 512;
 pub struct Passed {
     /// The number of bytes that nobody sees and that aren't played.
     pub unseen: usize,
-    /// The number of bytes that were looked at. They are bytes of lines. It may be called again after them.
+    /// The number of bytes that were looked at. They are bytes of lines. `pass_unseen` may be called again after them.
     pub looked_at: usize,
 }
 
 impl Passed {
-    /// Returns that nothing is passed.
+    /// Returns the result of a call that passes nothing.
     #[inline(always)]
     fn nothing() -> Passed
         ensures unseen { result.unseen ≡ 0 }
@@ -55,9 +56,9 @@ impl Display {
 }
 
 impl SizedTerminal {
-    /// Passes lines at the front of a chunk that scroll out of the scroll region before the chunk ends. It doesn't write
-    /// them. Playing what is left of the chunk then leaves the state and the reports of the whole chunk. So does playing what
-    /// is left of the bytes that were looked at, which cause no report.
+    /// Passes lines at the front of a chunk that scroll out of the scroll region before the chunk ends. It doesn't
+    /// write them. Playing what is left of the chunk then leaves the state and the reports of the whole chunk. The same
+    /// holds of the bytes that were looked at, which cause no report.
     ///
     /// It passes lines if nothing is held, no single shift is pending and the cursor is in the row of the bottom margin.
     /// They consist of graphic bytes, BS, HT, LF, VT, FF, CR and DEL, and as many line feeds follow them as the screen has rows.
@@ -81,7 +82,7 @@ impl SizedTerminal {
         self.pass_lines(piece)
     }
 
-    /// Does the same where line feeds scroll and nothing is held.
+    /// Passes lines as `pass_unseen` does, if each line feed scrolls and nothing is held.
     #[inline(never)]
     fn pass_lines(&mut self, piece: &[u8]) -> Passed
         requires row { self.old.display.cursor.row ≡ self.old.display.margins.bottom }

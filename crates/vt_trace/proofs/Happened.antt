@@ -1,5 +1,7 @@
 -- The trace of bytes is that of what happens at them.
+use Rattle.std.proofs.Common.{◌-◌, take}
 use Rattle.std.proofs.Common.{◌≡◌, ℕ, suc, ◌≤◌, List, [], ◌∷◌, ◌++◌, length, refl, sym, ap, ◌∙◌, subst, arith}
+use Rattle.vt_syntax.specs.declared.event.Event.{Event}
 use Rattle.vt_syntax.specs.declared.held.Held.{Held}
 use Rattle.vt_syntax.specs.Held.{held_from, events_from, IsHeldPart}
 use Rattle.vt_syntax.specs.Laws.{SplitLaw, SpellingLaw}
@@ -86,3 +88,18 @@ told-part law split names s h k t u [] old new sound part none read follow = rec
 told-part law split names s h k t u (b ∷ bytes) old new sound part none read follow =
     told-traced split names s h k t u (b ∷ bytes) old new sound follow.0
     (part_told law split names s h k t u (b ∷ bytes) old new none read follow.0)
+
+-- ---- one byte
+
+-- its event, as a copy of the parser reads it
+pub one-event : (held k : Held) (b n : ℕ) (events : List Event) → k ≡ held → 1 ≤ n → n ≤ 1
+    → events ≡ events_from k (take n (b ∷ [])) → events_from held (b ∷ []) ≡ events
+one-event held k b n events is some within read =
+    let one : 1 ≡ n = omega (arith, some, within) in
+    ap (λ (h : Held). events_from h (b ∷ [])) (sym is) ∙ ap (λ (i : ℕ). events_from k (take i (b ∷ []))) one ∙ sym read
+
+-- and none before it
+pub one-silent : SplitLaw → (held : Held) (b : ℕ) → IsHeldPart held → events_from held (take (length (b ∷ []) - 1) (b ∷ [])) ≡ []
+one-silent split held b part =
+    let none : length (b ∷ []) - 1 ≡ 0 = omega arith in
+    ap (λ (i : ℕ). events_from held (take i (b ∷ []))) none ∙ split.events_nil held part

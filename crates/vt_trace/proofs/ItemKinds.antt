@@ -3,6 +3,7 @@ use Rattle.std.proofs.Common.{◌≡◌, ℕ, ◌-◌, ◌≤◌, ◌⊎◌, inl
 use Rattle.std.proofs.Common.{Option, Some, None, refl, sym, ap, ◌∙◌, arith, flat_map, append-nil, append_assoc, length, take}
 use Rattle.std.specs.Prelude.{◌&&◌, All, slice_index, nat_lt}
 use Rattle.std.proofs.lemmas.Bool.Decides.{nat_tests}
+use Rattle.vt_glyph.specs.Invocation.{HasGlyph}
 use Rattle.vt_syntax.specs.declared.event.Event.{Event}
 use Rattle.vt_syntax.specs.declared.held.Held.{Held}
 use Rattle.vt_syntax.specs.declared.held.Held.TheVariants.{Nothing}
@@ -31,7 +32,7 @@ use Rattle.vt_trace.proofs.Counts.{not_equal}
 use Rattle.vt_trace.specs.Trace.{is_nothing, is_string, cuts_off, ends_silent, open_kind, ended_kind, code_after}
 use Rattle.vt_trace.specs.Runs.{is_graphic, step_kind, byte_kind, IsItem}
 use Rattle.vt_trace.proofs.Runs.{tail_of_plain, not_between, not_cut, not_ended, event_ends, first_quiet, rest_quiet, rest_event}
-use Rattle.vt_trace.proofs.Runs.{last_apart, no_one}
+use Rattle.vt_trace.proofs.Runs.{last_apart, no_one, tail_of_all, glyph_events, glyph_held}
 
 string_code : (code : ℕ) → opens_string code ≡ true → eqb code 0 ≡ false
 unfolding opens_string
@@ -318,6 +319,17 @@ module _ (law : SpellingLaw) (split : SplitLaw) where
       nothing_left (split_of bytes).rest nothing
       ∙ sym (nothing_left (split_of (bytes ++ item)).rest (split.held_append Nothing bytes item
       ∙ ap (λ (h : Held). held_from h item) nothing ∙ ends))
+
+  -- graphic bytes between sequences
+  pub kinds_of_run : (run bytes : List ℕ) → held_after bytes ≡ Nothing → All HasGlyph run → item_kinds (bytes ++ run) ≡ item_kinds bytes
+  kinds_of_run [] bytes nothing all = ap item_kinds (append-nil bytes)
+  kinds_of_run (b ∷ run) bytes nothing all =
+      let first : HasGlyph b = all 0 0 (omega arith) in
+      ap item_kinds (sym (append_assoc bytes (b ∷ []) run))
+      ∙ kinds_of_run run (bytes ++ b ∷ [])
+      (sym (next_held bytes b) ∙ ap (λ (h : Held). held_from h (b ∷ [])) nothing ∙ glyph_held law b first) (tail_of_all b run all)
+      ∙ same_kinds bytes b (ap (λ (h : Held). cuts_off h b) nothing)
+      (event_ends (held_after bytes) b (Print b) (ap (λ (h : Held). events_from h (b ∷ [])) nothing ∙ glyph_events law b first))
 
 -- ---- all kinds
 

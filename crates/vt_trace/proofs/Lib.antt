@@ -11,4 +11,5 @@ mod Digits
 pub mod Beyond
 pub mod CountedUtf8
 pub mod ItemKinds
+mod CountedRuns
 pub mod Words

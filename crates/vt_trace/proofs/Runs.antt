@@ -43,7 +43,7 @@ made n m v = between m n v
 same_tracer : (a b c d : ℕ) (v : Bool) → a ≡ b → c ≡ d → made a c v ≡ made b d v
 same_tracer a b c d v e f = ap (λ n. made n c v) e ∙ ap (λ m. made b m v) f
 
-tail_of_all : (b : ℕ) (run : List ℕ) → All HasGlyph (b ∷ run) → All HasGlyph run
+pub tail_of_all : (b : ℕ) (run : List ℕ) → All HasGlyph (b ∷ run) → All HasGlyph run
 tail_of_all b run all = λ k d low. all (suc k) d (omega (arith, low))
 
 pub tail_of_plain : (b : ℕ) (run : List ℕ) → All IsPlain (b ∷ run) → All IsPlain run
@@ -134,7 +134,7 @@ shown-run (b ∷ run) all =
     ap (λ (l : List ℕ). l ++ shown run) (shown-itself b (all 0 0 (omega arith)))
     ∙ ap (λ (l : List ℕ). b ∷ l) (shown-run run (λ k d low. all (suc k) d (omega (arith, low))))
 
-has-glyph : (b : ℕ) → HasGlyph b → has_no_glyph b ≡ false
+pub has-glyph : (b : ℕ) → HasGlyph b → has_no_glyph b ≡ false
 has-glyph b i = grind (arith, nat_tests, i)
 
 opens-nothing : (b : ℕ) → HasGlyph b → is_opener b ≡ false
@@ -145,10 +145,10 @@ printed : (b : ℕ) → HasGlyph b → single_function b ≡ Print b ∷ []
 printed b i = grind (arith, nat_tests, i)
 
 -- a character between sequences, and the state after it
-glyph_events : SpellingLaw → (b : ℕ) → HasGlyph b → events_from Nothing (b ∷ []) ≡ Print b ∷ []
+pub glyph_events : SpellingLaw → (b : ℕ) → HasGlyph b → events_from Nothing (b ∷ []) ≡ Print b ∷ []
 glyph_events law b i = law.single b (opens-nothing b i) ∙ printed b i
 
-glyph_held : SpellingLaw → (b : ℕ) → HasGlyph b → held_from Nothing (b ∷ []) ≡ Nothing
+pub glyph_held : SpellingLaw → (b : ℕ) → HasGlyph b → held_from Nothing (b ∷ []) ≡ Nothing
 glyph_held law b i = law.single_held b (opens-nothing b i)
 
 -- characters between sequences

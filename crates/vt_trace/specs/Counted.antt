@@ -1,4 +1,4 @@
--- Which bytes a summary has counted.
+-- The bytes that a summary has counted.
 use Rattle.std.specs.Prelude.{◌≡◌, ◌<◌, ◌+◌, ℕ, List, [], ◌∷◌, ◌++◌, length, get_or, if◌then◌else◌}
 use Rattle.vt_syntax.specs.declared.event.Event.{Event}
 use Rattle.vt_screen.specs.Grid.{last_row}
@@ -13,8 +13,8 @@ use Rattle.vt_trace.specs.Summary.{counted, times_named_by, times_skipped, all_i
 use Rattle.vt_trace.specs.Trace.{is_nothing, is_string, code_after, open_kind}
 use Rattle.vt_trace.specs.Runs.{byte_kind}
 
--- the counts of what was ignored by the numbers of its kinds, and of the other events by the numbers of their names in a list, on a
--- screen of so many rows
+-- the counts of events on a screen of so many rows. Those of what was ignored are by the numbers of its kinds. Those of
+-- the other events are by the numbers of their names in a list
 pub record AreCounts (d : Listing) (rows : ℕ) (events : List Event) (kinds : List ℕ) (ignored named : List ℕ) : Type 0 where
   pub size : length ignored ≡ 13312
   pub of_ignored : (k : ℕ) → get_or ignored k 0 ≡ all_ignored_by d.called rows events kinds k
@@ -27,11 +27,11 @@ pub record HasCountedBy (d : Listing) (rows : ℕ) (bytes : List ℕ) (s : Summa
   pub code : s.code ≡ code_of (split_of bytes).rest
   pub counts : AreCounts d rows (events_of bytes) (item_kinds bytes) s.ignored.items s.named
 
--- by a VT220's names
+-- the summary has counted these bytes by a VT220's names
 abbrev pub HasCountedOn : ℕ → List ℕ → Summary → Type 0
 HasCountedOn rows bytes s = HasCountedBy vt220_listing rows bytes s
 
--- that of a VT220
+-- the summary has counted these bytes for a VT220
 abbrev pub HasCounted : List ℕ → Summary → Type 0
 HasCounted bytes s = HasCountedOn last_row bytes s
 

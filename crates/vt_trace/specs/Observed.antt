@@ -23,7 +23,7 @@ skim h t b = record {
   first = record { items = if is_nothing (held_from h (b ∷ [])) then [] else item_first t h b };
 }
 
--- after bytes
+-- the tracer after bytes, if their events are left out
 abbrev pub skimmed : Held → Tracer → List ℕ → Tracer
 skimmed h t [] = t
 skimmed h t (b ∷ bytes) = skimmed (held_from h (b ∷ [])) (skim h t b) bytes
@@ -62,7 +62,7 @@ abbrev pub traced_told : Names → Tracer → List Happening → List ℕ
 traced_told names t [] = []
 traced_told names t (h ∷ hs) = traced_at names t h ++ traced_told names (tracer_at t h) hs
 
--- the tracer after them
+-- the tracer after happenings
 abbrev pub tracer_told : Tracer → List Happening → Tracer
 tracer_told t [] = t
 tracer_told t (h ∷ hs) = tracer_told (tracer_at t h) hs
@@ -72,7 +72,7 @@ abbrev pub held_told : Held → List Happening → Held
 held_told k [] = k
 held_told k (h ∷ hs) = held_told (held_from k (h.byte ∷ [])) hs
 
--- this is held before the first of them, and before each other one what its byte left
+-- k is held before the first happening, and before each later one what the byte of the one before left
 abbrev pub Follow : Held → List Happening → Type 0
 Follow k [] = ⊤
 Follow k (h ∷ hs) = (k ≡ h.held) × Follow (held_from k (h.byte ∷ [])) hs

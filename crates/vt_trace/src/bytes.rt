@@ -1,4 +1,4 @@
-//! Bytes and numbers, into an output that has the capacity.
+//! Bytes and numbers, appended to an output that has capacity for them.
 ghost use Rattle.std.specs.Prelude.{◌≡◌, ◌+◌, ◌*◌, ◌≤◌, ◌<◌, ◌++◌, Option, length, decimal, vec_len, vec_capacity};
 ghost use Rattle.std.specs.Option.{option_to_list};
 ghost use Rattle.vt_trace.specs.Lines.{hex_digit, shown_byte, shown};

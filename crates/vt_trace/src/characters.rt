@@ -22,7 +22,7 @@ impl Summary {
         self.count_utf8_by(&Vt220Names, decoder, chunk)
     }
 
-    /// Counts the same by these names.
+    /// Counts a chunk as `count_utf8` does, by the names of a list.
     pub fn count_utf8_by<L: Listed>(&mut self, names: &L, decoder: &mut Decoder, chunk: &[u8])
         ensures counted { (rows : ℕ) (bytes : List ℕ) → HasCountedBy L.listing rows bytes self.old
             → HasCountedBy L.listing rows (bytes ++ counted_bytes decoder.old chunk.now) self.new }

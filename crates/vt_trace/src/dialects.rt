@@ -17,16 +17,16 @@ pub trait Traceable<N: Naming> {
     /// The state of such a terminal.
     ghost Whole: { Type 0 };
 
-    /// It is a VT220's state and what this keeps.
+    /// The state of such a terminal, from a VT220's state and what the value keeps.
     ghost whole: { State → Self → Whole };
 
-    /// What characters mean to it.
+    /// What characters mean to such a terminal.
     ghost dialect: { Dialect Whole };
 
     /// The size of the screen.
     ghost size: { Whole → Size };
 
-    /// What this keeps is of that size.
+    /// What the value keeps is of the screen's size.
     ghost OneSize: { Whole → Type 0 };
 
     /// Plays the front of ASCII bytes with nothing pending, and appends their reports and their trace: as many bytes as `out` has

@@ -1,4 +1,4 @@
-//! The traces of what a VT220's terminal plays: the calls for `SizedTerminal` at its size.
+//! The traces of a VT220's `Terminal`. Each call calls that for its `SizedTerminal`.
 ghost use Rattle.std.specs.Prelude.{◌≡◌, ◌+◌, ◌*◌, ◌^◌, ◌≤◌, ◌<◌, ◌++◌, length, take, vec_len, vec_capacity};
 ghost use Rattle.vt_term.specs.Play.{play};
 ghost use Rattle.vt_utf8.specs.Decoding.{pending_after};
@@ -14,8 +14,9 @@ use vt_utf8::Decoder;
 /// Plays the front of a chunk of the host's bytes, and appends the reports to `reports` and the trace to `out`. Returns how
 /// many bytes it played.
 ///
-/// It plays while `out` has capacity for `TRACE_LIMIT` bytes more. With so much for each byte, that is the whole chunk.
-/// `reports` has capacity for ten bytes for each byte of the chunk. It never fails, and it allocates nothing.
+/// It plays while `out` has capacity for `TRACE_LIMIT` bytes more. If `out` has that capacity for each byte, it plays
+/// the whole chunk. `reports` has capacity for ten bytes for each byte of the chunk. It never fails, and it allocates
+/// nothing.
 #[inline(always)]
 #[tactic(auto, using(vt_utf8::proofs::Sizes::play_stays))]
 pub fn trace_reserved(
@@ -44,9 +45,9 @@ pub fn trace_reserved(
 /// Plays the front of a chunk of a host's UTF-8, and appends the reports to `reports` and the trace to `out`. `decoder` keeps
 /// what is pending between chunks. Returns how many bytes it played.
 ///
-/// The lines have the host's own bytes, and places in them. It plays while `out` has capacity for `TRACE_LIMIT` bytes more.
-/// With so much for each byte, that is the whole chunk. `reports` has capacity for ten bytes for each byte of the chunk. It
-/// never fails, and it allocates nothing.
+/// The lines have the host's own bytes, and places in them. It plays while `out` has capacity for `TRACE_LIMIT` bytes
+/// more. If `out` has that capacity for each byte, it plays the whole chunk. `reports` has capacity for ten bytes for
+/// each byte of the chunk. It never fails, and it allocates nothing.
 #[inline(always)]
 #[tactic(auto, using(vt_utf8::proofs::Sizes::utf8_stays))]
 pub fn trace_utf8_reserved(

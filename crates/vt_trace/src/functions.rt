@@ -142,7 +142,7 @@ pub(crate) enum ControlFunction {
     Sequence(Sequence),
 }
 
-/// How many sets there are.
+/// The number of sets.
 const SETS: usize = Set::Supplemental as usize + 1;
 
 /// The index of the first SCS.
@@ -151,7 +151,7 @@ const SCS: usize = Basic::DECALN as usize + 1;
 /// The index of the first control sequence.
 const SEQUENCES: usize = SCS + 4 * SETS;
 
-/// How many functions have a name.
+/// The number of functions that have a name.
 pub(crate) const FUNCTIONS: usize = SEQUENCES + Sequence::DECSTR as usize + 1;
 
 /// The names of all functions, by their indexes.

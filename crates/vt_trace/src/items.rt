@@ -21,7 +21,7 @@ pub(crate) fn is_item(kind: EventKind, item: &[u8]) -> bool
     !is_print(kind) && are_plain(after)
 }
 
-/// Returns whether all bytes are plain. (Speed: they are few.)
+/// Returns whether all bytes are plain. (Speed: the bytes are few, so they are tested one by one.)
 #[inline(always)]
 fn are_plain(bytes: &[u8]) -> bool
     ensures { OnTrue result (All IsPlain bytes.now) }

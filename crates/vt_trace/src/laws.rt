@@ -1,4 +1,4 @@
-//! Laws of the definitions alone. A caller calls one for its clauses.
+//! Laws over the definitions alone. A caller cites a law by a call of its function.
 ghost use Rattle.std.specs.Prelude.{◌≡◌, ◌++◌, List, ℕ};
 ghost use Rattle.vt_term.specs.State.{State};
 ghost use Rattle.vt_screen.specs.declared.size.Size.{Size};
@@ -33,7 +33,8 @@ pub fn cuts()
     sized_cuts();
 }
 
-/// States the same of UTF-8 at any size, also if a chunk ends inside a character.
+/// States at any size that UTF-8 may be cut anywhere, also inside a character. The trace of chunks in turn is that of
+/// the chunks joined.
 pub fn sized_utf8_cuts()
     ensures lines { (size : Size) (s : State) (t : Tracer) (pending a b : List ℕ) → IsSoundAt size s → trace_utf8 s t pending (a ++ b)
         ≡ trace_utf8 s t pending a
@@ -45,7 +46,8 @@ pub fn sized_utf8_cuts()
     sized_soundness();
 }
 
-/// States the same of UTF-8, also if a chunk ends inside a character.
+/// States that UTF-8 may be cut anywhere, also inside a character: the trace of chunks in turn is that of the chunks
+/// joined.
 pub fn utf8_cuts()
     ensures lines { (s : State) (t : Tracer) (pending a b : List ℕ) → IsSound s → trace_utf8 s t pending (a ++ b)
         ≡ trace_utf8 s t pending a

@@ -1,4 +1,4 @@
-//! Lists what the host sent, event by event, and says what of it the terminal ignored.
+//! The trace and the summary of what a host sent: its events, listed or counted, and what of it the terminal ignored.
 #![tactic(auto)]
 
 mod buffer;
@@ -24,7 +24,7 @@ pub use dialects::Traceable;
 pub use feeds::{trace_reserved, trace_utf8_reserved};
 pub use lines::{LINE_LIMIT, push_line, push_line_on};
 pub use names::{Listed, NAMES, Naming, Vt220Names, is_ignored, name, name_on};
-pub use observer::trace_as;
+pub use observer::{trace_as, trace_byte};
 pub use skipped::{First, SKIPPED_LIMIT};
 pub use summary::{IGNORED_LIMIT, SUMMARY_LIMIT, Summary};
 pub use tracing::{TRACE_LIMIT, Tracer, trace_end};

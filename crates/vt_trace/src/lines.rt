@@ -14,8 +14,8 @@ use vt_term::ROWS;
 /// The most bytes of the line of an event.
 pub const LINE_LIMIT: usize = 160;
 
-/// Appends the line of an event on a screen of so many rows that begins at a place, in existing capacity. `values` are those of a
-/// control sequence.
+/// Appends the line of an event that begins at a place, on a screen of so many rows. `out` has capacity for it.
+/// `values` are those of a control sequence.
 pub fn push_line_on(rows: usize, place: u64, kind: EventKind, values: &[u16], out: &mut Vec<u8>)
     requires few { length values.now ≤ 16 }
     requires room { vec_len out.old + LINE_LIMIT ≤ vec_capacity out.old }
@@ -26,7 +26,7 @@ pub fn push_line_on(rows: usize, place: u64, kind: EventKind, values: &[u16], ou
     push_line_by(&Vt220Names, rows, place, kind, values, out);
 }
 
-/// Appends the line of an event by the names of a dialect, on a screen of so many rows, in existing capacity.
+/// Appends the line of an event by the names of a dialect, on a screen of so many rows. `out` has capacity for it.
 pub(crate) fn push_line_by<N: Naming>(
     names: &N,
     rows: usize,
@@ -46,7 +46,8 @@ pub(crate) fn push_line_by<N: Naming>(
     push_bytes(&buffer[..end], out);
 }
 
-/// Appends the line of an event on a VT220 that begins at a place, in existing capacity. `values` are those of a control sequence.
+/// Appends the line of an event that begins at a place, on a VT220. `out` has capacity for it. `values` are those of a
+/// control sequence.
 pub fn push_line(place: u64, kind: EventKind, values: &[u16], out: &mut Vec<u8>)
     requires few { length values.now ≤ 16 }
     requires room { vec_len out.old + LINE_LIMIT ≤ vec_capacity out.old }
@@ -57,7 +58,7 @@ pub fn push_line(place: u64, kind: EventKind, values: &[u16], out: &mut Vec<u8>)
     push_line_on(ROWS, place, kind, values, out);
 }
 
-/// Writes the line of an event on a screen of so many rows that begins at a place.
+/// Writes the line of an event that begins at a place, on a screen of so many rows.
 #[tactic(auto, unfolding(crate::specs::Lines::event_line_by))]
 #[inline(always)]
 pub(crate) fn put_line<N: Naming>(

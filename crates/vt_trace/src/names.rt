@@ -1,6 +1,8 @@
 //! The names of events, as the specification's tables have them.
-ghost use Rattle.std.specs.Prelude.{◌≡◌, ◌≤◌, ◌<◌, ℕ, [], length, IfSome, option_copied, option_map};
+ghost use Rattle.std.specs.Prelude.{◌≡◌, ◌≤◌, ◌<◌, ℕ, [], Some, length, IfSome, option_copied, option_map};
+ghost use Rattle.vt_glyph.specs.Invocation.{HasGlyph};
 ghost use Rattle.vt_syntax.specs.Event.{event_of};
+ghost use Rattle.vt_syntax.specs.declared.event.Event.TheVariants.{Print};
 ghost use Rattle.vt_screen.specs.Grid.{last_row};
 ghost use Rattle.vt_term.specs.Functions.{designation};
 ghost use Rattle.vt_term.specs.Names.{name_of, name_on, name_with, control_name, plain_escape_name, escape_with_name, print_name};
@@ -28,7 +30,7 @@ pub fn name_on(rows: usize, kind: EventKind, values: &[u16]) -> Option<&'static 
     }
 }
 
-/// What events are called.
+/// The names of events.
 pub trait Naming {
     /// The names of events on a screen of so many rows. An event without a name is ignored.
     ghost names: { Names };
@@ -60,7 +62,7 @@ pub const NAMES: usize = 96;
 
 /// A list of the names that events may have, each with a number.
 pub trait Listed {
-    /// What events are called, and these names in the order of a summary.
+    /// The names of events, and a list of them in the order of a summary.
     ghost listing: { Listing };
 
     /// Returns the number of an event's name on a screen of so many rows, and `None` if the event is ignored. `values` are those of a
@@ -68,6 +70,11 @@ pub trait Listed {
     fn number_of(&self, rows: usize, kind: EventKind, values: &[u16]) -> Option<usize>
         ensures word { option_map (numbered_in listing) result ≡ listing.called rows (event_of kind values.now) }
         ensures within { IfSome result (λ number. number < length listing.listed) };
+
+    /// Returns the number of the name that each byte with a glyph has.
+    fn text(&self) -> usize
+        ensures word { (rows b : ℕ) → HasGlyph b → listing.called rows (Print b) ≡ Some (numbered_in listing result) }
+        ensures within { result < length listing.listed };
 
     /// Returns how many names there are.
     fn count(&self) -> usize
@@ -93,6 +100,11 @@ impl Listed for Vt220Names {
     #[inline(always)]
     fn number_of(&self, rows: usize, kind: EventKind, values: &[u16]) -> Option<usize> {
         index(rows, kind, values)
+    }
+
+    #[inline(always)]
+    fn text(&self) -> usize {
+        ControlFunction::Basic(Text).index()
     }
 
     #[inline(always)]

@@ -1,10 +1,12 @@
 //! The trace as an observer of the terminal's feed.
-ghost use Rattle.std.specs.Prelude.{◌≡◌, ℕ, List, All, ◌+◌, ◌-◌, ◌*◌, ◌^◌, ◌≤◌, ◌<◌, ◌++◌, length, take, vec_len, vec_capacity};
+ghost use Rattle.std.specs.Prelude.{◌≡◌, ℕ, List, All, ◌+◌, ◌-◌, ◌*◌, ◌^◌, ◌≤◌, ◌<◌, ◌++◌, ◌∷◌, [], length, take};
+ghost use Rattle.std.specs.Prelude.{vec_len, vec_capacity};
 ghost use Rattle.vt_glyph.specs.Invocation.{HasGlyph};
 ghost use Rattle.vt_syntax.specs.Event.{event_of};
 ghost use Rattle.vt_term.specs.Play.{play};
 ghost use Rattle.vt_trace.specs.Lines.{shown};
 ghost use Rattle.vt_trace.specs.Trace.{trace, tracer_all};
+ghost use Rattle.vt_term.specs.Happenings.{happenings};
 ghost use Rattle.vt_term.specs.Observing.{Feeds, happenings_of};
 ghost use Rattle.vt_trace.specs.Observed.{AreRead, Completes, traced_told, tracer_told};
 
@@ -14,7 +16,7 @@ use crate::names::{Naming, Vt220Names};
 use crate::skipped::skip_all;
 use crate::tracing::{TRACE_LIMIT, Tracer, is_text, place_of, push_event, push_text_begin};
 use vt_syntax::laws::{one_split, spelled};
-use vt_syntax::{EventKind, Parser, Values};
+use vt_syntax::{EventKind, Parser, Taken, Values};
 use vt_term::laws::sized_happened;
 use vt_term::{Observer, Profile, SizedTerminal};
 
@@ -55,7 +57,8 @@ pub(crate) fn trace_front(
     count
 }
 
-/// Does the same for a profile, by the names of its functions: the trace is that of what happens at the bytes.
+/// Plays and traces the front of a chunk as `trace_front` does, for a profile and by the names of its functions. The
+/// trace is that of the happenings of the bytes.
 pub fn trace_as<P: Profile, N: Naming>(
     terminal: &mut SizedTerminal,
     profile: &mut P,
@@ -94,6 +97,42 @@ pub fn trace_as<P: Profile, N: Naming>(
     };
     let _ = terminal.feed_as(profile, &piece[..count], &mut observer, reports);
     count
+}
+
+/// Appends the trace of a byte. The terminal doesn't play it: the caller does so afterwards. `out` has capacity for the
+/// trace.
+pub fn trace_byte<N: Naming>(
+    terminal: &SizedTerminal,
+    names: &N,
+    tracer: &mut Tracer,
+    byte: u8,
+    out: &mut Vec<u8>,
+)
+    requires place { tracer.old.place + 1 < 2 ^ 64 }
+    requires room { vec_len out.old + TRACE_LIMIT ≤ vec_capacity out.old }
+    ensures lines { out.new.items ≡ out.old.items ++ traced_told N.names tracer.old (happenings terminal.now (byte ∷ [])) }
+    ensures tracer { tracer.new ≡ tracer_told tracer.old (happenings terminal.now (byte ∷ [])) }
+    ensures bounded { vec_len out.new ≤ vec_len out.old + TRACE_LIMIT }
+    ensures capacity { vec_capacity out.old ≤ vec_capacity out.new }
+{
+    // The width's contract gives the soundness of the state.
+    let _ = terminal.width();
+    one_split();
+    let piece = [byte];
+    let mut parser = terminal.parser();
+    let mut values = Values::new();
+    let Taken { event, .. } = parser.next(&piece, &mut values);
+    let mut observer = Tracing {
+        names,
+        tracer,
+        out,
+        parser: terminal.parser(),
+        values: Values::new(),
+    };
+    match event {
+        Some(kind) => observer.event(terminal, &piece, kind, values.as_slice()),
+        None => observer.part(&piece),
+    }
 }
 
 /// The observer that writes the trace. It never stops the feed.

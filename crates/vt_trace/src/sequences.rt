@@ -57,7 +57,7 @@ fn second(values: &[u16]) -> u16
     values.get(1).copied().unwrap_or(0)
 }
 
-/// Returns the sequence without a marker and an intermediate.
+/// Returns the control sequence without a marker and an intermediate, if it takes the values.
 fn plain(rows: usize, last: u8, values: &[u16]) -> Option<Sequence>
     ensures { option_map sequence_word result ≡ name_with rows values.now (function_in plain_sequences last) }
 {
@@ -86,7 +86,7 @@ fn plain(rows: usize, last: u8, values: &[u16]) -> Option<Sequence>
     }
 }
 
-/// Returns the sequence after `?`.
+/// Returns the control sequence with the marker `?`, if it takes the values.
 fn private(last: u8, values: &[u16]) -> Option<Sequence>
     ensures { (rows : ℕ) → option_map sequence_word result ≡ name_with rows values.now (function_in private_sequences last) }
 {
@@ -100,7 +100,7 @@ fn private(last: u8, values: &[u16]) -> Option<Sequence>
     }
 }
 
-/// Returns the sequence after `>`.
+/// Returns the control sequence with the marker `>`, if it takes the values.
 fn greater(last: u8, values: &[u16]) -> Option<Sequence>
     ensures { (rows : ℕ) → option_map sequence_word result ≡ name_with rows values.now (function_in greater_sequences last) }
 {
@@ -110,7 +110,7 @@ fn greater(last: u8, values: &[u16]) -> Option<Sequence>
     }
 }
 
-/// Returns the sequence after `"`.
+/// Returns the control sequence with the intermediate `"`, if it takes the values.
 fn quote(last: u8, values: &[u16]) -> Option<Sequence>
     ensures { (rows : ℕ) → option_map sequence_word result ≡ name_with rows values.now (function_in quote_sequences last) }
 {
@@ -121,7 +121,7 @@ fn quote(last: u8, values: &[u16]) -> Option<Sequence>
     }
 }
 
-/// Returns the sequence after `!`.
+/// Returns the control sequence with the intermediate `!`.
 fn exclamation(last: u8) -> Option<Sequence>
     ensures { (rows : ℕ) (values : List ℕ) → option_map sequence_word result ≡ name_with rows values (function_in exclamation_sequences last) }
 {

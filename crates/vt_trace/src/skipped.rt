@@ -1,4 +1,4 @@
-//! Writes the lines of items that are no event, since they have no function.
+//! The lines of items that are no event, since they have no function.
 ghost use Rattle.std.specs.Prelude.{◌≡◌, ◌+◌, ◌*◌, ◌^◌, ◌≤◌, ◌<◌, ◌++◌, [], ◌∷◌, ◌&&◌, ◌||◌, not, ℕ, List, All, length, take, drop, true};
 ghost use Rattle.std.specs.Prelude.{if◌then◌else◌, IfSome, option_copied, vec_len, vec_capacity};
 ghost use Rattle.std.specs.Option.{option_to_list};
@@ -24,7 +24,7 @@ pub(crate) const CUT_SEQUENCE: u8 = 0x1B;
 /// The kind of a sequence that has its final byte, and no function.
 pub(crate) const SPOILT_SEQUENCE: u8 = 0x9B;
 
-/// How many bytes of an item a line shows.
+/// The number of bytes of an item that a line shows.
 const SHOWN: usize = 32;
 
 /// The first bytes of an item: those that a line shows, and one more.

@@ -23,16 +23,16 @@ use crate::names::{Listed, NAMES, Vt220Names};
 use crate::skipped::{kind_name, open_kind, read};
 use std::alloc::{AllocError, Global};
 use vt_syntax::laws::{one_split, spelled};
-use vt_syntax::{EventKind, Parser, Values};
+use vt_syntax::{EventKind, Parser, Values, graphic_run};
 use vt_term::ROWS;
 
-/// How many kinds there are.
+/// The number of kinds.
 const KINDS: usize = 13312;
 
 /// The counts of events by name, and of what is ignored by kind.
 #[derive(Drop)]
 pub struct Summary {
-    /// The rows of the screen.
+    /// The number of rows of the screen.
     rows: usize,
     parser: Parser,
     /// The C1 control that opened the string that is held, and 0 if none is.
@@ -79,7 +79,7 @@ impl Summary {
         self.count_by(&Vt220Names, chunk)
     }
 
-    /// Counts the same by these names.
+    /// Counts a chunk as `count` does, by the names of a list.
     pub fn count_by<L: Listed>(&mut self, names: &L, chunk: &[u8])
         ensures { (rows : ℕ) (bytes : List ℕ) → HasCountedBy L.listing rows bytes self.old
             → HasCountedBy L.listing rows (bytes ++ chunk.now) self.new }
@@ -92,7 +92,7 @@ impl Summary {
         }
     }
 
-    /// Counts the front of a chunk that isn't empty: an event, or a byte. Returns how many bytes it read.
+    /// Counts the front of a chunk that isn't empty: graphic bytes, an event, or a byte. Returns how many bytes it read.
     fn count_front<L: Listed>(&mut self, names: &L, piece: &[u8], values: &mut Values) -> usize
         requires { 1 ≤ length piece.now }
         ensures some { 1 ≤ result }
@@ -100,12 +100,34 @@ impl Summary {
         ensures counted { (rows : ℕ) (bytes : List ℕ) → HasCountedBy L.listing rows bytes self.old
             → HasCountedBy L.listing rows (bytes ++ take result piece.now) self.new }
     {
+        let count = self.count_run(names, piece);
+        if count > 0 {
+            return count;
+        }
         let bytes = self.count_item(names, piece, values);
         if bytes > 0 {
             return bytes;
         }
         self.count_byte(names, piece[0], values);
         1
+    }
+
+    /// Speed: counts the graphic bytes at the front of a chunk at once, if they are between sequences. Returns how many it counted.
+    #[inline(always)]
+    fn count_run<L: Listed>(&mut self, names: &L, piece: &[u8]) -> usize
+        ensures within { result ≤ length piece.now }
+        ensures counted { (rows : ℕ) (bytes : List ℕ) → HasCountedBy L.listing rows bytes self.old
+            → HasCountedBy L.listing rows (bytes ++ take result piece.now) self.new }
+    {
+        one_split();
+        spelled();
+        names.apart();
+        if !self.parser.is_between() {
+            return 0;
+        }
+        let count = graphic_run(piece);
+        count_named(&mut self.named, names.text(), count as u64);
+        count
     }
 
     /// Speed: counts an event between sequences that is whole at the front of a chunk. Returns how many bytes it has, or 0
@@ -180,7 +202,7 @@ impl Summary {
         self.push_summary_by(&Vt220Names, out)
     }
 
-    /// Appends the same by these names.
+    /// Appends the summary as `push_summary` does, by the names of a list.
     pub fn push_summary_by<L: Listed>(&self, names: &L, out: &mut Vec<u8>)
         requires { vec_len out.old + (IGNORED_LIMIT + 45 * length L.listing.listed) ≤ vec_capacity out.old }
         ensures items { (rows : ℕ) (bytes : List ℕ) → HasCountedBy L.listing rows bytes self.now
@@ -256,20 +278,20 @@ fn count_kind<L: Listed>(
 {
     names.apart();
     match names.number_of(rows, kind, values) {
-        Some(index) => count_named(named, index),
+        Some(index) => count_named(named, index, 1),
         None => count_ignored(ignored, kind_number(kind)),
     }
 }
 
-/// Counts one more.
-fn count_named(named: &mut [u64; NAMES], index: usize)
+/// Counts so many more events with a name, by the name's number. A count stops at 2^64 - 1.
+fn count_named(named: &mut [u64; NAMES], index: usize, count: u64)
     requires { index < 96 }
-    ensures { named.new ≡ set named.old index (min (get_or named.old index 0 + 1) (2 ^ 64 - 1)) }
+    ensures { named.new ≡ set named.old index (min (get_or named.old index 0 + count) (2 ^ 64 - 1)) }
 {
-    named[index] = named[index].saturating_add(1);
+    named[index] = named[index].saturating_add(count);
 }
 
-/// Counts one more. A number of no kind is left out.
+/// Counts one more of a kind, by the kind's number. A number of no kind is left out.
 fn count_ignored(ignored: &mut Vec<u64>, number: usize)
     ensures counts { number < length ignored.old.items
         → ignored.new.items ≡ set ignored.old.items number (min (get_or ignored.old.items number 0 + 1) (2 ^ 64 - 1)) }

@@ -1,4 +1,4 @@
-//! The trace of bytes that come in pieces.
+//! The trace of bytes that come in chunks.
 ghost use Rattle.std.specs.Prelude.{◌≡◌, ℕ, List, not, ◌+◌, ◌-◌, ◌*◌, ◌^◌, ◌≤◌, ◌<◌, ◌++◌, [], ◌∷◌, ◌&&◌, ◌||◌, length, take, drop, vec_len, vec_capacity};
 ghost use Rattle.std.specs.Prelude.{if◌then◌else◌};
 ghost use Rattle.vt_syntax.specs.Event.{event_of};
@@ -25,7 +25,7 @@ use vt_term::laws::sized_cuts as play_cuts;
 /// The position of a trace between two bytes.
 #[derive(Drop)]
 pub struct Tracer {
-    /// How many bytes came before.
+    /// The number of bytes that came before.
     pub place: u64,
     /// The position at which the item of the last byte began.
     pub begin: u64,
@@ -51,7 +51,7 @@ impl Tracer {
         }
     }
 
-    /// Goes on to a place, between items.
+    /// Moves to a place between items, and keeps nothing of the item before.
     #[inline(always)]
     pub(crate) fn pass(&mut self, place: u64, begin: u64, in_text: bool)
         ensures { self.new ≡ between place begin in_text }
@@ -112,7 +112,7 @@ impl Tracer {
     }
 }
 
-/// Appends a byte, unless there are all that are kept.
+/// Appends a byte, unless 33 bytes are there: no more are kept.
 #[inline(always)]
 fn add_byte(first: &mut First, b: u8)
     ensures { first.new.items ≡ take 33 (first.old.items ++ b ∷ []) }
@@ -122,7 +122,7 @@ fn add_byte(first: &mut First, b: u8)
     }
 }
 
-/// Appends bytes, up to all that are kept.
+/// Appends bytes, up to 33 in all: no more are kept.
 fn add_bytes(first: &mut First, bytes: &[u8])
     ensures few { length first.old.items ≤ 33 }
     ensures items { first.new.items ≡ take 33 (first.old.items ++ bytes.now) }
@@ -168,8 +168,9 @@ const _: () = prove!(TRACE_LIMIT == 420);
 /// Plays the front of a chunk of the host's bytes, and appends the reports to `reports` and the trace to `out`. Returns how
 /// many bytes it played.
 ///
-/// It plays while `out` has capacity for `TRACE_LIMIT` bytes more. With so much for each byte, that is the whole chunk.
-/// `reports` has capacity for ten bytes for each byte of the chunk. It never fails, and it allocates nothing.
+/// It plays while `out` has capacity for `TRACE_LIMIT` bytes more. If `out` has that capacity for each byte, it plays
+/// the whole chunk. `reports` has capacity for ten bytes for each byte of the chunk. It never fails, and it allocates
+/// nothing.
 pub fn trace_reserved(
     terminal: &mut SizedTerminal,
     tracer: &mut Tracer,

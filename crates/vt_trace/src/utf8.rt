@@ -21,9 +21,9 @@ use vt_utf8::{Decoder, ascii_run, whole_character};
 /// Plays the front of a chunk of a host's UTF-8, and appends the reports to `reports` and the trace to `out`. `decoder` keeps
 /// what is pending between chunks. Returns how many bytes it played.
 ///
-/// The lines have the host's own bytes, and places in them. It plays while `out` has capacity for `TRACE_LIMIT` bytes more.
-/// With so much for each byte, that is the whole chunk. `reports` has capacity for ten bytes for each byte of the chunk. It
-/// never fails, and it allocates nothing.
+/// The lines have the host's own bytes, and places in them. It plays while `out` has capacity for `TRACE_LIMIT` bytes
+/// more. If `out` has that capacity for each byte, it plays the whole chunk. `reports` has capacity for ten bytes for
+/// each byte of the chunk. It never fails, and it allocates nothing.
 pub fn trace_utf8_reserved(
     terminal: &mut SizedTerminal,
     tracer: &mut Tracer,
@@ -54,8 +54,8 @@ pub fn trace_utf8_reserved(
     trace_dialect::<Vt220Names, Vt220>(terminal, &mut Vt220, tracer, decoder, chunk, reports, out)
 }
 
-/// Plays the front of a chunk of a host's UTF-8 on a terminal with what it keeps, and appends the reports to `reports` and the trace to
-/// `out`. `decoder` keeps what is pending between chunks. Returns how many bytes it played.
+/// Plays the front of a chunk of a host's UTF-8 on a terminal with what it keeps. Appends the reports to `reports` and
+/// the trace to `out`. `decoder` keeps what is pending between chunks. Returns how many bytes it played.
 ///
 /// It plays while `out` has capacity for `TRACE_LIMIT` bytes more. `reports` has capacity for ten bytes for each byte of the chunk. It
 /// never fails, and it allocates nothing.

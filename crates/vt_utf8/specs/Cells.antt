@@ -1,4 +1,4 @@
--- How many cells a character beyond ASCII has: none, one or two. (The widths of the crate unicode_width, by Unicode
+-- The number of cells of a character beyond ASCII: none, one or two. (The widths of the crate unicode_width, by Unicode
 -- Standard Annex 11, but as terminals have it: U+00AD has a cell, and no character has three.)
 use Rattle.std.specs.Prelude.{ℕ, false, ◌==◌, min, unwrap_or, if◌then◌else◌}
 use Rattle.unicode_width.specs.Width.{char_width}

@@ -5,8 +5,8 @@ use Rattle.std.proofs.lemmas.Grind.{flat_map-append}
 use Rattle.vt_screen.specs.declared.cell.Cell.{Cell}
 use Rattle.vt_term.specs.Text.{line_text}
 
--- no lines change nothing, and lines in turn are the lines joined; capacity for some bytes is capacity for fewer, and where there is
--- none for some bytes there is none for more
+-- no lines change nothing, and lines in turn are the lines joined. Capacity for some bytes is capacity for fewer, and
+-- if there is none for some bytes there is none for more
 pub record AreKept {O : Type 0} (Keeps : O → List (List Cell) → O → Type 0) (HasRoom IsFull : O → ℕ → Type 0) : Type 0 where
   pub nothing : (o : O) → Keeps o [] o
   pub more : (o p q : O) (a b : List (List Cell)) → Keeps o a p → Keeps p b q → Keeps o (a ++ b) q

@@ -1,4 +1,4 @@
-//! What a VT220's terminal plays: the calls for `SizedTerminal` at its size.
+//! The feeds of a VT220's `Terminal`. Each calls that of its `SizedTerminal`.
 ghost use Rattle.std.specs.Prelude.{◌≡◌, ◌<◌, ◌+◌, ◌*◌, ◌≤◌, ◌++◌, ◌⊎◌, [], length, take};
 ghost use Rattle.std.specs.Prelude.{vec_len, vec_capacity, OnOk, OnErr, IsOk};
 ghost use Rattle.std.specs.Option.{option_to_list};

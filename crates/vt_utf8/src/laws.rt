@@ -88,7 +88,7 @@ pub fn one_byte()
     sized_one_byte();
 }
 
-/// States at any size that a character beyond ASCII causes no report, in any state, and that its bytes are ESC and ASCII with a
+/// States at any size that a character beyond ASCII causes no report, in any state. Its bytes are ESC and ASCII with a
 /// glyph.
 pub fn sized_silence()
     ensures silent { (size : Size) (s : State) (c : ℕ) → IsSoundAt size s → 0x80 ≤ c → (play s (translation s c)).reports ≡ [] }
@@ -108,8 +108,8 @@ pub fn silence()
     sized_silence();
 }
 
-/// States that ASCII with nothing pending is played as today, and leaves nothing pending. So a repaint and an update,
-/// which are ASCII, do the same in UTF-8.
+/// States that ASCII with nothing pending is played as the terminal's own bytes, and leaves nothing pending. So a
+/// repaint and an update, which are ASCII, do the same in UTF-8.
 pub fn ascii()
     ensures translated { (s : State) (bytes : List ℕ) → All (λ b. b < 0x80) bytes
         → translated s [] bytes ≡ bytes }
@@ -118,7 +118,7 @@ pub fn ascii()
     ensures pending { (bytes : List ℕ) → All (λ b. b < 0x80) bytes → pending_after [] bytes ≡ [] }
 {}
 
-/// States that each character is shown by one of the 204 glyphs, and each of these that isn't in ASCII by itself.
+/// States that each character is shown by one of the 204 glyphs. A glyph that isn't in ASCII is shown by itself.
 pub fn glyphs()
     ensures shown { (c : ℕ) → IsGlyph (shown c) }
     ensures themselves { (n : ℕ) → IsGlyph n → 0xA0 ≤ n → shown n ≡ n }
@@ -126,12 +126,12 @@ pub fn glyphs()
     all_glyphs();
 }
 
-/// States at any size what a translation does between sequences. The bytes for a glyph write it as any glyph is written, whatever the
-/// sets are, use a pending single shift up and leave the sets. A character of one cell is its glyph, and scrolls line 1 off
-/// with the wrap flag at the bottom margin. One of two cells is its glyph and a space, if no single shift is pending. If
-/// the row has one cell left, they are in the next line under DECAWM, and aren't written without DECAWM. Otherwise the glyph
-/// scrolls off what one of one cell does, and the space nothing. A character without a cell is no byte. None of this causes
-/// a report.
+/// States at any size what a translation does between sequences. The bytes for a glyph write it as any glyph is
+/// written, whatever the sets are. They use a pending single shift up and leave the sets. A character of one cell is
+/// its glyph, and scrolls line 1 off with the wrap flag at the bottom margin. One of two cells is its glyph and a
+/// space, if no single shift is pending. If the row has one cell left, they are in the next line under DECAWM, and
+/// aren't written without DECAWM. Otherwise the glyph scrolls off what a character of one cell does, and the space
+/// scrolls nothing off. A character without a cell is translated to no byte. None of this causes a report.
 pub fn sized_writes()
     ensures glyph { (size : Size) (s : State) (n : ℕ) → IsSoundAt size s → s.held ≡ Nothing → IsGlyph n
         → play s (written n s.display.sets)
@@ -155,12 +155,12 @@ pub fn sized_writes()
     played_cuts();
     played_soundness();
 }
-/// States what a translation does between sequences. The bytes for a glyph write it as any glyph is written, whatever the
-/// sets are, use a pending single shift up and leave the sets. A character of one cell is its glyph, and scrolls line 1 off
-/// with the wrap flag at the bottom margin. One of two cells is its glyph and a space, if no single shift is pending. If
-/// the row has one cell left, they are in the next line under DECAWM, and aren't written without DECAWM. Otherwise the glyph
-/// scrolls off what one of one cell does, and the space nothing. A character without a cell is no byte. None of this causes
-/// a report.
+/// States what a translation does between sequences. The bytes for a glyph write it as any glyph is written, whatever
+/// the sets are. They use a pending single shift up and leave the sets. A character of one cell is its glyph, and
+/// scrolls line 1 off with the wrap flag at the bottom margin. One of two cells is its glyph and a space, if no single
+/// shift is pending. If the row has one cell left, they are in the next line under DECAWM, and aren't written without
+/// DECAWM. Otherwise the glyph scrolls off what a character of one cell does, and the space scrolls nothing off. A
+/// character without a cell is translated to no byte. None of this causes a report.
 pub fn writes()
     ensures glyph { (s : State) (n : ℕ) → IsSound s → s.held ≡ Nothing → IsGlyph n
         → play s (written n s.display.sets)

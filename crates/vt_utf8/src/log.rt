@@ -1,4 +1,4 @@
-//! Says where the lines go that scroll off: nowhere, or after others.
+//! The places for the lines that scroll off: none, or the end of a vector.
 ghost use Rattle.std.specs.Prelude.{◌≡◌, ◌≤◌, ◌<◌, ◌+◌, ◌*◌, ◌++◌, ℕ, List, length, take, flat_map, vec_len, vec_capacity, []};
 ghost use Rattle.std.specs.Bool.{OnTrue, OnFalse};
 ghost use Rattle.vt_screen.specs.declared.cell.Cell.{Cell};

@@ -1,4 +1,4 @@
-//! Which glyph is shown for a character.
+//! The glyph that is shown for a character.
 ghost use Rattle.std.specs.Prelude.{◌≡◌};
 ghost use Rattle.vt_utf8.specs.Showing.{shown_as};
 

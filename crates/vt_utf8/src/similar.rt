@@ -1,7 +1,7 @@
 //! Similar glyphs: which of the 204 glyphs is shown for a character.
 //!
-//! A glyph's code is one byte: an ASCII glyph is its own code, a glyph that is spelled by G2 has the code of its spelling
-//! with the high bit set, and a glyph that is spelled by G3 the code less 60 (hexadecimal).
+//! A glyph's code is one byte. An ASCII glyph is its own code. A glyph that is spelled by G2 has the code of its
+//! spelling with the high bit set. A glyph that is spelled by G3 has the code less 60 (hexadecimal).
 ghost use Rattle.std.specs.Prelude.{◌≡◌, ◌&&◌, nat_le, true};
 ghost use Rattle.vt_glyph.specs.Encoding.{encoded_spelling, encoded_glyph};
 ghost use Rattle.vt_glyph.specs.Spell.{spelling_of};
@@ -74,7 +74,7 @@ const LETTERS: [(u32, u32, u8); 5] = [
     (0x1680, 0x1680, 0x20),
 ];
 
-/// For each sixteen characters from U+2000 to U+30FF, which sixteen codes of `SIGNS` they have.
+/// The number of the row of `SIGNS` for each sixteen characters from U+2000 to U+30FF.
 const SIGN_BLOCKS: [u8; 272] = [
     // 2000
     0, 1, 2, 3, 4, 5, 6, 6, 6, 6, 7, 6, 6, 6, 6, 6,
@@ -112,7 +112,8 @@ const SIGN_BLOCKS: [u8; 272] = [
     48, 6, 6, 6, 6, 6, 6, 6, 6, 6, 6, 6, 6, 6, 6, 49,
 ];
 
-/// The codes for U+2000 to U+30FF, sixteen that several blocks share once. The comments name the first such block.
+/// The codes for U+2000 to U+30FF, in rows of sixteen. A row may serve several sixteens of characters. The comments
+/// name the first ones.
 const SIGNS: [u8; 800] = [
     // 2000
     0x20, 0x20, 0x20, 0x20, 0x20, 0x20, 0x20, 0x20, 0x20, 0x20, 0x20, 0xA4, 0xA4, 0xA4, 0xA4, 0xA4,

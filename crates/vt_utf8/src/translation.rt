@@ -45,8 +45,8 @@ pub fn cells(c: char) -> usize
     }
 }
 
-/// Returns the code of the glyph that is shown for a character beyond ASCII, if the character has one cell. Speed: those of six
-/// ranges have, and each finds its code by one test.
+/// Returns the code of the glyph that is shown for a character beyond ASCII, if the character has one cell. Speed: in
+/// six ranges all characters have one cell, so one test is enough.
 #[inline(always)]
 pub(crate) fn narrow_code(c: char) -> Option<u8>
     ensures { IfSome result (λ code. (cells c ≡ 1) × (encoded_glyph code ≡ shown c) × (is_code code ≡ true)) }
@@ -89,7 +89,8 @@ fn is_kana_or_han(c: char) -> bool
     is_in(0x4E00, 0x9FFF, c as u32)
 }
 
-/// Returns whether a character beyond ASCII has two cells. Speed: kana and most Han characters have.
+/// Returns whether a character beyond ASCII has two cells. Speed: for kana and most Han characters, testing a range is
+/// enough.
 #[inline(always)]
 pub(crate) fn is_wide(c: char) -> bool
     ensures { OnTrue result (cells c ≡ 2) }

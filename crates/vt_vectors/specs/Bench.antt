@@ -7,14 +7,14 @@ use Rattle.vt_paint.specs.Repaint.{paint}
 use Rattle.vt_paint.specs.declared.paint.TheConstants.{PAINT_LIMIT}
 use Rattle.vt_vectors.specs.declared.comparison.Bench.{Bench}
 
--- it can be brought to power-up, and what it then gives can be compared
+-- a bench can be brought to power-up, and what it then gives can be compared
 pub record IsReady (b : Bench) : Type 0 where
   pub sound : IsSound b.terminal
   pub starts : b.power_up.items ≡ paint power_up
   pub start_room : 10 * vec_len b.power_up ≤ vec_capacity b.reports
   pub output_room : PAINT_LIMIT ≤ vec_capacity b.output
 
--- it has played these bytes since power-up
+-- a bench has played these bytes since power-up
 pub record HasPlayed (bytes : List ℕ) (b : Bench) : Type 0 where
   pub state : b.terminal ≡ (play power_up bytes).state
   pub reports : b.reports.items ≡ (play power_up bytes).reports

@@ -1,4 +1,4 @@
--- How two outcomes compare: the text first, then the reports, then the repaint. (this profile)
+-- The comparison of two outcomes: the text first, then the reports, then the repaint. (this profile)
 use Rattle.std.specs.Prelude.{◌≡◌, ◌≢◌, Result, Ok, Err}
 use Rattle.vt_vectors.specs.declared.mismatch.Mismatch.{Mismatch}
 use Rattle.vt_vectors.specs.declared.mismatch.Mismatch.TheVariants.{Memory, Text, Reports, Repaint}
@@ -6,7 +6,7 @@ use Rattle.std.specs.Option.{option_copied}
 use Rattle.vt_vectors.specs.declared.expectation.Vector.{Vector}
 use Rattle.vt_vectors.specs.Outcome.{Outcome}
 
--- what a vector says that its input must give
+-- the outcome that a vector's input must give
 abbrev pub expected_of : Vector → Outcome
 expected_of v = record { text = v.text.now; reports = v.reports.now; repaint = option_copied v.repaint }
 

@@ -22,7 +22,7 @@ is_short row = nat_le (length row.input.now) 200
 abbrev pub has_all_lines : Row → Bool
 has_all_lines row = count_by (λ b. b == 0x0A) row.text.now == 24
 
--- each row is as it should be
+-- each row has a name, a short input and all lines of a text
 pub record AreFit (rows : List Row) : Type 0 where
   pub named : list_all (λ row. has_name row) rows ≡ true
   pub short : list_all (λ row. is_short row) rows ≡ true

@@ -46,7 +46,7 @@ impl ShortWriter {
         }
     }
 
-    /// Returns the bytes that it wrote.
+    /// Returns the bytes that were written.
     pub fn taken(&self) -> &[u8]
         ensures { result.now ≡ self.now.taken }
     {

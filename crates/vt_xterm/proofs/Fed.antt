@@ -1,5 +1,5 @@
 -- The result of feeding.
-use Rattle.std.proofs.Common.{◌≡◌, ℕ, ◌+◌, List, [], ◌∷◌, ◌++◌, All, ◌<◌, take, drop, length, refl, sym, ap, ◌∙◌, append_assoc, subst, false, arith, None}
+use Rattle.std.proofs.Common.{◌≡◌, ℕ, ◌+◌, List, [], ◌∷◌, ◌++◌, All, ◌<◌, take, drop, length, refl, sym, ap, ◌∙◌, append_assoc, subst, false, arith, None, Option, Some}
 use Rattle.std.specs.Prelude.{◌≤◌, nat_lt, if◌then◌else◌}
 use Rattle.std.proofs.lemmas.Bool.Decides.{nat_tests}
 use Rattle.std.proofs.Common.{append-nil}
@@ -13,19 +13,23 @@ use Rattle.vt_syntax.specs.Laws.{SplitLaw}
 use Rattle.vt_term.specs.State.{State}
 use Rattle.vt_term.specs.Reports.{report}
 use Rattle.vt_term.specs.Play.{play}
-use Rattle.vt_term.specs.Scrolling.{scrolled_off}
 use Rattle.vt_utf8.specs.Decoding.{read, characters, pending_after, IsWhole}
 use Rattle.vt_utf8.specs.Translation.{translation}
 use Rattle.vt_utf8.proofs.Cuts.{ascii-pending, pending-append}
-use Rattle.vt_term.specs.Observing.{Feeds}
+use Rattle.vt_term.specs.Observing.{Feeds, happenings_of}
 use Rattle.vt_xterm.specs.Pages.{PagesState, Screens, screens, shown_by}
+use Rattle.vt_xterm.specs.declared.sides.Sides.{Sides}
+use Rattle.vt_xterm.specs.Pages.{bounds_of}
+use Rattle.vt_xterm.specs.Bounded.{held_beyond}
 use Rattle.vt_xterm.specs.Front.{xterm_effect, function_in, functions_of, plain_functions}
-use Rattle.vt_xterm.specs.Play.{Whole, WholePlayed, FrontState, behind, both, play_bytes, xterm}
-use Rattle.vt_xterm.specs.Play.{play_character, play_characters, play_xterm, nothing_played}
+use Rattle.vt_xterm.specs.Play.{Whole, WholePlayed, FrontState, behind, both, play_bytes, after_events, play_beyond, screens_beyond}
+use Rattle.vt_xterm.specs.Play.{play_character, play_characters, play_xterm, nothing_played, whole_of}
 use Rattle.vt_xterm.specs.Terminals.{PlaysTerminals}
-use Rattle.vt_xterm.specs.Private.Feeds.{whole_of, Leaves, FeedsBytes, FeedsXterm}
-use Rattle.vt_xterm.specs.Private.Profiles.{screens_on}
+use Rattle.vt_xterm.specs.Private.Feeds.{Leaves, FeedsBytes, FeedsXterm}
+use Rattle.vt_xterm.specs.Private.Profiles.{screens_on, unbounded}
+use Rattle.vt_xterm.specs.Private.Finding.{SetsNone, AllKeepNone}
 use Rattle.vt_xterm.proofs.Cuts.{bytes-two, bytes-nothing, character-ascii, characters-two, xterm-nothing, xterm-two, xterm-ascii}
+use Rattle.vt_xterm.proofs.NoSides.{events-on, after-none, reports-none}
 use Rattle.vt_xterm.proofs.Terminals.{bytes-terminals}
 
 -- one play after another
@@ -60,29 +64,36 @@ feeds-more split w v u piece at n before out after first second =
     rw (take-add at n piece) (leaves-both (play_bytes w a) (play_bytes v b) (play_bytes w (a ++ b)) v u before out after
     first second two)
 
--- bytes that the profile plays
-pub feeds-profile : (s t : State) (pages q : PagesState) (bytes before after : List ℕ)
-    → Feeds xterm screens_on s pages bytes t q before after → FeedsBytes (whole_of s pages) bytes (whole_of t q) before after
+-- bytes that the profile plays, of which none sets DECLRMM
+pub feeds-profile : SplitLaw → (s t : State) (pages q : PagesState) (bytes before after : List ℕ) → IsHeldPart s.held
+    → pages.sides ≡ None → SetsNone (happenings_of unbounded screens_on s pages bytes)
+    → Feeds unbounded screens_on s pages bytes t q before after → FeedsBytes (whole_of s pages) bytes (whole_of t q) before after
 unfolding play_bytes
-feeds-profile s t pages q bytes before after fed = record {
-  whole = rw (ap (λ (x : Screens). x.display) fed.screens_are, ap (λ (x : Screens). x.pages) fed.screens_are, fed.held) refl;
-  reports = fed.reports;
-}
+feeds-profile split s t pages q bytes before after held none saw fed =
+    let events = events_from s.held bytes in
+    let x = screens s pages in
+    let quiet : AllKeepNone events = subst AllKeepNone (events-on split unbounded x s.held bytes held) saw in
+    let are : screens_on t.display q ≡ after_events events x = fed.screens_are ∙ after-none events x quiet none in
+    record {
+      whole = rw (ap (λ (y : Screens). y.display) are, ap (λ (y : Screens). y.pages) are, fed.held) refl;
+      reports = fed.reports ∙ ap (λ (r : List ℕ). before ++ r) (reports-none events x quiet none);
+    }
 
 -- a control sequence of the profile
 pub values-screens : (t : State) (q : PagesState) (s : Screens) (h : Held) (params : List ℕ) (last : ℕ)
     → t ≡ shown_by (function_in plain_functions (Sequence None (record { items = params }) None last) last params s) h
     → q ≡ (function_in plain_functions (Sequence None (record { items = params }) None last) last params s).pages
-    → screens_on t.display q ≡ xterm.effect (Sequence None (record { items = params }) None last) s
+    → screens_on t.display q ≡ unbounded.effect (Sequence None (record { items = params }) None last) s
 unfolding functions_of
 values-screens t q s h params last is kept = rw (is, kept) refl
 
 -- bytes whose events are a VT220's
-pub feeds-terminals : (s t : State) (pages : PagesState) (bytes before after : List ℕ) → PlaysTerminals s bytes
+pub feeds-terminals : (s t : State) (pages : PagesState) (bytes before after : List ℕ) → pages.sides ≡ None
+    → PlaysTerminals s bytes
     → t ≡ (play s bytes).state → after ≡ before ++ (play s bytes).reports
     → FeedsBytes (whole_of s pages) bytes (whole_of t pages) before after
-feeds-terminals s t pages bytes before after all left told =
-    let is = bytes-terminals (whole_of s pages) bytes all in record {
+feeds-terminals s t pages bytes before after none all left told =
+    let is = bytes-terminals (whole_of s pages) bytes none all in record {
       whole = ap (λ (x : State). whole_of x pages) left ∙ ap (λ (p : WholePlayed). p.whole) (sym is);
       reports = told ∙ ap (λ (p : WholePlayed). before ++ p.reports) (sym is);
     }
@@ -151,33 +162,33 @@ feeds-ascii split s t inside front new bytes before after is held none still all
     (λ empty. ascii-fed split s t inside new bytes before after held empty (still ∙ empty) all fed) none
 
 -- what was given up, and the character after it
-byte-fed : (s t u : State) (front new : FrontState) (b : ℕ) (xs ys before mid after : List ℕ)
+byte-fed : (s t u : State) (p : PagesState) (front new : FrontState) (b : ℕ) (xs ys before mid after : List ℕ)
     → xs ++ ys ≡ (read front.pending b).characters → new.pending ≡ (read front.pending b).pending
-    → Leaves (play_characters (whole_of s front.pages) xs) (whole_of t front.pages) before mid
-    → Leaves (play_characters (whole_of t front.pages) ys) (whole_of u new.pages) mid after
+    → Leaves (play_characters (whole_of s front.pages) xs) (whole_of t p) before mid
+    → Leaves (play_characters (whole_of t p) ys) (whole_of u new.pages) mid after
     → FeedsXterm s front (b ∷ []) u new before after
 unfolding play_xterm
-byte-fed s t u front new b xs ys before mid after are left first second =
+byte-fed s t u p front new b xs ys before mid after are left first second =
     let w = whole_of s front.pages in
-    let p = play_characters w xs in
-    let q = play_characters (whole_of t front.pages) ys in
+    let x = play_characters w xs in
+    let q = play_characters (whole_of t p) ys in
     let all : characters front.pending (b ∷ []) ≡ xs ++ ys = append-nil (read front.pending b).characters ∙ sym are in
     record {
-      leaves = leaves-both p q (play_characters w (characters front.pending (b ∷ []))) (whole_of t front.pages)
+      leaves = leaves-both x q (play_characters w (characters front.pending (b ∷ []))) (whole_of t p)
           (whole_of u new.pages) before mid after first second
           (ap (λ (cs : List ℕ). play_characters w cs) all ∙ characters-two w xs ys
-          ∙ ap (λ (x : Whole). both p (play_characters x ys)) (sym first.whole));
+          ∙ ap (λ (y : Whole). both x (play_characters y ys)) (sym first.whole));
       left = left;
     }
 
-pub feeds-byte : (s t u : State) (inside front new : FrontState) (b : ℕ) (xs ys before mid after : List ℕ)
+pub feeds-byte : (s t u : State) (p : PagesState) (inside front new : FrontState) (b : ℕ) (xs ys before mid after : List ℕ)
     → inside ≡ front → xs ++ ys ≡ (read inside.pending b).characters → new.pending ≡ (read inside.pending b).pending
-    → Leaves (play_characters (whole_of s inside.pages) xs) (whole_of t inside.pages) before mid
-    → Leaves (play_characters (whole_of t inside.pages) ys) (whole_of u new.pages) mid after
+    → Leaves (play_characters (whole_of s inside.pages) xs) (whole_of t p) before mid
+    → Leaves (play_characters (whole_of t p) ys) (whole_of u new.pages) mid after
     → FeedsXterm s front (b ∷ []) u new before after
-feeds-byte s t u inside front new b xs ys before mid after is are left first second =
+feeds-byte s t u p inside front new b xs ys before mid after is are left first second =
     subst (λ (f : FrontState). FeedsXterm s f (b ∷ []) u new before after) is
-    (byte-fed s t u inside new b xs ys before mid after are left first second)
+    (byte-fed s t u p inside new b xs ys before mid after are left first second)
 
 pub xterm-none : (s : State) (front : FrontState) (out : List ℕ) → FeedsXterm s front [] s front out out
 xterm-none s front out = record {
@@ -214,30 +225,39 @@ leaves-ascii w v c before after low fed =
     (ap (λ (p : WholePlayed). both p (nothing_played p.whole)) (character-ascii w c low)
     ∙ ap (λ (x : Whole). both (play_bytes w (c ∷ [])) (nothing_played x)) (sym fed.whole))
 
--- beyond ASCII it is played as on a VT220
-pub character-beyond : (s : State) (pages : PagesState) (c : ℕ) → 0x80 ≤ c → play_character (whole_of s pages) c
-    ≡ record {
-      whole = whole_of (play s (translation s c)).state pages;
-      reports = (play s (translation s c)).reports;
-      lines = if pages.alternate then [] else scrolled_off s (translation s c);
-    }
+-- beyond ASCII it is played as on a VT220, or between left and right margins
+pub character-beyond : (s : State) (pages : PagesState) (c : ℕ) (b : Option Sides) → 0x80 ≤ c → bounds_of (screens s pages) ≡ b
+    → play_character (whole_of s pages) c ≡ play_beyond (whole_of s pages) b c
 unfolding play_character
-character-beyond s pages c high = let is : nat_lt c 0x80 ≡ false = grind (arith, nat_tests) in rw is refl
+character-beyond s pages c b high bounds =
+    let is : nat_lt c 0x80 ≡ false = grind (arith, nat_tests) in
+    rw is (ap (λ (x : Option Sides). play_beyond (whole_of s pages) x c) bounds)
 
-pub silent-beyond : (s : State) (pages : PagesState) (c : ℕ) → 0x80 ≤ c → (play s (translation s c)).reports ≡ []
-    → (play_characters (whole_of s pages) (c ∷ [])).reports ≡ []
-silent-beyond s pages c high silent =
+silent-beyond : (s : State) (pages : PagesState) (c : ℕ) → 0x80 ≤ c → bounds_of (screens s pages) ≡ None
+    → (play s (translation s c)).reports ≡ [] → (play_characters (whole_of s pages) (c ∷ [])).reports ≡ []
+silent-beyond s pages c high none silent =
     append-nil (play_character (whole_of s pages) c).reports
-    ∙ ap (λ (p : WholePlayed). p.reports) (character-beyond s pages c high) ∙ silent
+    ∙ ap (λ (p : WholePlayed). p.reports) (character-beyond s pages c None high none) ∙ silent
 
 pub leaves-beyond : (s t : State) (pages : PagesState) (c : ℕ) (out after : List ℕ) → 0x80 ≤ c
-    → t ≡ (play s (translation s c)).state → (play s (translation s c)).reports ≡ [] → after ≡ out
-    → Leaves (play_characters (whole_of s pages) (c ∷ [])) (whole_of t pages) out after
-leaves-beyond s t pages c out after high left silent same = record {
+    → bounds_of (screens s pages) ≡ None → t ≡ (play s (translation s c)).state → (play s (translation s c)).reports ≡ []
+    → after ≡ out → Leaves (play_characters (whole_of s pages) (c ∷ [])) (whole_of t pages) out after
+leaves-beyond s t pages c out after high none left silent same = record {
   whole = ap (λ (x : State). whole_of x pages) left
-      ∙ ap (λ (p : WholePlayed). p.whole) (sym (character-beyond s pages c high));
-  reports = same ∙ sym (ap (λ (r : List ℕ). out ++ r) (silent-beyond s pages c high silent) ∙ append-nil out);
+      ∙ ap (λ (p : WholePlayed). p.whole) (sym (character-beyond s pages c None high none));
+  reports = same ∙ sym (ap (λ (r : List ℕ). out ++ r) (silent-beyond s pages c high none silent) ∙ append-nil out);
 }
+
+pub leaves-between : (s t : State) (pages q : PagesState) (c : ℕ) (m : Sides) (out : List ℕ) → 0x80 ≤ c
+    → bounds_of (screens s pages) ≡ Some m → t ≡ shown_by (screens_beyond m c (whole_of s pages)) (held_beyond s.held)
+    → q ≡ (screens_beyond m c (whole_of s pages)).pages
+    → Leaves (play_characters (whole_of s pages) (c ∷ [])) (whole_of t q) out out
+leaves-between s t pages q c m out high bounds left kept =
+    let is = character-beyond s pages c (Some m) high bounds in record {
+      whole = rw (left, kept) (ap (λ (p : WholePlayed). p.whole) (sym is));
+      reports = sym (ap (λ (r : List ℕ). out ++ r)
+          (append-nil (play_character (whole_of s pages) c).reports ∙ ap (λ (p : WholePlayed). p.reports) is) ∙ append-nil out);
+    }
 
 -- a whole character with nothing pending
 pub whole-played : (w : Whole) (pending piece : List ℕ) (c n : ℕ) → pending ≡ [] → IsWhole piece c n
@@ -247,25 +267,26 @@ whole-played w pending piece c n none whole =
     ap (λ (p : List ℕ). play_characters w (characters p (take n piece))) none
     ∙ ap (λ (cs : List ℕ). play_characters w cs) whole.characters
 
-whole-fed : (s t : State) (front : FrontState) (piece : List ℕ) (c n : ℕ) (before after : List ℕ) → front.pending ≡ []
-    → IsWhole piece c n → Leaves (play_characters (whole_of s front.pages) (c ∷ [])) (whole_of t front.pages) before after
-    → FeedsXterm s front (take n piece) t front before after
-whole-fed s t front piece c n before after none whole left =
+whole-fed : (s t : State) (front new : FrontState) (piece : List ℕ) (c n : ℕ) (before after : List ℕ) → front.pending ≡ []
+    → new.pending ≡ [] → IsWhole piece c n
+    → Leaves (play_characters (whole_of s front.pages) (c ∷ [])) (whole_of t new.pages) before after
+    → FeedsXterm s front (take n piece) t new before after
+whole-fed s t front new piece c n before after none still whole left =
     let all = whole-played (behind s front) front.pending piece c n none whole in record {
       leaves = record {
         whole = left.whole ∙ ap (λ (p : WholePlayed). p.whole) (sym all);
         reports = left.reports ∙ ap (λ (p : WholePlayed). before ++ p.reports) (sym all);
       };
-      left = none ∙ sym (ap (λ (p : List ℕ). pending_after p (take n piece)) none ∙ whole.pending);
+      left = still ∙ sym (ap (λ (p : List ℕ). pending_after p (take n piece)) none ∙ whole.pending);
     }
 
-pub feeds-whole : (s t : State) (inside front : FrontState) (piece : List ℕ) (c n : ℕ) (before after : List ℕ)
-    → inside ≡ front → front.pending ≡ [] → IsWhole piece c n
-    → Leaves (play_characters (whole_of s inside.pages) (c ∷ [])) (whole_of t inside.pages) before after
-    → FeedsXterm s front (take n piece) t front before after
-feeds-whole s t inside front piece c n before after is none whole left =
-    whole-fed s t front piece c n before after none whole
-    (subst (λ (f : FrontState). Leaves (play_characters (whole_of s f.pages) (c ∷ [])) (whole_of t f.pages) before after) is
+pub feeds-whole : (s t : State) (inside front new : FrontState) (piece : List ℕ) (c n : ℕ) (before after : List ℕ)
+    → inside ≡ front → front.pending ≡ [] → new.pending ≡ inside.pending → IsWhole piece c n
+    → Leaves (play_characters (whole_of s inside.pages) (c ∷ [])) (whole_of t new.pages) before after
+    → FeedsXterm s front (take n piece) t new before after
+feeds-whole s t inside front new piece c n before after is none still whole left =
+    whole-fed s t front new piece c n before after none (still ∙ ap (λ (f : FrontState). f.pending) is ∙ none) whole
+    (subst (λ (f : FrontState). Leaves (play_characters (whole_of s f.pages) (c ∷ [])) (whole_of t new.pages) before after) is
     left)
 
 -- all of a piece

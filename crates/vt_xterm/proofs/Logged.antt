@@ -1,5 +1,5 @@
 -- The lines that are kept, in parts.
-use Rattle.std.proofs.Common.{◌≡◌, ℕ, ◌+◌, List, [], ◌∷◌, ◌++◌, take, drop, sym, ap, ◌∙◌, subst, append-nil, All, ◌<◌, Bool, true, false}
+use Rattle.std.proofs.Common.{◌≡◌, ℕ, ◌+◌, List, [], ◌∷◌, ◌++◌, take, drop, sym, ap, ◌∙◌, subst, append-nil, All, ◌<◌, Bool, true, false, Option, Some, None}
 use Rattle.std.specs.Prelude.{flat_map, ◌≤◌, if◌then◌else◌}
 use Rattle.std.proofs.Math.Seq.{take-add}
 use Rattle.std.proofs.lemmas.Grind.{flat_map-append}
@@ -11,12 +11,12 @@ use Rattle.vt_term.specs.State.{State}
 use Rattle.vt_term.specs.Scrolling.{scrolled_off}
 use Rattle.vt_utf8.specs.Decoding.{read, characters, pending_after, IsWhole}
 use Rattle.vt_utf8.specs.Translation.{translation}
-use Rattle.vt_xterm.specs.Pages.{PagesState, screens}
-use Rattle.vt_xterm.specs.Log.{page_line_off, xterm_line_off, xterm_lines_off}
+use Rattle.vt_xterm.specs.declared.sides.Sides.{Sides}
+use Rattle.vt_xterm.specs.Pages.{PagesState, screens, bounds_of}
+use Rattle.vt_xterm.specs.Log.{page_line_off, line_off_between, xterm_line_off, xterm_lines_off}
 use Rattle.vt_xterm.specs.Play.{Whole, WholePlayed, FrontState, behind, screens_of, xterm_log}
-use Rattle.vt_xterm.specs.Play.{play_bytes, play_character, play_characters, play_xterm}
+use Rattle.vt_xterm.specs.Play.{play_bytes, play_character, play_characters, play_xterm, whole_of}
 use Rattle.vt_xterm.specs.Terminals.{PlaysTerminals}
-use Rattle.vt_xterm.specs.Private.Feeds.{whole_of}
 use Rattle.vt_utf8.specs.Logs.{AreKept}
 use Rattle.vt_utf8.proofs.Logged.{Rows, keeps-nothing, keeps-both}
 use Rattle.vt_xterm.proofs.Cuts.{bytes-two, character-ascii, characters-two, xterm-nothing, xterm-two}
@@ -85,18 +85,18 @@ module _ {O : Type 0} (Keeps : O → Rows → O → Type 0) (HasRoom IsFull : O 
       ∙ ap (λ (x : WholePlayed). x.lines) (sym (ascii-played split (behind s front) front.pending bytes held none all)))
       keeps
 
-  pub keeps-byte : (s t : State) (inside front : FrontState) (b : ℕ) (xs ys : List ℕ) (o p q : O) → inside ≡ front
+  pub keeps-byte : (s t : State) (m : PagesState) (inside front : FrontState) (b : ℕ) (xs ys : List ℕ) (o p q : O) → inside ≡ front
       → xs ++ ys ≡ (read inside.pending b).characters
-      → whole_of t inside.pages ≡ (play_characters (whole_of s inside.pages) xs).whole
+      → whole_of t m ≡ (play_characters (whole_of s inside.pages) xs).whole
       → Keeps o (play_characters (whole_of s inside.pages) xs).lines p
-      → Keeps p (play_characters (whole_of t inside.pages) ys).lines q
+      → Keeps p (play_characters (whole_of t m) ys).lines q
       → Keeps o (play_xterm (behind s front) front.pending (b ∷ [])).lines q
   unfolding play_xterm
-  keeps-byte s t inside front b xs ys o p q is are left first second =
+  keeps-byte s t m inside front b xs ys o p q is are left first second =
       subst (λ (f : FrontState). Keeps o (play_characters (behind s f) (characters f.pending (b ∷ []))).lines q) is
       (subst (λ (cs : List ℕ). Keeps o (play_characters (whole_of s inside.pages) cs).lines q)
       (are ∙ sym (append-nil (read inside.pending b).characters))
-      (keeps-characters (whole_of s inside.pages) (whole_of t inside.pages) xs ys o p q left first second))
+      (keeps-characters (whole_of s inside.pages) (whole_of t m) xs ys o p q left first second))
 
   pub keeps-whole : (s : State) (inside front : FrontState) (piece : List ℕ) (c n : ℕ) (o p : O) → inside ≡ front
       → front.pending ≡ [] → IsWhole piece c n → Keeps o (play_characters (whole_of s inside.pages) (c ∷ [])).lines p
@@ -123,42 +123,51 @@ module _ {O : Type 0} (Keeps : O → Rows → O → Type 0) (HasRoom IsFull : O 
       ∙ sym (append-nil (play_character w c).lines))
       keeps
 
-  beyond-lines : (s : State) (pages : PagesState) (c : ℕ) → 0x80 ≤ c → (play_characters (whole_of s pages) (c ∷ [])).lines
-      ≡ if pages.alternate then [] else scrolled_off s (translation s c)
-  beyond-lines s pages c high =
+  beyond-lines : (s : State) (pages : PagesState) (c : ℕ) → 0x80 ≤ c → bounds_of (screens s pages) ≡ None
+      → (play_characters (whole_of s pages) (c ∷ [])).lines ≡ if pages.alternate then [] else scrolled_off s (translation s c)
+  beyond-lines s pages c high none =
       append-nil (play_character (whole_of s pages) c).lines
-      ∙ ap (λ (x : WholePlayed). x.lines) (character-beyond s pages c high)
+      ∙ ap (λ (x : WholePlayed). x.lines) (character-beyond s pages c None high none)
 
-  pub keeps-alternate : (s : State) (pages : PagesState) (c : ℕ) (o : O) → 0x80 ≤ c → pages.alternate ≡ true
-      → Keeps o (play_characters (whole_of s pages) (c ∷ [])).lines o
-  keeps-alternate s pages c o high is =
+  pub keeps-alternate : (s : State) (pages : PagesState) (c : ℕ) (o : O) → 0x80 ≤ c → bounds_of (screens s pages) ≡ None
+      → pages.alternate ≡ true → Keeps o (play_characters (whole_of s pages) (c ∷ [])).lines o
+  keeps-alternate s pages c o high none is =
       keeps-nothing Keeps HasRoom IsFull kept o (play_characters (whole_of s pages) (c ∷ [])).lines
-      (beyond-lines s pages c high ∙ ap (λ (b : Bool). if b then [] else scrolled_off s (translation s c)) is)
+      (beyond-lines s pages c high none ∙ ap (λ (b : Bool). if b then [] else scrolled_off s (translation s c)) is)
 
-  pub keeps-main : (s : State) (pages : PagesState) (c : ℕ) (o p : O) → 0x80 ≤ c → pages.alternate ≡ false
-      → Keeps o (scrolled_off s (translation s c)) p → Keeps o (play_characters (whole_of s pages) (c ∷ [])).lines p
-  keeps-main s pages c o p high is keeps =
+  pub keeps-main : (s : State) (pages : PagesState) (c : ℕ) (o p : O) → 0x80 ≤ c → bounds_of (screens s pages) ≡ None
+      → pages.alternate ≡ false → Keeps o (scrolled_off s (translation s c)) p
+      → Keeps o (play_characters (whole_of s pages) (c ∷ [])).lines p
+  keeps-main s pages c o p high none is keeps =
       subst (λ (rows : Rows). Keeps o rows p)
-      (sym (beyond-lines s pages c high ∙ ap (λ (b : Bool). if b then [] else scrolled_off s (translation s c)) is))
+      (sym (beyond-lines s pages c high none ∙ ap (λ (b : Bool). if b then [] else scrolled_off s (translation s c)) is))
       keeps
+
+  -- between left and right margins no line scrolls off
+  pub keeps-between : (s : State) (pages : PagesState) (c : ℕ) (m : Sides) (o : O) → 0x80 ≤ c
+      → bounds_of (screens s pages) ≡ Some m → Keeps o (play_characters (whole_of s pages) (c ∷ [])).lines o
+  keeps-between s pages c m o high bounds =
+      keeps-nothing Keeps HasRoom IsFull kept o (play_characters (whole_of s pages) (c ∷ [])).lines
+      (append-nil (play_character (whole_of s pages) c).lines
+      ∙ ap (λ (x : WholePlayed). x.lines) (character-beyond s pages c (Some m) high bounds))
 
   -- ---- bytes whose events are a VT220's
 
-  terminals-lines : (s : State) (pages : PagesState) (bytes : List ℕ) → PlaysTerminals s bytes
+  terminals-lines : (s : State) (pages : PagesState) (bytes : List ℕ) → pages.sides ≡ None → PlaysTerminals s bytes
       → (play_bytes (whole_of s pages) bytes).lines ≡ if pages.alternate then [] else scrolled_off s bytes
-  terminals-lines s pages bytes all = ap (λ (x : WholePlayed). x.lines) (bytes-terminals (whole_of s pages) bytes all)
+  terminals-lines s pages bytes none all = ap (λ (x : WholePlayed). x.lines) (bytes-terminals (whole_of s pages) bytes none all)
 
-  pub terminals-alternate : (s : State) (pages : PagesState) (bytes : List ℕ) (o : O) → PlaysTerminals s bytes
+  pub terminals-alternate : (s : State) (pages : PagesState) (bytes : List ℕ) (o : O) → pages.sides ≡ None → PlaysTerminals s bytes
       → pages.alternate ≡ true → Keeps o (play_bytes (whole_of s pages) bytes).lines o
-  terminals-alternate s pages bytes o all is =
+  terminals-alternate s pages bytes o none all is =
       keeps-nothing Keeps HasRoom IsFull kept o (play_bytes (whole_of s pages) bytes).lines
-      (terminals-lines s pages bytes all ∙ ap (λ (b : Bool). if b then [] else scrolled_off s bytes) is)
+      (terminals-lines s pages bytes none all ∙ ap (λ (b : Bool). if b then [] else scrolled_off s bytes) is)
 
-  pub terminals-main : (s : State) (pages : PagesState) (bytes : List ℕ) (o p : O) → PlaysTerminals s bytes
+  pub terminals-main : (s : State) (pages : PagesState) (bytes : List ℕ) (o p : O) → pages.sides ≡ None → PlaysTerminals s bytes
       → pages.alternate ≡ false → Keeps o (scrolled_off s bytes) p → Keeps o (play_bytes (whole_of s pages) bytes).lines p
-  terminals-main s pages bytes o p all is keeps =
+  terminals-main s pages bytes o p none all is keeps =
       subst (λ (rows : Rows). Keeps o rows p)
-      (sym (terminals-lines s pages bytes all ∙ ap (λ (b : Bool). if b then [] else scrolled_off s bytes) is)) keeps
+      (sym (terminals-lines s pages bytes none all ∙ ap (λ (b : Bool). if b then [] else scrolled_off s bytes) is)) keeps
 
   -- ---- bytes without an event, and bytes that are one event
 
@@ -184,10 +193,21 @@ module _ {O : Type 0} (Keeps : O → Rows → O → Type 0) (HasRoom IsFull : O 
       → Keeps o (xterm_line_off event (screens s pages)) o
   alternate-keeps s pages event o is =
       keeps-nothing Keeps HasRoom IsFull kept o (xterm_line_off event (screens s pages))
-      (ap (λ (b : Bool). if b then [] else page_line_off event s.display) is)
+      (ap (λ (b : Bool). if b then [] else line_off_between event (bounds_of (screens s pages)) s.display) is)
+
+  line-is : (s : State) (pages : PagesState) (event : Event) (b : Option Sides) → pages.alternate ≡ false
+      → bounds_of (screens s pages) ≡ b → xterm_line_off event (screens s pages) ≡ line_off_between event b s.display
+  line-is s pages event b is bounds =
+      ap (λ (x : Bool). if x then [] else line_off_between event (bounds_of (screens s pages)) s.display) is
+      ∙ ap (λ (x : Option Sides). line_off_between event x s.display) bounds
 
   pub main-keeps : (s : State) (pages : PagesState) (event : Event) (o p : O) → pages.alternate ≡ false
-      → Keeps o (page_line_off event s.display) p → Keeps o (xterm_line_off event (screens s pages)) p
-  main-keeps s pages event o p is keeps =
-      subst (λ (rows : Rows). Keeps o rows p) (ap (λ (b : Bool). if b then [] else page_line_off event s.display) (sym is))
-      keeps
+      → bounds_of (screens s pages) ≡ None → Keeps o (page_line_off event s.display) p
+      → Keeps o (xterm_line_off event (screens s pages)) p
+  main-keeps s pages event o p is none keeps =
+      subst (λ (rows : Rows). Keeps o rows p) (sym (line-is s pages event None is none)) keeps
+
+  pub between-keeps : (s : State) (pages : PagesState) (event : Event) (m : Sides) (o : O) → pages.alternate ≡ false
+      → bounds_of (screens s pages) ≡ Some m → Keeps o (xterm_line_off event (screens s pages)) o
+  between-keeps s pages event m o is bounds =
+      keeps-nothing Keeps HasRoom IsFull kept o (xterm_line_off event (screens s pages)) (line-is s pages event (Some m) is bounds)

@@ -1,23 +1,22 @@
 -- Every function keeps the display and the page that isn't shown sound.
 use Rattle.std.proofs.Common.{rules, arith, ◌≡◌, ℕ, ◌≤◌, Bool, true, false, zero, suc, List, [], ◌∷◌, Option, Some, None}
 use Rattle.std.proofs.Common.{refl, subst, sym, ap, ◌∙◌}
-use Rattle.std.specs.Prelude.{◌++◌, length, ◌==◌, ◌-◌, ◌&&◌, nat_lt, min, if◌then◌else◌, codes}
+use Rattle.std.specs.Prelude.{◌++◌, length, ◌==◌, ◌-◌, ◌&&◌, min, if◌then◌else◌, codes, IfSome}
 use Rattle.std.proofs.lemmas.Bool.Decides.{nat_tests}
 use Rattle.vt_syntax.specs.declared.event.Event.{Event}
 use Rattle.vt_syntax.specs.declared.event.Event.TheVariants.{Print, Control, Escape, Sequence}
-use Rattle.vt_syntax.specs.Held.{events_from, spell}
-use Rattle.vt_syntax.specs.Laws.{SplitLaw}
-use Rattle.vt_glyph.specs.Tables.{IsGlyph, is_glyph}
+use Rattle.vt_glyph.specs.GraphicSets.{GraphicSets, AreSoundSets}
+use Rattle.vt_glyph.specs.Invocation.{glyph_read, after_read}
+use Rattle.vt_glyph.specs.Tables.{IsGlyph, is_glyph, substitute_glyph}
 use Rattle.vt_glyph.specs.Laws.{GlyphLaws, SetsLaws}
 use Rattle.vt_screen.specs.declared.size.Size.{Size}
-use Rattle.vt_screen.specs.Sizes.{vt220_size, width_of, IsSize}
+use Rattle.vt_screen.specs.Sizes.{width_of, IsSize}
 use Rattle.vt_screen.proofs.SoundGrids.{blank_grid-sound, scroll_up-sound, scroll_down-sound}
-use Rattle.vt_term.specs.State.{Display, State, last_column, has_stop_at}
-use Rattle.vt_term.specs.Sound.{IsPlace, IsSoundDisplayAt, IsSoundSizedDisplay, IsSound}
+use Rattle.vt_term.specs.State.{Display, last_column, bottom_row}
+use Rattle.vt_term.specs.Sound.{IsPlace, IsSoundDisplayAt, IsSoundSizedDisplay}
 use Rattle.vt_term.specs.Pages.{PageState, IsSoundPageAt, blank_page, page_of, with_page, blanked, resized, fitted}
-use Rattle.vt_term.specs.Modes.{private_modes, with_mode, column_mode, autowrap_mode}
+use Rattle.vt_term.specs.Modes.{private_modes, with_mode, column_mode, autowrap_mode, origin_mode}
 use Rattle.vt_term.specs.Functions.{byte, effect, sequence_in, sequences_of}
-use Rattle.vt_term.specs.Play.{play}
 use Rattle.vt_term.proofs.SoundEffects as terminals
 use Rattle.vt_term.proofs.SoundPlay.{effect-keeps}
 use Rattle.vt_term.proofs.PowerUp.{display_of-sound}
@@ -26,37 +25,42 @@ use Rattle.vt_term.proofs.SizeKept.{set_conformance_level-size}
 use Rattle.vt_xterm.specs.Pages.{Screens, on_display, exchanged, show_page, with_blank, show_or_clear}
 use Rattle.vt_xterm.specs.Pages.{save_or_restore, show_and_save, allow_column_mode, allowed_column_mode, page_modes}
 use Rattle.vt_xterm.specs.Pages.{with_page_mode, change_page_modes, is_window_wide, bracket_pastes}
-use Rattle.vt_term.specs.Moving.{cursor_up, cursor_down, cursor_forward}
+use Rattle.vt_xterm.specs.Pages.{restored, restore_screens, sided, set_sides, side_mode, with_full_sides}
+use Rattle.vt_xterm.specs.Pages.{sided_origin_mode, origin_mode_between, autowrap_mode_between}
+use Rattle.vt_term.specs.Moving.{cursor_up, cursor_down, cursor_forward, are_margins}
 use Rattle.vt_term.specs.Tabs.{horizontal_tab}
 use Rattle.vt_term.specs.Writing.{write_glyph}
 use Rattle.vt_term.specs.Saving.{save_cursor, restore_cursor}
 use Rattle.vt_term.specs.Editing.{erase_in_display}
 use Rattle.vt_term.specs.Resets.{reset_to_initial_state as reset_display}
-use Rattle.vt_term.specs.Resets.{soft_reset, is_level, set_conformance_level}
+use Rattle.vt_term.specs.Resets.{soft_reset, is_level, set_conformance_level, screen_alignment}
 use Rattle.vt_term.specs.Parameters.{first, second, count}
-use Rattle.vt_term.specs.State.{display_of, display_at_power_up, power_up}
-use Rattle.vt_term.specs.Scrolling.{scrolled_off}
+use Rattle.vt_term.specs.State.{display_of}
 use Rattle.vt_screen.specs.Cells.{blank}
 use Rattle.vt_screen.specs.Laws.{RowLaws, TestLaws}
 use Rattle.vt_screen.specs.declared.cell.Cell.{Cell}
-use Rattle.vt_utf8.specs.Decoding.{characters}
-use Rattle.vt_utf8.specs.Translation.{translation}
+use Rattle.vt_utf8.specs.Similar.{shown}
 use Rattle.vt_term.proofs.Tables.{AllRows, looked_up-holds, same-numbers}
 use Rattle.vt_xterm.specs.Columns.{cursor_character_absolute, line_position_absolute, line_position_forward}
 use Rattle.vt_xterm.specs.Columns.{cursor_next_line, cursor_preceding_line}
 use Rattle.vt_xterm.specs.Scroll.{rows_up, rows_down, rows_down_by}
 use Rattle.vt_xterm.specs.Repeating.{times, column_before, glyph_before, room, repeat}
-use Rattle.vt_xterm.specs.Tabs.{stop_before, back_tab, cursor_forward_tabulation, cursor_backward_tabulation}
+use Rattle.vt_xterm.specs.Tabs.{back_tab, cursor_forward_tabulation, cursor_backward_tabulation}
 use Rattle.vt_xterm.specs.Attributes.{without_colours, select_attributes}
-use Rattle.vt_xterm.specs.Front.{FunctionTable, is_bare, save_if_bare, restore_if_bare, plain_functions, private_functions}
+use Rattle.vt_xterm.specs.Front.{FunctionTable, save_or_set_sides, restore_if_bare, plain_functions, private_functions}
+use Rattle.vt_xterm.specs.Front.{screen_effect, effect_between, set_level_without_sides, alignments, escapes_with}
 use Rattle.vt_xterm.specs.Front.{soft_reset_wrapping, set_level_wrapping, intermediate_functions, functions_of, function_in, plain_escapes, xterm_effect}
-use Rattle.vt_xterm.specs.Play.{behind, front_at_power_up}
-use Rattle.vt_xterm.specs.Play.{Whole, IsSoundWhole, screens_of, after_events, play_bytes, play_character}
-use Rattle.vt_xterm.specs.Play.{play_characters, play_xterm}
-
--- what playing bytes keeps
-abbrev pub PlaySound : Type 0
-PlaySound = (s : State) (bytes : List ℕ) → IsSound s → IsSound (play s bytes).state
+use Rattle.vt_xterm.specs.Play.{after_events}
+use Rattle.vt_xterm.specs.Bounded.{is_bare, BoundedTable, bounded_in, bounded_plain, bounded_controls, has_row, other_plain}
+use Rattle.vt_xterm.specs.Bounded.{other_between, resets, erases, bounded_effect, writing, writing_if_read}
+use Rattle.vt_xterm.specs.Bounded.{writing_times}
+use Rattle.vt_xterm.specs.Bounded.{printing, repeating, margins_set, resetting}
+use Rattle.vt_xterm.specs.Sides as between
+use Rattle.vt_xterm.specs.Sides.{AreSides}
+use Rattle.vt_xterm.specs.declared.sides.Sides.{Sides}
+use Rattle.vt_xterm.proofs.Bounds.{KeepsIn, of_bounds, other-wrap, set-fit, keeping-in, home-in, brought-in}
+use Rattle.vt_xterm.proofs.Bounds.{origin_mode-in, rows_up-in, rows_down-in, set_margins-in, write_glyph-in, write_glyph-part}
+use Rattle.vt_xterm.proofs.Bounds.{width-part, stop_before-bounds}
 
 -- ---- pages
 
@@ -72,7 +76,7 @@ abbrev pub KeepsDisplay : (Display → Display) → Type 0
 KeepsDisplay f = (size : Size) (s : Display) → IsSoundDisplayAt size s → IsSoundDisplayAt size (f s)
 
 -- a function that keeps a display of its own size sound, and keeps the size
-fixed : (f : Display → Display) → terminals.Keeps f → KeepsSize f → KeepsDisplay f
+pub fixed : (f : Display → Display) → terminals.Keeps f → KeepsSize f → KeepsDisplay f
 fixed f keeps same size s i =
     subst (λ z. IsSoundDisplayAt z (f s)) (same s ∙ i.of_size) (keeps s (own-display size s i))
 
@@ -124,7 +128,7 @@ fitted-sound size width wide page shape i = go (page.grid.width == width) refl
     go false is =
         (resized-sound size (width == page.grid.size.wide) page i, columns-of page.grid.size width wide here)
 
-page_of-sound : (size : Size) (s : Display) → IsSoundDisplayAt size s → IsSoundPageAt size (page_of s)
+pub page_of-sound : (size : Size) (s : Display) → IsSoundDisplayAt size s → IsSoundPageAt size (page_of s)
 page_of-sound size s i = record { of_size = i.of_size; grid = i.grid; saved = i.saved; saved_sets = i.saved_sets }
 
 with_page-sound : (size : Size) (page : PageState) (s : Display) → page.grid.width ≡ s.grid.width → IsSoundPageAt size page
@@ -163,7 +167,7 @@ blanked-sound size page i =
 
 -- ---- modes
 
-show_page-keeps : (alternate : Bool) → Keeps (show_page alternate)
+pub show_page-keeps : (alternate : Bool) → Keeps (show_page alternate)
 show_page-keeps alternate size s i = go s.pages.alternate alternate
   where
     go : (b on : Bool) → AreSound size (if b then (if on then s else exchanged false s) else (if on then exchanged true s else s))
@@ -183,9 +187,18 @@ show_or_clear-keeps false size s i = go s.pages.alternate
     go true = with_blank-keeps size (show_page false s) (show_page-keeps false size s i)
     go false = i
 
-save_or_restore-keeps : (save : Bool) → Keeps (save_or_restore save)
+restore_screens-keeps : Keeps restore_screens
+restore_screens-keeps size s i =
+    let back : IsSoundDisplayAt size (restore_cursor s.display) =
+    fixed restore_cursor terminals.restore_cursor-keeps (λ t. refl) size s.display i.0 in (
+      of_bounds (last_column s.display) (λ b. IsSoundDisplayAt size (restored b s.display)) s.pages.sides back
+          (λ m fits. brought-in size m (restore_cursor s.display) fits back),
+      i.1,
+    )
+
+pub save_or_restore-keeps : (save : Bool) → Keeps (save_or_restore save)
 save_or_restore-keeps true = display-keeps save_cursor (fixed save_cursor terminals.save_cursor-keeps (λ s. refl))
-save_or_restore-keeps false = display-keeps restore_cursor (fixed restore_cursor terminals.restore_cursor-keeps (λ s. refl))
+save_or_restore-keeps false = restore_screens-keeps
 
 show_and_save-keeps : (alternate : Bool) → Keeps (show_and_save alternate)
 show_and_save-keeps true size s i =
@@ -196,7 +209,7 @@ show_and_save-keeps true size s i =
       shown.1,
     )
 show_and_save-keeps false size s i =
-    save_or_restore-keeps false size (show_page false s) (show_page-keeps false size s i)
+    restore_screens-keeps size (show_page false s) (show_page-keeps false size s i)
 
 allow_column_mode-keeps : (on : Bool) → Keeps (allow_column_mode on)
 allow_column_mode-keeps on size s i = i
@@ -207,11 +220,56 @@ bracket_pastes-keeps on size s i = i
 allowed_column_mode-keeps : (wide : Bool) → Keeps (allowed_column_mode wide)
 allowed_column_mode-keeps wide size s i = go s.pages.resizes
   where
-    go : (b : Bool) → AreSound size (if b then on_display (column_mode wide) s else s)
+    go : (b : Bool) → AreSound size (if b then with_full_sides (on_display (column_mode wide) s) else s)
     go true = display-keeps (column_mode wide) (fixed (column_mode wide) (terminals.column_mode-keeps wide) (λ s. refl)) size s i
     go false = i
 
-effect-fixed : GlyphLaws → SetsLaws → (event : Event) → KeepsDisplay (effect event)
+-- ---- left and right margins
+
+origin_mode_between-keeps : (on : Bool) → Keeps (origin_mode_between on)
+origin_mode_between-keeps on size s i =
+    of_bounds (last_column s.display) (λ b. AreSound size (sided_origin_mode on b s)) s.pages.sides
+    (fixed (origin_mode on) (terminals.origin_mode-keeps on) (λ t. refl) size s.display i.0, i.1)
+    (λ m fits. (origin_mode-in on size m s.display fits i.0, i.1))
+
+autowrap_mode_between-keeps : (on : Bool) → Keeps (autowrap_mode_between on)
+autowrap_mode_between-keeps true =
+    display-keeps (autowrap_mode true) (fixed (autowrap_mode true) (terminals.autowrap_mode-keeps true) (λ t. refl))
+autowrap_mode_between-keeps false =
+    display-keeps (autowrap_mode false) (fixed (autowrap_mode false) (terminals.autowrap_mode-keeps false) (λ t. refl))
+
+side_mode-keeps : (on : Bool) → Keeps (side_mode on)
+side_mode-keeps on size s i = i
+
+set_sides-keeps : (p1 p2 : ℕ) → Keeps (set_sides p1 p2)
+set_sides-keeps p1 p2 size s i = go (between.are_sides (last_column s.display) p1 p2) refl
+  where
+    m : Sides
+    m = between.sides_of (last_column s.display) p1 p2
+
+    go : (b : Bool) → between.are_sides (last_column s.display) p1 p2 ≡ b
+        → AreSound size (if b then sided (Some m) (on_display (between.home m) s) else s)
+    go true is = (home-in size m s.display (set-fit (last_column s.display) p1 p2 is) i.0, i.1)
+    go false is = i
+
+-- one of two
+pub one-screen : (size : Size) (b : Bool) (s t : Screens) → AreSound size s → AreSound size t → AreSound size (if b then s else t)
+one-screen size true s t first second = first
+one-screen size false s t first second = second
+
+save_or_set_sides-keeps : (params : List ℕ) (sides : Option Sides) → Keeps (save_or_set_sides params sides)
+save_or_set_sides-keeps params None size s i =
+    one-screen size (is_bare params) (on_display save_cursor s) s (save_or_restore-keeps true size s i) i
+save_or_set_sides-keeps params (Some m) size s i = set_sides-keeps (first params) (second params) size s i
+
+s-keeps : (params : List ℕ) → Keeps (λ s. save_or_set_sides params s.pages.sides s)
+s-keeps params size s i = save_or_set_sides-keeps params s.pages.sides size s i
+
+restore_if_bare-keeps : (params : List ℕ) → Keeps (restore_if_bare params)
+restore_if_bare-keeps params size s i =
+    one-screen size (is_bare params) (restore_screens s) s (restore_screens-keeps size s i) i
+
+pub effect-fixed : GlyphLaws → SetsLaws → (event : Event) → KeepsDisplay (effect event)
 effect-fixed glyphs sets event = fixed (effect event) (effect-keeps glyphs sets event) (effect-size event)
 
 -- a VT220's mode, as SM or RM of this one alone
@@ -233,10 +291,13 @@ page_modes-keep =
       save_or_restore-keeps,
       show_and_save-keeps,
       bracket_pastes-keeps,
+      origin_mode_between-keeps,
+      autowrap_mode_between-keeps,
+      side_mode-keeps,
     )
 
 module _ (glyphs : GlyphLaws) (sets : SetsLaws) where
-  page_mode-keeps : (on : Bool) (p : ℕ) → Keeps (with_page_mode on p)
+  pub page_mode-keeps : (on : Bool) (p : ℕ) → Keeps (with_page_mode on p)
   unfolding with_page_mode
   page_mode-keeps on p =
       looked_up-holds (λ key f. (on : Bool) → Keeps (f on)) page_modes p (λ on. on_display (with_mode private_modes on p))
@@ -279,21 +340,6 @@ one-of false f keeps s i = i
 times-keeps : (n : ℕ) (f : Display → Display) → terminals.Keeps f → terminals.Keeps (times n f)
 times-keeps zero f keeps s i = i
 times-keeps (suc n) f keeps s i = keeps (times n f s) (times-keeps n f keeps s i)
-
-past-one : (c : ℕ) (has : Bool) → (nat_lt 1 c && has) ≡ true → 1 ≤ c
-past-one c has is = grind (arith, nat_tests)
-
-stop_before-bounds : (stops : List Bool) (last c : ℕ) → 1 ≤ last → c ≤ last
-    → (1 ≤ stop_before stops c) × (stop_before stops c ≤ last)
-stop_before-bounds stops last zero some fits = (omega arith, some)
-stop_before-bounds stops last (suc c) some fits =
-    go (nat_lt 1 c && has_stop_at stops c) refl (stop_before-bounds stops last c some (omega arith))
-  where
-    go : (b : Bool) → (nat_lt 1 c && has_stop_at stops c) ≡ b
-        → (1 ≤ stop_before stops c) × (stop_before stops c ≤ last)
-        → (1 ≤ (if b then c else stop_before stops c)) × ((if b then c else stop_before stops c) ≤ last)
-    go true is rest = (past-one c (has_stop_at stops c) is, omega arith)
-    go false is rest = rest
 
 back_tab-keeps : terminals.Keeps back_tab
 back_tab-keeps s i =
@@ -355,12 +401,6 @@ rows_down_by-own : (params : List ℕ) → terminals.Keeps (rows_down_by params)
 rows_down_by-own params s i =
     one-of (length params == 1) (rows_down (count params)) (rows_down-own (count params)) s i
 
-save_if_bare-own : (params : List ℕ) → terminals.Keeps (save_if_bare params)
-save_if_bare-own params s i = one-of (is_bare params) save_cursor terminals.save_cursor-keeps s i
-
-restore_if_bare-own : (params : List ℕ) → terminals.Keeps (restore_if_bare params)
-restore_if_bare-own params s i = one-of (is_bare params) restore_cursor terminals.restore_cursor-keeps s i
-
 -- ---- these keep the size, too
 
 times-size : (n : ℕ) (f : Display → Display) → KeepsSize f → KeepsSize (times n f)
@@ -418,14 +458,6 @@ line_position_forward-keeps n = fixed (line_position_forward n) (line_position_f
 select_attributes-keeps : (params : List ℕ) → KeepsDisplay (select_attributes params)
 select_attributes-keeps params = fixed (select_attributes params) (select_attributes-own params) (λ s. refl)
 
-save_if_bare-keeps : (params : List ℕ) → KeepsDisplay (save_if_bare params)
-save_if_bare-keeps params = fixed (save_if_bare params) (save_if_bare-own params)
-    (one-of-size (is_bare params) save_cursor (λ s. refl))
-
-restore_if_bare-keeps : (params : List ℕ) → KeepsDisplay (restore_if_bare params)
-restore_if_bare-keeps params = fixed (restore_if_bare params) (restore_if_bare-own params)
-    (one-of-size (is_bare params) restore_cursor (λ s. refl))
-
 soft_reset_wrapping-keeps : KeepsDisplay soft_reset_wrapping
 soft_reset_wrapping-keeps = fixed soft_reset_wrapping soft_reset_wrapping-own (λ s. refl)
 
@@ -434,6 +466,15 @@ set_level_wrapping-keeps params = fixed (set_level_wrapping params) (set_level_w
     (one-of-size (is_level (first params) (second params))
     (λ t. autowrap_mode true (set_conformance_level (first params) (second params) t))
     (λ t. set_conformance_level-size (first params) (second params) t))
+
+set_level_without_sides-keeps : (params : List ℕ) → Keeps (set_level_without_sides params)
+set_level_without_sides-keeps params size s i =
+    let sound = display-keeps (set_level_wrapping params) (set_level_wrapping-keeps params) size s i in
+    one-screen size (is_level (first params) (second params)) (sided None (on_display (set_level_wrapping params) s))
+    (on_display (set_level_wrapping params) s) sound sound
+
+pub screen_alignment-keeps : KeepsDisplay screen_alignment
+screen_alignment-keeps = fixed screen_alignment terminals.screen_alignment-keeps (λ s. refl)
 
 -- what each function by itself needs
 ruleset own-keeping = (
@@ -449,8 +490,6 @@ ruleset own-keeping = (
   line_position_absolute-keeps,
   line_position_forward-keeps,
   select_attributes-keeps,
-  save_if_bare-keeps,
-  restore_if_bare-keeps,
 )
 
 -- ---- events
@@ -462,7 +501,7 @@ module _ (glyphs : GlyphLaws) (sets : SetsLaws) (rows : RowLaws) (tests : TestLa
       let n : ℕ = count params in
       let some : 1 ≤ n = omega arith in
       let again : KeepsDisplay (repeat n) = fixed (repeat n) (repeat-own rows tests n) (repeat-size n) in
-      search (display-keeps, own-keeping, again, some)
+      search (display-keeps, own-keeping, s-keeps, restore_if_bare-keeps, again, some)
 
   AllFunctionsKeep : List ℕ → FunctionTable → Type 0
   AllFunctionsKeep params = AllRows (λ key f. Keeps (f params))
@@ -475,7 +514,7 @@ module _ (glyphs : GlyphLaws) (sets : SetsLaws) (rows : RowLaws) (tests : TestLa
       ((change_page_modes-keeps glyphs sets true params, (change_page_modes-keeps glyphs sets false params, tt)), tt)
   functions_of-keep params None (Some inter) =
       looked_up-holds (λ key table. AllFunctionsKeep params table) intermediate_functions inter [] tt (
-        (display-keeps (set_level_wrapping params) (set_level_wrapping-keeps params), tt),
+        (set_level_without_sides-keeps params, tt),
         ((display-keeps soft_reset_wrapping soft_reset_wrapping-keeps, tt), tt),
       )
   functions_of-keep params (Some marker) (Some inter) = tt
@@ -490,66 +529,199 @@ module _ (glyphs : GlyphLaws) (sets : SetsLaws) (rows : RowLaws) (tests : TestLa
   plain_escapes-keep : AllRows (λ key f. Keeps (f [])) plain_escapes
   unfolding AllRows
   plain_escapes-keep = (
-    λ size s i.
-        let sized : IsSize s.display.grid.size = i.0.grid.shape.size in
-        let sound = fixed reset_display terminals.reset_to_initial_state-keeps (λ t. refl) size s.display i.0 in
-        let wide : Bool = is_window_wide s in
-        let page : Size = s.display.grid.size in (
-          fixed (column_mode wide) (terminals.column_mode-keeps wide) (λ t. refl) size (display_of s.display.grid.size) sound,
-          subst (λ z. IsSoundPageAt z (blank_page page)) i.0.of_size
-              (page_of-sound page (display_of page) (display_of-sound page sized)),
-        ),
-    tt,
+    restore_screens-keeps,
+    (
+      λ size s i.
+          let sized : IsSize s.display.grid.size = i.0.grid.shape.size in
+          let sound = fixed reset_display terminals.reset_to_initial_state-keeps (λ t. refl) size s.display i.0 in
+          let wide : Bool = is_window_wide s in
+          let page : Size = s.display.grid.size in (
+            fixed (column_mode wide) (terminals.column_mode-keeps wide) (λ t. refl) size (display_of s.display.grid.size) sound,
+            subst (λ z. IsSoundPageAt z (blank_page page)) i.0.of_size
+                (page_of-sound page (display_of page) (display_of-sound page sized)),
+          ),
+      tt,
+    ),
   )
 
-  pub event-keeps : (event : Event) → Keeps (xterm_effect event)
+  escapes_with-keep : (inter : ℕ) → AllFunctionsKeep [] (escapes_with inter)
+  unfolding AllRows AllFunctionsKeep
+  escapes_with-keep inter =
+      looked_up-holds (λ key table. AllFunctionsKeep [] table) ((byte (codes "#"), alignments) ∷ []) inter [] tt
+      ((display-keeps screen_alignment screen_alignment-keeps, tt), tt)
+
+  pub screen-event-keeps : (event : Event) → Keeps (screen_effect event)
   unfolding AllFunctionsKeep
-  event-keeps (Print b) = display-keeps (effect (Print b)) (effect-fixed glyphs sets (Print b))
-  event-keeps (Control b) = display-keeps (effect (Control b)) (effect-fixed glyphs sets (Control b))
-  event-keeps (Escape None last) = function_in-keeps plain_escapes (Escape None last) last [] plain_escapes-keep
-  event-keeps (Escape (Some inter) last) =
-      display-keeps (effect (Escape (Some inter) last)) (effect-fixed glyphs sets (Escape (Some inter) last))
-  event-keeps (Sequence marker params inter last) =
+  screen-event-keeps (Print b) = display-keeps (effect (Print b)) (effect-fixed glyphs sets (Print b))
+  screen-event-keeps (Control b) = display-keeps (effect (Control b)) (effect-fixed glyphs sets (Control b))
+  screen-event-keeps (Escape None last) = function_in-keeps plain_escapes (Escape None last) last [] plain_escapes-keep
+  screen-event-keeps (Escape (Some inter) last) =
+      function_in-keeps (escapes_with inter) (Escape (Some inter) last) last [] (escapes_with-keep inter)
+  screen-event-keeps (Sequence marker params inter last) =
       function_in-keeps (functions_of marker inter) (Sequence marker params inter last) last params.items
       (functions_of-keep params.items marker inter)
 
-  after_events-keeps : (events : List Event) → Keeps (after_events events)
+  -- ---- between left and right margins
+
+  KeepsBetween : (Sides → Screens → Screens) → Type 0
+  KeepsBetween f = (size : Size) (m : Sides) (s : Screens) → AreSides (last_column s.display) m → AreSound size s
+      → AreSound size (f m s)
+
+  pub writing-keeps : (glyph : ℕ) → IsGlyph glyph → (size : Size) (m : Sides) (s : Screens) → AreSides (last_column s.display) m
+      → AreSound size s → AreSound size (writing glyph m s)
+  writing-keeps glyph is size m s fits i = (write_glyph-in glyph is size m s.display fits i.0, i.1)
+
+  -- the margins after a glyph fit, too
+  pub after-fit : (glyph : ℕ) (m : Sides) (s : Screens) → AreSides (last_column s.display) m
+      → AreSides (last_column (writing glyph m s).display) (between.sides_after m s.display)
+  after-fit glyph m s fits =
+      other-wrap (last_column (writing glyph m s).display) m (between.sides_after m s.display).wrap
+      (subst (λ w. AreSides w m) (sym (write_glyph-part (λ g. g.width) width-part glyph m s.display)) fits)
+
+  writing_times-keeps : (k glyph : ℕ) → IsGlyph glyph → (size : Size) (m : Sides) (s : Screens)
+      → AreSides (last_column s.display) m → AreSound size s → AreSound size (writing_times k glyph m s)
+  writing_times-keeps zero glyph is size m s fits i = i
+  writing_times-keeps (suc k) glyph is size m s fits i =
+      writing_times-keeps k glyph is size (between.sides_after m s.display) (writing glyph m s) (after-fit glyph m s fits)
+      (writing-keeps glyph is size m s fits i)
+
+  pub with-sets : (size : Size) (s : Display) (new : GraphicSets) → IsSoundDisplayAt size s → AreSoundSets new
+      → IsSoundDisplayAt size (record s { sets = new })
+  with-sets size s new i sound = record {
+    of_size = i.of_size;
+    grid = i.grid;
+    cursor = i.cursor;
+    wrap = i.wrap;
+    origin = i.origin;
+    sets = sound;
+    margins = i.margins;
+    stops = i.stops;
+    saved = i.saved;
+    saved_sets = i.saved_sets;
+  }
+
+  printing-keeps : (b : ℕ) (size : Size) (m : Sides) (s : Screens) → AreSides (last_column s.display) m → AreSound size s
+      → AreSound size (printing b m s)
+  printing-keeps b size m s fits i = go (glyph_read s.display.sets b) (glyphs.read s.display.sets b)
+    where
+      t : Screens
+      t = on_display (λ d. record d { sets = after_read d.sets b }) s
+
+      after : AreSound size t
+      after = (with-sets size s.display (after_read s.display.sets b) i.0 (sets.read s.display.sets b i.0.sets), i.1)
+
+      go : (glyph : Option ℕ) → IfSome glyph IsGlyph → AreSound size (writing_if_read glyph m t)
+      go None h = after
+      go (Some g) h = writing-keeps g h size m t fits after
+
+  bounded_in-keeps : (table : BoundedTable) (event : Event) (last : ℕ) (params : List ℕ)
+      → AllRows (λ key f. KeepsIn (f params)) table → KeepsIn (bounded_in table event last params)
+  unfolding bounded_in
+  bounded_in-keeps table event last params all =
+      looked_up-holds (λ key f. KeepsIn (f params)) table last (λ params m. effect event)
+      (λ size m s fits i. effect-fixed glyphs sets event size s i) all
+
+  bounded_controls-keep : AllRows (λ key f. KeepsIn (f [])) bounded_controls
+  unfolding AllRows
+  bounded_controls-keep = search keeping-in
+
+  bounded_plain-keep : (params : List ℕ) → AllRows (λ key f. KeepsIn (f params)) bounded_plain
+  unfolding AllRows
+  bounded_plain-keep params =
+      let n : ℕ = count params in
+      let some : 1 ≤ n = omega arith in
+      let line : KeepsIn (λ m. line_position_absolute n) = λ size m s fits i. line_position_absolute-keeps n some size s i in
+      let down : KeepsIn (λ m. line_position_forward n) = λ size m s fits i. line_position_forward-keeps n size s i in
+      search (keeping-in, line, down, some)
+
+  before-between : (m : Sides) (s : Display) → IsSoundSizedDisplay s → (between.column_before m s == 0) ≡ false
+      → (1 ≤ between.column_before m s) × (between.column_before m s ≤ last_column s)
+  before-between m s i some = (grind (arith, nat_tests), at-most (between.is_pending m s))
+    where
+      at-most : (b : Bool) → (if b then s.cursor.col else s.cursor.col - 1) ≤ last_column s
+      at-most true = i.cursor.col_last
+      at-most false = omega (arith, i.cursor.col_last)
+
+  between-shown : (m : Sides) (s : Display) → IsSoundSizedDisplay s → (between.column_before m s == 0) ≡ false
+      → IsGlyph (between.glyph_before m s)
+  unfolding is_glyph
+  between-shown m s i some =
+      let col = between.column_before m s in
+      let place : (1 ≤ col) × (col ≤ last_column s) = before-between m s i some in
+      subst (λ (cell : Cell). IsGlyph cell.glyph)
+      (sym (rows.cell s.grid s.cursor.row col blank place.0 place.1))
+      (tests.at (λ cell. is_glyph cell.glyph) s.grid s.cursor.row col refl i.grid.glyphs)
+
+  repeating-keeps : (n : ℕ) (size : Size) (m : Sides) (s : Screens) → AreSides (last_column s.display) m → AreSound size s
+      → AreSound size (repeating n m s)
+  repeating-keeps n size m s fits i = go (between.column_before m s.display == 0) refl
+    where
+      go : (b : Bool) → (between.column_before m s.display == 0) ≡ b → AreSound size (if b then s
+          else writing_times (min n (between.room m s.display)) (between.glyph_before m s.display) m s)
+      go true is = i
+      go false is =
+          writing_times-keeps (min n (between.room m s.display)) (between.glyph_before m s.display)
+          (between-shown m s.display (own-display size s.display i.0) is) size m s fits i
+
+  margins_set-keeps : (p1 p2 : ℕ) (size : Size) (m : Sides) (s : Screens) → AreSides (last_column s.display) m
+      → AreSound size s → AreSound size (margins_set p1 p2 m s)
+  margins_set-keeps p1 p2 size m s fits i =
+      one-screen size (are_margins (bottom_row s.display) p1 p2) (resetting (between.set_margins p1 p2) m s) s
+      (set_margins-in p1 p2 size m s.display fits i.0, i.1) i
+
+  other_between-keeps : (event : Event) (last : ℕ) (params : List ℕ) (size : Size) (m : Sides) (s : Screens)
+      → AreSides (last_column s.display) m → AreSound size s → AreSound size (other_between screen_effect event last params m s)
+  unfolding other_between AllRows KeepsBetween
+  other_between-keeps event last params =
+      let n : ℕ = count params in
+      looked_up-holds (λ key f. KeepsBetween (f params)) other_plain last (λ params m. screen_effect event)
+      (λ size m s fits i. screen-event-keeps event size s i) (
+        λ size m s fits i. (rows_up-in n size m s.display fits i.0, i.1),
+        (
+          λ size m s fits i. one-screen size (length params == 1) (on_display (between.rows_down n m) s) s
+              (rows_down-in n size m s.display fits i.0, i.1) i,
+          (
+            λ size m s fits i. (rows_down-in n size m s.display fits i.0, i.1),
+            (repeating-keeps n, (margins_set-keeps (first params) (second params), tt)),
+          ),
+        ),
+      )
+
+  bounded-keeps : (event : Event) (size : Size) (m : Sides) (s : Screens) → AreSides (last_column s.display) m
+      → AreSound size s → AreSound size (bounded_effect screen_effect event m s)
+  unfolding bounded_effect
+  bounded-keeps (Print b) size m s fits i = printing-keeps b size m s fits i
+  bounded-keeps (Control b) size m s fits i =
+      one-screen size (b == 0x1A) (writing substitute_glyph m s)
+      (if has_row bounded_controls b then resetting (bounded_in bounded_controls (Control b) b []) m s
+      else screen_effect (Control b) s)
+      (writing-keeps substitute_glyph glyphs.substitute size m s fits i)
+      (one-screen size (has_row bounded_controls b) (resetting (bounded_in bounded_controls (Control b) b []) m s)
+      (screen_effect (Control b) s)
+      (bounded_in-keeps bounded_controls (Control b) b [] bounded_controls-keep size m s.display fits i.0, i.1)
+      (screen-event-keeps (Control b) size s i))
+  bounded-keeps (Escape inter last) size m s fits i = screen-event-keeps (Escape inter last) size s i
+  bounded-keeps (Sequence None params None last) size m s fits i =
+      let event = Sequence None params None last in
+      one-screen size (resets last params.items) (resetting (bounded_in bounded_plain event last params.items) m s)
+      (other_between screen_effect event last params.items m s)
+      (bounded_in-keeps bounded_plain event last params.items (bounded_plain-keep params.items) size m s.display fits i.0, i.1)
+      (other_between-keeps event last params.items size m s fits i)
+  bounded-keeps (Sequence (Some marker) params None last) size m s fits i =
+      let event = Sequence (Some marker) params None last in
+      one-screen size (marker == byte (codes "?") && erases last params.items) (resetting (λ x. effect event) m s)
+      (screen_effect event s) (effect-fixed glyphs sets event size s.display i.0, i.1) (screen-event-keeps event size s i)
+  bounded-keeps (Sequence None params (Some inter) last) size m s fits i =
+      screen-event-keeps (Sequence None params (Some inter) last) size s i
+  bounded-keeps (Sequence (Some marker) params (Some inter) last) size m s fits i =
+      screen-event-keeps (Sequence (Some marker) params (Some inter) last) size s i
+
+  pub event-keeps : (event : Event) → Keeps (xterm_effect event)
+  event-keeps event size s i =
+      of_bounds (last_column s.display) (λ b. AreSound size (effect_between event b s)) s.pages.sides
+      (screen-event-keeps event size s i) (λ m fits. bounded-keeps event size m s fits i)
+
+  pub after_events-keeps : (events : List Event) → Keeps (after_events events)
   after_events-keeps [] size s i = i
   after_events-keeps (event ∷ events) size s i =
       after_events-keeps events size (xterm_effect event s) (event-keeps event size s i)
-
-  -- ---- bytes and characters
-
-  bytes-sound : SplitLaw → (w : Whole) (bytes : List ℕ) → IsSoundWhole w → IsSoundWhole (play_bytes w bytes).whole
-  unfolding play_bytes
-  bytes-sound split w bytes i =
-      let after = after_events-keeps (events_from w.state.held bytes) vt220_size (screens_of w) (i.state.display, i.other) in record {
-        state = record { display = after.0; held = split.held_part (spell w.state.held ++ bytes) };
-        other = after.1;
-      }
-
-  pub character-sound : SplitLaw → PlaySound → (w : Whole) (c : ℕ) → IsSoundWhole w → IsSoundWhole (play_character w c).whole
-  unfolding play_character
-  character-sound split played w c i = go (nat_lt c 0x80)
-    where
-      go : (b : Bool) → IsSoundWhole (if b then play_bytes w (c ∷ []) else record {
-        whole = record w { state = (play w.state (translation w.state c)).state };
-        reports = (play w.state (translation w.state c)).reports;
-        lines = if w.pages.alternate then [] else scrolled_off w.state (translation w.state c);
-      }).whole
-      go true = bytes-sound split w (c ∷ []) i
-      go false = record { state = played w.state (translation w.state c) i.state; other = i.other }
-
-  characters-sound : SplitLaw → PlaySound → (w : Whole) (cs : List ℕ) → IsSoundWhole w
-      → IsSoundWhole (play_characters w cs).whole
-  characters-sound split played w [] i = i
-  characters-sound split played w (c ∷ cs) i =
-      characters-sound split played (play_character w c).whole cs (character-sound split played w c i)
-
-  pub xterm-sound : SplitLaw → PlaySound → (w : Whole) (pending bytes : List ℕ) → IsSoundWhole w
-      → IsSoundWhole (play_xterm w pending bytes).whole
-  unfolding play_xterm
-  xterm-sound split played w pending bytes i = characters-sound split played w (characters pending bytes) i
-
-pub power_up-sound : IsSound power_up → IsSoundWhole (behind power_up front_at_power_up)
-power_up-sound i = record { state = i; other = page_of-sound vt220_size display_at_power_up i.display }

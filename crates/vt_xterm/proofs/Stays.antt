@@ -1,6 +1,6 @@
 -- Which functions leave the pages and the width.
 use Rattle.std.proofs.Common.{rules, ◌≡◌, ℕ, Bool, true, false, zero, suc, List, [], ◌∷◌, Option, Some, None, refl, sym, ap, ◌∙◌}
-use Rattle.std.specs.Prelude.{◌==◌, ◌||◌, min, length, if◌then◌else◌, codes}
+use Rattle.std.specs.Prelude.{◌==◌, ◌||◌, ◌&&◌, min, length, if◌then◌else◌, codes}
 use Rattle.std.specs.List.{list_any}
 use Rattle.vt_syntax.specs.declared.event.Event.{Event}
 use Rattle.vt_syntax.specs.declared.event.Event.TheVariants.{Print, Control, Escape, Sequence}
@@ -9,6 +9,7 @@ use Rattle.vt_glyph.specs.Designation.{set_of_final}
 use Rattle.vt_glyph.specs.declared.set.Set.{Set}
 use Rattle.vt_screen.specs.Grid.{Grid, scroll_up, scroll_down, put, put_inserting}
 use Rattle.vt_screen.specs.Cells.{cell_of}
+use Rattle.vt_glyph.specs.Tables.{substitute_glyph}
 use Rattle.vt_term.specs.State.{Display, last_column, bottom_row}
 use Rattle.vt_term.specs.Parameters.{first, second, count}
 use Rattle.vt_term.specs.Moving.{carriage_return, index, reverse_index, next_line, line_feed, are_margins, set_margins}
@@ -28,8 +29,18 @@ use Rattle.vt_term.specs.Functions.{quote_sequences, exclamation_sequences}
 use Rattle.vt_xterm.specs.Repeating.{times, column_before, glyph_before, room, repeat}
 use Rattle.vt_xterm.specs.Tabs.{back_tab, cursor_forward_tabulation, cursor_backward_tabulation}
 use Rattle.vt_xterm.specs.Scroll.{rows_down, rows_down_by}
+use Rattle.vt_xterm.specs.declared.sides.Sides.{Sides}
+use Rattle.vt_xterm.specs.Sides.{are_sides, sides_of, sides_after, home}
+use Rattle.vt_xterm.specs.Sides as bounds
 use Rattle.vt_xterm.specs.Pages.{PagesState, Screens, on_display, save_or_restore, page_modes, with_page_mode, change_page_modes}
-use Rattle.vt_xterm.specs.Front.{is_bare, save_if_bare, restore_if_bare, plain_functions, private_functions, exclamation_functions}
+use Rattle.vt_xterm.specs.Pages.{bounds_of, restored, restore_screens, sided, with_sides, unwrapped, side_mode}
+use Rattle.vt_xterm.specs.Pages.{sided_origin_mode, origin_mode_between, autowrap_mode_between}
+use Rattle.vt_xterm.specs.Bounded.{is_bare, BoundedTable, bounded_in, bounded_plain, bounded_controls, has_row, other_plain}
+use Rattle.vt_xterm.specs.Bounded.{other_between, resets, erases, bounded_effect, writing, writing_if_read, writing_times}
+use Rattle.vt_xterm.specs.Bounded.{printing, repeating, resetting}
+use Rattle.vt_xterm.specs.Front.{save_or_set_sides, restore_if_bare, plain_functions, private_functions, exclamation_functions}
+use Rattle.vt_xterm.specs.Front.{screen_effect, effect_between, set_level_without_sides, alignments, escapes_with}
+use Rattle.vt_xterm.proofs.Bounds.{brought-part, write_glyph-part, set_margins-part, width-part, width-parts}
 use Rattle.vt_xterm.specs.Front.{set_level_wrapping, quote_functions, intermediate_functions}
 use Rattle.vt_xterm.specs.Front.{functions_of, function_in, plain_escapes, xterm_effect}
 use Rattle.vt_xterm.specs.Front.{is_page_mode, is_paste_mode, sets_page_mode, sets_mode, is_page_function, is_paste_function}
@@ -39,9 +50,10 @@ use Rattle.vt_term.proofs.Tables.{AllRows, looked_up-holds}
 abbrev pub Fits : (Display → Display) → Type 0
 Fits f = (s : Display) → (f s).grid.width ≡ s.grid.width
 
--- a function leaves the pages, and the width
+-- a function leaves the pages but for the left and right margins, and the width
 abbrev pub Stays : (Screens → Screens) → Type 0
-Stays f = (s : Screens) → ((f s).pages ≡ s.pages) × ((f s).display.grid.width ≡ s.display.grid.width)
+Stays f = (s : Screens) → ((f s).pages ≡ record s.pages { sides = (f s).pages.sides })
+    × ((f s).display.grid.width ≡ s.display.grid.width)
 
 display-stays : (f : Display → Display) → Fits f → Stays (on_display f)
 display-stays f fits s = (refl, fits s.display)
@@ -238,7 +250,7 @@ sequence-fits None (Some inter) last params h =
     (quote_sequence-fits last params, (exclamation_sequence-fits last params, tt))
 sequence-fits (Some marker) (Some inter) last params h = none-fits last params
 
-effect-fits : (event : Event) → is_page_function event ≡ false → Fits (effect event)
+pub effect-fits : (event : Event) → is_page_function event ≡ false → Fits (effect event)
 effect-fits (Print b) h = print-fits b
 effect-fits (Control b) h = control-fits b
 effect-fits (Escape None last) h = plain_escape-fits last h
@@ -265,12 +277,6 @@ cursor_backward_tabulation-fits n s = times-fits (min n (last_column s)) back_ta
 rows_down_by-fits : (params : List ℕ) → Fits (rows_down_by params)
 rows_down_by-fits params s = chosen-fits (length params == 1) s (rows_down (count params) s) s refl refl
 
-save_if_bare-fits : (params : List ℕ) → Fits (save_if_bare params)
-save_if_bare-fits params s = chosen-fits (is_bare params) s (save_cursor s) s refl refl
-
-restore_if_bare-fits : (params : List ℕ) → Fits (restore_if_bare params)
-restore_if_bare-fits params s = chosen-fits (is_bare params) s (restore_cursor s) s refl refl
-
 set_level_wrapping-fits : (params : List ℕ) → Fits (set_level_wrapping params)
 set_level_wrapping-fits params s =
     let leveled : Display = set_conformance_level (first params) (second params) s in
@@ -282,27 +288,87 @@ ruleset own-fitting = (
   cursor_backward_tabulation-fits,
   rows_down_by-fits,
   repeat-fits,
-  save_if_bare-fits,
-  restore_if_bare-fits,
 )
+
+-- one of two
+one-stays : (b : Bool) (s t u : Screens)
+    → (t.pages ≡ record s.pages { sides = t.pages.sides }) × (t.display.grid.width ≡ s.display.grid.width)
+    → (u.pages ≡ record s.pages { sides = u.pages.sides }) × (u.display.grid.width ≡ s.display.grid.width)
+    → ((if b then t else u).pages ≡ record s.pages { sides = (if b then t else u).pages.sides })
+    × ((if b then t else u).display.grid.width ≡ s.display.grid.width)
+one-stays true s t u first second = first
+one-stays false s t u first second = second
+
+-- the cursor is restored, whatever bounds it
+restored-fits : (bounds : Option Sides) → Fits (restored bounds)
+restored-fits None s = refl
+restored-fits (Some m) s = brought-part (λ g. g.width) width-part m (restore_cursor s)
+
+restore_screens-stays : Stays restore_screens
+restore_screens-stays s = (refl, restored-fits (bounds_of s) s.display)
+
+restore_if_bare-stays : (params : List ℕ) → Stays (restore_if_bare params)
+restore_if_bare-stays params s = one-stays (is_bare params) s (restore_screens s) s (restore_screens-stays s) (refl, refl)
+
+save_or_set_sides-stays : (params : List ℕ) (sides : Option Sides) → Stays (save_or_set_sides params sides)
+save_or_set_sides-stays params None s =
+    one-stays (is_bare params) s (on_display save_cursor s) s (refl, refl) (refl, refl)
+save_or_set_sides-stays params (Some m) s =
+    let p1 : ℕ = first params in
+    let p2 : ℕ = second params in
+    let w = last_column s.display in
+    one-stays (are_sides w p1 p2) s (with_sides (sides_of w p1 p2) (on_display (home (sides_of w p1 p2)) s)) s (refl, refl)
+    (refl, refl)
+
+s-stays : (params : List ℕ) → Stays (λ s. save_or_set_sides params s.pages.sides s)
+s-stays params s = save_or_set_sides-stays params s.pages.sides s
 
 own-stays : (event : Event) (last : ℕ) (params : List ℕ) → Fits (effect event)
     → Stays (function_in plain_functions event last params)
 unfolding function_in AllRows
 own-stays event last params fits =
     looked_up-holds (λ key f. Stays (f params)) plain_functions last (λ params. on_display (effect event))
-    (display-stays (effect event) fits) (search (rules, own-fitting))
+    (display-stays (effect event) fits) (search (rules, own-fitting, s-stays, restore_if_bare-stays))
 
 save_or_restore-stays : (save : Bool) → Stays (save_or_restore save)
 save_or_restore-stays true s = (refl, refl)
-save_or_restore-stays false s = (refl, refl)
+save_or_restore-stays false s = restore_screens-stays s
+
+origin_mode_between-stays : (on : Bool) → Stays (origin_mode_between on)
+origin_mode_between-stays on s = go (bounds_of s)
+  where
+    go : (bounds : Option Sides)
+        → ((unwrapped (sided_origin_mode on bounds s)).pages
+        ≡ record s.pages { sides = (unwrapped (sided_origin_mode on bounds s)).pages.sides })
+        × ((unwrapped (sided_origin_mode on bounds s)).display.grid.width ≡ s.display.grid.width)
+    go None = (refl, refl)
+    go (Some m) = (refl, refl)
+
+autowrap_mode_between-stays : (on : Bool) → Stays (autowrap_mode_between on)
+autowrap_mode_between-stays true s = (refl, refl)
+autowrap_mode_between-stays false s = (refl, refl)
+
+side_mode-stays : (on : Bool) → Stays (side_mode on)
+side_mode-stays on s = (refl, refl)
+
+ruleset mode-stays = (
+  save_or_restore-stays,
+  origin_mode_between-stays,
+  autowrap_mode_between-stays,
+  side_mode-stays,
+)
+
+-- two, one after the other
+then-stays : (s t u : Screens) → t.pages ≡ record s.pages { sides = t.pages.sides }
+    → u.pages ≡ record t.pages { sides = u.pages.sides } → u.pages ≡ record s.pages { sides = u.pages.sides }
+then-stays s t u one two = two ∙ ap (λ (p : PagesState). record p { sides = u.pages.sides }) one
 
 page_mode-stays : (on : Bool) (p : ℕ) → is_page_mode p ≡ false → is_paste_mode p ≡ false → Stays (with_page_mode on p)
 unfolding with_page_mode AllRows
 page_mode-stays on p =
     looked_up-holds (λ key f. is_page_mode key ≡ false → is_paste_mode key ≡ false → Stays (f on)) page_modes p
     (λ on. on_display (with_mode private_modes on p))
-    (λ not other. display-stays (with_mode private_modes on p) (private_mode-fits on p not)) (search (rules, save_or_restore-stays))
+    (λ not other. display-stays (with_mode private_modes on p) (private_mode-fits on p not)) (search (rules, mode-stays))
 
 page_modes-stay : (on : Bool) (params : List ℕ) → list_any is_page_mode params ≡ false
     → list_any is_paste_mode params ≡ false → Stays (change_page_modes on params)
@@ -311,8 +377,10 @@ page_modes-stay on (p ∷ params) none other s =
     let h = neither (is_page_mode p) (list_any is_page_mode params) none in
     let k = neither (is_paste_mode p) (list_any is_paste_mode params) other in
     let first = page_mode-stays on p h.0 k.0 s in
-    let rest = page_modes-stay on params h.1 k.1 (with_page_mode on p s) in
-    (rest.0 ∙ first.0, rest.1 ∙ first.1)
+    let rest = page_modes-stay on params h.1 k.1 (with_page_mode on p s) in (
+      then-stays s (with_page_mode on p s) (change_page_modes on params (with_page_mode on p s)) first.0 rest.0,
+      rest.1 ∙ first.1,
+    )
 
 private-stays : (event : Event) (last : ℕ) (params : List ℕ) → Fits (effect event)
     → sets_page_mode 0x3F last params ≡ false → sets_mode is_paste_mode 0x3F last params ≡ false
@@ -331,13 +399,19 @@ exclamation-stays event last params fits =
     looked_up-holds (λ key f. Stays (f params)) exclamation_functions last (λ params. on_display (effect event))
     (display-stays (effect event) fits) (λ s. (refl, refl), tt)
 
+set_level_without_sides-stays : (params : List ℕ) → Stays (set_level_without_sides params)
+set_level_without_sides-stays params s =
+    let fits = set_level_wrapping-fits params s.display in
+    one-stays (is_level (first params) (second params)) s (sided None (on_display (set_level_wrapping params) s))
+    (on_display (set_level_wrapping params) s) (refl, fits) (refl, fits)
+
 quote-stays : (event : Event) (last : ℕ) (params : List ℕ) → Fits (effect event)
     → Stays (function_in quote_functions event last params)
 unfolding function_in AllRows
 quote-stays event last params fits =
     looked_up-holds (λ key f. Stays (f params)) quote_functions last (λ params. on_display (effect event))
     (display-stays (effect event) fits)
-    (display-stays (set_level_wrapping params) (set_level_wrapping-fits params), tt)
+    (set_level_without_sides-stays params, tt)
 
 none-stays : (event : Event) (last : ℕ) (params : List ℕ) → Fits (effect event) → Stays (function_in [] event last params)
 unfolding function_in
@@ -366,34 +440,163 @@ unfolding function_in AllRows
 escape-stays last =
     looked_up-holds (λ key f. (key == 0x63) ≡ false → Stays (f [])) plain_escapes last
     (λ params. on_display (effect (Escape None last)))
-    (λ h. display-stays (effect (Escape None last)) (plain_escape-fits last h)) (λ h. absurd cc, tt)
+    (λ h. display-stays (effect (Escape None last)) (plain_escape-fits last h))
+    (λ h. restore_screens-stays, (λ h. absurd cc, tt))
 
--- what is no function of the pages leaves them, and the width
-pub event-stays : (event : Event) → is_page_function event ≡ false → is_paste_function event ≡ false
-    → Stays (xterm_effect event)
-event-stays (Print b) h k = display-stays (effect (Print b)) (print-fits b)
-event-stays (Control b) h k = display-stays (effect (Control b)) (control-fits b)
-event-stays (Escape None last) h k = escape-stays last h
-event-stays (Escape (Some inter) last) h k =
-    display-stays (effect (Escape (Some inter) last)) (escape_with-fits inter last)
-event-stays (Sequence marker params inter last) h k =
+escapes_with-stays : (inter last : ℕ) → Stays (function_in (escapes_with inter) (Escape (Some inter) last) last [])
+unfolding function_in AllRows
+escapes_with-stays inter last =
+    let own = display-stays (effect (Escape (Some inter) last)) (escape_with-fits inter last) in
+    looked_up-holds (λ key table. Stays (function_in table (Escape (Some inter) last) last []))
+    ((byte (codes "#"), alignments) ∷ []) inter [] own (
+      looked_up-holds (λ key f. Stays (f [])) alignments last (λ params. on_display (effect (Escape (Some inter) last))) own
+          (λ s. (refl, refl), tt),
+      tt,
+    )
+
+-- ---- between left and right margins
+
+-- a function of the display leaves the width
+abbrev pub FitsIn : (Sides → Display → Display) → Type 0
+FitsIn f = (m : Sides) (s : Display) → (f m s).grid.width ≡ s.grid.width
+
+-- one of the screens leaves the pages but for the margins, and the width
+abbrev pub StaysIn : (Sides → Screens → Screens) → Type 0
+StaysIn f = (m : Sides) → Stays (f m)
+
+writing-stays : (glyph : ℕ) → StaysIn (writing glyph)
+writing-stays glyph m s = (refl, write_glyph-part (λ g. g.width) width-part glyph m s.display)
+
+writing_times-stays : (k glyph : ℕ) → StaysIn (writing_times k glyph)
+writing_times-stays zero glyph m s = (refl, refl)
+writing_times-stays (suc k) glyph m s =
+    let one = writing-stays glyph m s in
+    let rest = writing_times-stays k glyph (sides_after m s.display) (writing glyph m s) in (
+      then-stays s (writing glyph m s) (writing_times (suc k) glyph m s) one.0 rest.0,
+      rest.1 ∙ one.1,
+    )
+
+repeating-stays : (n : ℕ) → StaysIn (repeating n)
+repeating-stays n m s =
+    one-stays (bounds.column_before m s.display == 0) s s _ (refl, refl)
+    (writing_times-stays (min n (bounds.room m s.display)) (bounds.glyph_before m s.display) m s)
+
+printing-stays : (b : ℕ) → StaysIn (printing b)
+printing-stays b m s = go (glyph_read s.display.sets b)
+  where
+    t : Screens
+    t = on_display (λ d. record d { sets = after_read d.sets b }) s
+
+    go : (glyph : Option ℕ) → ((writing_if_read glyph m t).pages ≡ record s.pages { sides = (writing_if_read glyph m t).pages.sides })
+        × ((writing_if_read glyph m t).display.grid.width ≡ s.display.grid.width)
+    go None = (refl, refl)
+    go (Some glyph) = writing-stays glyph m t
+
+bounded_in-fits : (table : BoundedTable) (event : Event) (last : ℕ) (params : List ℕ) → Fits (effect event)
+    → AllRows (λ key f. FitsIn (f params)) table → FitsIn (bounded_in table event last params)
+unfolding bounded_in
+bounded_in-fits table event last params fits all =
+    looked_up-holds (λ key f. FitsIn (f params)) table last (λ params m. effect event) (λ m. fits) all
+
+bounded_controls-fit : AllRows (λ key f. FitsIn (f [])) bounded_controls
+unfolding AllRows
+bounded_controls-fit = search (rules, width-parts)
+
+bounded_plain-fit : (params : List ℕ) → AllRows (λ key f. FitsIn (f params)) bounded_plain
+unfolding AllRows
+bounded_plain-fit params = search (rules, width-parts)
+
+other_between-stays : (event : Event) (last : ℕ) (params : List ℕ) → Stays (screen_effect event)
+    → StaysIn (other_between screen_effect event last params)
+unfolding other_between AllRows
+other_between-stays event last params stays =
+    looked_up-holds (λ key f. StaysIn (f params)) other_plain last (λ params m. screen_effect event) (λ m. stays) (
+      λ m s. (refl, refl),
+      (
+        λ m s. one-stays (length params == 1) s (on_display (bounds.rows_down (count params) m) s) s (refl, refl) (refl, refl),
+        (
+          λ m s. (refl, refl),
+          (
+            repeating-stays (count params),
+            (
+              λ m s. one-stays (are_margins (bottom_row s.display) (first params) (second params)) s
+                  (resetting (bounds.set_margins (first params) (second params)) m s) s
+                  (refl, set_margins-part (λ g. g.width) width-part (first params) (second params) m s.display) (refl, refl),
+              tt,
+            ),
+          ),
+        ),
+      ),
+    )
+
+bounded-stays : (event : Event) → Fits (effect event) → Stays (screen_effect event)
+    → StaysIn (bounded_effect screen_effect event)
+unfolding bounded_effect
+bounded-stays (Print b) fits stays m s = printing-stays b m s
+bounded-stays (Control b) fits stays m s =
+    one-stays (b == 0x1A) s (writing substitute_glyph m s) _ (writing-stays substitute_glyph m s)
+    (one-stays (has_row bounded_controls b) s (resetting (bounded_in bounded_controls (Control b) b []) m s)
+    (screen_effect (Control b) s)
+    (refl, bounded_in-fits bounded_controls (Control b) b [] fits bounded_controls-fit m s.display) (stays s))
+bounded-stays (Escape inter last) fits stays m s = stays s
+bounded-stays (Sequence None params None last) fits stays m s =
+    let event = Sequence None params None last in
+    one-stays (resets last params.items) s (resetting (bounded_in bounded_plain event last params.items) m s) _
+    (refl, bounded_in-fits bounded_plain event last params.items fits (bounded_plain-fit params.items) m s.display)
+    (other_between-stays event last params.items stays m s)
+bounded-stays (Sequence (Some marker) params None last) fits stays m s =
+    let event = Sequence (Some marker) params None last in
+    one-stays (marker == byte (codes "?") && erases last params.items) s (resetting (λ x. effect event) m s)
+    (screen_effect event s) (refl, fits s.display) (stays s)
+bounded-stays (Sequence None params (Some inter) last) fits stays m s = stays s
+bounded-stays (Sequence (Some marker) params (Some inter) last) fits stays m s = stays s
+
+-- ---- events
+
+pub screen-stays : (event : Event) → is_page_function event ≡ false → is_paste_function event ≡ false
+    → Stays (screen_effect event)
+screen-stays (Print b) h k = display-stays (effect (Print b)) (print-fits b)
+screen-stays (Control b) h k = display-stays (effect (Control b)) (control-fits b)
+screen-stays (Escape None last) h k = escape-stays last h
+screen-stays (Escape (Some inter) last) h k = escapes_with-stays inter last
+screen-stays (Sequence marker params inter last) h k =
     sequence-stays (Sequence marker params inter last) marker inter last params.items
     (sequence-fits marker inter last params.items h) h k
 
+-- what is no function of the pages leaves them but for the margins, and the width
+pub event-stays : (event : Event) → is_page_function event ≡ false → is_paste_function event ≡ false
+    → Stays (xterm_effect event)
+event-stays event h k s = go (bounds_of s)
+  where
+    go : (b : Option Sides) → ((effect_between event b s).pages ≡ record s.pages { sides = (effect_between event b s).pages.sides })
+        × ((effect_between event b s).display.grid.width ≡ s.display.grid.width)
+    go None = screen-stays event h k s
+    go (Some m) = bounded-stays event (effect-fits event h) (screen-stays event h k) m s
+
 -- ---- ?2004, which changes one mode of the pages
 
--- a function leaves the pages but for that mode, and the width
+-- a function leaves the pages but for that mode and the margins, and the width
 abbrev pub StaysBut : (Screens → Screens) → Type 0
-StaysBut f = (s : Screens) → ((f s).pages ≡ record s.pages { brackets = (f s).pages.brackets })
+StaysBut f = (s : Screens) → ((f s).pages ≡ record s.pages { brackets = (f s).pages.brackets; sides = (f s).pages.sides })
     × ((f s).display.grid.width ≡ s.display.grid.width)
 
 but : (f : Screens → Screens) → Stays f → StaysBut f
 but f stays s =
     let e = stays s in
-    (e.0 ∙ ap (λ (p : PagesState). record s.pages { brackets = p.brackets }) (sym e.0), e.1)
+    let same : (f s).pages.brackets ≡ s.pages.brackets = ap (λ (p : PagesState). p.brackets) e.0 in
+    (e.0 ∙ ap (λ (b : Bool). record s.pages { brackets = b; sides = (f s).pages.sides }) (sym same), e.1)
 
 save_or_restore-but : (save : Bool) → StaysBut (save_or_restore save)
 save_or_restore-but save = but (save_or_restore save) (save_or_restore-stays save)
+
+origin_mode_between-but : (on : Bool) → StaysBut (origin_mode_between on)
+origin_mode_between-but on = but (origin_mode_between on) (origin_mode_between-stays on)
+
+autowrap_mode_between-but : (on : Bool) → StaysBut (autowrap_mode_between on)
+autowrap_mode_between-but on = but (autowrap_mode_between on) (autowrap_mode_between-stays on)
+
+side_mode-but : (on : Bool) → StaysBut (side_mode on)
+side_mode-but on = but (side_mode on) (side_mode-stays on)
 
 page_mode-but : (on : Bool) (p : ℕ) → is_page_mode p ≡ false → StaysBut (with_page_mode on p)
 unfolding with_page_mode AllRows
@@ -401,11 +604,12 @@ page_mode-but on p =
     looked_up-holds (λ key f. is_page_mode key ≡ false → StaysBut (f on)) page_modes p
     (λ on. on_display (with_mode private_modes on p))
     (λ not. but (on_display (with_mode private_modes on p)) (display-stays (with_mode private_modes on p) (private_mode-fits on p not)))
-    (search (rules, save_or_restore-but))
+    (search (rules, save_or_restore-but, origin_mode_between-but, autowrap_mode_between-but, side_mode-but))
 
-pub then-but : (s t u : Screens) → t.pages ≡ record s.pages { brackets = t.pages.brackets }
-    → u.pages ≡ record t.pages { brackets = u.pages.brackets } → u.pages ≡ record s.pages { brackets = u.pages.brackets }
-then-but s t u first second = second ∙ ap (λ (p : PagesState). record p { brackets = u.pages.brackets }) first
+pub then-but : (s t u : Screens) → t.pages ≡ record s.pages { brackets = t.pages.brackets; sides = t.pages.sides }
+    → u.pages ≡ record t.pages { brackets = u.pages.brackets; sides = u.pages.sides }
+    → u.pages ≡ record s.pages { brackets = u.pages.brackets; sides = u.pages.sides }
+then-but s t u one two = two ∙ ap (λ (p : PagesState). record p { brackets = u.pages.brackets; sides = u.pages.sides }) one
 
 page_modes-but : (on : Bool) (params : List ℕ) → list_any is_page_mode params ≡ false
     → StaysBut (change_page_modes on params)
@@ -435,6 +639,29 @@ marked-but event marker last params fits =
     (λ h. but (function_in [] event last params) (none-stays event last params fits))
     (λ h. private-but event last params fits h, tt)
 
+one-but : (b : Bool) (s t u : Screens)
+    → (t.pages ≡ record s.pages { brackets = t.pages.brackets; sides = t.pages.sides })
+    × (t.display.grid.width ≡ s.display.grid.width)
+    → (u.pages ≡ record s.pages { brackets = u.pages.brackets; sides = u.pages.sides })
+    × (u.display.grid.width ≡ s.display.grid.width)
+    → ((if b then t else u).pages
+    ≡ record s.pages { brackets = (if b then t else u).pages.brackets; sides = (if b then t else u).pages.sides })
+    × ((if b then t else u).display.grid.width ≡ s.display.grid.width)
+one-but true s t u first second = first
+one-but false s t u first second = second
+
+marked-xterm : (marker last : ℕ) (params : List ℕ) → sets_page_mode marker last params ≡ false → (b : Option Sides)
+    → StaysBut (effect_between (Sequence (Some marker) (record { items = params }) None last) b)
+unfolding bounded_effect
+marked-xterm marker last params h None s =
+    let event = Sequence (Some marker) (record { items = params }) None last in
+    marked-but event marker last params (sequence-fits (Some marker) None last params h) h s
+marked-xterm marker last params h (Some m) s =
+    let event = Sequence (Some marker) (record { items = params }) None last in
+    let fits : Fits (effect event) = sequence-fits (Some marker) None last params h in
+    one-but (marker == byte (codes "?") && erases last params) s (resetting (λ x. effect event) m s) (screen_effect event s)
+    (refl, fits s.display) (marked-but event marker last params fits h s)
+
 pub event-but : (event : Event) → is_page_function event ≡ false → StaysBut (xterm_effect event)
 event-but (Print b) h = but (xterm_effect (Print b)) (event-stays (Print b) h refl)
 event-but (Control b) h = but (xterm_effect (Control b)) (event-stays (Control b) h refl)
@@ -443,9 +670,7 @@ event-but (Escape (Some inter) last) h =
     but (xterm_effect (Escape (Some inter) last)) (event-stays (Escape (Some inter) last) h refl)
 event-but (Sequence None params inter last) h =
     but (xterm_effect (Sequence None params inter last)) (event-stays (Sequence None params inter last) h refl)
-event-but (Sequence (Some marker) params None last) h =
-    marked-but (Sequence (Some marker) params None last) marker last params.items
-    (sequence-fits (Some marker) None last params.items h) h
+event-but (Sequence (Some marker) params None last) h = λ s. marked-xterm marker last params.items h (bounds_of s) s
 event-but (Sequence (Some marker) params (Some inter) last) h =
     but (xterm_effect (Sequence (Some marker) params (Some inter) last))
     (event-stays (Sequence (Some marker) params (Some inter) last) h refl)

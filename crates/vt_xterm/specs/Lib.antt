@@ -3,7 +3,9 @@ pub mod Repeating
 pub mod Tabs
 pub mod Scroll
 pub mod Attributes
+pub mod Sides
 pub mod Pages
+pub mod Bounded
 pub mod Front
 pub mod Limits
 pub mod Log

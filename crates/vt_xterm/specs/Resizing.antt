@@ -1,15 +1,25 @@
 -- A session on a screen of another size. (xterm, if its window changes and it keeps no lines that left the screen; what goes to the log
 -- is this profile's)
-use Rattle.std.specs.Prelude.{ℕ, List, [], Bool, if◌then◌else◌}
+use Rattle.std.specs.Prelude.{ℕ, List, [], Option, if◌then◌else◌}
+use Rattle.vt_screen.specs.Grid.{width_on}
 use Rattle.vt_screen.specs.declared.size.Size.{Size}
 use Rattle.vt_term.specs.State.{Display}
-use Rattle.vt_term.specs.Resizing.{count_off, page_on, state_on, log_on}
-use Rattle.vt_xterm.specs.Pages.{PagesState}
+use Rattle.vt_term.specs.Resizing.{count_off, is_as_large, page_on, state_on, log_on}
+use Rattle.vt_xterm.specs.declared.sides.Sides.{Sides}
+use Rattle.vt_xterm.specs.Sides.{full_sides}
+use Rattle.vt_xterm.specs.Pages.{PagesState, change_sides}
 use Rattle.vt_xterm.specs.Play.{Whole, FrontState}
+
+-- the left and right margins stay on a screen that is as large, and another one has full margins; DECLRMM stays
+abbrev pub sides_on : Size → Display → Option Sides → Option Sides
+sides_on size s sides = if is_as_large size s then sides else change_sides (λ m. full_sides (width_on size s.grid)) sides
 
 -- as many rows leave the page that isn't shown as leave the one that is
 abbrev pub pages_on : Size → Display → PagesState → PagesState
-pages_on size s pages = record pages { other = page_on size (count_off size s) pages.other }
+pages_on size s pages = record pages {
+  other = page_on size (count_off size s) pages.other;
+  sides = sides_on size s pages.sides;
+}
 
 abbrev pub front_on : Size → Display → FrontState → FrontState
 front_on size s front = record front { pages = pages_on size s front.pages }
@@ -17,6 +27,6 @@ front_on size s front = record front { pages = pages_on size s front.pages }
 abbrev pub whole_on : Size → Whole → Whole
 whole_on size w = record { state = state_on size w.state; pages = pages_on size w.state.display w.pages }
 
--- the log gets the rows that leave the main page if it is shown, and else none
+-- the log gets the rows that leave the main page if it is shown, otherwise none
 abbrev pub xterm_log_on : Size → Whole → List ℕ
 xterm_log_on size w = if w.pages.alternate then [] else log_on size w.state

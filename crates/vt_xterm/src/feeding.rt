@@ -1,17 +1,19 @@
 //! Feeding: what a host sends under TERM=xterm changes a terminal's state, and gives report bytes.
-ghost use Rattle.std.specs.Prelude.{◌≡◌, ◌<◌, ◌+◌, ◌*◌, ◌≤◌, ◌++◌, ◌⊎◌, [], ◌∷◌, ℕ, All, length, take};
-ghost use Rattle.std.specs.Prelude.{vec_len, vec_capacity, OnOk, OnErr, IsOk, IfSome};
+ghost use Rattle.std.specs.Prelude.{◌≡◌, ◌<◌, ◌+◌, ◌*◌, ◌≤◌, ◌++◌, ◌⊎◌, [], ◌∷◌, ℕ, All, length, take, flat_map};
+ghost use Rattle.std.specs.Prelude.{vec_len, vec_capacity, None, OnOk, OnErr, IsOk, IfSome};
 ghost use Rattle.std.specs.Option.{option_to_list};
 ghost use Rattle.bstr.specs.Utf8.{replacement};
 ghost use Rattle.vt_syntax.specs.Event.{event_of};
+ghost use Rattle.vt_term.specs.Text.{line_text};
 ghost use Rattle.vt_utf8.specs.Decoding.{pending_after};
 ghost use Rattle.vt_utf8.specs.Limits.{lines_limit as utf8_lines_limit};
 ghost use Rattle.vt_xterm.specs.Limits.{lines_limit, xterm_lines_limit};
-ghost use Rattle.vt_xterm.specs.Pages.{screens};
+ghost use Rattle.vt_xterm.specs.Pages.{screens, bounds_of};
 ghost use Rattle.vt_xterm.specs.Log.{xterm_line_off};
-ghost use Rattle.vt_xterm.specs.Play.{behind, play_bytes, play_characters, play_xterm, xterm_log};
-ghost use Rattle.vt_xterm.specs.Private.Feeds.{whole_of, Leaves, FeedsBytes, FeedsXterm, KeepSizes};
+ghost use Rattle.vt_xterm.specs.Play.{behind, play_bytes, play_characters, play_xterm, xterm_log, whole_of};
+ghost use Rattle.vt_xterm.specs.Private.Feeds.{Leaves, FeedsBytes, FeedsXterm, KeepSizes};
 
+use crate::bounded::character_between;
 use crate::finder::Finder;
 use crate::front::{SizedFront, SizedPages};
 use crate::laws::cuts;
@@ -244,16 +246,18 @@ fn feed_first<L: PageLog>(
     ensures bounded { vec_len out.new ≤ vec_len out.old + 10 * result }
     ensures capacity { vec_capacity out.old ≤ vec_capacity out.new }
 {
-    let run = ascii_run(piece);
-    if run > 0 {
-        return feed_ascii(terminal, front, &piece[..run], limit, log, out);
+    if piece[0] < 0x80 {
+        let run = ascii_run(piece);
+        if run > 0 {
+            return feed_ascii(terminal, front, &piece[..run], limit, log, out);
+        }
     }
     if log.is_full(limit) {
         return 0;
     }
     match whole_character(piece) {
         Some((c, size)) => {
-            feed_beyond(terminal, &front.pages, c, log, out);
+            feed_beyond(terminal, &mut front.pages, c, log, out);
             size
         }
         None => {
@@ -310,7 +314,7 @@ fn feed_byte<L: PageLog>(
     ensures capacity { vec_capacity out.old ≤ vec_capacity out.new }
 {
     let (lost, character) = front.decoder.push(b);
-    feed_lost(terminal, &front.pages, lost, log, out);
+    feed_lost(terminal, &mut front.pages, lost, log, out);
     feed_completed(terminal, &mut front.pages, character, log, out);
 }
 
@@ -318,7 +322,7 @@ fn feed_byte<L: PageLog>(
 #[inline(always)]
 fn feed_lost<L: PageLog>(
     terminal: &mut SizedTerminal,
-    pages: &SizedPages,
+    pages: &mut SizedPages,
     lost: Option<char>,
     log: &mut L,
     out: &mut Vec<u8>,
@@ -326,15 +330,14 @@ fn feed_lost<L: PageLog>(
     requires lost { IfSome lost (λ c. c ≡ replacement) }
     requires room { vec_len out.old + 10 ≤ vec_capacity out.old }
     requires lines_room { L.HasRoom log.old (xterm_lines_limit terminal.old.display.grid.size) }
-    ensures size { terminal.new.display.grid.size ≡ terminal.old.display.grid.size }
-    ensures leaves { Leaves (play_characters (whole_of terminal.old pages.now) (option_to_list lost))
-        (whole_of terminal.new pages.now) out.old.items out.new.items }
-    ensures keeps { L.Keeps log.old (play_characters (whole_of terminal.old pages.now) (option_to_list lost)).lines log.new }
+    ensures sizes { KeepSizes terminal.old pages.old terminal.new pages.new }
+    ensures leaves { Leaves (play_characters (whole_of terminal.old pages.old) (option_to_list lost))
+        (whole_of terminal.new pages.new) out.old.items out.new.items }
+    ensures keeps { L.Keeps log.old (play_characters (whole_of terminal.old pages.old) (option_to_list lost)).lines log.new }
     ensures left { L.HasRoom log.new (lines_limit terminal.old.display.grid.size) }
     ensures out { out.new.items ≡ out.old.items }
     ensures capacity { vec_capacity out.old ≤ vec_capacity out.new }
 {
-    let _ = pages;
     match lost {
         Some(c) => feed_beyond(terminal, pages, c, log, out),
         None => {}
@@ -392,9 +395,90 @@ fn feed_character<L: PageLog>(
     }
 }
 
+/// Plays a character of what a host sends, and appends its report to `out`, which has capacity for ten more bytes. It never fails and
+/// allocates nothing.
+pub fn feed_xterm_character(
+    terminal: &mut SizedTerminal,
+    pages: &mut SizedPages,
+    c: char,
+    out: &mut Vec<u8>,
+)
+    requires room { vec_len out.old + 10 ≤ vec_capacity out.old }
+    requires one_size { pages.old.other.grid.size ≡ terminal.old.display.grid.size }
+    ensures size { terminal.new.display.grid.size ≡ terminal.old.display.grid.size }
+    ensures other_size { pages.new.other.grid.size ≡ pages.old.other.grid.size }
+    ensures whole { whole_of terminal.new pages.new ≡ (play_characters (whole_of terminal.old pages.old) (c ∷ [])).whole }
+    ensures reports { out.new.items ≡ out.old.items ++ (play_characters (whole_of terminal.old pages.old) (c ∷ [])).reports }
+    ensures bounded { vec_len out.new ≤ vec_len out.old + 10 }
+    ensures capacity { vec_capacity out.old ≤ vec_capacity out.new }
+{
+    feed_character(terminal, pages, c, &mut Nobody, out);
+}
+
+/// Plays a character of what a host sends. Appends its report to `reports`, which has capacity for ten more bytes.
+/// Appends the lines that it scrolls off the main page to `lines`, which has capacity for half of `xterm_lines_limit`.
+/// It never fails and allocates nothing.
+pub fn feed_xterm_character_log(
+    terminal: &mut SizedTerminal,
+    pages: &mut SizedPages,
+    c: char,
+    reports: &mut Vec<u8>,
+    lines: &mut Vec<u8>,
+)
+    requires room { vec_len reports.old + 10 ≤ vec_capacity reports.old }
+    requires lines_room { vec_len lines.old + lines_limit terminal.old.display.grid.size ≤ vec_capacity lines.old }
+    requires one_size { pages.old.other.grid.size ≡ terminal.old.display.grid.size }
+    ensures size { terminal.new.display.grid.size ≡ terminal.old.display.grid.size }
+    ensures other_size { pages.new.other.grid.size ≡ pages.old.other.grid.size }
+    ensures whole { whole_of terminal.new pages.new ≡ (play_characters (whole_of terminal.old pages.old) (c ∷ [])).whole }
+    ensures reports { reports.new.items ≡ reports.old.items ++ (play_characters (whole_of terminal.old pages.old) (c ∷ [])).reports }
+    ensures lines { lines.new.items ≡ lines.old.items
+        ++ flat_map line_text (play_characters (whole_of terminal.old pages.old) (c ∷ [])).lines }
+    ensures reports_bounded { vec_len reports.new ≤ vec_len reports.old + 10 }
+    ensures lines_bounded { vec_len lines.new ≤ vec_len lines.old + lines_limit terminal.old.display.grid.size }
+    ensures reports_capacity { vec_capacity reports.old ≤ vec_capacity reports.new }
+    ensures lines_capacity { vec_capacity lines.old ≤ vec_capacity lines.new }
+{
+    let end = lines.len() + lines_limit(terminal);
+    let limit = terminal.row_text_limit();
+    let mut log = Lines {
+        lines,
+        limit,
+        end,
+        beside: Finder,
+    };
+    feed_character(terminal, pages, c, &mut log, reports);
+}
+
 /// Plays a character beyond ASCII, which causes no report.
 #[inline(always)]
 fn feed_beyond<L: PageLog>(
+    terminal: &mut SizedTerminal,
+    pages: &mut SizedPages,
+    c: char,
+    log: &mut L,
+    out: &mut Vec<u8>,
+)
+    requires beyond { 0x80 ≤ c }
+    requires room { vec_len out.old + 10 ≤ vec_capacity out.old }
+    requires lines_room { L.HasRoom log.old (lines_limit terminal.old.display.grid.size) }
+    ensures sizes { KeepSizes terminal.old pages.old terminal.new pages.new }
+    ensures leaves { Leaves (play_characters (whole_of terminal.old pages.old) (c ∷ []))
+        (whole_of terminal.new pages.new) out.old.items out.new.items }
+    ensures keeps { L.Keeps log.old (play_characters (whole_of terminal.old pages.old) (c ∷ [])).lines log.new }
+    ensures left { (n : ℕ) → L.HasRoom log.old (n + utf8_lines_limit terminal.old.display.grid.size) → L.HasRoom log.new n }
+    ensures out { out.new.items ≡ out.old.items }
+    ensures capacity { vec_capacity out.old ≤ vec_capacity out.new }
+{
+    match pages.bounds(terminal.width()) {
+        Some(sides) => character_between(terminal, pages, sides, c),
+        None => feed_unbounded(terminal, pages, c, log, out),
+    }
+}
+
+/// Plays a character beyond ASCII as `feed_beyond` does, if left and right margins bound nothing.
+#[inline(always)]
+fn feed_unbounded<L: PageLog>(
     terminal: &mut SizedTerminal,
     pages: &SizedPages,
     c: char,
@@ -402,6 +486,7 @@ fn feed_beyond<L: PageLog>(
     out: &mut Vec<u8>,
 )
     requires beyond { 0x80 ≤ c }
+    requires unbounded { bounds_of (screens terminal.old pages.now) ≡ None }
     requires room { vec_len out.old + 10 ≤ vec_capacity out.old }
     requires lines_room { L.HasRoom log.old (lines_limit terminal.old.display.grid.size) }
     ensures size { terminal.new.display.grid.size ≡ terminal.old.display.grid.size }
@@ -478,11 +563,44 @@ fn feed_some<L: LineLog>(
     ensures capacity { vec_capacity out.old ≤ vec_capacity out.new }
 {
     one_split();
+    if pages.sides.is_some() {
+        return feed_sided(terminal, pages, piece, limit, log, out);
+    }
     let played = feed_page(terminal, pages, piece, log, out);
     if played == piece.len() || log.is_full(limit) {
         return played;
     }
     played + feed_event(terminal, pages, &piece[played..], log, out)
+}
+
+/// Plays the front of a chunk that isn't empty, up to the first event. Returns how many bytes it played: none if the log is full.
+fn feed_sided<L: LineLog>(
+    terminal: &mut SizedTerminal,
+    pages: &mut SizedPages,
+    piece: &[u8],
+    limit: usize,
+    log: &mut L,
+    out: &mut Vec<u8>,
+) -> usize
+    requires some { 1 ≤ length piece.now }
+    requires room { vec_len out.old + 10 * length piece.now ≤ vec_capacity out.old }
+    requires one_size { pages.old.other.grid.size ≡ terminal.old.display.grid.size }
+    requires limit { limit ≡ xterm_lines_limit terminal.old.display.grid.size }
+    ensures none { result ≡ 0 → L.IsFull log.new (xterm_lines_limit terminal.old.display.grid.size) }
+    ensures within { result ≤ length piece.now }
+    ensures sizes { KeepSizes terminal.old pages.old terminal.new pages.new }
+    ensures fed { FeedsBytes (whole_of terminal.old pages.old) (take result piece.now)
+        (whole_of terminal.new pages.new) out.old.items out.new.items }
+    ensures keeps { L.Keeps log.old (play_bytes (whole_of terminal.old pages.old) (take result piece.now)).lines log.new }
+    ensures bounded { vec_len out.new ≤ vec_len out.old + 10 * result }
+    ensures capacity { vec_capacity out.old ≤ vec_capacity out.new }
+{
+    one_split();
+    let _ = terminal.width();
+    if log.is_full(limit) {
+        return 0;
+    }
+    feed_event(terminal, pages, piece, log, out)
 }
 
 /// Plays the front of a chunk, up to the first event that isn't a VT220's, or up to a line for which there is no capacity.
@@ -495,7 +613,8 @@ fn feed_page<L: LineLog>(
     log: &mut L,
     out: &mut Vec<u8>,
 ) -> usize
-    requires { vec_len out.old + 10 * length piece.now ≤ vec_capacity out.old }
+    requires none { pages.now.sides ≡ None }
+    requires room { vec_len out.old + 10 * length piece.now ≤ vec_capacity out.old }
     ensures within { result ≤ length piece.now }
     ensures size { terminal.new.display.grid.size ≡ terminal.old.display.grid.size }
     ensures fed { FeedsBytes (whole_of terminal.old pages.now) (take result piece.now)
@@ -558,5 +677,10 @@ fn log_event<L: LineLog>(
     if pages.is_alternate() {
         return;
     }
-    log.event(terminal, kind, values);
+    match pages.bounds(terminal.width()) {
+        None => log.event(terminal, kind, values),
+        Some(sides) => {
+            let _ = sides;
+        }
+    }
 }

@@ -1,4 +1,4 @@
-//! What a VT220's terminal plays under TERM=xterm: the calls for `SizedTerminal` at its size.
+//! The feeds of a VT220's `Terminal` under TERM=xterm. Each calls that of its `SizedTerminal`.
 ghost use Rattle.std.specs.Prelude.{◌≡◌, ◌<◌, ◌+◌, ◌*◌, ◌≤◌, ◌++◌, ◌⊎◌, length, take};
 ghost use Rattle.std.specs.Prelude.{vec_len, vec_capacity, OnOk, OnErr, IsOk};
 ghost use Rattle.vt_utf8.specs.Decoding.{pending_after};

@@ -1,17 +1,20 @@
-//! Has the state that a front keeps.
-ghost use Rattle.std.specs.Prelude.{◌≡◌, ◌≤◌, IfOk, length};
+//! The state that a front keeps.
+ghost use Rattle.std.specs.Prelude.{◌≡◌, ◌≤◌, IfOk, IfSome, None, Some, false, length, is_some};
+ghost use Rattle.std.specs.Bool.{OnFalse};
 ghost use Rattle.vt_screen.specs.Sizes.{IsSize};
 ghost use Rattle.vt_term.specs.State.{display_at_power_up, power_up, display_of, state_of};
 ghost use Rattle.vt_term.specs.Pages.{IsSoundSizedPage, with_page};
-ghost use Rattle.vt_xterm.specs.Pages.{pages_of};
+ghost use Rattle.vt_xterm.specs.Pages.{pages_of, change_sides};
+ghost use Rattle.vt_xterm.specs.Sides.{AreSides, full_sides, bounds};
 ghost use Rattle.vt_xterm.specs.Play.{front_at_power_up, front_of};
 
+use crate::sides::Sides;
 use std::alloc::{AllocError, Global};
 use std::marker::Model;
 use vt_term::{Size, SizedPage, SizedTerminal, Terminal};
 use vt_utf8::Decoder;
 
-/// The page that isn't shown, of any size, and which page is.
+/// The page that isn't shown, of any size, which page is shown, and what else xterm keeps of a screen.
 #[derive(Drop)]
 pub struct SizedPages {
     /// The page that isn't shown.
@@ -22,6 +25,8 @@ pub struct SizedPages {
     pub(crate) resizes: bool,
     /// Whether pasted text is wanted in brackets.
     pub(crate) brackets: bool,
+    /// The left and right margins, if DECLRMM is set.
+    pub(crate) sides: Option<Sides>,
 }
 
 impl Model for SizedPages {
@@ -29,7 +34,7 @@ impl Model for SizedPages {
 
     ghost Value = { PagesState };
 
-    ghost view = { λ p. record { other = p.other; alternate = p.alternate; resizes = p.resizes; brackets = p.brackets } };
+    ghost view = { λ p. record { other = p.other; alternate = p.alternate; resizes = p.resizes; brackets = p.brackets; sides = p.sides } };
 }
 
 impl SizedPages {
@@ -49,6 +54,56 @@ impl SizedPages {
         self.alternate
     }
 
+    /// Returns whether DECLRMM is set.
+    #[inline(always)]
+    pub fn has_sides(&self) -> bool
+        ensures none { OnFalse result (self.now.sides ≡ None) }
+    {
+        self.sides.is_some()
+    }
+
+    /// Returns the left and right margins that bound functions on a screen of this width: those that leave a column out.
+    #[inline(always)]
+    #[tactic(auto, unfolding(crate::specs::Sides::bounds))]
+    pub(crate) fn bounds(&self, width: usize) -> Option<Sides>
+        ensures bounds { result ≡ bounds width self.now.sides }
+        ensures fit { IfSome result (λ m. AreSides width m) }
+    {
+        let Some(sides) = self.sides else {
+            return None;
+        };
+        if sides.are_narrow(width) {
+            Some(sides)
+        } else {
+            None
+        }
+    }
+
+    /// Makes the left and right margins full, if DECLRMM is set.
+    pub(crate) fn fill_sides(&mut self, width: usize)
+        ensures { self.new ≡ record self.old { sides = change_sides (λ m. full_sides width) self.old.sides } }
+    {
+        if self.sides.is_some() {
+            self.sides = Some(Sides::full(width));
+        }
+    }
+
+    /// Makes these the left and right margins.
+    pub(crate) fn set_sides(&mut self, sides: Sides)
+        ensures { self.new ≡ record self.old { sides = Some sides } }
+    {
+        self.sides = Some(sides);
+    }
+
+    /// Drops a wrap that is pending in the right margin's column.
+    pub(crate) fn unwrap_sides(&mut self)
+        ensures { self.new ≡ record self.old { sides = change_sides (λ m. record m { wrap = false }) self.old.sides } }
+    {
+        if let Some(sides) = self.sides {
+            self.sides = Some(sides.unwrapped());
+        }
+    }
+
     /// Makes the pages equal to others of the same size.
     fn copy_from(&mut self, other: &SizedPages)
         requires { self.old.other.grid.size ≡ other.now.other.grid.size }
@@ -58,6 +113,7 @@ impl SizedPages {
         self.alternate = other.alternate;
         self.resizes = other.resizes;
         self.brackets = other.brackets;
+        self.sides = other.sides;
     }
 
     /// Makes the pages as at power-up: both blank, and the main one shown. Whether DECCOLM has an effect stays.
@@ -67,11 +123,12 @@ impl SizedPages {
         self.other.reset();
         self.alternate = false;
         self.brackets = false;
+        self.sides = None;
     }
 }
 
-/// Keeps what a terminal of any size lacks under TERM=xterm: what is pending of UTF-8, the page that isn't shown, and three modes.
-/// `new` allocates its memory, and nothing else does.
+/// What a terminal of any size lacks under TERM=xterm: what is pending of UTF-8, the page that isn't shown, three
+/// modes, and side margins. `new` allocates its memory, and nothing else does.
 #[derive(Drop)]
 pub struct SizedFront {
     /// What is pending of UTF-8.
@@ -103,8 +160,17 @@ impl SizedFront {
                 alternate: false,
                 resizes: false,
                 brackets: false,
+                sides: None,
             },
         })
+    }
+
+    /// Returns the size of the page that isn't shown: the rows, and the columns of the narrow and of the wide screen.
+    pub fn size(&self) -> Size
+        ensures size { result ≡ self.now.pages.other.grid.size }
+        ensures sound { IsSize self.now.pages.other.grid.size }
+    {
+        self.pages.other.size()
     }
 
     /// Makes what the front keeps equal to what another one of the same size keeps. It never fails and allocates nothing.
@@ -116,7 +182,7 @@ impl SizedFront {
         self.pages.copy_from(&other.pages);
     }
 
-    /// Makes a terminal of the same size as at power-up, with a copy of the cells of the page that isn't shown and of what DECSC
+    /// Makes a terminal of the same size as at power-up, with the cells of the page that isn't shown, and what DECSC
     /// saved on it. It never fails and allocates nothing.
     pub fn show_other(&self, terminal: &mut SizedTerminal)
         requires { terminal.old.display.grid.size ≡ self.now.pages.other.grid.size }
@@ -155,10 +221,24 @@ impl SizedFront {
     {
         self.pages.resizes
     }
+
+    /// Returns the left and right margins, if DECLRMM is set.
+    pub fn sides(&self) -> Option<Sides>
+        ensures { result ≡ self.now.pages.sides }
+    {
+        self.pages.sides
+    }
+
+    /// Returns whether the left and right margins bound functions on a screen of this width: they leave a column out.
+    pub fn is_bounded(&self, width: usize) -> bool
+        ensures { result ≡ is_some (bounds width self.now.pages.sides) }
+    {
+        self.pages.bounds(width).is_some()
+    }
 }
 
-/// Keeps what a VT220's terminal lacks under TERM=xterm: what is pending of UTF-8, the page that isn't shown, and three modes. `new`
-/// allocates its memory, and nothing else does.
+/// What a VT220's terminal lacks under TERM=xterm: what is pending of UTF-8, the page that isn't shown, three modes,
+/// and the left and right margins. `new` allocates its memory, and nothing else does.
 #[derive(Drop)]
 pub struct Front {
     /// The front, whose size is a VT220's.
@@ -230,5 +310,12 @@ impl Front {
         ensures { result ≡ self.now.pages.resizes }
     {
         self.sized.resizes()
+    }
+
+    /// Returns the left and right margins, if DECLRMM is set.
+    pub fn sides(&self) -> Option<Sides>
+        ensures { result ≡ self.now.pages.sides }
+    {
+        self.sized.sides()
     }
 }

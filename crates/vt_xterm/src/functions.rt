@@ -6,19 +6,23 @@ ghost use Rattle.vt_syntax.specs.declared.event.Event.TheVariants.{Escape, Seque
 ghost use Rattle.vt_term.specs.Parameters.{first, second};
 ghost use Rattle.vt_term.specs.Resets.{is_level};
 ghost use Rattle.vt_term.specs.Reports.{report};
-ghost use Rattle.vt_xterm.specs.Pages.{screens, shown_by};
+ghost use Rattle.vt_xterm.specs.Pages.{screens, shown_by, set_sides, reset_to_initial_state};
 ghost use Rattle.vt_xterm.specs.Front.{plain_functions, private_functions, exclamation_functions, quote_functions, plain_escapes};
 ghost use Rattle.vt_xterm.specs.Scroll.{rows_down_by};
-ghost use Rattle.vt_xterm.specs.Front.{is_bare, save_if_bare, restore_if_bare, functions_of, function_in, xterm_effect};
+ghost use Rattle.vt_xterm.specs.Front.{save_or_set_sides, restore_if_bare, functions_of, function_in, screen_effect, xterm_effect};
+ghost use Rattle.vt_xterm.specs.Front.{escapes_with};
+ghost use Rattle.vt_xterm.specs.Bounded.{is_bare};
 
 use crate::attributes::select_attributes;
+use crate::bounded::{carry_out_between, value};
 use crate::columns::{
     character_position_forward, cursor_character_absolute, cursor_next_line, cursor_preceding_line,
     line_position_absolute, line_position_forward,
 };
 use crate::front::SizedPages;
-use crate::modes::change_modes;
+use crate::modes::{change_modes, restore};
 use crate::repeating::repeat;
+use crate::sides::Sides;
 use crate::tabs::{cursor_backward_tabulation, cursor_forward_tabulation};
 use vt_syntax::EventKind;
 use vt_term::{SizedTerminal, count};
@@ -30,6 +34,7 @@ const DECCOLM: u16 = 3;
 const DECAWM: u16 = 7;
 
 /// Carries out an event, and appends its report to `out`, which has capacity for ten more bytes.
+#[inline(always)]
 pub(crate) fn carry_out(
     terminal: &mut SizedTerminal,
     pages: &mut SizedPages,
@@ -47,11 +52,39 @@ pub(crate) fn carry_out(
     ensures bounded { vec_len out.new ≤ vec_len out.old + 10 }
     ensures capacity { vec_capacity out.old ≤ vec_capacity out.new }
 {
+    match pages.bounds(terminal.width()) {
+        Some(sides) => carry_out_between(terminal, pages, sides, kind, values, out),
+        None => carry_out_wide(terminal, pages, kind, values, out),
+    }
+}
+
+/// Carries out an event if left and right margins leave no column out. Appends its report to `out`, which has capacity
+/// for ten more bytes.
+pub(crate) fn carry_out_wide(
+    terminal: &mut SizedTerminal,
+    pages: &mut SizedPages,
+    kind: EventKind,
+    values: &[u16],
+    out: &mut Vec<u8>,
+)
+    requires event { IsEvent (event_of kind values.now) }
+    requires one_size { pages.old.other.grid.size ≡ terminal.old.display.grid.size }
+    requires room { vec_len out.old + 10 ≤ vec_capacity out.old }
+    ensures terminal { terminal.new
+        ≡ shown_by (screen_effect (event_of kind values.now) (screens terminal.old pages.old)) terminal.old.held }
+    ensures pages { pages.new ≡ (screen_effect (event_of kind values.now) (screens terminal.old pages.old)).pages }
+    ensures reports { out.new.items ≡ out.old.items ++ report (event_of kind values.now) terminal.old.display }
+    ensures bounded { vec_len out.new ≤ vec_len out.old + 10 }
+    ensures capacity { vec_capacity out.old ≤ vec_capacity out.new }
+{
     match kind {
         EventKind::Print(_) => terminal.carry_out(kind, values, out),
         EventKind::Control(_) => terminal.carry_out(kind, values, out),
         EventKind::Escape { inter: None, last } => plain_escape(terminal, pages, last, out),
-        EventKind::Escape { inter: Some(_), .. } => terminal.carry_out(kind, values, out),
+        EventKind::Escape {
+            inter: Some(inter),
+            last,
+        } => escape_with(terminal, pages, inter, last, out),
         EventKind::Sequence {
             marker,
             inter,
@@ -60,7 +93,57 @@ pub(crate) fn carry_out(
     }
 }
 
-/// Carries out an escape sequence without an intermediate. RIS leaves a wide screen so if DECCOLM has no effect.
+/// Carries out an escape sequence with an intermediate: DECALN makes the left and right margins full.
+#[tactic(auto, unfolding(crate::specs::Front::function_in, vt_term::specs::Functions::escape_with))]
+fn escape_with(
+    terminal: &mut SizedTerminal,
+    pages: &mut SizedPages,
+    inter: u8,
+    last: u8,
+    out: &mut Vec<u8>,
+)
+    requires event { IsEvent (Escape (Some inter) last) }
+    requires room { vec_len out.old + 10 ≤ vec_capacity out.old }
+    ensures terminal { terminal.new ≡ shown_by (function_in (escapes_with inter) (Escape (Some inter) last) last []
+        (screens terminal.old pages.old)) terminal.old.held }
+    ensures pages { pages.new ≡ (function_in (escapes_with inter) (Escape (Some inter) last) last []
+        (screens terminal.old pages.old)).pages }
+    ensures reports { out.new.items ≡ out.old.items }
+    ensures bounded { vec_len out.new ≤ vec_len out.old + 10 }
+    ensures capacity { vec_capacity out.old ≤ vec_capacity out.new }
+{
+    let kind = EventKind::Escape {
+        inter: Some(inter),
+        last,
+    };
+    terminal.carry_out(kind, &[], out);
+    if inter == b'#' && last == b'8' {
+        pages.fill_sides(terminal.width());
+    }
+}
+
+/// Carries out RIS, which keeps a wide screen wide if DECCOLM has no effect.
+#[tactic(auto, unfolding(vt_term::specs::Modes::with_mode, vt_term::specs::Functions::plain_escape))]
+fn reset(terminal: &mut SizedTerminal, pages: &mut SizedPages, out: &mut Vec<u8>)
+    requires one_size { pages.old.other.grid.size ≡ terminal.old.display.grid.size }
+    requires room { vec_len out.old + 10 ≤ vec_capacity out.old }
+    ensures terminal { terminal.new
+        ≡ shown_by (reset_to_initial_state (screens terminal.old pages.old)) terminal.old.held }
+    ensures pages { pages.new ≡ (reset_to_initial_state (screens terminal.old pages.old)).pages }
+    ensures reports { out.new.items ≡ out.old.items }
+    ensures capacity { vec_capacity out.old ≤ vec_capacity out.new }
+{
+    let is_wide = !pages.resizes && terminal.width() == terminal.size().wide;
+    let kind = EventKind::Escape {
+        inter: None,
+        last: b'c',
+    };
+    terminal.carry_out(kind, &[], out);
+    terminal.change_private_modes(&[DECCOLM], is_wide);
+    pages.reset();
+}
+
+/// Carries out an escape sequence without an intermediate.
 #[tactic(auto, unfolding(crate::specs::Front::function_in, vt_term::specs::Modes::with_mode, vt_term::specs::Functions::plain_escape))]
 fn plain_escape(terminal: &mut SizedTerminal, pages: &mut SizedPages, last: u8, out: &mut Vec<u8>)
     requires event { IsEvent (Escape None last) }
@@ -73,11 +156,10 @@ fn plain_escape(terminal: &mut SizedTerminal, pages: &mut SizedPages, last: u8, 
     ensures reports { out.new.items ≡ out.old.items }
     ensures capacity { vec_capacity out.old ≤ vec_capacity out.new }
 {
-    let is_wide = !pages.resizes && terminal.width() == terminal.size().wide;
-    terminal.carry_out(EventKind::Escape { inter: None, last }, &[], out);
-    if last == b'c' {
-        terminal.change_private_modes(&[DECCOLM], is_wide);
-        pages.reset();
+    match last {
+        b'8' => restore(terminal, pages),
+        b'c' => reset(terminal, pages, out),
+        _ => terminal.carry_out(EventKind::Escape { inter: None, last }, &[], out),
     }
 }
 
@@ -142,7 +224,6 @@ pub(crate) fn plain_sequence(
     ensures bounded { vec_len out.new ≤ vec_len out.old + 10 }
     ensures capacity { vec_capacity out.old ≤ vec_capacity out.new }
 {
-    let _ = pages;
     match last {
         b'E' => cursor_next_line(terminal, count(values)),
         b'F' => cursor_preceding_line(terminal, count(values)),
@@ -158,8 +239,8 @@ pub(crate) fn plain_sequence(
         b'd' => line_position_absolute(terminal, count(values)),
         b'e' => line_position_forward(terminal, count(values)),
         b'm' => select_attributes(terminal, values),
-        b's' => save_if_bare(terminal, values),
-        b'u' => restore_if_bare(terminal, values),
+        b's' => save_or_set_sides(terminal, pages, values),
+        b'u' => restore_if_bare(terminal, pages, values),
         _ => {
             let kind = EventKind::Sequence {
                 marker: None,
@@ -178,21 +259,39 @@ fn is_bare(values: &[u16]) -> bool
     values.len() == 1 && values[0] == 0
 }
 
-/// Carries out SCP without parameters: saves the cursor.
-fn save_if_bare(terminal: &mut SizedTerminal, values: &[u16])
-    ensures { terminal.new ≡ record terminal.old { display = save_if_bare values.now terminal.old.display } }
+/// Carries out `s`: DECSLRM under DECLRMM, otherwise SCP without parameters, which saves the cursor.
+fn save_or_set_sides(terminal: &mut SizedTerminal, pages: &mut SizedPages, values: &[u16])
+    ensures terminal { terminal.new
+        ≡ shown_by (save_or_set_sides values.now pages.old.sides (screens terminal.old pages.old)) terminal.old.held }
+    ensures pages { pages.new ≡ (save_or_set_sides values.now pages.old.sides (screens terminal.old pages.old)).pages }
 {
-    if is_bare(values) {
+    if pages.sides.is_some() {
+        set_sides(terminal, pages, value(values, 0), value(values, 1));
+    } else if is_bare(values) {
         terminal.save_cursor();
     }
 }
 
+/// Carries out DECSLRM: sets left and right margins of at least two columns.
+fn set_sides(terminal: &mut SizedTerminal, pages: &mut SizedPages, p1: u16, p2: u16)
+    ensures terminal { terminal.new
+        ≡ shown_by (set_sides p1 p2 (screens terminal.old pages.old)) terminal.old.held }
+    ensures pages { pages.new ≡ (set_sides p1 p2 (screens terminal.old pages.old)).pages }
+{
+    if let Some(sides) = Sides::of(terminal.width(), p1, p2) {
+        sides.home(terminal);
+        pages.sides = Some(sides);
+    }
+}
+
 /// Carries out RCP without parameters: restores the cursor.
-fn restore_if_bare(terminal: &mut SizedTerminal, values: &[u16])
-    ensures { terminal.new ≡ record terminal.old { display = restore_if_bare values.now terminal.old.display } }
+fn restore_if_bare(terminal: &mut SizedTerminal, pages: &mut SizedPages, values: &[u16])
+    ensures terminal { terminal.new
+        ≡ shown_by (restore_if_bare values.now (screens terminal.old pages.old)) terminal.old.held }
+    ensures pages { pages.new ≡ (restore_if_bare values.now (screens terminal.old pages.old)).pages }
 {
     if is_bare(values) {
-        terminal.restore_cursor();
+        restore(terminal, pages);
     }
 }
 
@@ -264,8 +363,8 @@ fn exclamation_sequence(
     ensures bounded { vec_len out.new ≤ vec_len out.old + 10 }
     ensures capacity { vec_capacity out.old ≤ vec_capacity out.new }
 {
-    let _ = pages;
     if last == b'p' {
+        pages.sides = None;
         terminal.soft_reset();
         terminal.change_private_modes(&[DECAWM], true);
     } else {
@@ -300,7 +399,6 @@ fn quote_sequence(
     ensures bounded { vec_len out.new ≤ vec_len out.old + 10 }
     ensures capacity { vec_capacity out.old ≤ vec_capacity out.new }
 {
-    let _ = pages;
     let kind = EventKind::Sequence {
         marker: None,
         inter: Some(b'"'),
@@ -308,6 +406,7 @@ fn quote_sequence(
     };
     terminal.carry_out(kind, values, out);
     if last == b'p' && is_level(values) {
+        pages.sides = None;
         terminal.change_private_modes(&[DECAWM], true);
     }
 }

@@ -5,6 +5,7 @@
 #![tactic(auto)]
 
 mod attributes;
+mod bounded;
 mod columns;
 mod feeding;
 mod feeds;
@@ -18,9 +19,11 @@ mod playing;
 mod profile;
 mod repeating;
 mod resizing;
+mod sides;
 pub mod sized;
 mod tabs;
 
 pub use attributes::{begins_colour, colour_length};
 pub use feeds::{LINES_LIMIT, feed_xterm, feed_xterm_log_reserved, feed_xterm_reserved};
 pub use front::{Front, SizedFront};
+pub use sides::Sides;

@@ -1,4 +1,4 @@
-//! Says where the lines go that scroll off: nowhere, or after others.
+//! The places for the lines that scroll off: none, or the end of a vector.
 ghost use Rattle.std.specs.Prelude.{◌≡◌, ◌≤◌, ◌<◌, ◌+◌, ◌*◌, ◌++◌, ℕ, List, length, take, flat_map, vec_len, vec_capacity, None, []};
 ghost use Rattle.vt_syntax.specs.Event.{event_of};
 ghost use Rattle.vt_term.specs.Play.{play};
@@ -7,14 +7,14 @@ ghost use Rattle.vt_term.specs.Text.{line_text, text_limit};
 ghost use Rattle.vt_utf8.specs.Translation.{glyph_off};
 ghost use Rattle.vt_xterm.specs.Limits.{lines_limit, xterm_lines_limit};
 ghost use Rattle.vt_xterm.specs.Log.{first_rows, rows_off, function_off, page_line_off};
-ghost use Rattle.vt_xterm.specs.Play.{play_bytes};
+ghost use Rattle.vt_xterm.specs.Play.{play_bytes, whole_of};
 ghost use Rattle.vt_xterm.specs.Terminals.{PlaysTerminals};
-ghost use Rattle.vt_xterm.specs.Private.Feeds.{whole_of, FeedsBytes, KeepSizes};
+ghost use Rattle.vt_xterm.specs.Private.Feeds.{FeedsBytes, KeepSizes};
 
 use crate::feeding::{feed_bytes, feed_event};
 use crate::finder::Finder;
 use crate::front::SizedPages;
-use crate::playing::feed_pages;
+use crate::playing::{feed_block, feed_pages};
 use vt_syntax::EventKind;
 use vt_term::laws::sized_happened;
 use vt_term::{Lines, Nobody, SizedTerminal, count};
@@ -88,7 +88,7 @@ impl PageLog for Nobody {
         piece: &[u8],
         out: &mut Vec<u8>,
     ) -> usize {
-        feed_pages(terminal, pages, piece, out)
+        feed_block(terminal, pages, piece, out)
     }
 }
 
@@ -241,7 +241,7 @@ fn push_rows(terminal: &SizedTerminal, n: u16, lines: &mut Vec<u8>)
     }
 }
 
-/// Appends the text of the first rows, so many.
+/// Appends the texts of the first `count` rows.
 fn push_first(terminal: &SizedTerminal, count: usize, lines: &mut Vec<u8>)
     requires few { count ≤ terminal.now.display.grid.size.rows }
     requires room { vec_len lines.old + text_limit terminal.now.display.grid.size ≤ vec_capacity lines.old }

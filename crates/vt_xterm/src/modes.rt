@@ -2,8 +2,10 @@
 ghost use Rattle.std.specs.Prelude.{◌≡◌, ℕ, List};
 ghost use Rattle.vt_xterm.specs.Pages.{screens, shown_by, exchanged, show_page, show_or_clear, save_or_restore};
 ghost use Rattle.vt_xterm.specs.Pages.{show_and_save, allowed_column_mode, with_page_mode, change_page_modes};
+ghost use Rattle.vt_xterm.specs.Pages.{restore_screens, origin_mode_between, autowrap_mode_between, side_mode};
 
 use crate::front::SizedPages;
+use crate::sides::Sides;
 use vt_glyph::laws::{glyphs, soundness as sets_soundness};
 use vt_term::SizedTerminal;
 
@@ -49,16 +51,30 @@ fn show_or_clear(terminal: &mut SizedTerminal, pages: &mut SizedPages, alternate
     }
 }
 
-/// Carries out ?1048: saves the cursor, or restores it.
-fn save_or_restore(terminal: &mut SizedTerminal, pages: &SizedPages, save: bool)
-    ensures { terminal.new
-        ≡ shown_by (save_or_restore save (screens terminal.old pages.now)) terminal.old.held }
+/// Carries out DECRC. If DECOM is restored, the cursor is brought between the margins.
+pub(crate) fn restore(terminal: &mut SizedTerminal, pages: &mut SizedPages)
+    ensures terminal { terminal.new
+        ≡ shown_by (restore_screens (screens terminal.old pages.old)) terminal.old.held }
+    ensures pages { pages.new ≡ (restore_screens (screens terminal.old pages.old)).pages }
 {
-    let _ = pages;
+    let bounds = pages.bounds(terminal.width());
+    pages.unwrap_sides();
+    terminal.restore_cursor();
+    if let Some(sides) = bounds {
+        sides.bring(terminal);
+    }
+}
+
+/// Carries out ?1048: saves the cursor, or restores it.
+fn save_or_restore(terminal: &mut SizedTerminal, pages: &mut SizedPages, save: bool)
+    ensures terminal { terminal.new
+        ≡ shown_by (save_or_restore save (screens terminal.old pages.old)) terminal.old.held }
+    ensures pages { pages.new ≡ (save_or_restore save (screens terminal.old pages.old)).pages }
+{
     if save {
         terminal.save_cursor();
     } else {
-        terminal.restore_cursor();
+        restore(terminal, pages);
     }
 }
 
@@ -73,20 +89,63 @@ fn show_and_save(terminal: &mut SizedTerminal, pages: &mut SizedPages, alternate
         terminal.save_cursor();
         show_page(terminal, pages, true);
         terminal.erase_in_display(2);
+        pages.unwrap_sides();
     } else {
         show_page(terminal, pages, false);
-        terminal.restore_cursor();
+        restore(terminal, pages);
     }
 }
 
 /// Carries out ?3: DECCOLM, if it has an effect.
 #[tactic(auto, unfolding(vt_term::specs::Modes::with_mode))]
-fn column_mode(terminal: &mut SizedTerminal, pages: &SizedPages, wide: bool)
-    ensures { terminal.new
-        ≡ shown_by (allowed_column_mode wide (screens terminal.old pages.now)) terminal.old.held }
+fn column_mode(terminal: &mut SizedTerminal, pages: &mut SizedPages, wide: bool)
+    ensures terminal { terminal.new
+        ≡ shown_by (allowed_column_mode wide (screens terminal.old pages.old)) terminal.old.held }
+    ensures pages { pages.new ≡ (allowed_column_mode wide (screens terminal.old pages.old)).pages }
 {
     if pages.resizes {
         terminal.change_private_modes(&[3], wide);
+        pages.fill_sides(terminal.width());
+    }
+}
+
+/// Carries out ?6: DECOM, whose home is between the margins.
+#[tactic(auto, unfolding(vt_term::specs::Modes::with_mode))]
+fn origin_mode(terminal: &mut SizedTerminal, pages: &mut SizedPages, on: bool)
+    ensures terminal { terminal.new
+        ≡ shown_by (origin_mode_between on (screens terminal.old pages.old)) terminal.old.held }
+    ensures pages { pages.new ≡ (origin_mode_between on (screens terminal.old pages.old)).pages }
+{
+    let bounds = pages.bounds(terminal.width());
+    pages.unwrap_sides();
+    terminal.change_private_modes(&[6], on);
+    if let Some(sides) = bounds {
+        sides.home(terminal);
+    }
+}
+
+/// Carries out ?7: DECAWM, without which no wrap is pending.
+#[tactic(auto, unfolding(vt_term::specs::Modes::with_mode))]
+fn autowrap_mode(terminal: &mut SizedTerminal, pages: &mut SizedPages, on: bool)
+    ensures terminal { terminal.new
+        ≡ shown_by (autowrap_mode_between on (screens terminal.old pages.old)) terminal.old.held }
+    ensures pages { pages.new ≡ (autowrap_mode_between on (screens terminal.old pages.old)).pages }
+{
+    terminal.change_private_modes(&[7], on);
+    if !on {
+        pages.unwrap_sides();
+    }
+}
+
+/// Carries out ?69: DECLRMM. If it is set, the margins are full, unless there are margins already. If it is reset,
+/// there are none.
+fn side_mode(terminal: &SizedTerminal, pages: &mut SizedPages, on: bool)
+    ensures { pages.new ≡ (side_mode on (screens terminal.now pages.old)).pages }
+{
+    if !on {
+        pages.sides = None;
+    } else if pages.sides.is_none() {
+        pages.sides = Some(Sides::full(terminal.width()));
     }
 }
 
@@ -100,8 +159,11 @@ fn change_mode(terminal: &mut SizedTerminal, pages: &mut SizedPages, p: u16, on:
 {
     match p {
         3 => column_mode(terminal, pages, on),
+        6 => origin_mode(terminal, pages, on),
+        7 => autowrap_mode(terminal, pages, on),
         40 => pages.resizes = on,
         47 => show_page(terminal, pages, on),
+        69 => side_mode(terminal, pages, on),
         1047 => show_or_clear(terminal, pages, on),
         1048 => save_or_restore(terminal, pages, on),
         1049 => show_and_save(terminal, pages, on),

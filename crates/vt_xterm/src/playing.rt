@@ -1,20 +1,30 @@
 //! Playing bytes with the functions of xterm, without a log.
-ghost use Rattle.std.specs.Prelude.{◌≡◌, ◌≤◌, ◌+◌, ◌*◌, ◌++◌, length, take, vec_len, vec_capacity};
+ghost use Rattle.std.specs.Prelude.{◌≡◌, ◌≤◌, ◌+◌, ◌*◌, ◌++◌, length, take, vec_len, vec_capacity, None};
 ghost use Rattle.vt_syntax.specs.Event.{event_of};
+ghost use Rattle.vt_syntax.specs.declared.held.Held.TheVariants.{Nothing};
 ghost use Rattle.vt_syntax.specs.Spelling.{IsEvent};
 ghost use Rattle.vt_term.specs.Reports.{report};
 ghost use Rattle.vt_xterm.specs.Front.{xterm_effect};
 ghost use Rattle.vt_xterm.specs.Pages.{screens, shown_by};
-ghost use Rattle.vt_xterm.specs.Private.Feeds.{whole_of, FeedsBytes, KeepSizes};
+ghost use Rattle.vt_term.specs.Machines.{KeepsSize};
+ghost use Rattle.vt_xterm.specs.Play.{xterm, whole_of};
+ghost use Rattle.vt_xterm.specs.Private.Profiles.{AreOfOneSize};
+ghost use Rattle.vt_xterm.specs.Private.Feeds.{FeedsBytes, KeepSizes};
 
+use crate::finder::Setter;
 use crate::front::SizedPages;
 use crate::functions::carry_out;
-use vt_syntax::EventKind;
+use vt_glyph::laws::{glyphs, soundness as sets_soundness};
+use vt_screen::laws::{rows, tests};
 use vt_syntax::laws::{one_split, spelled};
-use vt_term::{Nobody, Passed, Profile, SizedTerminal};
+use vt_syntax::{EventKind, Taken, Values};
+use vt_term::{Passed, Profile, SizedTerminal};
 
-/// The most bytes that are played before it is asked again whether nobody sees the next ones.
+/// The most bytes that are played before the next search for lines that nobody sees.
 const BLOCK: usize = 16384;
+
+/// The fewest bytes in which lines that nobody sees are searched for.
+const LEAST: usize = 1024;
 
 /// Plays bytes of the terminal, with the functions of xterm. Returns how many it played: all. Lines that nobody sees aren't written.
 pub(crate) fn feed_pages(
@@ -43,7 +53,7 @@ pub(crate) fn feed_pages(
 
 /// Plays the front of a chunk that isn't empty. Returns how many bytes it played.
 #[inline(always)]
-fn feed_block(
+pub(crate) fn feed_block(
     terminal: &mut SizedTerminal,
     pages: &mut SizedPages,
     piece: &[u8],
@@ -61,19 +71,107 @@ fn feed_block(
     ensures capacity { vec_capacity out.old ≤ vec_capacity out.new }
 {
     one_split();
-    spelled();
-    if !terminal.is_between() {
-        let end = BLOCK.min(piece.len());
-        return feed_written(terminal, pages, &piece[..end], out);
+    let _ = terminal.width();
+    if pages.sides.is_some() {
+        return feed_one(terminal, pages, piece, out);
     }
-    let Passed { unseen, looked_at } = terminal.pass_unseen(piece);
-    let end = looked_at.max(BLOCK).min(piece.len());
-    feed_written(terminal, pages, &piece[unseen..end], out);
-    end
+    if piece.len() < LEAST || !terminal.is_between() {
+        return feed_before(terminal, pages, piece, out);
+    }
+    let passed = feed_lines(terminal, pages, piece, out);
+    if BLOCK <= passed || passed == piece.len() {
+        return passed;
+    }
+    passed + feed_before(terminal, pages, &piece[passed..], out)
 }
 
-/// Does the same, and passes no lines. Speed: nothing else feeds this profile without an observer, so there is one copy of the loop,
-/// in which all is inline.
+/// Plays lines at the front of a chunk, of which nobody sees the first ones. Returns how many bytes it played: 0 if
+/// there are no such lines.
+#[inline(always)]
+fn feed_lines(
+    terminal: &mut SizedTerminal,
+    pages: &SizedPages,
+    piece: &[u8],
+    out: &mut Vec<u8>,
+) -> usize
+    requires none { pages.now.sides ≡ None }
+    requires between { terminal.old.held ≡ Nothing }
+    requires room { vec_len out.old + 10 * length piece.now ≤ vec_capacity out.old }
+    ensures within { result ≤ length piece.now }
+    ensures size { terminal.new.display.grid.size ≡ terminal.old.display.grid.size }
+    ensures fed { FeedsBytes (whole_of terminal.old pages.now) (take result piece.now) (whole_of terminal.new pages.now)
+        out.old.items out.new.items }
+    ensures bounded { vec_len out.new ≤ vec_len out.old + 10 * result }
+    ensures capacity { vec_capacity out.old ≤ vec_capacity out.new }
+{
+    let _ = pages;
+    one_split();
+    spelled();
+    let Passed { unseen, looked_at } = terminal.pass_unseen(piece);
+    terminal.feed_unobserved(&piece[unseen..looked_at], out);
+    looked_at
+}
+
+/// Plays the front of a chunk that isn't empty up to an event that sets DECLRMM, or this event. Returns how many bytes it played.
+#[inline(always)]
+fn feed_before(
+    terminal: &mut SizedTerminal,
+    pages: &mut SizedPages,
+    piece: &[u8],
+    out: &mut Vec<u8>,
+) -> usize
+    requires some { 1 ≤ length piece.now }
+    requires none { pages.old.sides ≡ None }
+    requires room { vec_len out.old + 10 * length piece.now ≤ vec_capacity out.old }
+    requires one_size { pages.old.other.grid.size ≡ terminal.old.display.grid.size }
+    ensures some { 1 ≤ result }
+    ensures within { result ≤ length piece.now }
+    ensures sizes { KeepSizes terminal.old pages.old terminal.new pages.new }
+    ensures fed { FeedsBytes (whole_of terminal.old pages.old) (take result piece.now) (whole_of terminal.new pages.new)
+        out.old.items out.new.items }
+    ensures bounded { vec_len out.new ≤ vec_len out.old + 10 * result }
+    ensures capacity { vec_capacity out.old ≤ vec_capacity out.new }
+{
+    one_split();
+    let _ = terminal.width();
+    let end = BLOCK.min(piece.len());
+    let played = feed_written(terminal, pages, &piece[..end], out);
+    if played == end {
+        return played;
+    }
+    played + feed_one(terminal, pages, &piece[played..], out)
+}
+
+/// Plays the front of a chunk that isn't empty, up to the first event. Returns how many bytes it played.
+#[inline(never)]
+fn feed_one(
+    terminal: &mut SizedTerminal,
+    pages: &mut SizedPages,
+    piece: &[u8],
+    out: &mut Vec<u8>,
+) -> usize
+    requires some { 1 ≤ length piece.now }
+    requires room { vec_len out.old + 10 ≤ vec_capacity out.old }
+    requires one_size { pages.old.other.grid.size ≡ terminal.old.display.grid.size }
+    ensures some { 1 ≤ result }
+    ensures within { result ≤ length piece.now }
+    ensures sizes { KeepSizes terminal.old pages.old terminal.new pages.new }
+    ensures fed { FeedsBytes (whole_of terminal.old pages.old) (take result piece.now) (whole_of terminal.new pages.new)
+        out.old.items out.new.items }
+    ensures bounded { vec_len out.new ≤ vec_len out.old + 10 * result }
+    ensures capacity { vec_capacity out.old ≤ vec_capacity out.new }
+{
+    let mut values = Values::new();
+    let Taken { bytes, event } = terminal.next_event(piece, &mut values);
+    let Some(kind) = event else {
+        return bytes;
+    };
+    carry_out_whole(terminal, pages, kind, values.as_slice(), out);
+    bytes
+}
+
+/// Plays the front of a chunk up to an event that sets DECLRMM. Returns how many bytes it played. Speed: nothing else feeds this profile
+/// with this observer, so there is one copy of the loop, in which all is inline.
 #[inline(never)]
 fn feed_written(
     terminal: &mut SizedTerminal,
@@ -81,9 +179,10 @@ fn feed_written(
     piece: &[u8],
     out: &mut Vec<u8>,
 ) -> usize
+    requires none { pages.old.sides ≡ None }
     requires room { vec_len out.old + 10 * length piece.now ≤ vec_capacity out.old }
     requires one_size { pages.old.other.grid.size ≡ terminal.old.display.grid.size }
-    ensures all { result ≡ length piece.now }
+    ensures within { result ≤ length piece.now }
     ensures sizes { KeepSizes terminal.old pages.old terminal.new pages.new }
     ensures fed { FeedsBytes (whole_of terminal.old pages.old) (take result piece.now) (whole_of terminal.new pages.new)
         out.old.items out.new.items }
@@ -93,7 +192,19 @@ fn feed_written(
     let _ = terminal.width();
     pages.soundness();
     pages.keeps_size();
-    terminal.feed_as(pages, piece, &mut Nobody, out)
+    one_split();
+    terminal.feed_as(pages, piece, &mut Setter, out)
+}
+
+/// States that events keep the sizes, for proofs. It does nothing when it runs.
+#[inline(always)]
+fn size_stays()
+    ensures { KeepsSize xterm AreOfOneSize }
+{
+    glyphs();
+    sets_soundness();
+    rows();
+    tests();
 }
 
 /// Carries out an event, and appends its report to `out`, which has capacity for ten more bytes.
@@ -118,6 +229,6 @@ pub(crate) fn carry_out_whole(
 {
     let _ = terminal.width();
     pages.soundness();
-    pages.keeps_size();
+    size_stays();
     carry_out(terminal, pages, kind, values, out);
 }

@@ -1,9 +1,9 @@
-//! TERM=xterm as a profile of the terminal.
+//! TERM=xterm as a profile of the terminal, whose left and right margins bound nothing.
 ghost use Rattle.std.specs.Prelude.{◌≡◌};
 
 use crate::finder::{is_own, is_own_plain};
 use crate::front::SizedPages;
-use crate::functions::{carry_out, plain_sequence};
+use crate::functions::{carry_out_wide, plain_sequence};
 use vt_glyph::laws::{glyphs, soundness as sets_soundness};
 use vt_screen::laws::{rows, tests};
 use vt_syntax::{EventKind, FrontValues};
@@ -12,14 +12,13 @@ use vt_term::{Profile, SizedTerminal, Vt220};
 /// Speed: what a VT220 carries out in the same way goes the VT220's way, which is inline.
 impl Profile for SizedPages {
     ghost use Rattle.vt_xterm.specs.Pages.{Screens};
-    ghost use Rattle.vt_xterm.specs.Play.{xterm};
-    ghost use Rattle.vt_xterm.specs.Private.Profiles.{screens_on, xterm_prints, AreOfOneSize};
+    ghost use Rattle.vt_xterm.specs.Private.Profiles.{screens_on, unbounded, unbounded_prints, AreOfOneSize};
 
     ghost Screens = { Screens };
 
     ghost screens = { screens_on };
 
-    ghost machine = { xterm };
+    ghost machine = { unbounded };
 
     ghost OneSize = { AreOfOneSize };
 
@@ -31,7 +30,7 @@ impl Profile for SizedPages {
         tests();
     }
 
-    ghost prints = { xterm_prints };
+    ghost prints = { unbounded_prints };
 
     #[inline(always)]
     fn carry_out(
@@ -42,7 +41,7 @@ impl Profile for SizedPages {
         out: &mut Vec<u8>,
     ) {
         if is_own(kind, values) {
-            carry_out(terminal, self, kind, values, out);
+            carry_out_wide(terminal, self, kind, values, out);
         } else {
             Vt220.carry_out(terminal, kind, values, out);
         }

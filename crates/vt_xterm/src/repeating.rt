@@ -1,11 +1,12 @@
-//! REP.
+//! REP, which repeats a glyph.
 ghost use Rattle.std.specs.Prelude.{◌≡◌, ◌≤◌, true, length};
 ghost use Rattle.vt_term.specs.Writing.{write_glyph};
 ghost use Rattle.vt_xterm.specs.Repeating.{times, column_before, glyph_before, room, repeat};
 
 use vt_term::{Glyph, SizedTerminal};
 
-/// Returns the column before the cursor, or under it with the wrap flag: 0 in column 1 without it.
+/// Returns the column before the cursor, or the cursor's own if the wrap flag is set. Returns 0 in column 1 without the
+/// flag.
 fn column_before(terminal: &SizedTerminal) -> usize
     ensures value { result ≡ column_before terminal.now.display }
     ensures inside { result ≤ terminal.now.display.grid.width }

@@ -3,11 +3,32 @@ ghost use Rattle.std.specs.Prelude.{◌≡◌, ◌≤◌, ◌+◌, ◌*◌, ◌+
 ghost use Rattle.vt_term.specs.Text.{row_text_limit};
 ghost use Rattle.vt_term.specs.Resizing.{count_off};
 ghost use Rattle.vt_xterm.specs.Play.{behind};
-ghost use Rattle.vt_xterm.specs.Resizing.{pages_on, front_on, xterm_log_on};
+ghost use Rattle.vt_xterm.specs.Resizing.{sides_on, pages_on, front_on, xterm_log_on};
 
 use crate::front::{SizedFront, SizedPages};
+use crate::sides::Sides;
 use std::alloc::AllocError;
 use vt_term::{Size, SizedTerminal};
+
+/// Returns the left and right margins on a screen of another size: full ones, unless it is as large.
+fn sides_on(sides: Option<Sides>, terminal: &SizedTerminal, size: Size) -> Option<Sides>
+    ensures { result ≡ sides_on size terminal.now.display sides }
+{
+    let old = terminal.size();
+    let width = if terminal.width() == old.wide {
+        size.wide
+    } else {
+        size.narrow
+    };
+    if old.rows == size.rows && terminal.width() == width {
+        return sides;
+    }
+    if sides.is_some() {
+        Some(Sides::full(width))
+    } else {
+        None
+    }
+}
 
 impl SizedPages {
     /// Makes the pages of another front, of any size, those of this one on a screen of that size.
@@ -20,13 +41,15 @@ impl SizedPages {
         target.alternate = self.alternate;
         target.resizes = self.resizes;
         target.brackets = self.brackets;
+        target.sides = sides_on(self.sides, terminal, target.other.size());
     }
 }
 
 impl SizedFront {
     /// Makes another front, of any size, keep what this one keeps if the screen changes to that size. `terminal` is this front's,
     /// before its own change (`SizedTerminal::resize_into`). As many rows leave the page that isn't shown as leave the one that
-    /// is. It never fails and allocates nothing. (xterm: a window that changes its size, without saved lines)
+    /// is. Unless the screen has as many rows and columns as before, the left and right margins are full; DECLRMM stays. It never fails and
+    /// allocates nothing. (xterm: a window that changes its size, without saved lines)
     pub fn resize_into(&self, terminal: &SizedTerminal, target: &mut SizedFront)
         requires { self.now.pages.other.grid.size ≡ terminal.now.display.grid.size }
         ensures { target.new ≡ front_on target.old.pages.other.grid.size terminal.now.display self.now }
@@ -35,8 +58,9 @@ impl SizedFront {
         target.decoder = self.decoder.copied();
     }
 
-    /// Appends to `out` what a change to another size adds to the log: the text of each row that leaves at the top of the main
-    /// page, if that is shown, in UTF-8, without the spaces at its end, and LF. If the alternate page is shown, it is nothing.
+    /// Appends to `out` what a change to another size adds to the log. If the main page is shown, it is the text of
+    /// each row that leaves at the top. The text is in UTF-8, without the spaces at its end, and LF follows it. If the
+    /// alternate page is shown, it is nothing.
     ///
     /// It reserves `row_text_limit` bytes of capacity for each of these rows. Returns `Err` if that fails. Then the contents of
     /// `out` are unchanged.

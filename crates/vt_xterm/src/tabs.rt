@@ -10,7 +10,7 @@ use vt_term::SizedTerminal;
 const HT: u8 = 0x09;
 
 /// Returns the nearest stop left of a column, or else column 1.
-fn stop_before(stops: &[bool], col: usize) -> usize
+pub(crate) fn stop_before(stops: &[bool], col: usize) -> usize
     requires { (1 ≤ col) × (col ≤ length stops.now) }
     ensures value { result ≡ stop_before stops.now col }
     ensures some { 1 ≤ result }
@@ -38,7 +38,7 @@ fn back_tab(terminal: &mut SizedTerminal)
 
 /// Carries out HT, which causes no report.
 #[tactic(auto, unfolding(vt_term::specs::Functions::control, vt_term::specs::Reports::control_report))]
-fn forward_tab(terminal: &mut SizedTerminal, out: &mut Vec<u8>)
+pub(crate) fn forward_tab(terminal: &mut SizedTerminal, out: &mut Vec<u8>)
     requires { vec_len out.old + 10 ≤ vec_capacity out.old }
     ensures terminal { terminal.new ≡ record terminal.old { display = horizontal_tab terminal.old.display } }
     ensures out { out.new.items ≡ out.old.items }

@@ -1,4 +1,6 @@
 mod Painted
+mod Leading
+mod Between
 mod Pending
 mod Spelled
 mod Rebuilt

@@ -1,8 +1,8 @@
 -- The session that the repaint leads to.
 use Rattle.std.proofs.Common.{◌≡◌, ◌↔◌, ◌≤◌, ◌<◌, Bool, true, false, not, ℕ, List, [], ◌∷◌, ◌++◌, length, All, refl, sym, ap, ◌∙◌}
-use Rattle.std.proofs.Common.{arith, subst, cond, eqb, min}
+use Rattle.std.proofs.Common.{arith, subst, cond, eqb, leb, ltb, min, Option, Some, None}
 use Rattle.std.specs.Str.{IsAscii}
-use Rattle.std.proofs.lemmas.Bool.{eq-eqb}
+use Rattle.std.proofs.lemmas.Bool.{eq-eqb, le-leb, lt-ltb}
 use Rattle.std.proofs.lemmas.List.Elements.{All-tail}
 use Rattle.std.proofs.lemmas.Str.Ascii.{All-from_ascii}
 use Rattle.vt_syntax.specs.declared.event.Event.{Event}
@@ -19,101 +19,154 @@ use Rattle.vt_screen.specs.Sizes.{vt220_size, IsSize}
 use Rattle.vt_screen.specs.Grid.{Grid}
 use Rattle.vt_term.specs.declared.state.Saved.{Saved}
 use Rattle.vt_screen.proofs.Places.{width-bounds}
-use Rattle.vt_term.specs.State.{Display, State, display_of, state_of, power_up, saved_at_power_up}
+use Rattle.vt_term.specs.State.{Display, State, display_of, state_of, power_up, saved_at_power_up, modes_at_power_up}
 use Rattle.vt_term.specs.Sound.{IsSoundDisplayAt, IsSoundAt, IsSound}
 use Rattle.vt_term.specs.Pages.{PageState, IsSoundPageAt, blank_page, fitted, resized, with_page}
-use Rattle.vt_term.specs.Functions.{effect, sequences_of}
+use Rattle.vt_term.specs.Functions.{sequences_of}
 use Rattle.vt_term.specs.Reports.{report, sequence_report}
-use Rattle.vt_term.specs.Play as vt220
 use Rattle.vt_term.specs.Play.{play}
 use Rattle.vt_paint.specs.Controls.{reset_to_initial_state, private_mode}
+use Rattle.vt_paint.specs.Items.{first_items}
 use Rattle.vt_paint.specs.Repaint.{made_events}
-use Rattle.vt_paint.proofs.AfterEvents.{display_after-after_events, Makes}
+use Rattle.vt_paint.proofs.AfterEvents.{Makes}
+use Rattle.vt_paint.proofs.Chain.{part}
 use Rattle.vt_term.proofs.SizeKept.{own-display}
-use Rattle.vt_paint.proofs.Within.{made_within}
-use Rattle.vt_paint.proofs.Whole.{made_leaves}
+use Rattle.vt_paint.proofs.Within.{made_within, first_within}
+use Rattle.vt_paint.proofs.Whole.{made_leaves, first_leaves}
 use Rattle.bstr.specs.Utf8.{replacement}
 use Rattle.vt_utf8.specs.Decoding.{characters, pending_of, pending_after, given_up}
 use Rattle.vt_utf8.specs.Translation.{translation}
-use Rattle.vt_xterm.specs.Pages.{PagesState, Screens, on_display, with_page_mode, pages_of}
-use Rattle.vt_xterm.specs.Front.{functions_of, function_in}
-use Rattle.vt_xterm.specs.Play.{Whole, WholePlayed, screens_of, after_events, reports_of, play_bytes, play_character, play_characters}
-use Rattle.vt_xterm.specs.Play.{IsSoundWhole, play_xterm, both, nothing_played, behind, front_at_power_up}
-use Rattle.vt_xterm.proofs.Cuts.{after_events-append, reports_of-append, characters-two, characters-ascii, xterm-two}
+use Rattle.vt_xterm.specs.declared.sides.Sides.{Sides}
+use Rattle.vt_xterm.specs.Sides.{AreSides, FitsSides, is_pending}
+use Rattle.vt_xterm.specs.Pages as front
+use Rattle.vt_xterm.specs.Pages.{PagesState, Screens, with_page_mode, pages_of, bounds_of}
+use Rattle.vt_xterm.specs.Bounded.{bounded_effect}
+use Rattle.vt_xterm.specs.Front.{functions_of, function_in, effect_between, xterm_effect}
+use Rattle.vt_xterm.specs.Play.{Whole, WholePlayed, screens_of, play_bytes, play_beyond, play_character, play_characters}
+use Rattle.vt_xterm.specs.Play.{IsSoundWhole, IsSoundWholeAt, play_xterm, both, nothing_played, behind, front_at_power_up}
+use Rattle.vt_xterm.proofs.Beyond.{beyond-size, beyond-held}
+use Rattle.vt_xterm.proofs.Cuts.{characters-two, characters-ascii, xterm-two}
 use Rattle.vt_utf8.proofs.Cuts.{pending-append}
-use Rattle.vt_xterm_paint.specs.Repaint.{other_shown, paste_item, xterm_paint_limit, IsSoundWholeAt, IsRebuiltAt}
+use Rattle.vt_xterm_paint.specs.Repaint.{other_shown, paste_item, xterm_paint_limit, IsRebuiltAt}
+use Rattle.vt_xterm_paint.specs.Repaint.{are_sent, sent_sides, shown_events, shown_sides}
 use Rattle.vt_xterm_paint.specs.Repaint.{xterm_repaint_events, xterm_repaint, Rebuilds, IsReachedWhole, IsRebuilt, IsPart}
-use Rattle.vt_xterm_paint.proofs.Painted.{ArePainted, made-painted}
+use Rattle.vt_xterm_paint.proofs.Painted.{on_pages, on_sides, first-painted, made-painted}
+use Rattle.vt_xterm_paint.proofs.Leading.{Leads, then-leads, one-leads, none-leads, on-leads}
+use Rattle.vt_xterm_paint.proofs.Between.{sides-placed-lead}
 use Rattle.vt_xterm_paint.proofs.Pending.{escape-characters, escape-pending, part-read}
 use Rattle.vt_xterm_paint.proofs.Spelled.{repaint-within}
 
--- ---- events that lead from some screens to others, and report nothing
+-- the items of a page while DECLRMM is reset
+items-lead : (size : Size) (s : Display) (other : PageState) (alternate : Bool) → IsSoundDisplayAt size s
+    → Leads (made_events s) (on_pages other alternate (display_of size)) (on_pages other alternate s)
+items-lead size s other alternate i =
+    let own = own-display size s i in
+    on-leads (on_pages other alternate) (λ d. refl) (made_events s) (display_of size) s (made-painted other alternate s)
+    (made_within s own).silent (subst (λ (z : Size). Makes (made_events s) (display_of z) s) i.of_size (made_leaves s own))
 
-record Leads (events : List Event) (x y : Screens) : Type 0 where
-  is : after_events events x ≡ y
-  silent : reports_of events x ≡ []
+-- ---- the display that is shown, and its left and right margins
 
-then-leads : (es fs : List Event) (x y z : Screens) → Leads es x y → Leads fs y z → Leads (es ++ fs) x z
-then-leads es fs x y z first second = record {
-  is = after_events-append es fs x ∙ ap (λ (t : Screens). after_events fs t) first.is ∙ second.is;
-  silent = reports_of-append es fs x ∙ ap (λ (r : List ℕ). r ++ reports_of fs (after_events es x)) first.silent
-      ∙ ap (λ (t : Screens). reports_of fs t) first.is ∙ second.silent;
+abbrev on_shown : PageState → Bool → Option Sides → Display → Screens
+on_shown other alternate sides s = record {
+  display = s;
+  pages = record { other = other; alternate = alternate; resizes = true; brackets = false; sides = sides };
 }
 
-after-painted : (events : List Event) (s : Screens) → ArePainted events → s.pages.resizes ≡ true
-    → after_events events s ≡ on_display (vt220.after_events events) s
-unfolding ArePainted
-after-painted [] s all on = refl
-after-painted (event ∷ events) s all on =
-    ap (λ (t : Screens). after_events events t) (all.0 s on) ∙ after-painted events (on_display (effect event) s) all.1 on
+sent-is : (width : ℕ) (m : Sides) → AreSides width m → sent_sides width (Some m) ≡ Some m
+sent-is width m fits =
+    ap (λ (b : Bool). cond b (Some m) None) (all (le-leb 1 m.left fits.from_column_1) (lt-ltb m.left m.right fits.two_columns)
+    (le-leb m.right width fits.to_last_column))
+  where
+    all : leb 1 m.left ≡ true → ltb m.left m.right ≡ true → leb m.right width ≡ true → are_sent width m ≡ true
+    all first two last = rw (first, two, last) refl
 
-reports-painted : (events : List Event) (s : Screens) → ArePainted events → s.pages.resizes ≡ true
-    → reports_of events s ≡ vt220.reports_of events s.display
-unfolding ArePainted
-reports-painted [] s all on = refl
-reports-painted (event ∷ events) s all on =
-    ap (λ (r : List ℕ). report event s.display ++ r)
-    (ap (λ (t : Screens). reports_of events t) (all.0 s on)
-    ∙ reports-painted events (on_display (effect event) s) all.1 on)
+shown-leads : (size : Size) (s : Display) (other : PageState) (alternate : Bool) (sides : Option Sides)
+    → IsSoundDisplayAt size s → FitsSides s sides
+    → Leads (shown_events (sent_sides s.grid.width sides) s) (on_pages other alternate (display_of size))
+    (on_shown other alternate sides s)
+unfolding shown_events made_events
+shown-leads size s other alternate None i fits = items-lead size s other alternate i
+shown-leads size s other alternate (Some m) i fits =
+    subst (λ (x : Option Sides). Leads (shown_events x s) (on_pages other alternate (display_of size)) (on_sides other alternate m s))
+    (sym (sent-is s.grid.width m fits.sides)) (go i.of_size)
+  where
+    own : IsSoundDisplayAt s.grid.size s
+    own = own-display size s i
 
--- ?40 is set, and ?2004 isn't
-abbrev with_pages : PageState → Bool → PagesState
-with_pages other alternate = record { other = other; alternate = alternate; resizes = true; brackets = false }
+    wrap : Bool
+    wrap = is_pending m s
 
-abbrev on_pages : Display → PageState → Bool → Screens
-on_pages s other alternate = record { display = s; pages = with_pages other alternate }
-
-items-lead : (size : Size) (s : Display) (other : PageState) (alternate : Bool) → IsSoundDisplayAt size s
-    → Leads (made_events s) (on_pages (display_of size) other alternate) (on_pages s other alternate)
-items-lead size s other alternate i =
-    let x = on_pages (display_of size) other alternate in
-    let own = own-display size s i in
-    let leads = subst (λ (z : Size). Makes (made_events s) (display_of z) s) i.of_size (made_leaves s own) in
-    let made : vt220.after_events (made_events s) (display_of size) ≡ s =
-    sym (display_after-after_events (display_of size) (made_events s)) ∙ leads.is in
-    record {
-      is = after-painted (made_events s) x (made-painted s) refl ∙ ap (λ (t : Display). on_pages t other alternate) made;
-      silent = reports-painted (made_events s) x (made-painted s) refl ∙ (made_within s own).silent (display_of size);
-    }
+    go : s.grid.size ≡ size
+        → Leads (shown_events (Some m) s) (on_pages other alternate (display_of size)) (on_sides other alternate m s)
+    go is =
+        let first = first_leaves s wrap own in
+        let x = part s modes_at_power_up first.cursor first.brush first.sets s.margins false in
+        let makes = subst (λ (z : Size). Makes (first_items s wrap) (display_of z) x) is first.makes in
+        then-leads (first_items s wrap) _ (on_pages other alternate (display_of size)) (on_pages other alternate x) _
+        (on-leads (on_pages other alternate) (λ d. refl) (first_items s wrap) (display_of size) x
+        (first-painted other alternate s wrap) (first_within s wrap own).silent makes)
+        (sides-placed-lead other alternate s m first.sets own fits first.cursor first.brush first.four first.none first.spells)
 
 -- ---- what is between the items
 
+-- SM or RM of one private mode is never bounded
+private-effect : (n : ℕ) (on : Bool) (s : Screens) → xterm_effect (private_mode n on) s ≡ with_page_mode on n s
+unfolding functions_of function_in bounded_effect
+private-effect n on s = go on (bounds_of s)
+  where
+    go : (on : Bool) (b : Option Sides) → effect_between (private_mode n on) b s ≡ with_page_mode on n s
+    go true None = refl
+    go true (Some m) = refl
+    go false None = refl
+    go false (Some m) = refl
+
+reset-effect : (s : Screens) → xterm_effect reset_to_initial_state s ≡ front.reset_to_initial_state s
+unfolding function_in bounded_effect
+reset-effect s = go (bounds_of s)
+  where
+    go : (b : Option Sides) → effect_between reset_to_initial_state b s ≡ front.reset_to_initial_state s
+    go None = refl
+    go (Some m) = refl
+
+private-leads : (n : ℕ) (on : Bool) (x y : Screens) → with_page_mode on n x ≡ y → report (private_mode n on) x.display ≡ []
+    → Leads (private_mode n on ∷ []) x y
+private-leads n on x y is silent = one-leads (private_mode n on) x y (private-effect n on x ∙ is) silent
+
 start-of : (alternate : Bool) (u : Screens) → min 1 u.display.grid.size.narrow ≡ 1
     → Leads (private_mode 40 true ∷ reset_to_initial_state ∷ private_mode 47 (not alternate) ∷ []) u
-    (on_pages (display_of u.display.grid.size) (blank_page u.display.grid.size) (not alternate))
-unfolding functions_of function_in with_page_mode sequences_of sequence_report
-start-of true u col = record { is = rw col refl; silent = refl }
-start-of false u col =
-    let narrow = u.display.grid.size.narrow in
-    let fits : eqb narrow narrow ≡ true = eq-eqb narrow narrow refl in
-    record { is = rw (fits, col) refl; silent = refl }
+    (on_pages (blank_page u.display.grid.size) (not alternate) (display_of u.display.grid.size))
+unfolding with_page_mode sequences_of sequence_report
+start-of alternate u col =
+    then-leads (private_mode 40 true ∷ []) _ u allowed _ (private-leads 40 true u allowed refl refl)
+    (then-leads (reset_to_initial_state ∷ []) (private_mode 47 (not alternate) ∷ []) allowed reset _
+    (one-leads reset_to_initial_state allowed reset (reset-effect allowed) refl)
+    (private-leads 47 (not alternate) reset _ (shown alternate) (silent alternate)))
+  where
+    size : Size
+    size = u.display.grid.size
+
+    allowed : Screens
+    allowed = record u { pages = record u.pages { resizes = true } }
+
+    reset : Screens
+    reset = front.reset_to_initial_state allowed
+
+    shown : (alternate : Bool) → with_page_mode (not alternate) 47 reset ≡ on_pages (blank_page size) (not alternate) (display_of size)
+    shown true = rw col refl
+    shown false =
+        let fits : eqb size.narrow size.narrow ≡ true = eq-eqb size.narrow size.narrow refl in
+        rw (fits, col) refl
+
+    silent : (alternate : Bool) → report (private_mode 47 (not alternate)) reset.display ≡ []
+    silent true = refl
+    silent false = refl
 
 start-leads : (size : Size) (alternate : Bool) (u : Screens) → IsSize size → u.display.grid.size ≡ size
     → Leads (private_mode 40 true ∷ reset_to_initial_state ∷ private_mode 47 (not alternate) ∷ []) u
-    (on_pages (display_of size) (blank_page size) (not alternate))
+    (on_pages (blank_page size) (not alternate) (display_of size))
 start-leads size alternate u sized is =
     subst (λ (z : Size). Leads (private_mode 40 true ∷ reset_to_initial_state ∷ private_mode 47 (not alternate) ∷ []) u
-    (on_pages (display_of z) (blank_page z) (not alternate))) is
+    (on_pages (blank_page z) (not alternate) (display_of z))) is
     (start-of alternate u (let narrow = ap (λ (z : Size). z.narrow) is in omega (arith, sized.narrow, narrow)))
 
 -- the blank page that fits a screen is blank, and has its size
@@ -135,47 +188,54 @@ blank-fits size width sized = go (eqb size.narrow width) (eqb width size.wide)
 
 exchange-leads : (size : Size) (alternate : Bool) (page : PageState)
     → Leads (private_mode 47 alternate ∷ [])
-    (on_pages (with_page page (display_of size)) (blank_page size) (not alternate))
-    (on_pages (with_page (fitted page.grid.width (blank_page size)) (display_of size)) page alternate)
-unfolding functions_of function_in with_page_mode sequences_of sequence_report
-exchange-leads size true page = record { is = refl; silent = refl }
-exchange-leads size false page = record { is = refl; silent = refl }
+    (on_pages (blank_page size) (not alternate) (with_page page (display_of size)))
+    (on_pages page alternate (with_page (fitted page.grid.width (blank_page size)) (display_of size)))
+unfolding with_page_mode sequences_of sequence_report
+exchange-leads size true page = private-leads 47 true _ _ refl refl
+exchange-leads size false page = private-leads 47 false _ _ refl refl
 
 narrow-leads : (size : Size) (alternate : Bool) (page : PageState) (g : Grid) → IsSize size → g.size ≡ size
     → Leads (private_mode 3 false ∷ [])
-    (on_pages (with_page (record { grid = g; saved = saved_at_power_up }) (display_of size)) page alternate)
-    (on_pages (display_of size) page alternate)
-unfolding functions_of function_in with_page_mode sequences_of sequence_report
+    (on_pages page alternate (with_page (record { grid = g; saved = saved_at_power_up }) (display_of size)))
+    (on_pages page alternate (display_of size))
+unfolding with_page_mode sequences_of sequence_report
 narrow-leads size alternate page g sized is =
-    let col : min 1 size.narrow ≡ 1 = omega (arith, sized.narrow) in record { is = rw (is, col) refl; silent = refl }
+    let col : min 1 size.narrow ≡ 1 = omega (arith, sized.narrow) in private-leads 3 false _ _ (rw (is, col) refl) refl
 
 between-leads : (size : Size) (alternate : Bool) (page : PageState) → IsSize size
     → Leads (private_mode 47 alternate ∷ private_mode 3 false ∷ [])
-    (on_pages (with_page page (display_of size)) (blank_page size) (not alternate))
-    (on_pages (display_of size) page alternate)
+    (on_pages (blank_page size) (not alternate) (with_page page (display_of size)))
+    (on_pages page alternate (display_of size))
 between-leads size alternate page sized =
     let fit = fitted page.grid.width (blank_page size) in
     let fits = blank-fits size page.grid.width sized in
-    let shown : PageState → Screens = λ p. on_pages (with_page p (display_of size)) page alternate in
+    let shown : PageState → Screens = λ p. on_pages page alternate (with_page p (display_of size)) in
     let made : Saved → PageState = λ saved. record { grid = fit.grid; saved = saved } in
-    let narrow : Leads (private_mode 3 false ∷ []) (shown fit) (on_pages (display_of size) page alternate) =
-    subst (λ (saved : Saved). Leads (private_mode 3 false ∷ []) (shown (made saved)) (on_pages (display_of size) page alternate))
+    let narrow : Leads (private_mode 3 false ∷ []) (shown fit) (on_pages page alternate (display_of size)) =
+    subst (λ (saved : Saved). Leads (private_mode 3 false ∷ []) (shown (made saved)) (on_pages page alternate (display_of size)))
     (sym fits.saved) (narrow-leads size alternate page fit.grid sized fits.of_size) in
     then-leads (private_mode 47 alternate ∷ []) (private_mode 3 false ∷ []) _ (shown fit) _ (exchange-leads size alternate page)
     narrow
 
 end-leads : (s : Display) (pages : PagesState)
-    → Leads (private_mode 40 pages.resizes ∷ paste_item pages.brackets) (on_pages s pages.other pages.alternate)
+    → Leads (private_mode 40 pages.resizes ∷ paste_item pages.brackets) (on_shown pages.other pages.alternate pages.sides s)
     (record { display = s; pages = pages })
-unfolding functions_of function_in with_page_mode sequences_of sequence_report
-end-leads s pages = by pages.resizes pages.brackets
+unfolding with_page_mode sequences_of sequence_report
+end-leads s pages =
+    then-leads (private_mode 40 pages.resizes ∷ []) (paste_item pages.brackets)
+    (on_shown pages.other pages.alternate pages.sides s) allowed _ (allow pages.resizes) (paste pages.brackets)
   where
-    by : (on brackets : Bool) → Leads (private_mode 40 on ∷ paste_item brackets) (on_pages s pages.other pages.alternate)
-        (record { display = s; pages = record pages { resizes = on; brackets = brackets } })
-    by true true = record { is = refl; silent = refl }
-    by true false = record { is = refl; silent = refl }
-    by false true = record { is = refl; silent = refl }
-    by false false = record { is = refl; silent = refl }
+    allowed : Screens
+    allowed = record { display = s; pages = record pages { brackets = false } }
+
+    allow : (on : Bool) → Leads (private_mode 40 on ∷ []) (on_shown pages.other pages.alternate pages.sides s)
+        (record { display = s; pages = record pages { resizes = on; brackets = false } })
+    allow true = private-leads 40 true _ _ refl refl
+    allow false = private-leads 40 false _ _ refl refl
+
+    paste : (on : Bool) → Leads (paste_item on) allowed (record { display = s; pages = record pages { brackets = on } })
+    paste true = private-leads 2004 true _ _ refl refl
+    paste false = none-leads _ _ refl
 
 -- the display that shows a sound page is sound
 other-sound : (size : Size) (page : PageState) → IsSoundPageAt size page → IsSoundDisplayAt size (display_of size)
@@ -214,22 +274,23 @@ all-leads size w u sized i start is =
     let blank = blank_page size in
     let s = w.state.display in
     let own : hidden ≡ other_shown w.pages = ap (λ (z : Size). with_page other (display_of z)) (sym i.other.of_size) in
-    let items = subst (λ (d : Display). Leads (made_events d) (on_pages (display_of size) blank (not alternate))
-    (on_pages d blank (not alternate))) (sym own)
+    let items = subst (λ (d : Display). Leads (made_events d) (on_pages blank (not alternate) (display_of size))
+    (on_pages blank (not alternate) d)) (sym own)
     (items-lead size (other_shown w.pages) blank (not alternate) (other-sound size other i.other start)) in
     let events = ap (λ (d : Display). made_events d) own in
-    let hidden-items = subst (λ (es : List Event). Leads es (on_pages (display_of size) blank (not alternate))
-    (on_pages hidden blank (not alternate))) events items in
+    let hidden-items = subst (λ (es : List Event). Leads es (on_pages blank (not alternate) (display_of size))
+    (on_pages blank (not alternate) hidden)) events items in
     then-leads (private_mode 40 true ∷ reset_to_initial_state ∷ private_mode 47 (not alternate) ∷ []) _ u
-    (on_pages (display_of size) blank (not alternate)) (screens_of w)
+    (on_pages blank (not alternate) (display_of size)) (screens_of w)
     (start-leads size alternate u sized is)
-    (then-leads (made_events (other_shown w.pages)) _ (on_pages (display_of size) blank (not alternate))
-    (on_pages hidden blank (not alternate)) (screens_of w) hidden-items
-    (then-leads (private_mode 47 alternate ∷ private_mode 3 false ∷ []) _ (on_pages hidden blank (not alternate))
-    (on_pages (display_of size) other alternate) (screens_of w)
+    (then-leads (made_events (other_shown w.pages)) _ (on_pages blank (not alternate) (display_of size))
+    (on_pages blank (not alternate) hidden) (screens_of w) hidden-items
+    (then-leads (private_mode 47 alternate ∷ private_mode 3 false ∷ []) _ (on_pages blank (not alternate) hidden)
+    (on_pages other alternate (display_of size)) (screens_of w)
     (between-leads size alternate other sized)
-    (then-leads (made_events s) _ (on_pages (display_of size) other alternate) (on_pages s other alternate) (screens_of w)
-    (items-lead size s other alternate i.state.display)
+    (then-leads (shown_events (shown_sides w) s) _ (on_pages other alternate (display_of size))
+    (on_shown other alternate w.pages.sides s) (screens_of w)
+    (shown-leads size s other alternate w.pages.sides i.state.display i.sides)
     (end-leads s w.pages))))
 
 -- ---- bytes
@@ -247,16 +308,32 @@ bytes-played es more w u are begins held between leads =
     let rest : held_from u.state.held bytes ≡ w.state.held = same_held step ∙ sym between in
     (rw (events, rest, leads.is) refl, rw events leads.silent)
 
--- U+FFFD for what was pending
+-- U+FFFD for what was pending, which keeps the size and leaves a held part
+record AreKept (size : Size) (p : WholePlayed) : Type 0 where
+  of_size : p.whole.state.display.grid.size ≡ size
+  held : IsHeldPart p.whole.state.held
+  silent : p.reports ≡ []
+
+beyond-played : (size : Size) → ((s : State) (bytes : List ℕ) → IsSoundAt size s → IsSoundAt size (play s bytes).state)
+    → ((s : State) (c : ℕ) → IsSoundAt size s → 0x80 ≤ c → (play s (translation s c)).reports ≡ [])
+    → (u : Whole) (c : ℕ) (b : Option Sides) → 0x80 ≤ c → IsSoundAt size u.state → AreKept size (play_beyond u b c)
+beyond-played size kept silent u c None high sound =
+    let after = kept u.state (translation u.state c) sound in
+    record { of_size = after.display.of_size; held = after.held; silent = silent u.state c sound high }
+beyond-played size kept silent u c (Some m) high sound = record {
+  of_size = beyond-size m c u ∙ sound.display.of_size;
+  held = beyond-held u.state.held sound.held;
+  silent = refl;
+}
+
 lost-played : (size : Size) → ((s : State) (bytes : List ℕ) → IsSoundAt size s → IsSoundAt size (play s bytes).state)
     → ((s : State) (c : ℕ) → IsSoundAt size s → 0x80 ≤ c → (play s (translation s c)).reports ≡ [])
-    → (u : Whole) (part : List ℕ) → IsSoundAt size u.state
-    → IsSoundAt size (play_characters u (given_up part)).whole.state × ((play_characters u (given_up part)).reports ≡ [])
+    → (u : Whole) (part : List ℕ) → IsSoundAt size u.state → AreKept size (play_characters u (given_up part))
 unfolding play_character
-lost-played size kept silent u [] sound = (sound, refl)
+lost-played size kept silent u [] sound = record { of_size = sound.display.of_size; held = sound.held; silent = refl }
 lost-played size kept silent u (b ∷ part) sound =
-    let quiet = silent u.state replacement sound (omega arith) in
-    (kept u.state (translation u.state replacement) sound, ap (λ (r : List ℕ). r ++ []) quiet)
+    let quiet = beyond-played size kept silent u replacement (bounds_of (screens_of u)) (omega arith) sound in
+    record { of_size = quiet.of_size; held = quiet.held; silent = ap (λ (r : List ℕ). r ++ []) quiet.silent }
 
 module _ (size : Size) (sized : IsSize size) (split : SplitLaw) (start : IsSoundAt size (state_of size))
     (kept : (s : State) (bytes : List ℕ) → IsSoundAt size s → IsSoundAt size (play s bytes).state)
@@ -275,14 +352,14 @@ module _ (size : Size) (sized : IsSize size) (split : SplitLaw) (start : IsSound
       let chars : characters part bytes ≡ given_up part ++ bytes =
       ap (λ (t : List ℕ). characters part t) begins ∙ escape-characters part more is rest
       ∙ ap (λ (t : List ℕ). given_up part ++ t) (sym begins) in
-      let played = bytes-played es more w lost.whole are begins before.0.held between (leads (screens_of lost.whole) before.0.display.of_size) in
+      let played = bytes-played es more w lost.whole are begins before.held between (leads (screens_of lost.whole) before.of_size) in
       let all : play_xterm u part bytes ≡ both lost (play_bytes lost.whole bytes) =
       ap (λ (cs : List ℕ). play_characters u cs) chars ∙ characters-two u (given_up part) bytes
-      ∙ ap (λ (p : WholePlayed). both lost p) (characters-ascii split lost.whole bytes before.0.held ascii) in
+      ∙ ap (λ (p : WholePlayed). both lost p) (characters-ascii split lost.whole bytes before.held ascii) in
       record {
         whole = ap (λ (p : WholePlayed). p.whole) all ∙ played.0;
         reports = ap (λ (p : WholePlayed). p.reports) all
-            ∙ ap (λ (r : List ℕ). r ++ (play_bytes lost.whole bytes).reports) before.1 ∙ played.1;
+            ∙ ap (λ (r : List ℕ). r ++ (play_bytes lost.whole bytes).reports) before.silent ∙ played.1;
         pending = ap (λ (t : List ℕ). pending_after part t) begins ∙ escape-pending part more is rest;
       }
 
@@ -292,10 +369,6 @@ module _ (size : Size) (sized : IsSize size) (split : SplitLaw) (start : IsSound
       let within = repaint-within size w (other-sound size w.pages.other i.other start.display) i.state.display in
       events-rebuild (xterm_repaint_events w) _ w u part within.events refl
       (All-from_ascii (spell_events (xterm_repaint_events w)) within.ascii) between (λ s is. all-leads size w s sized i start.display is) sound is
-
--- a VT220's session
-pub at-vt220 : (w : Whole) → IsSoundWhole w → IsSoundWholeAt vt220_size w
-at-vt220 w i = record { state = i.state; other = i.other }
 
 -- the session at power-up is sound, and what is played keeps it so
 pub reached : IsSound power_up → ((w : Whole) → IsSoundWhole w → w.state.held ≡ Nothing → IsRebuilt w)

@@ -6,9 +6,9 @@ ghost use Rattle.vt_screen.specs.declared.size.Size.{Size};
 ghost use Rattle.vt_screen.specs.Sizes.{vt220_size};
 ghost use Rattle.vt_term.specs.Sound.{IsSound, IsSoundAt};
 ghost use Rattle.vt_paint.specs.Repaint.{IsReached};
-ghost use Rattle.vt_xterm.specs.Play.{Whole, IsSoundWhole};
+ghost use Rattle.vt_xterm.specs.Play.{Whole, IsSoundWhole, IsSoundWholeAt};
 ghost use Rattle.vt_xterm_paint.specs.Repaint.{xterm_repaint, xterm_paint_limit, IsPart, Rebuilds, IsReachedWhole, IsRebuilt};
-ghost use Rattle.vt_xterm_paint.specs.Repaint.{IsSoundWholeAt, IsRebuiltAt};
+ghost use Rattle.vt_xterm_paint.specs.Repaint.{IsRebuiltAt};
 
 use crate::XTERM_PAINT_LIMIT;
 use vt_paint::laws::{reached as state_reached, vt220_limit as vt220_paint_limit};
@@ -53,7 +53,7 @@ pub fn sized_bounded()
     sized_soundness();
 }
 
-/// States that the constant is the limit of a VT220's size.
+/// States that `XTERM_PAINT_LIMIT` is the limit of a VT220's size.
 pub fn vt220_limit()
     ensures { xterm_paint_limit vt220_size ≡ XTERM_PAINT_LIMIT }
 {
@@ -64,8 +64,9 @@ pub fn vt220_limit()
 
 /// States that the repaint of a session between sequences rebuilds it on every terminal and front, and gives no report.
 ///
-/// A session is a terminal, the page that isn't shown, which page is shown, whether DECCOLM has an effect, and whether pasted text is
-/// wanted in brackets. The repaint leaves exactly these, and nothing is pending.
+/// A session is a terminal, the page that isn't shown, modes, and the left and right margins. The modes are which page
+/// is shown, whether DECCOLM has an effect, and whether pasted text is wanted in brackets. The repaint leaves exactly
+/// these, and nothing is pending.
 pub fn rebuilds()
     ensures { (w : Whole) → IsSoundWhole w → w.state.held ≡ Nothing → IsRebuilt w }
 {
@@ -88,9 +89,9 @@ pub fn canonical()
     sized_canonical();
 }
 
-/// States the same of the sessions that bytes reach from power-up, in terms of playing alone. Between sequences a repaint
-/// rebuilds the session on every terminal, with any pages and after any pending part. Two such sessions are equal if and only
-/// if their repaints are.
+/// States the promise of a repaint in terms of playing alone, for the sessions that bytes reach from power-up. Between
+/// sequences a repaint rebuilds the session on every terminal, with any pages and after any pending part. Two such
+/// sessions are equal if and only if their repaints are.
 pub fn from_power_up()
     ensures rebuilds { (w u : Whole) (part : List ℕ) → IsReachedWhole w → w.state.held ≡ Nothing → IsReached u.state
         → IsPart part → Rebuilds (xterm_repaint w) w [] u part }

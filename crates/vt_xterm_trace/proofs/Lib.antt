@@ -1,3 +1,4 @@
+mod Unbounded
 pub mod Played
 mod Colours
 mod Same

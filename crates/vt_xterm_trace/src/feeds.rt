@@ -1,4 +1,4 @@
-//! The trace of a VT220's terminal under TERM=xterm: the call for `SizedTerminal` at its size.
+//! The trace of a VT220's `Terminal` under TERM=xterm. The call calls that for its `SizedTerminal`.
 ghost use Rattle.std.specs.Prelude.{◌≡◌, ◌≤◌, ◌<◌, ◌+◌, ◌*◌, ◌^◌, ◌++◌, length, take, vec_len, vec_capacity};
 ghost use Rattle.vt_utf8.specs.Decoding.{pending_after};
 ghost use Rattle.vt_xterm.specs.Play.{behind, play_xterm};
@@ -12,9 +12,9 @@ use vt_xterm::Front;
 /// Plays the front of a chunk of what a host sends under TERM=xterm, and appends the reports to `reports` and the trace to `out`. `front`
 /// keeps what is pending between chunks, and the page that isn't shown. Returns how many bytes it played.
 ///
-/// The lines have the host's own bytes, and places in them. It plays while `out` has capacity for `TRACE_LIMIT` bytes more. With so
-/// much for each byte, that is the whole chunk. `reports` has capacity for ten bytes for each byte of the chunk. It never fails, and it
-/// allocates nothing.
+/// The lines have the host's own bytes, and places in them. It plays while `out` has capacity for `TRACE_LIMIT` bytes
+/// more. If `out` has that capacity for each byte, it plays the whole chunk. `reports` has capacity for ten bytes for
+/// each byte of the chunk. It never fails, and it allocates nothing.
 #[inline(always)]
 pub fn trace_xterm_reserved(
     terminal: &mut Terminal,

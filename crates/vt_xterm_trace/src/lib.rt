@@ -1,4 +1,4 @@
-//! Lists what a host sent under TERM=xterm, event by event, by the names of xterm's functions.
+//! The trace of what a host sent under TERM=xterm, event by event, by the names of xterm's functions.
 #![tactic(auto)]
 
 mod attributes;

@@ -7,9 +7,9 @@ ghost use Rattle.vt_term.specs.Modes.{private_modes};
 ghost use Rattle.vt_term.specs.Functions.{numbers_of};
 ghost use Rattle.vt_term.specs.Names.{name_on, sequence_name_on};
 ghost use Rattle.vt_trace.specs.Names.{numbered_in};
-ghost use Rattle.vt_xterm.specs.Front.{is_bare};
+ghost use Rattle.vt_xterm.specs.Bounded.{is_bare};
 ghost use Rattle.vt_xterm.specs.Pages.{page_modes};
-ghost use Rattle.vt_xterm_trace.specs.Names.{plain_names, private_names, own_names, name_in, is_one, has_mode, xterm_sequence_name, xterm_listing};
+ghost use Rattle.vt_xterm_trace.specs.Names.{plain_names, private_names, own_names, name_in, is_one, has_mode, saves_or_sets, xterm_sequence_name, xterm_listing};
 ghost use Rattle.vt_xterm_trace.specs.declared.names.TheConstants.{NAMES};
 
 use crate::attributes::has_attribute;
@@ -20,10 +20,10 @@ use vt_trace::{Listed, Naming, Vt220Names};
 #[derive(Drop)]
 pub struct XtermNames;
 
-/// How many names a VT220's functions have.
+/// The number of names of a VT220's functions.
 const OF_VT220: usize = 75;
 
-/// The number of SM among them.
+/// The number of SM in the list of names.
 const SM: usize = 65;
 
 /// The number of RM.
@@ -32,12 +32,13 @@ const RM: usize = 66;
 /// The number of SGR.
 const SGR: usize = 67;
 
-/// How many names there are.
+/// The number of names.
 const NAMES: usize = OF_VT220 + OWN.len();
 
 /// The names that a VT220's functions don't have.
-const OWN: [&str; 14] = [
+const OWN: [&str; 15] = [
     "CNL", "CPL", "CHA", "CHT", "SU", "SD", "CBT", "HPA", "HPR", "REP", "VPA", "VPR", "SCP", "RCP",
+    "DECSLRM",
 ];
 
 impl Naming for XtermNames {
@@ -74,6 +75,11 @@ impl Listed for XtermNames {
     }
 
     #[inline(always)]
+    fn text(&self) -> usize {
+        Vt220Names.text()
+    }
+
+    #[inline(always)]
     fn count(&self) -> usize {
         NAMES
     }
@@ -93,7 +99,7 @@ impl Listed for XtermNames {
 
 /// Returns one of the names that a VT220's functions don't have.
 fn own_word(at: usize) -> &'static str
-    requires { at < 14 }
+    requires { at < 15 }
     ensures word { result.now ≡ get_or own_names at [] }
     ensures short { length result.now ≤ 23 }
 {
@@ -102,7 +108,7 @@ fn own_word(at: usize) -> &'static str
 
 /// Returns the names that a VT220's functions don't have.
 #[inline(always)]
-fn own_words() -> &'static [&'static str; 14]
+fn own_words() -> &'static [&'static str; 15]
     ensures { map (λ word. word.now) result.now ≡ own_names }
 {
     &OWN
@@ -184,9 +190,21 @@ fn plain_number(rows: usize, values: &[u16], last: u8) -> Option<usize>
         b'd' => Some(OF_VT220 + 10),
         b'e' => Some(OF_VT220 + 11),
         b'm' => if_takes(has_attribute(values), SGR),
-        b's' => if_takes(is_bare(values), OF_VT220 + 12),
+        b's' => Some(saves_or_sets(values)),
         b'u' => if_takes(is_bare(values), OF_VT220 + 13),
         _ => vt220_sequence(rows, None, values, None, last),
+    }
+}
+
+/// Returns the number of the name of `s`.
+fn saves_or_sets(values: &[u16]) -> usize
+    ensures word { numbered_in xterm_listing result ≡ saves_or_sets values.now }
+    ensures within { result < 90 }
+{
+    if is_bare(values) {
+        OF_VT220 + 12
+    } else {
+        OF_VT220 + 14
     }
 }
 
@@ -221,5 +239,10 @@ fn is_bare(values: &[u16]) -> bool
 fn has_mode(values: &[u16]) -> bool
     ensures { result ≡ has_mode values.now }
 {
-    values.iter().any(|p| { matches!(*p, 1 | 3..=8 | 25 | 40 | 47 | 1047 | 1048 | 1049 | 2004) })
+    values.iter().any(|p| {
+        matches!(
+            *p,
+            1 | 3..=8 | 25 | 40 | 47 | 69 | 1047 | 1048 | 1049 | 2004
+        )
+    })
 }

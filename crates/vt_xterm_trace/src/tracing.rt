@@ -1,18 +1,23 @@
 //! The trace of what a host sends under TERM=xterm.
-ghost use Rattle.std.specs.Prelude.{◌≡◌, ◌≤◌, ◌<◌, ◌+◌, ◌*◌, ◌^◌, ◌++◌, length, take, vec_len, vec_capacity};
+ghost use Rattle.std.specs.Prelude.{◌≡◌, ◌≤◌, ◌<◌, ◌+◌, ◌*◌, ◌^◌, ◌++◌, All, None, length, take, vec_len, vec_capacity};
+ghost use Rattle.vt_syntax.specs.declared.held.Held.TheVariants.{Nothing};
+ghost use Rattle.vt_syntax.specs.Class.{IsOfLines};
 ghost use Rattle.vt_utf8.specs.Decoding.{pending_after};
 ghost use Rattle.vt_xterm.specs.Play.{behind, play_xterm};
 ghost use Rattle.vt_xterm_trace.specs.Trace.{trace_xterm, tracer_xterm};
 
 use crate::names::XtermNames;
-use vt_syntax::laws::one_split;
+use vt_syntax::laws::{one_split, spelled};
+use vt_syntax::lines_run;
 use vt_term::{Profile, SizedTerminal};
-use vt_trace::{TRACE_LIMIT, Traceable, Tracer, trace_as, trace_dialect};
-use vt_utf8::sized::feed_beyond_ascii;
+use vt_trace::{TRACE_LIMIT, Traceable, Tracer, trace_as, trace_byte, trace_dialect};
+use vt_utf8::laws::sized_silence;
 use vt_xterm::SizedFront;
-use vt_xterm::sized::SizedPages;
+use vt_xterm::sized::{SizedPages, feed_xterm_character};
 
 /// What is kept besides a VT220's state is the pages.
+///
+/// Speed: while DECLRMM is reset, bytes of lines are fed as a run. Sequences are traced and played byte by byte.
 impl Traceable<XtermNames> for SizedPages {
     ghost use Rattle.std.specs.Prelude.{◌≡◌};
     ghost use Rattle.vt_xterm.specs.Play.{Whole};
@@ -41,21 +46,55 @@ impl Traceable<XtermNames> for SizedPages {
         self.soundness();
         self.keeps_size();
         one_split();
-        trace_as(terminal, self, &XtermNames, tracer, run, reports, out)
+        spelled();
+        let lines = lines_front(terminal, self, run);
+        if lines > 0 {
+            return trace_as(
+                terminal,
+                self,
+                &XtermNames,
+                tracer,
+                &run[..lines],
+                reports,
+                out,
+            );
+        }
+        trace_byte(terminal, &XtermNames, tracer, run[0], out);
+        feed_xterm_character(terminal, self, run[0] as char, reports);
+        1
     }
 
     #[inline(always)]
     fn feed_beyond(&mut self, terminal: &mut SizedTerminal, c: char, reports: &mut Vec<u8>) {
-        feed_beyond_ascii(terminal, c, reports);
+        let _ = terminal.width();
+        sized_silence();
+        feed_xterm_character(terminal, self, c, reports);
     }
+}
+
+/// Returns how many bytes of lines are at the front, if the terminal is between sequences and DECLRMM is reset;
+/// otherwise 0. No byte of lines opens a sequence, so none sets DECLRMM.
+fn lines_front(terminal: &SizedTerminal, pages: &SizedPages, run: &[u8]) -> usize
+    ensures within { result ≤ length run.now }
+    ensures between { 1 ≤ result → terminal.now.held ≡ Nothing }
+    ensures none { 1 ≤ result → pages.now.sides ≡ None }
+    ensures lines { All IsOfLines (take result run.now) }
+{
+    if pages.has_sides() {
+        return 0;
+    }
+    if !terminal.is_between() {
+        return 0;
+    }
+    lines_run(run)
 }
 
 /// Plays the front of a chunk of what a host sends under TERM=xterm, and appends the reports to `reports` and the trace to `out`. `front`
 /// keeps what is pending between chunks, and the page that isn't shown. Returns how many bytes it played.
 ///
-/// The lines have the host's own bytes, and places in them. It plays while `out` has capacity for `TRACE_LIMIT` bytes more. With so
-/// much for each byte, that is the whole chunk. `reports` has capacity for ten bytes for each byte of the chunk. It never fails, and it
-/// allocates nothing.
+/// The lines have the host's own bytes, and places in them. It plays while `out` has capacity for `TRACE_LIMIT` bytes
+/// more. If `out` has that capacity for each byte, it plays the whole chunk. `reports` has capacity for ten bytes for
+/// each byte of the chunk. It never fails, and it allocates nothing.
 pub fn trace_xterm_reserved(
     terminal: &mut SizedTerminal,
     front: &mut SizedFront,

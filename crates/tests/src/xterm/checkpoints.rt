@@ -6,18 +6,20 @@ use vt_term::Terminal;
 use vt_xterm::Front;
 use vt_xterm_paint::repaint_xterm;
 
-/// Bytes that come before a repaint: pages of 132 columns, also without ?40, bracketed paste, the alternate page, a sequence and a character that aren't
-/// complete.
-const BEFORE: [&[u8]; 5] = [
+/// Bytes that come before a repaint: pages of 132 columns, also without ?40, bracketed paste, the alternate page, left and right margins, a
+/// sequence and a character that aren't complete.
+const BEFORE: [&[u8]; 7] = [
     b"",
     b"\x1b[?40h\x1b[?3hwide\x1b7\x1b[?1049h\x1b[?3l\x1b[4hx",
     b"\x1b[?40h\x1b[?3h\x1b[?40lwide\x1b7\x1b[?2004h\x1b[?47hwide\x1b]0;t",
     b"\x1b[?40h\x1b[?47h\x1b[5;9r\x1b[?6h\x1b[12",
     b"a\x1b[?1049h\xE2\x82",
+    b"\x1b[3;9r\x1b[?69h\x1b[5;20s\x1b[?6h\x1b[2;16Hx\xE2\x82",
+    b"\x1b[?69h\x1b[5;20s\x1b[2;20Hx\x1b[?25;6",
 ];
 
 /// A name, and what a session is fed.
-const SESSIONS: [(&str, &[u8]); 10] = [
+const SESSIONS: [(&str, &[u8]); 23] = [
     ("power-up", b""),
     ("the main page is shown", b"ab\x1b[5;5H\x1b[1;7mc\x1b7"),
     (
@@ -46,6 +48,52 @@ const SESSIONS: [(&str, &[u8]); 10] = [
     ),
     ("a pending single shift", b"\x1b[?1047h\x1b*0\x1bN"),
     ("bracketed paste", b"\x1b[?2004h\x1b[?47hab"),
+    ("full left and right margins", b"\x1b[?69hab"),
+    ("left and right margins", b"\x1b[?69h\x1b[5;20sab"),
+    (
+        "the cursor is left of them",
+        b"\x1b[?69h\x1b[5;20s\x1b[3;2Hab",
+    ),
+    (
+        "the cursor is right of them",
+        b"\x1b[?69h\x1b[5;20s\x1b[3;40Hab",
+    ),
+    (
+        "a wrap is pending in the right margin's column",
+        b"\x1b[?69h\x1b[5;20s\x1b[2;15H\x1b[4mABCDEF",
+    ),
+    (
+        "a wrap is pending in the last column, right of the margins",
+        b"\x1b[?69h\x1b[5;20s\x1b[2;80Hx",
+    ),
+    (
+        "a wrap is pending in the last column, which is the right margin's",
+        b"\x1b[?69h\x1b[5;80s\x1b[2;80Hx",
+    ),
+    (
+        "a wrap is pending between full margins",
+        b"\x1b[?69h\x1b[2;80Hx",
+    ),
+    (
+        "DECOM between four margins",
+        b"\x1b[5;9r\x1b[?69h\x1b[5;20s\x1b[?6h\x1b[2;3Hx",
+    ),
+    (
+        "DECOM and a wrap in the right margin's column",
+        b"\x1b[5;9r\x1b[?69h\x1b[5;20s\x1b[?6h\x1b[2;16Hx",
+    ),
+    (
+        "IRM and a wrap in the right margin's column",
+        b"\x1b[?69h\x1b[5;20s\x1b[2;20Hx\x1b[4h",
+    ),
+    (
+        "no DECAWM in the right margin's column",
+        b"\x1b[?7l\x1b[?69h\x1b[5;20s\x1b[2;20Hx",
+    ),
+    (
+        "left and right margins on the alternate page, which is wide",
+        b"ab\x1b[?40h\x1b[?1049h\x1b[?3h\x1b[?69h\x1b[100;131s\x1b[3;131Hx",
+    ),
 ];
 
 /// Returns whether two fronts show the same of the two pages, and nothing is pending in the second one.
@@ -53,6 +101,7 @@ fn fronts_agree(one: &Front, two: &Front) -> bool {
     one.is_alternate() == two.is_alternate()
         && one.resizes() == two.resizes()
         && one.brackets() == two.brackets()
+        && one.sides() == two.sides()
         && two.pending().is_empty()
 }
 

@@ -31,7 +31,7 @@ struct Resized {
     reports: &'static [u8],
 }
 
-const RESIZED: [Resized; 3] = [
+const RESIZED: [Resized; 4] = [
     // the main page is shown: as many rows leave the alternate one
     Resized {
         input: "\x1b[?47hA\r\nB\r\nC\r\nD\r\nE\x1b[?47l\x1b[H1\r\n2\r\n3\r\n4\r\n5",
@@ -57,6 +57,15 @@ const RESIZED: [Resized; 3] = [
         text: "1\n\n\n",
         then: b"\x1b[?3l",
         text_then: "\n\n\n",
+        reports: b"",
+    },
+    // left and right margins become full, and DECLRMM stays, so DECSLRM sets others
+    Resized {
+        input: "\x1b[?69h\x1b[5;10sa",
+        log: "",
+        text: "a\n\n\n",
+        then: b"\x1b[1;8HABCDEF\x1b[5;10s\x1b[2;8HABCDEF",
+        text_then: "a      ABCDEF\n       ABC\n    DEF\n",
         reports: b"",
     },
 ];

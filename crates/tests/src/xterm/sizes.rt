@@ -73,8 +73,9 @@ const END: &[u8] = b"\x1b[0m\x1b[0\"q\x1b(B\x1b)B\x1b*<\x1b+<\x0f\x1b}";
 /// shown, these, and what is sent after them. Neither has its end.
 type Session = (&'static str, [&'static [u8]; 5]);
 
-// the second one shows the alternate page, on which DECSC saves nothing
-const SESSIONS: [Session; 2] = [
+// the second one shows the alternate page, on which DECSC saves nothing; the others have left and right margins, and the last one a wrap that
+// is pending in the right margin's column
+const SESSIONS: [Session; 5] = [
     (
         "",
         [
@@ -93,6 +94,36 @@ const SESSIONS: [Session; 2] = [
             b"\x1b[?47h\x1b[?3l",
             b"\x1b[40;120H",
             b"\x1b[?40l\x1b[?2004h",
+        ],
+    ),
+    (
+        "\x1b[?69h",
+        [
+            b"\x1b[?40h\x1bc\x1b[?47h",
+            b"\x1b[1;1H",
+            b"\x1b[?47l\x1b[?3l",
+            b"\x1b[?69h\x1b[1;120s\x1b[1;1H",
+            b"\x1b[?40l",
+        ],
+    ),
+    (
+        "\x1b[?69h\x1b[5;20s\x1b[3;9r\x1b[?6h\x1b[2;4H",
+        [
+            b"\x1b[?40h\x1bc\x1b[?47h",
+            b"\x1b[1;1H",
+            b"\x1b[?47l\x1b[?3l",
+            b"\x1b[3;9r\x1b[?69h\x1b[5;20s\x1b[?6h\x1b[2;4H",
+            b"\x1b[?40l",
+        ],
+    ),
+    (
+        "\x1b[?69h\x1b[5;20s\x1b[1;20Hx",
+        [
+            b"\x1b[?40h\x1bc\x1b[?47h",
+            b"\x1b[1;1H",
+            b"\x1b[?47l\x1b[?3l",
+            b"\x1b(B\x1b*<\x1b+0\x0f\x1b[1;20H\x1b[0m\x1b[0\"qx\x1b[?69h\x1b[5;20s\x1b[1;20H\x1b[0m\x1b[0\"qx",
+            b"\x1b[?40l",
         ],
     ),
 ];

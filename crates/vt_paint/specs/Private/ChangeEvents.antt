@@ -29,7 +29,7 @@ short_rendition r = if has_all r then all_attributes else rendition_to r
 unfoldable pub short_brush_events : Brush → List Event
 short_brush_events brush = short_rendition brush.rendition ∷ protection_to brush.protected ∷ []
 
--- a cell if it is marked: its position, its brush and its glyph
+-- the change of a cell if it is marked: its position, its brush and its glyph
 unfoldable pub change_of : ℕ → ℕ → Bool → Cell → List Event
 change_of r c marked cell = when marked (cursor_position r c
     ∷ (short_brush_events (brush_of cell) ++ glyph_events cell))
@@ -37,14 +37,14 @@ change_of r c marked cell = when marked (cursor_position r c
 abbrev pub change : List (List Bool) → Grid → ℕ → ℕ → List Event
 change marks g r c = change_of r c (is_marked marks r c) (cell_at g r c)
 
--- n cells of a row starting at a column
+-- the changes of n cells of a row, starting at a column
 abbrev pub changes_from : List (List Bool) → Grid → ℕ → ℕ → ℕ → List Event
 changes_from marks g r c n = flat_map (λ c. change marks g r c) (range_with_len c n)
 
 abbrev pub changed_row : List (List Bool) → Grid → ℕ → List Event
 changed_row marks g r = changes_from marks g r 1 g.width
 
--- n rows
+-- the changes of n rows
 abbrev pub changed_rows : List (List Bool) → Grid → ℕ → ℕ → List Event
 changed_rows marks g r n = flat_map (λ r. changed_row marks g r) (range_with_len r n)
 

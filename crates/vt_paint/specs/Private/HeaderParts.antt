@@ -9,7 +9,7 @@ use Rattle.vt_paint.specs.Controls.{brush_events}
 unfoldable pub row_part : ℕ → List ℕ
 row_part row = 0x1B ∷ 0x5B ∷ (decimal row ++ 0x3B ∷ [])
 
--- the rest of it, and SGR up to its 0
+-- the column of CUP and its final byte, and SGR up to its 0
 unfoldable pub column_part : ℕ → List ℕ
 column_part col = decimal col ++ 0x48 ∷ 0x1B ∷ 0x5B ∷ 0x30 ∷ []
 
@@ -17,7 +17,7 @@ column_part col = decimal col ++ 0x48 ∷ 0x1B ∷ 0x5B ∷ 0x30 ∷ []
 unfoldable pub brush_part : Brush → List ℕ
 brush_part brush = drop 3 (spell_events (brush_events brush))
 
--- the place of a brush among the 32
+-- the index of a brush among the 32
 abbrev pub brush_index : Brush → ℕ
 brush_index brush =
     bit brush.rendition.bold + 2 * bit brush.rendition.underline + 4 * bit brush.rendition.blink

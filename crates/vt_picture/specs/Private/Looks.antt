@@ -1,4 +1,4 @@
--- How the cells of two screens are shown.
+-- The looks of the cells of two screens.
 use Rattle.std.specs.Prelude.{List, Bool, not, ◌&&◌, map, if◌then◌else◌}
 use Rattle.vt_screen.specs.declared.cell.Cell.{Cell}
 use Rattle.vt_screen.specs.Cells.{blank}
@@ -6,7 +6,7 @@ use Rattle.vt_screen.specs.Same.{same_bool}
 use Rattle.vt_picture.specs.Draw.{shown_cell}
 use Rattle.vt_picture.specs.declared.drawing.looks.Looks.{Looks}
 
--- after an erase each place of the former screen is blank
+-- a cell of the former screen as it is shown: after an erase each is blank
 abbrev pub former_cell : Looks → Cell → Cell
 former_cell looks cell = if looks.erased then blank else shown_cell looks.was_reversed cell
 

@@ -1,11 +1,11 @@
-//! How the cells of two screens are shown.
+//! The looks of the cells of two screens.
 ghost use Rattle.std.specs.Prelude.{◌≡◌};
 ghost use Rattle.vt_picture.specs.Draw.{shown_rendition, shown_cell};
 ghost use Rattle.vt_picture.specs.Private.Looks.{former_cell, keeps, latter_cell};
 
 use vt_screen::{Cell, Rendition};
 
-/// How the cells of the former screen and of the new one are shown.
+/// What decides how the cells of the former screen and of the new one are shown.
 #[derive(Clone, Copy)]
 pub(crate) struct Looks {
     /// Whether the former screen was erased.

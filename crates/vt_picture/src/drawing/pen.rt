@@ -6,7 +6,7 @@ ghost use Rattle.vt_picture.specs.Draw.{go};
 use vt_paint::Function;
 use vt_screen::{MOST, Rendition};
 
-/// Where the next character is shown, and with which attributes.
+/// The pen: the position and the attributes of the next character.
 #[derive(Clone, Copy)]
 pub struct Pen {
     /// The row of the terminal's cursor.

@@ -1,4 +1,4 @@
-//! The places of a row that show something else.
+//! The places of a row that show something else than before.
 ghost use Rattle.std.specs.Prelude.{◌≡◌, ◌+◌, ◌*◌, ◌≤◌, ◌++◌, length, vec_len, vec_capacity};
 ghost use Rattle.vt_picture.specs.Limits.{place_limit};
 ghost use Rattle.vt_picture.specs.Draw.{place_bytes, place_pen, row_bytes, row_pen};
@@ -10,7 +10,7 @@ use crate::drawing::pen::{Pen, push_go};
 use crate::showing::push_change;
 use vt_screen::{Cell, MOST, same_cells};
 
-/// Appends a place if it shows something else. Returns the pen after it.
+/// Appends a place if it shows something else than before. Returns the pen after it.
 fn push_place(
     looks: Looks,
     row: usize,
@@ -43,7 +43,7 @@ fn push_place(
     }
 }
 
-/// Appends the places of a row that show something else. Returns the pen after them.
+/// Appends the places of a row that show something else than before. Returns the pen after them.
 ///
 /// Speed: equal rows are compared four cells at a time.
 pub(crate) fn push_row(

@@ -12,7 +12,7 @@ abbrev pub beyond_lines : Tracer → List ℕ → List ℕ
 beyond_lines t [] = []
 beyond_lines t (b ∷ bytes) = traced_beyond t b ++ beyond_lines (tracer_beyond t b) bytes
 
--- the tracer after them
+-- the tracer after bytes of characters beyond ASCII
 abbrev pub beyond_tracer : Tracer → List ℕ → Tracer
 beyond_tracer t [] = t
 beyond_tracer t (b ∷ bytes) = beyond_tracer (tracer_beyond t b) bytes

@@ -3,7 +3,7 @@ use Rattle.std.specs.Prelude.{ℕ, ◌+◌, ◌*◌, ◌/◌, ◌%◌, Bool, ◌
 use Rattle.vt_utf8.specs.Similar.{in_rows, in_chart, ascii_of_fullwidth}
 use Rattle.vt_utf8.specs.declared.similar.TheConstants.{SUBSTITUTE, LATIN, LINES, LETTERS, SIGN_BLOCKS, SIGNS}
 
--- from U+2000 to U+30FF, by the sixteen characters to which it belongs
+-- the code for a character from U+2000 to U+30FF, by the sixteen characters to which it belongs
 unfoldable pub sign_of : ℕ → ℕ
 sign_of c = in_chart SUBSTITUTE SIGNS 0 (in_chart SUBSTITUTE SIGN_BLOCKS 0x200 (c / 16) * 16 + c % 16)
 

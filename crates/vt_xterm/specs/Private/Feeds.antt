@@ -5,9 +5,6 @@ use Rattle.vt_utf8.specs.Decoding.{pending_after}
 use Rattle.vt_xterm.specs.Pages.{PagesState}
 use Rattle.vt_xterm.specs.Play.{Whole, WholePlayed, FrontState, behind, play_bytes, play_xterm}
 
-abbrev pub whole_of : State → PagesState → Whole
-whole_of s pages = record { state = s; pages = pages }
-
 -- what is left is what a play leaves, and its reports are after what was before
 pub record Leaves (played : WholePlayed) (w : Whole) (before after : List ℕ) : Type 0 where
   pub whole : w ≡ played.whole

@@ -1,4 +1,4 @@
-use Rattle.vt_laws.proofs.ScrolledRows.{rows-move, rows-stay, glyph-moves, glyph-stays, others-off, alternate-off, main-off}
+use Rattle.vt_laws.proofs.ScrolledRows.{rows-move, rows-stay, glyph-moves, glyph-stays, others-off, alternate-off, main-off, between-off}
 use Rattle.vt_laws.proofs.Repeated.{repeats-off}
 use Rattle.vt_laws.proofs.xterm.scrolls.Goals as goal
 
@@ -12,4 +12,5 @@ returns c = record {
   others = others-off;
   main = main-off;
   alternate = alternate-off;
+  between = between-off;
 }

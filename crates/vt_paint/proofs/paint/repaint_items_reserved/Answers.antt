@@ -7,14 +7,8 @@ pub returns-clause-items : goal.returns-clause-items
 unfolding made_events
 returns-clause-items c =
     rw (
-      c.push_last.ensures.items,
-      c.push_cells.ensures.items,
-      c.cursor.ensures.cursor,
-      c.push_saved.ensures.items,
-      c.saved.ensures,
-      c.push_stops.ensures.items,
-      c.stops.ensures,
-      c.width.ensures.width,
-      c.size.ensures.size,
+      c.repaint_placed_reserved.ensures.items,
+      c.repaint_first_reserved.ensures.items,
+      c.cursor-cursor.ensures.cursor,
     )
     (simp (flat_map-append, append_assoc))

@@ -1,47 +1,35 @@
 use Rattle.std.proofs.Common.{◌+◌, arith, sym, ◌∙◌}
 use Rattle.vt_utf8.specs.Limits.{lines_limit as utf8_lines_limit}
-use Rattle.vt_xterm.specs.Limits.{lines_limit}
-use Rattle.vt_xterm.proofs.Limits.{character-fits}
-use Rattle.vt_xterm.proofs.OfOneSize.{played-size}
-use Rattle.vt_xterm.proofs.Fed.{leaves-beyond}
-use Rattle.vt_xterm.proofs.Logged.{keeps-alternate, keeps-main}
+use Rattle.vt_xterm.specs.Play.{whole_of}
+use Rattle.vt_xterm.proofs.Beyond.{beyond-sizes}
+use Rattle.vt_xterm.proofs.OfOneSize.{keep-shown}
+use Rattle.vt_xterm.proofs.Fed.{leaves-between}
+use Rattle.vt_xterm.proofs.Logged.{keeps-between}
 use Rattle.vt_xterm.proofs.feeding.feed_beyond.Goals as goal
 
-pub returns-then-is_alternate-clause-leaves : goal.returns-then-is_alternate-clause-leaves
-returns-then-is_alternate-clause-leaves g c =
-    leaves-beyond c.args.terminal.now c.feed_beyond_ascii.new.terminal c.args.pages.now c.args.c c.args.out.now.items
-    c.feed_beyond_ascii.new.out.items c.requires.beyond c.feed_beyond_ascii.ensures.state
-    c.feed_beyond_ascii.ensures.silent c.feed_beyond_ascii.ensures.out
+pub returns-in-Some-clause-leaves : goal.returns-in-Some-clause-leaves
+returns-in-Some-clause-leaves g c =
+    leaves-between c.args.terminal.now c.character_between.new.terminal c.args.pages.now c.character_between.new.pages c.args.c
+    c.in-Some.sides c.args.out.now.items c.requires.beyond (rw (← c.width.ensures.width) (sym c.bounds.ensures.bounds ∙ c.in-Some.is))
+    c.character_between.ensures.terminal c.character_between.ensures.pages
 
-pub returns-then-is_alternate-clause-keeps : goal.returns-then-is_alternate-clause-keeps
-returns-then-is_alternate-clause-keeps g c =
-    keeps-alternate g.L.Log.Keeps g.L.Log.HasRoom g.L.Log.IsFull g.met.L.Log.kept c.args.terminal.now c.args.pages.now c.args.c c.args.log.now
-    c.requires.beyond (sym c.is_alternate.ensures ∙ c.if-is_alternate.true)
+pub returns-in-Some-clause-keeps : goal.returns-in-Some-clause-keeps
+returns-in-Some-clause-keeps g c =
+    keeps-between g.L.Log.Keeps g.L.Log.HasRoom g.L.Log.IsFull g.met.L.Log.kept c.args.terminal.now c.args.pages.now c.args.c
+    c.in-Some.sides c.args.log.now c.requires.beyond (rw (← c.width.ensures.width) (sym c.bounds.ensures.bounds ∙ c.in-Some.is))
 
-pub returns-then-is_alternate-clause-left : goal.returns-then-is_alternate-clause-left
-returns-then-is_alternate-clause-left g c = λ n room.
+pub returns-in-Some-clause-left : goal.returns-in-Some-clause-left
+returns-in-Some-clause-left g c = λ n room.
     g.met.L.Log.kept.less c.args.log.now n (n + utf8_lines_limit c.args.terminal.now.display.grid.size) (omega arith) room
 
-pub returns-else-is_alternate-clause-leaves : goal.returns-else-is_alternate-clause-leaves
-returns-else-is_alternate-clause-leaves g c =
-    leaves-beyond c.args.terminal.now c.character.new.terminal c.args.pages.now c.args.c c.args.out.now.items
-    c.character.new.out.items c.requires.beyond c.character.ensures.state c.character.ensures.silent
-    c.character.ensures.out
+pub returns-in-Some-clause-sizes : goal.returns-in-Some-clause-sizes
+returns-in-Some-clause-sizes g c =
+    beyond-sizes c.in-Some.sides c.args.c (whole_of c.args.terminal.now c.args.pages.now) c.character_between.new.terminal
+    c.character_between.new.pages c.character_between.ensures.terminal c.character_between.ensures.pages
 
-pub returns-else-is_alternate-clause-keeps : goal.returns-else-is_alternate-clause-keeps
-returns-else-is_alternate-clause-keeps g c =
-    keeps-main g.L.Log.Keeps g.L.Log.HasRoom g.L.Log.IsFull g.met.L.Log.kept c.args.terminal.now c.args.pages.now c.args.c c.args.log.now
-    c.character.new.self c.requires.beyond (sym c.is_alternate.ensures ∙ c.if-is_alternate.false) c.character.ensures.keeps
+pub returns-in-None-clause-sizes : goal.returns-in-None-clause-sizes
+returns-in-None-clause-sizes g c =
+    keep-shown c.args.terminal.now c.feed_unbounded.new.terminal c.args.pages.now c.feed_unbounded.ensures.size
 
-pub character-requires-clause-lines_room : goal.character-requires-clause-lines_room
-character-requires-clause-lines_room g c =
-    let size = c.args.terminal.now.display.grid.size in
-    g.met.L.Log.kept.less c.args.log.now (utf8_lines_limit size) (lines_limit size) (character-fits size) c.requires.lines_room
-
-pub returns-then-is_alternate-clause-size : goal.returns-then-is_alternate-clause-size
-returns-then-is_alternate-clause-size g c =
-    played-size c.args.terminal.now c.feed_beyond_ascii.new.terminal _ c.feed_beyond_ascii.ensures.state
-
-pub returns-else-is_alternate-clause-size : goal.returns-else-is_alternate-clause-size
-returns-else-is_alternate-clause-size g c =
-    played-size c.args.terminal.now c.character.new.terminal _ c.character.ensures.state
+pub feed_unbounded-requires-clause-unbounded : goal.feed_unbounded-requires-clause-unbounded
+feed_unbounded-requires-clause-unbounded g c = rw (← c.width.ensures.width) (sym c.bounds.ensures.bounds ∙ c.in-None.is)

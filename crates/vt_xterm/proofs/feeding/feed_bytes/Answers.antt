@@ -2,8 +2,7 @@ use Rattle.std.proofs.Common.{◌≡◌, ◌+◌, [], arith, ap, length-drop, su
 use Rattle.vt_term.proofs.Bytes.{rest-of}
 use Rattle.vt_screen.specs.declared.size.Size.{Size}
 use Rattle.vt_xterm.specs.Limits.{xterm_lines_limit}
-use Rattle.vt_xterm.specs.Play.{WholePlayed, play_bytes}
-use Rattle.vt_xterm.specs.Private.Feeds.{whole_of}
+use Rattle.vt_xterm.specs.Play.{WholePlayed, play_bytes, whole_of}
 use Rattle.vt_xterm.proofs.Cuts.{bytes-nothing}
 use Rattle.vt_xterm.proofs.Fed.{feeds-nothing, feeds-more}
 use Rattle.vt_utf8.proofs.Logged.{keeps-nothing}

@@ -1,5 +1,6 @@
 use Rattle.std.proofs.Common.{ℕ, List, subst}
-use Rattle.vt_xterm.specs.Private.Feeds.{whole_of, FeedsBytes}
+use Rattle.vt_xterm.specs.Play.{whole_of}
+use Rattle.vt_xterm.specs.Private.Feeds.{FeedsBytes}
 use Rattle.vt_xterm.proofs.Fed.{leaves-ascii, one-byte}
 use Rattle.vt_xterm.proofs.Logged.{keeps-ascii-character}
 use Rattle.vt_xterm.proofs.feeding.feed_character.Goals as goal

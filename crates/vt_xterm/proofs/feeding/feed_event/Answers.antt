@@ -1,6 +1,6 @@
 use Rattle.std.proofs.Common.{take, sym}
 use Rattle.vt_syntax.specs.Event.{event_of}
-use Rattle.vt_xterm.specs.Private.Feeds.{whole_of}
+use Rattle.vt_xterm.specs.Play.{whole_of}
 use Rattle.vt_xterm.proofs.Fed.{feeds-event, feeds-part}
 use Rattle.vt_xterm.proofs.Logged.{part-keeps, event-keeps}
 use Rattle.vt_xterm.proofs.feeding.feed_event.Goals as goal

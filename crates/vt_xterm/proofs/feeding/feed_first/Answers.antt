@@ -1,3 +1,4 @@
+use Rattle.std.proofs.Common.{refl}
 use Rattle.vt_xterm.proofs.Fed.{xterm-none, feeds-whole}
 use Rattle.vt_xterm.proofs.Logged.{keeps-none, keeps-whole}
 use Rattle.vt_xterm.proofs.feeding.feed_first.Goals as goal
@@ -11,8 +12,8 @@ returns-then-is_full-clause-keeps g c =
 
 pub returns-in-Some-clause-fed : goal.returns-in-Some-clause-fed
 returns-in-Some-clause-fed g c =
-    feeds-whole c.args.terminal.now c.feed_beyond.new.terminal _ _ c.args.piece.now c.in-Some.c c.in-Some.size
-    c.args.out.now.items c.feed_beyond.new.out.items c.front.view_is c.requires.nothing c.in-Some.ensures.1
+    feeds-whole c.args.terminal.now c.feed_beyond.new.terminal _ _ _ c.args.piece.now c.in-Some.c c.in-Some.size
+    c.args.out.now.items c.feed_beyond.new.out.items c.front.view_is c.requires.nothing refl c.in-Some.ensures.1
     c.feed_beyond.ensures.leaves
 
 pub returns-in-Some-clause-keeps : goal.returns-in-Some-clause-keeps

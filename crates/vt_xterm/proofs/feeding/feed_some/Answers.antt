@@ -1,5 +1,5 @@
 use Rattle.vt_term.proofs.Bytes.{rest-of}
-use Rattle.vt_xterm.specs.Private.Feeds.{whole_of}
+use Rattle.vt_xterm.specs.Play.{whole_of}
 use Rattle.vt_xterm.proofs.Fed.{feeds-more}
 use Rattle.vt_xterm.proofs.Logged.{keeps-bytes}
 use Rattle.vt_xterm.proofs.feeding.feed_some.Goals as goal

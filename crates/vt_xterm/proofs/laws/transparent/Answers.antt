@@ -1,9 +1,7 @@
-use Rattle.vt_xterm.proofs.Cuts.{xterm-ascii}
-use Rattle.vt_xterm.proofs.Terminals.{bytes-terminals}
 use Rattle.vt_xterm.proofs.laws.transparent.Goals as goal
 
 pub returns : goal.returns
 returns c = record {
-  ascii = λ w bytes sound all. xterm-ascii c.one_split.ensures w bytes sound.held all;
-  terminals = bytes-terminals;
+  ascii = λ w bytes sound all. c.sized_transparent.ensures.ascii w bytes sound.held all;
+  terminals = c.sized_transparent.ensures.terminals;
 }

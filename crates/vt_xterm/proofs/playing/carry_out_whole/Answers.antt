@@ -10,8 +10,8 @@ returns-clause-sizes c =
     let one = sound-one c.args.terminal.now c.args.pages.now c.width.ensures.sound c.soundness.ensures c.requires.one_size in
     let event = event_of c.args.kind c.args.values.now in
     record {
-      shown = ap (λ (s : State). s.display.grid.size) c.carry_out.ensures.terminal ∙ c.keeps_size.ensures.size event _ one;
+      shown = ap (λ (s : State). s.display.grid.size) c.carry_out.ensures.terminal ∙ c.size_stays.ensures.size event _ one;
       other = ap (λ (p : PagesState). p.other.grid.size) c.carry_out.ensures.pages
-          ∙ (c.keeps_size.ensures.one_size event _ one).1.of_size
-          ∙ c.keeps_size.ensures.size event _ one ∙ sym c.requires.one_size;
+          ∙ (c.size_stays.ensures.one_size event _ one).1.of_size
+          ∙ c.size_stays.ensures.size event _ one ∙ sym c.requires.one_size;
     }

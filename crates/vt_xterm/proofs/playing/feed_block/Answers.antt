@@ -1,33 +1,27 @@
--- The lines that nobody sees, and the rest of the block.
-use Rattle.std.proofs.Common.{◌≡◌, ◌-◌, rules, take, drop, arith}
-use Rattle.std.proofs.Math.Seq.{take-length}
-use Rattle.vt_syntax.specs.declared.held.Held.TheVariants.{Nothing}
-use Rattle.vt_xterm.proofs.OfOneSize.{still-shown, unseen-size, keep-shown, keep-both}
-use Rattle.vt_xterm.proofs.Unseen.{block-fed}
+-- The lines, and what is after them.
+use Rattle.std.proofs.Common.{sym}
+use Rattle.vt_term.proofs.Bytes.{rest-of}
+use Rattle.vt_xterm.specs.Play.{whole_of}
+use Rattle.vt_xterm.proofs.Fed.{feeds-more}
+use Rattle.vt_xterm.proofs.OfOneSize.{keep-shown, keep-both, still-shown}
 use Rattle.vt_xterm.proofs.playing.feed_block.Goals as goal
+
+pub feed_before-requires-2-clause-one_size : goal.feed_before-requires-2-clause-one_size
+feed_before-requires-2-clause-one_size c =
+    still-shown c.args.terminal.now c.feed_lines-passed.new.terminal c.args.pages.now c.feed_lines-passed.ensures.size
+    c.requires.one_size
 
 pub returns-clause-fed : goal.returns-clause-fed
 returns-clause-fed c =
-    let piece = c.args.piece.now in
-    let passed = c.pass_unseen-unseen in
-    let n = passed.result.unseen in
-    let m = passed.result.looked_at in
-    let e = c.min-end-2.result in
-    let between : c.args.terminal.now.held ≡ Nothing = search rules in
-    block-fed c.one_split.ensures c.spelled.ensures c.args.terminal.now passed.new.self c.feed_written-2.new.terminal
-    c.args.pages.now c.feed_written-2.new.pages piece c.args.out.now.items c.feed_written-2.new.out.items n m e
-    passed.ensures.within (omega arith) between passed.ensures.held passed.ensures.lines passed.ensures.same_front
-    (rw (c.feed_written-2.ensures.all, take-length (take (e - n) (drop n piece))) at c.feed_written-2.ensures.fed)
-
--- the sizes after lines that nobody sees
-pub feed_written-requires-2-clause-one_size : goal.feed_written-requires-2-clause-one_size
-feed_written-requires-2-clause-one_size c =
-    still-shown c.args.terminal.now c.pass_unseen-unseen.new.self c.args.pages.now
-    (unseen-size c.args.terminal.now c.pass_unseen-unseen.new.self _ _ c.pass_unseen-unseen.ensures.same) c.requires.one_size
+    let passed = c.feed_lines-passed in
+    let rest = c.feed_before-2 in
+    feeds-more c.one_split.ensures (whole_of c.args.terminal.now c.args.pages.now) (whole_of passed.new.terminal c.args.pages.now)
+    (whole_of rest.new.terminal rest.new.pages) c.args.piece.now passed.result rest.result c.args.out.now.items
+    passed.new.out.items rest.new.out.items passed.ensures.fed (rw (rest-of c.args.piece.now passed.result) at rest.ensures.fed)
 
 pub returns-clause-sizes : goal.returns-clause-sizes
 returns-clause-sizes c =
-    let t = c.pass_unseen-unseen.new.self in
-    keep-both c.args.terminal.now t c.feed_written-2.new.terminal c.args.pages.now c.args.pages.now c.feed_written-2.new.pages
-    (keep-shown c.args.terminal.now t c.args.pages.now (unseen-size c.args.terminal.now t _ _ c.pass_unseen-unseen.ensures.same))
-    c.feed_written-2.ensures.sizes
+    let passed = c.feed_lines-passed in
+    keep-both c.args.terminal.now passed.new.terminal c.feed_before-2.new.terminal c.args.pages.now c.args.pages.now
+    c.feed_before-2.new.pages (keep-shown c.args.terminal.now passed.new.terminal c.args.pages.now passed.ensures.size)
+    c.feed_before-2.ensures.sizes

@@ -1,6 +1,6 @@
 use Rattle.std.proofs.Common.{arith, length-drop}
 use Rattle.vt_term.proofs.Bytes.{rest-of}
-use Rattle.vt_xterm.specs.Private.Feeds.{whole_of}
+use Rattle.vt_xterm.specs.Play.{whole_of}
 use Rattle.vt_xterm.proofs.Fed.{feeds-nothing, feeds-more}
 use Rattle.vt_xterm.proofs.OfOneSize.{keep-nothing, keep-both, still-one}
 use Rattle.vt_xterm.proofs.playing.feed_pages.Goals as goal

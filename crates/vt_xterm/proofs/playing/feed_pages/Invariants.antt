@@ -1,6 +1,7 @@
 -- The bytes before the place are played.
 use Rattle.std.proofs.Common.{◌+◌, ◌-◌, ◌*◌, ◌≤◌, length, take, vec_len, vec_capacity}
-use Rattle.vt_xterm.specs.Private.Feeds.{whole_of, FeedsBytes, KeepSizes}
+use Rattle.vt_xterm.specs.Play.{whole_of}
+use Rattle.vt_xterm.specs.Private.Feeds.{FeedsBytes, KeepSizes}
 use Rattle.vt_xterm.proofs.playing.feed_pages.Given as goal
 
 abbrev pub invariant-loop-at : goal.invariant-loop-at

@@ -1,6 +1,5 @@
 use Rattle.vt_screen.specs.Sizes.{vt220_size}
-use Rattle.vt_xterm_paint.proofs.Rebuilt.{at-vt220}
 use Rattle.vt_xterm_paint.proofs.laws.rebuilds.Goals as goal
 
 pub returns : goal.returns
-returns c = λ w i. c.sized_rebuilds.ensures vt220_size w (at-vt220 w i)
+returns c = c.sized_rebuilds.ensures vt220_size

@@ -11,7 +11,7 @@ returns-clause-items c =
     rw (
       c.push_paste.ensures.items,
       c.push_resizes-2.ensures.items,
-      c.repaint_items_reserved.ensures.items,
+      c.push_shown.ensures.items,
       c.push-2.ensures.items,
       c.mode.ensures.value,
       c.push_page-2.ensures.items,
@@ -40,7 +40,7 @@ push_resizes-requires-2 c =
       c.push_hidden.ensures.capacity,
       c.push_page-2.ensures,
       c.push-2.ensures,
-      c.repaint_items_reserved.ensures,
+      c.push_shown.ensures,
     )
 
 pub push_paste-requires : goal.push_paste-requires
@@ -57,14 +57,14 @@ push_paste-requires c =
       c.push_hidden.ensures.capacity,
       c.push_page-2.ensures,
       c.push-2.ensures,
-      c.repaint_items_reserved.ensures,
+      c.push_shown.ensures,
       c.push_resizes-2.ensures,
     )
 
 pub returns-clause-rebuilds : goal.returns-clause-rebuilds
-returns-clause-rebuilds c =
-    c.sized_rebuilds.ensures c.args.t.now.display.grid.size (behind c.args.t.now c.args.front.now) c.push_hidden.ensures.sound
-    c.requires.between
+returns-clause-rebuilds c = λ fits.
+    c.sized_rebuilds.ensures c.args.t.now.display.grid.size (behind c.args.t.now c.args.front.now)
+    (c.push_hidden.ensures.sound fits) c.requires.between
 
 pub returns-clause-bounded : goal.returns-clause-bounded
 returns-clause-bounded c =
@@ -78,7 +78,7 @@ returns-clause-bounded c =
       c.push_hidden.ensures.bounded,
       c.push_page-2.ensures.bounded,
       c.push-2.ensures.bounded,
-      c.repaint_items_reserved.ensures.bounded,
+      c.push_shown.ensures.bounded,
       c.push_resizes-2.ensures.bounded,
       c.push_paste.ensures.bounded,
     )

@@ -6,10 +6,11 @@ use Rattle.vt_xterm_paint.specs.Repaint.{other_shown}
 use Rattle.vt_xterm_paint.proofs.paint.soundness.Goals as goal
 
 pub returns : goal.returns
-returns c =
+returns c = λ fits.
     let own = subst (λ (s : Display). IsSoundDisplayAt s.grid.size s) c.requires.scratch c.width-2.ensures.sound.display in
     let other = subst (λ (z : Size). IsSoundDisplayAt z (other_shown c.args.front.now.pages)) c.requires.size own in
     record {
       state = c.width.ensures.sound;
       other = record { of_size = other.of_size; grid = other.grid; saved = other.saved; saved_sets = other.saved_sets };
+      sides = fits;
     }

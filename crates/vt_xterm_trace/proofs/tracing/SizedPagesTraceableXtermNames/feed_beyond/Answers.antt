@@ -1,27 +1,24 @@
 use Rattle.std.proofs.Common.{◌∙◌, ap, sym}
-use Rattle.vt_term.specs.State.{State}
-use Rattle.vt_term.proofs.SizeKept.{play_kept}
-use Rattle.vt_utf8.specs.Translation.{translation}
-use Rattle.vt_xterm.specs.Private.Feeds.{whole_of}
-use Rattle.vt_xterm.proofs.OfOneSize.{played-size}
-use Rattle.vt_xterm_trace.proofs.Played.{beyond-after, beyond-reports}
+use Rattle.vt_xterm_trace.proofs.Played.{beyond-silent, beyond-out}
 use Rattle.vt_xterm_trace.proofs.tracing.SizedPagesTraceableXtermNames.feed_beyond.Goals as goal
 
 pub returns-clause-size : goal.returns-clause-size
-returns-clause-size c =
-    let s = c.args.terminal.now in played-size s _ (translation s c.args.c) c.feed_beyond_ascii.ensures.state
+returns-clause-size c = c.feed_xterm_character.ensures.size
 
 pub returns-clause-one_size : goal.returns-clause-one_size
 returns-clause-one_size c =
-    let s = c.args.terminal.now in
-    c.requires.one_size ∙ sym (played-size s _ (translation s c.args.c) c.feed_beyond_ascii.ensures.state)
+    let fed = c.feed_xterm_character.ensures in fed.other_size ∙ c.requires.one_size ∙ sym fed.size
 
 pub returns-clause-state : goal.returns-clause-state
-returns-clause-state c =
-    let s = c.args.terminal.now in
-    ap (λ (z : State). whole_of z c.args.self.now) c.feed_beyond_ascii.ensures.state
-    ∙ sym (beyond-after s c.args.self.now c.args.c c.requires.beyond)
+returns-clause-state c = c.feed_xterm_character.ensures.whole
 
 pub returns-clause-silent : goal.returns-clause-silent
 returns-clause-silent c =
-    beyond-reports c.args.terminal.now c.args.self.now c.args.c c.requires.beyond ∙ c.feed_beyond_ascii.ensures.silent
+    beyond-silent (λ s x high sound. c.sized_silence.ensures.silent _ s x sound high) c.args.terminal.now c.args.self.now
+    c.args.c c.requires.beyond c.width.ensures.sound
+
+pub returns-clause-out : goal.returns-clause-out
+returns-clause-out c =
+    beyond-out c.args.terminal.now c.args.self.now c.args.c c.args.reports.now.items _ c.feed_xterm_character.ensures.reports
+    (beyond-silent (λ s x high sound. c.sized_silence.ensures.silent _ s x sound high) c.args.terminal.now c.args.self.now
+    c.args.c c.requires.beyond c.width.ensures.sound)

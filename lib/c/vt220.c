@@ -21,9 +21,11 @@ typedef struct utf8 {
 } utf8;
 
 uint32_t core_version(void);
-uint32_t core_open(handle *t);
+uint32_t core_open(handle *t, size_t rows, size_t columns);
+uint32_t core_resized(handle *resized, handle *t, size_t rows, size_t columns);
 void core_close(handle *t);
 uint32_t core_scratch_open(handle *s);
+uint32_t core_scratch_fit(handle *s, handle *t);
 void core_scratch_close(handle *s);
 size_t core_feed(handle *t, const uint8_t *bytes, size_t len, bool counts, uint8_t *reports, size_t size, size_t *written, size_t *bells);
 size_t core_feed_byte(handle *t, uint8_t byte, uint8_t *reports, size_t size, size_t *written);
@@ -34,7 +36,8 @@ size_t core_feed_utf8(handle *t, utf8 *u, const uint8_t *bytes, size_t len, bool
 size_t core_feed_byte_utf8(handle *t, utf8 *u, uint8_t byte, uint8_t *reports, size_t size, size_t *written);
 size_t core_feed_log_utf8(handle *t, handle *s, utf8 *u, const uint8_t *bytes, size_t len, bool counts, uint8_t *reports, size_t size,
                           size_t *written, uint8_t *lines, size_t lines_size, size_t *lines_written, size_t *bells);
-uint32_t core_xterm_open(handle *x);
+uint32_t core_xterm_open(handle *x, size_t rows, size_t columns);
+uint32_t core_xterm_resized(handle *resized, handle *t, handle *x, size_t rows, size_t columns);
 void core_xterm_close(handle *x);
 bool core_xterm_alternate(handle *x);
 bool core_xterm_bracketed_paste(handle *x);
@@ -57,15 +60,17 @@ uint32_t core_draw(handle *t, handle *s, uint8_t *out, size_t size, size_t *writ
 uint32_t core_draw_from(handle *shown, handle *to, handle *s, uint8_t *out, size_t size, size_t *written);
 uint32_t core_repaint(handle *t, handle *s, uint8_t *out, size_t size, size_t *written);
 uint32_t core_update(handle *shown, handle *to, handle *s, uint8_t *out, size_t size, size_t *written);
-uint32_t core_row_changes(handle *shown, handle *to, size_t row, vt220_row_marks *marks);
+uint32_t core_row_changes(handle *shown, handle *to, size_t row, bool *changed, size_t size);
 size_t core_row(handle *t, size_t row, vt220_cell *cells, size_t size);
+size_t core_rows(handle *t);
 size_t core_width(handle *t);
+size_t core_limit(handle *t, uint32_t what);
 bool core_cursor(handle *t, vt220_cursor_place *cursor);
 bool core_margins(handle *t, vt220_margin_rows *margins);
 bool core_modes(handle *t, vt220_mode_set *modes);
 bool core_brush(handle *t, vt220_brush_look *brush);
 bool core_sets(handle *t, vt220_graphic_sets *sets);
-bool core_stops(handle *t, vt220_tab_stops *stops);
+size_t core_stops(handle *t, bool *stops, size_t size);
 bool core_saved(handle *t, vt220_saved_record *saved);
 bool core_is_between(handle *t);
 uint32_t core_held_kind(handle *t);
@@ -85,8 +90,9 @@ typedef struct session {
 _Static_assert(offsetof(vt220, terminal) == offsetof(handle, at) && offsetof(vt220, is_open) == offsetof(handle, is_open), "one form");
 _Static_assert(sizeof(handle) <= offsetof(vt220, bells), "a handle ends before the bells");
 
-/* Stands for a null pointer of length 0. */
+/* Stand for a null pointer of length 0. */
 static uint8_t nothing;
+static bool no_mark;
 
 /* The most bytes of UTF-8 that are searched for BEL and then processed: few enough to stay in the nearest cache. A test has smaller
  * blocks. */
@@ -96,6 +102,9 @@ static uint8_t nothing;
 
 /* The bytes of replies that are written and dropped at once: enough for speed, and few enough for the stack that the header names. */
 enum { REPLIES = 2560, BEL = 0x07, FIRST = 8 };
+
+/* The columns of a VT220 at power-up. */
+enum { NARROW = 80 };
 
 /* Each call that feeds has a copy of such a function, without what this call doesn't need. So an input of one byte costs less. */
 #define INLINED __attribute__((always_inline)) static inline
@@ -150,24 +159,28 @@ const char *vt220_status_text(uint32_t status) {
         "there is no such key",
         "no key sends this character",
         "the terminal has another language",
+        "there is no such size, or two have different sizes",
     };
     return status < sizeof texts / sizeof texts[0] ? texts[status] : "unknown status";
 }
 
-uint32_t vt220_open(vt220 *t) {
+/* Opens a terminal of a size for a VT220's bytes. */
+static uint32_t open_size(vt220 *t, size_t rows, size_t columns) {
     if (t->is_open) return VT220_IN_USE;
     if (!is_supported()) return VT220_UNSUPPORTED;
     handle h = {NULL, false};
-    uint32_t status = core_open(&h);
+    uint32_t status = core_open(&h, rows, columns);
     if (status == VT220_OK) *t = (vt220){h.at, h.is_open, 0};
     return status;
 }
 
+uint32_t vt220_open(vt220 *t) { return open_size(t, VT220_ROWS, NARROW); }
+
 /* Gives an open terminal a language other than a VT220's bytes. Closes it if the allocation fails. */
-static uint32_t speak(vt220 *t, uint32_t language) {
+static uint32_t speak(vt220 *t, uint32_t language, size_t rows, size_t columns) {
     handle pages = {NULL, false};
     session *by = malloc(sizeof *by);
-    if (by == NULL || (language == VT220_XTERM && core_xterm_open(&pages) != VT220_OK)) {
+    if (by == NULL || (language == VT220_XTERM && core_xterm_open(&pages, rows, columns) != VT220_OK)) {
         free(by);
         vt220_close(t);
         return VT220_MEMORY;
@@ -177,12 +190,12 @@ static uint32_t speak(vt220 *t, uint32_t language) {
     return VT220_OK;
 }
 
-uint32_t vt220_open_as(vt220 *t, uint32_t language) {
+uint32_t vt220_open_as(vt220 *t, uint32_t language, size_t rows, size_t columns) {
     if (t->is_open) return VT220_IN_USE;
     if (language > (VT220_UTF8 | VT220_XTERM)) return VT220_LANGUAGE;
-    uint32_t status = vt220_open(t);
+    uint32_t status = open_size(t, rows, columns);
     if (status != VT220_OK || language == VT220_BYTES) return status;
-    return speak(t, language & VT220_XTERM ? VT220_XTERM : VT220_UTF8);
+    return speak(t, language & VT220_XTERM ? VT220_XTERM : VT220_UTF8, rows, columns);
 }
 
 void vt220_close(vt220 *t) {
@@ -207,6 +220,14 @@ uint32_t vt220_scratch_open(vt220_scratch *s) {
     handle h = {NULL, false};
     uint32_t status = core_scratch_open(&h);
     if (status == VT220_OK) *s = (vt220_scratch){h.at, h.is_open};
+    return status;
+}
+
+uint32_t vt220_scratch_fit(vt220_scratch *s, const vt220 *t) {
+    handle h = own(t), room = own_scratch(s);
+    if (!h.is_open) return VT220_CLOSED;
+    uint32_t status = core_scratch_fit(&room, &h);
+    keep_scratch(s, room);
     return status;
 }
 
@@ -421,6 +442,28 @@ uint32_t vt220_reset(vt220 *t) {
     return status;
 }
 
+/* Takes over what was made for another size. What was there before is closed. */
+static void take_over(vt220 *t, handle made, handle pages) {
+    session *by = session_of(t);
+    handle h = own(t);
+    core_close(&h);
+    keep(t, made);
+    if (!is_xterm(by)) return;
+    core_xterm_close(&by->pages);
+    by->pages = pages;
+}
+
+uint32_t vt220_resize(vt220 *t, size_t rows, size_t columns) {
+    session *by = session_of(t);
+    handle h = own(t), made = {NULL, false}, pages = {NULL, false};
+    if (!h.is_open) return VT220_CLOSED;
+    uint32_t status = core_resized(&made, &h, rows, columns);
+    if (status == VT220_OK && is_xterm(by)) status = core_xterm_resized(&pages, &h, &by->pages, rows, columns);
+    if (status == VT220_OK) take_over(t, made, pages);
+    else if (made.is_open) core_close(&made);
+    return status;
+}
+
 /* Copies what the language of `to` keeps next to the terminal. */
 static void copy_language(session *to, const vt220 *from) {
     if (is_xterm(to)) {
@@ -439,7 +482,7 @@ uint32_t vt220_copy(vt220 *to, const vt220 *from) {
     if (is_same(to, from)) return VT220_OK;
     uint32_t status = core_copy(&h, &other);
     keep(to, h);
-    if (by != NULL) copy_language(by, from);
+    if (by != NULL && status == VT220_OK) copy_language(by, from);
     return status;
 }
 
@@ -524,33 +567,67 @@ uint32_t vt220_draw(const vt220 *shown, const vt220 *to, vt220_scratch *s, uint8
     return status;
 }
 
-uint32_t vt220_row_changes(const vt220 *shown, const vt220 *to, size_t row, vt220_row_marks *marks) {
+uint32_t vt220_changes_of(const vt220 *shown, const vt220 *to, size_t row, bool *changed, size_t size) {
     handle h = own(shown), other = own(to);
-    vt220_row_marks now = {0};
     if (!h.is_open || !other.is_open) return VT220_CLOSED;
-    if (row < 1 || row > VT220_ROWS) return VT220_NO_ROW;
-    if (is_same(shown, to)) {
-        now.width = core_width(&other);
-    } else {
-        core_row_changes(&h, &other, row, &now);
-        memset(now.changed + now.width, 0, VT220_COLUMNS - now.width);
-    }
-    memset(now.reserved, 0, sizeof now.reserved);
-    *marks = now;
+    if (changed == NULL) size = 0;
+    if (!is_same(shown, to)) return core_row_changes(&h, &other, row, changed != NULL ? changed : &no_mark, size);
+    size_t width = core_width(&other);
+    if (row < 1 || row > core_rows(&other)) return VT220_NO_ROW;
+    if (size < width) return VT220_ROOM;
+    memset(changed, 0, width * sizeof *changed);
     return VT220_OK;
+}
+
+uint32_t vt220_row_changes(const vt220 *shown, const vt220 *to, size_t row, vt220_row_marks *marks) {
+    vt220_row_marks now = {.width = vt220_width(to)};
+    uint32_t status = vt220_changes_of(shown, to, row, now.changed, now.width <= VT220_COLUMNS ? now.width : 0);
+    if (status == VT220_OK) *marks = now;
+    return status == VT220_ROOM ? VT220_SIZE : status;
 }
 
 size_t vt220_row(const vt220 *t, size_t row, vt220_cell *cells, size_t size) {
     handle h = own(t);
     size_t width = h.is_open ? core_width(&h) : 0;
-    if (width == 0 || row < 1 || row > VT220_ROWS || size < width) return 0;
+    if (width == 0 || row < 1 || row > core_rows(&h) || size < width) return 0;
     memset(cells, 0, width * sizeof *cells);
     return core_row(&h, row, cells, width);
+}
+
+size_t vt220_rows(const vt220 *t) {
+    handle h = own(t);
+    return h.is_open ? core_rows(&h) : 0;
 }
 
 size_t vt220_width(const vt220 *t) {
     handle h = own(t);
     return h.is_open ? core_width(&h) : 0;
+}
+
+/* Returns the core's number of a limit: what a repaint and lines have at most depends on the language. */
+static uint32_t limit_number(uint32_t language, uint32_t what) {
+    static const uint32_t of_lines[] = {VT220_OF_ROW_TEXT, 8, 9};
+    if (what == VT220_OF_LINES) return of_lines[language];
+    return what == VT220_OF_REPAINT && language == VT220_XTERM ? 7 : what;
+}
+
+size_t vt220_limit(const vt220 *t, uint32_t what) {
+    handle h = own(t);
+    if (!h.is_open || what > VT220_OF_LINES) return 0;
+    return core_limit(&h, limit_number(language_of(t), what));
+}
+
+size_t vt220_stops_of(const vt220 *t, bool *stops, size_t size) {
+    handle h = own(t);
+    if (!h.is_open || stops == NULL) return 0;
+    return core_stops(&h, stops, size);
+}
+
+bool vt220_stops(const vt220 *t, vt220_tab_stops *stops) {
+    vt220_tab_stops now = {{false}, {0}};
+    if (vt220_stops_of(t, now.stop, VT220_COLUMNS) != VT220_COLUMNS) return false;
+    *stops = now;
+    return true;
 }
 
 /* Defines a call that writes one part of the state. */
@@ -570,7 +647,6 @@ PART(margins, vt220_margin_rows)
 PART(modes, vt220_mode_set)
 PART(brush, vt220_brush_look)
 PART(sets, vt220_graphic_sets)
-PART(stops, vt220_tab_stops)
 PART(saved, vt220_saved_record)
 
 bool vt220_is_between(const vt220 *t) {

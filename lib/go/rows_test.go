@@ -122,6 +122,22 @@ func fed(t *testing.T, s *Scratch, language Language, input []byte, size int) (*
 	return terminal, found
 }
 
+// pieces cuts an input into chunks of a size.
+func pieces(input []byte, size int) (parts [][]byte) {
+	for ; len(input) > size; input = input[size:] {
+		parts = append(parts, input[:size])
+	}
+	return append(parts, input)
+}
+
+// sizeOf returns the rows and the columns of COLUMNSxROWS.
+func sizeOf(t *testing.T, field string) (rows, columns int) {
+	if _, err := fmt.Sscanf(field, "%dx%d", &columns, &rows); err != nil {
+		t.Fatal(field, err)
+	}
+	return rows, columns
+}
+
 // eachWay feeds the input of each vector for an encoding and a terminal whole, byte by byte and in chunks of five, and compares what that
 // leads to with what the vector has.
 func eachWay(t *testing.T, encoding, terminal string, fed func([]byte, int) row) {

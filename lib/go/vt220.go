@@ -24,6 +24,8 @@ import (
 const (
 	Rows            = 24
 	Columns         = 132
+	MostRows        = 255
+	MostColumns     = 255
 	ReportLimit     = 10
 	TextLimit       = 9528
 	RowTextLimit    = 397
@@ -32,7 +34,7 @@ const (
 	PaintLimit      = 93512
 	UpdateLimit     = 94152
 	DrawLimit       = 79270
-	XtermPaintLimit = 187060
+	XtermPaintLimit = 187076
 	KeyLimit        = 7
 	TypedLimit      = 16
 	Version         = 400 // 10000 * major + 100 * minor + patch
@@ -48,6 +50,7 @@ var (
 	ErrNoKey       = errors.New("vt220: there is no such key")
 	ErrNoCharacter = errors.New("vt220: no key sends this character")
 	ErrLanguage    = errors.New("vt220: the terminal has another language")
+	ErrSize        = errors.New("vt220: there is no such size, or two terminals have different sizes")
 )
 
 // noCopy lets go vet find copies of a struct that owns a handle.
@@ -125,6 +128,8 @@ func result(status C.uint32_t) error {
 		return ErrNoCharacter
 	case C.VT220_LANGUAGE:
 		return ErrLanguage
+	case C.VT220_SIZE:
+		return ErrSize
 	default:
 		return ErrClosed // the other two are impossible: New opens once, and the buffer always has the limit
 	}
@@ -207,13 +212,28 @@ func NewScratch() (*Scratch, error) {
 // Close frees the memory. A closed scratch buffer stays closed.
 func (s *Scratch) Close() { C.vt220_scratch_close(&s.handle) }
 
-// written returns a copy of what a call writes into the buffer. The call is given where it writes the length.
-func (s *Scratch) written(call func(length *C.size_t) C.uint32_t) ([]byte, error) {
-	if s == nil {
-		return nil, ErrClosed
+// serve makes the buffers serve a terminal's size, and as many bytes as what it writes may have. A closed one stays closed.
+func (s *Scratch) serve(of *Terminal, what C.uint32_t) error {
+	if s == nil || !bool(C.vt220_scratch_is_open(&s.handle)) {
+		return ErrClosed
+	}
+	if err := result(C.vt220_scratch_fit(&s.handle, &of.handle)); err != nil {
+		return err
+	}
+	if limit := int(C.vt220_limit(&of.handle, what)); limit > len(s.out) {
+		s.out = make([]C.uint8_t, limit)
+	}
+	return nil
+}
+
+// written returns a copy of what a call writes of a terminal into the buffer. The call is given the buffer, its size, and where it writes the
+// length.
+func (s *Scratch) written(of *Terminal, what C.uint32_t, call func(out *C.uint8_t, size C.size_t, length *C.size_t) C.uint32_t) ([]byte, error) {
+	if err := s.serve(of, what); err != nil {
+		return nil, err
 	}
 	var length C.size_t
-	if err := result(call(&length)); err != nil {
+	if err := result(call(&s.out[0], C.size_t(len(s.out)), &length)); err != nil {
 		return nil, err
 	}
 	return C.GoBytes(unsafe.Pointer(&s.out[0]), C.int(length)), nil
@@ -231,14 +251,28 @@ type Terminal struct {
 func New() (*Terminal, error) { return OpenAs(Bytes) }
 
 // OpenAs opens a terminal for a language in its power-up state. It returns the errors of New, and ErrLanguage if there is no such language.
-func OpenAs(language Language) (*Terminal, error) {
+func OpenAs(language Language) (*Terminal, error) { return OpenSize(language, Rows, 80) }
+
+// OpenSize opens a terminal for a language and of a size in its power-up state: 2 to 255 rows of 80 to 255 columns. At another size than 24 by
+// 80 DECCOLM leaves the width. It returns the errors of OpenAs, and ErrSize if there is no such size.
+func OpenSize(language Language, rows, columns int) (*Terminal, error) {
 	t := new(Terminal)
-	if err := result(C.vt220_open_as(&t.handle, C.uint32_t(language))); err != nil {
+	if err := result(C.vt220_open_as(&t.handle, C.uint32_t(language), C.size_t(rows), C.size_t(columns))); err != nil {
 		return nil, err
 	}
 	runtime.SetFinalizer(t, (*Terminal).Close)
 	return t, nil
 }
+
+// Resize changes the size, as xterm does if its window changes, also inside a sequence: 2 to 255 rows of 80 to 255 columns. DECCOLM then leaves
+// the width. If the cursor would be below the last row, so many rows leave at the top that it is in the last one: read them before, with RowText.
+// It returns ErrSize if there is no such size, and ErrMemory if the allocation fails, and then nothing has changed.
+func (t *Terminal) Resize(rows, columns int) error {
+	return result(C.vt220_resize(&t.handle, C.size_t(rows), C.size_t(columns)))
+}
+
+// Rows returns the number of rows.
+func (t *Terminal) Rows() int { return int(C.vt220_rows(&t.handle)) }
 
 // kept returns what the terminal keeps for its language. It is zero if the terminal is closed.
 func (t *Terminal) kept() (kept C.vt220_language_state) {
@@ -273,7 +307,14 @@ func (t *Terminal) Clone() (*Terminal, error) {
 	if err != nil {
 		return nil, err
 	}
-	if err := clone.CopyFrom(t); err != nil {
+	// A VT220's screen may be 132 columns wide, and one that was resized to 24 by 80 isn't a VT220's.
+	err = clone.CopyFrom(t)
+	if err == ErrSize {
+		if err = clone.Resize(t.Rows(), t.Width()); err == nil {
+			err = clone.CopyFrom(t)
+		}
+	}
+	if err != nil {
 		clone.Close()
 		return nil, err
 	}
@@ -302,8 +343,8 @@ func (t *Terminal) Feed(bytes []byte) (reports []byte) {
 // then played nothing.
 func (t *Terminal) FeedLog(bytes []byte, s *Scratch) (reports, lines []byte, err error) {
 	var written, logged C.size_t
-	if !t.IsOpen() || s == nil || !bool(C.vt220_scratch_is_open(&s.handle)) {
-		return nil, nil, ErrClosed
+	if err := s.serve(t, C.VT220_OF_LINES); err != nil {
+		return nil, nil, err
 	}
 	for len(bytes) > 0 && t.IsOpen() {
 		played := C.vt220_feed_log(&t.handle, &s.handle, (*C.uint8_t)(&bytes[0]), C.size_t(len(bytes)), &t.reports[0], C.size_t(len(t.reports)), &written,
@@ -315,43 +356,41 @@ func (t *Terminal) FeedLog(bytes []byte, s *Scratch) (reports, lines []byte, err
 	return reports, lines, nil
 }
 
-// Text returns the screen as text: 24 lines, each without the spaces at its end, and with a line feed.
+// Text returns the screen as text: a line for each row, each without the spaces at its end, and with a line feed.
 func (t *Terminal) Text(s *Scratch) (string, error) {
-	text, err := s.written(func(length *C.size_t) C.uint32_t {
-		return C.vt220_text(&t.handle, &s.handle, &s.out[0], UpdateLimit, length)
+	text, err := s.written(t, C.VT220_OF_TEXT, func(out *C.uint8_t, size C.size_t, length *C.size_t) C.uint32_t {
+		return C.vt220_text(&t.handle, &s.handle, out, size, length)
 	})
 	return string(text), err
 }
 
-// RowText returns one line of Text, that of a row from 1 to 24. It returns ErrNoRow if there is no such row.
+// RowText returns one line of Text, that of a row from 1 on. It returns ErrNoRow if there is no such row.
 func (t *Terminal) RowText(row int, s *Scratch) (string, error) {
-	text, err := s.written(func(length *C.size_t) C.uint32_t {
-		return C.vt220_row_text(&t.handle, &s.handle, C.size_t(row), &s.out[0], RowTextLimit, length)
+	text, err := s.written(t, C.VT220_OF_ROW_TEXT, func(out *C.uint8_t, size C.size_t, length *C.size_t) C.uint32_t {
+		return C.vt220_row_text(&t.handle, &s.handle, C.size_t(row), out, size, length)
 	})
 	return string(text), err
 }
 
 // Show returns the screen as text with SGR sequences for the attributes.
 func (t *Terminal) Show(s *Scratch) (string, error) {
-	text, err := s.written(func(length *C.size_t) C.uint32_t {
-		return C.vt220_show(&t.handle, &s.handle, &s.out[0], UpdateLimit, length)
+	text, err := s.written(t, C.VT220_OF_SHOW, func(out *C.uint8_t, size C.size_t, length *C.size_t) C.uint32_t {
+		return C.vt220_show(&t.handle, &s.handle, out, size, length)
 	})
 	return string(text), err
 }
 
 // Picture returns the screen as a picture: an SVG document.
 func (t *Terminal) Picture(s *Scratch) (string, error) {
-	text, err := s.written(func(length *C.size_t) C.uint32_t {
-		if len(s.out) < PictureLimit {
-			s.out = make([]C.uint8_t, PictureLimit)
-		}
-		return C.vt220_picture(&t.handle, &s.handle, &s.out[0], PictureLimit, length)
+	text, err := s.written(t, C.VT220_OF_PICTURE, func(out *C.uint8_t, size C.size_t, length *C.size_t) C.uint32_t {
+		return C.vt220_picture(&t.handle, &s.handle, out, size, length)
 	})
 	return string(text), err
 }
 
 // CopyFrom brings this terminal into the state of another one, also if the other is inside a sequence. In UTF-8 what is pending is copied, too,
-// and under TERM=xterm both pages are. It returns ErrLanguage if this terminal is under TERM=xterm and the other one isn't.
+// and under TERM=xterm both pages are. It returns ErrLanguage if this terminal is under TERM=xterm and the other one isn't, and ErrSize
+// if the two have different sizes.
 func (t *Terminal) CopyFrom(other *Terminal) error {
 	return result(C.vt220_copy(&t.handle, &other.handle))
 }
@@ -364,17 +403,13 @@ func (t *Terminal) Bells() uint64 { return uint64(C.vt220_bells(&t.handle)) }
 
 // RowChanges marks the cells of a row of another terminal that this one doesn't have: index c - 1 is for column c. If the two differ in
 // Width, redraw the whole screen instead: the cells of this terminal after the other's width aren't in the result. It returns ErrNoRow if
-// there is no such row, 1 to 24.
+// there is no such row, and ErrSize if the two have different sizes.
 func (t *Terminal) RowChanges(to *Terminal, row int) ([]bool, error) {
-	var marks C.vt220_row_marks
-	if err := result(C.vt220_row_changes(&t.handle, &to.handle, C.size_t(row), &marks)); err != nil {
+	var marks [MostColumns]C.bool
+	if err := result(C.vt220_changes_of(&t.handle, &to.handle, C.size_t(row), &marks[0], MostColumns)); err != nil {
 		return nil, err
 	}
-	changed := make([]bool, marks.width)
-	for i := range changed {
-		changed[i] = bool(marks.changed[i])
-	}
-	return changed, nil
+	return truths(marks[:to.Width()]), nil
 }
 
 // Brush returns the attributes with which the next character is written.
@@ -391,14 +426,18 @@ func (t *Terminal) Sets() Sets {
 	return Sets{[4]byte{byte(g.g0), byte(g.g1), byte(g.g2), byte(g.g3)}, int(g.gl), int(g.gr), int(g.single_shift)}
 }
 
-// Stops returns which columns have a tab stop: index c - 1 is for column c.
-func (t *Terminal) Stops() (stops [Columns]bool) {
-	var all C.vt220_tab_stops
-	C.vt220_stops(&t.handle, &all)
-	for i := range stops {
-		stops[i] = bool(all.stop[i])
+// Stops returns which columns have a tab stop: index c - 1 is for column c. A VT220 has 132, at any width.
+func (t *Terminal) Stops() []bool {
+	var stops [MostColumns]C.bool
+	return truths(stops[:C.vt220_stops_of(&t.handle, &stops[0], MostColumns)])
+}
+
+func truths(from []C.bool) []bool {
+	to := make([]bool, len(from))
+	for i, is := range from {
+		to[i] = bool(is)
 	}
-	return stops
+	return to
 }
 
 // Saved returns the state that DECRC restores.
@@ -419,11 +458,8 @@ func (t *Terminal) Repaint(s *Scratch) ([]byte, error) { return t.RepaintAs(t.La
 // RepaintAs returns the repaint for a terminal of a language. For a VT220, whose input is Bytes or UTF8, it is the state with the page that is
 // shown. It returns ErrPartial inside a sequence, and ErrLanguage if it is for TERM=xterm and this terminal isn't.
 func (t *Terminal) RepaintAs(language Language, s *Scratch) ([]byte, error) {
-	return s.written(func(length *C.size_t) C.uint32_t {
-		if len(s.out) < XtermPaintLimit {
-			s.out = make([]C.uint8_t, XtermPaintLimit)
-		}
-		return C.vt220_repaint_as(&t.handle, C.uint32_t(language), &s.handle, &s.out[0], XtermPaintLimit, length)
+	return s.written(t, C.VT220_OF_REPAINT, func(out *C.uint8_t, size C.size_t, length *C.size_t) C.uint32_t {
+		return C.vt220_repaint_as(&t.handle, C.uint32_t(language), &s.handle, out, size, length)
 	})
 }
 
@@ -431,31 +467,31 @@ func (t *Terminal) RepaintAs(language Language, s *Scratch) ([]byte, error) {
 // states are equal, and ErrPartial if one of the two is inside a sequence. This terminal is a VT220, otherwise it returns ErrLanguage. The
 // other one has any language: its page that is shown counts.
 func (t *Terminal) Update(to *Terminal, s *Scratch) ([]byte, error) {
-	return s.written(func(length *C.size_t) C.uint32_t {
-		return C.vt220_update(&t.handle, &to.handle, &s.handle, &s.out[0], UpdateLimit, length)
+	return s.written(to, C.VT220_OF_UPDATE, func(out *C.uint8_t, size C.size_t, length *C.size_t) C.uint32_t {
+		return C.vt220_update(&t.handle, &to.handle, &s.handle, out, size, length)
 	})
 }
 
 // Draw returns bytes that make a terminal of today, such as xterm, show this screen, given that it shows that of another terminal. nil stands
 // for anything else. The bytes are characters in UTF-8 and CUP, ED, SGR and DECTCEM, and there are none if both show the same. That terminal has
-// at least 24 rows, and the columns of this one. Afterwards it shows this terminal, so keep a copy (CopyFrom).
+// at least the rows and the columns of this one. Afterwards it shows this terminal, so keep a copy (CopyFrom).
 func (t *Terminal) Draw(shown *Terminal, s *Scratch) ([]byte, error) {
 	var former *C.vt220
 	if shown != nil {
 		former = &shown.handle
 	}
-	return s.written(func(length *C.size_t) C.uint32_t {
-		return C.vt220_draw(former, &t.handle, &s.handle, &s.out[0], UpdateLimit, length)
+	return s.written(t, C.VT220_OF_DRAW, func(out *C.uint8_t, size C.size_t, length *C.size_t) C.uint32_t {
+		return C.vt220_draw(former, &t.handle, &s.handle, out, size, length)
 	})
 }
 
-// Row returns the cells of a row, 1 to 24. It returns nil if there is no such row.
+// Row returns the cells of a row, from 1 on. It returns nil if there is no such row.
 func (t *Terminal) Row(row int) []Cell {
-	var cells [Columns]C.vt220_cell
-	if row < 1 || row > Rows {
+	var cells [MostColumns]C.vt220_cell
+	if row < 1 || row > t.Rows() {
 		return nil
 	}
-	found := cells[:C.vt220_row(&t.handle, C.size_t(row), &cells[0], Columns)]
+	found := cells[:C.vt220_row(&t.handle, C.size_t(row), &cells[0], MostColumns)]
 	told := make([]Cell, len(found))
 	for i, c := range found {
 		told[i] = Cell{rune(c.glyph), bool(c.bold), bool(c.underline), bool(c.blink), bool(c.reverse), bool(c.is_protected)}
@@ -470,7 +506,7 @@ func (t *Terminal) Cursor() Cursor {
 	return Cursor{int(c.row), int(c.col), bool(c.wrap)}
 }
 
-// Width returns the number of columns: 80 or 132.
+// Width returns the number of columns: of a VT220 80 or 132.
 func (t *Terminal) Width() int { return int(C.vt220_width(&t.handle)) }
 
 // Margins returns the margins.

@@ -263,3 +263,103 @@ func TestLog(t *testing.T) {
 		t.Error(err)
 	}
 }
+
+// openRow opens the terminal of a row of lib/rows/sizes.txt.
+func openRow(t *testing.T, fields []string) *Terminal {
+	language := map[string]Language{"dec": Bytes, "utf-8": UTF8}[fields[1]]
+	if fields[2] == "xterm" {
+		language = Xterm
+	}
+	rows, columns := sizeOf(t, fields[3])
+	terminal, err := OpenSize(language, rows, columns)
+	if err != nil {
+		t.Fatal(fields[0], err)
+	}
+	return terminal
+}
+
+// playSize plays a row of lib/rows/sizes.txt in chunks. A copy of the terminal plays the second part, too.
+func playSize(t *testing.T, s *Scratch, fields []string, chunk int) row {
+	terminal := openRow(t, fields)
+	var reports, lines string
+	play := func(terminal *Terminal, field string) {
+		for _, piece := range pieces([]byte(spelled(field)), chunk) {
+			now, off, err := terminal.FeedLog(piece, s)
+			if err != nil {
+				t.Fatal(fields[0], err)
+			}
+			reports, lines = reports+string(now), lines+string(off)
+		}
+	}
+	play(terminal, fields[4])
+	if fields[5] != "-" {
+		rows, columns := sizeOf(t, fields[5])
+		if err := terminal.Resize(rows, columns); err != nil || terminal.Rows() != rows {
+			t.Fatal(fields[0], err)
+		}
+	}
+	copied, err := terminal.Clone()
+	if err != nil {
+		t.Fatal(fields[0], err)
+	}
+	copied.Feed([]byte(spelled(fields[6])))
+	play(terminal, fields[6])
+	if !copied.SameState(terminal) || string(copied.Pending()) != string(terminal.Pending()) {
+		t.Error(fields[0], "a copy")
+	}
+	found := shownBy(t, terminal, s)
+	found.alternate, found.paste, found.pending = flag(terminal.Alternate()), flag(terminal.BracketedPaste()), string(terminal.Pending())
+	found.reports, found.lines = reports, lines
+	return found
+}
+
+// Each row of lib/rows/sizes.txt, whole and byte by byte.
+func TestRowsOfSizes(t *testing.T) {
+	rows, s := rowsOf(t, "VT220_SIZES", "lib/rows/sizes.txt"), scratch(t)
+	for _, fields := range rows {
+		for _, chunk := range []int{1000, 1} {
+			if found, wanted := playSize(t, s, fields, chunk), wantedOf(t, fields[7:]); found != wanted {
+				t.Errorf("%s in chunks of %d: %+v, and not %+v", fields[0], chunk, found, wanted)
+			}
+		}
+	}
+	if len(rows) < 30 {
+		t.Errorf("%d rows", len(rows))
+	}
+}
+
+// A terminal of another size: what it has, what changes with it, and what two sizes refuse.
+func TestSizes(t *testing.T) {
+	terminal, err := OpenSize(Xterm, 40, 120)
+	scratch, failed := NewScratch()
+	if err != nil || failed != nil {
+		t.Fatal(err, failed)
+	}
+	terminal.Feed([]byte("\x1b[40;118Hend"))
+	if terminal.Rows() != 40 || terminal.Width() != 120 || len(terminal.Row(40)) != 120 || terminal.Row(41) != nil || len(terminal.Stops()) != 120 {
+		t.Error("40 rows of 120 columns")
+	}
+	if err := terminal.Resize(30, 255); err != nil || terminal.Rows() != 30 || terminal.Width() != 255 {
+		t.Error("30 rows of 255 columns", err)
+	}
+	row, err := terminal.RowText(30, scratch)
+	clone, failed := terminal.Clone()
+	if err != nil || failed != nil || len(row) != 121 || !clone.SameState(terminal) {
+		t.Error("the text of a row", row, err, failed)
+	}
+	picture, err := terminal.Picture(scratch)
+	repaint, failed := terminal.Repaint(scratch)
+	if err != nil || failed != nil || len(picture) == 0 || len(repaint) == 0 {
+		t.Error("a picture and a repaint", err, failed)
+	}
+	small, err := New()
+	if err != nil || small.CopyFrom(clone) != ErrSize || terminal.Resize(1, 80) != ErrSize || terminal.Resize(24, 256) != ErrSize {
+		t.Error("two sizes", err)
+	}
+	if _, err := small.RowChanges(clone, 1); err != ErrSize {
+		t.Error("marks of two sizes", err)
+	}
+	if _, err := OpenSize(Bytes, 24, -1); err != ErrSize {
+		t.Error("no such size", err)
+	}
+}

@@ -12,14 +12,31 @@
 enum { PIECE = 65536 /* the most bytes that one call plays: other threads wait for its end */, REPORTS = 4096 };
 
 /* The calls, in the order in which `bind` gets their addresses. */
-#define CALLS(_) _(is_open) _(feed) _(scratch_open) _(text) _(show) _(picture) _(row_text) _(repaint_as) _(update) _(draw)
+#define CALLS(_) _(is_open) _(feed) _(scratch_open) _(scratch_fit) _(text) _(show) _(picture) _(row_text) _(repaint_as) _(update) _(draw)
 
 #define FIELD(name) __typeof__(vt220_##name) *name;
 static struct { CALLS(FIELD) } of;
 
 static PyObject *refuse; /* raises the error of a status */
 static vt220_scratch scratch;
-static uint8_t out[VT220_PICTURE_LIMIT];
+static uint8_t *out; /* what a call writes; larger if a screen of another size than a VT220's needs it */
+static size_t out_size;
+
+/* Makes the output buffer larger. Returns false without memory. */
+static bool grow(size_t size) {
+    uint8_t *larger = PyMem_Realloc(out, size);
+    if (larger == NULL) return false;
+    out = larger, out_size = size;
+    return true;
+}
+
+/* Returns whether a call is made again, with other buffers: a scratch buffer of the terminal's size, and a larger output buffer. */
+static bool is_again(uint32_t status, const vt220 *t, size_t written, bool *fitted) {
+    if (status == VT220_ROOM) return grow(written);
+    if (status != VT220_SIZE || *fitted) return false;
+    *fitted = true;
+    return of.scratch_fit(&scratch, t) == VT220_OK;
+}
 
 /* An argument that is a terminal, or None. */
 struct terminal {
@@ -99,7 +116,10 @@ static PyObject *feed(PyObject *self, PyObject *const *words, Py_ssize_t count) 
         size_t written;                                                           \
         (void)self;                                                               \
         if (!has(count, 1) || !take_terminal(words[0], &t)) return NULL;          \
-        uint32_t status = of.name(t.handle, &scratch, out, sizeof out, &written); \
+        uint32_t status;                                                          \
+        bool fitted = false;                                                      \
+        do status = of.name(t.handle, &scratch, out, out_size, &written);         \
+        while (is_again(status, t.handle, written, &fitted));                     \
         PyBuffer_Release(&t.view);                                                \
         return result(status, written);                                           \
     }
@@ -117,13 +137,16 @@ WRITES(picture)
         if (!has(count, 2)) return NULL;                                          \
         type number = (type)PyLong_AsUnsignedLong(words[1]);                      \
         if (PyErr_Occurred() || !take_terminal(words[0], &t)) return NULL;        \
-        uint32_t status = call;                                                   \
+        uint32_t status;                                                          \
+        bool fitted = false;                                                      \
+        do status = call;                                                         \
+        while (is_again(status, t.handle, written, &fitted));                     \
         PyBuffer_Release(&t.view);                                                \
         return result(status, written);                                           \
     }
 
-WRITES_BY_NUMBER(row_text, size_t, of.row_text(t.handle, &scratch, number, out, sizeof out, &written))
-WRITES_BY_NUMBER(repaint_as, uint32_t, of.repaint_as(t.handle, number, &scratch, out, sizeof out, &written))
+WRITES_BY_NUMBER(row_text, size_t, of.row_text(t.handle, &scratch, number, out, out_size, &written))
+WRITES_BY_NUMBER(repaint_as, uint32_t, of.repaint_as(t.handle, number, &scratch, out, out_size, &written))
 
 /* Defines a call on two terminals, the first of which may be None. */
 #define WRITES_BETWEEN(name)                                                      \
@@ -133,7 +156,11 @@ WRITES_BY_NUMBER(repaint_as, uint32_t, of.repaint_as(t.handle, number, &scratch,
         (void)self;                                                               \
         if (!has(count, 2) || (words[0] != Py_None && !take_terminal(words[0], &shown))) return NULL; \
         bool is_taken = take_terminal(words[1], &to);                             \
-        uint32_t status = is_taken ? of.name(shown.handle, to.handle, &scratch, out, sizeof out, &written) : VT220_OK; \
+        uint32_t status = VT220_OK;                                               \
+        bool fitted = false;                                                      \
+        if (is_taken)                                                             \
+            do status = of.name(shown.handle, to.handle, &scratch, out, out_size, &written); \
+            while (is_again(status, to.handle, written, &fitted));                \
         if (shown.handle != NULL) PyBuffer_Release(&shown.view);                  \
         if (!is_taken) return NULL;                                               \
         PyBuffer_Release(&to.view);                                               \
@@ -156,6 +183,7 @@ static PyObject *bind(PyObject *self, PyObject *const *words, Py_ssize_t count) 
     if (PyErr_Occurred()) return NULL;
     Py_XDECREF(refuse);
     refuse = Py_NewRef(words[0]);
+    if (out == NULL && !grow(VT220_PICTURE_LIMIT)) return PyErr_NoMemory();
     uint32_t status = of.scratch_open(&scratch);
     if (status != VT220_OK && status != VT220_IN_USE) return result(status, 0);
     return Py_NewRef(Py_None);

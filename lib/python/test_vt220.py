@@ -6,7 +6,7 @@ import vt220
 
 TOP = pathlib.Path(__file__).resolve().parents[2]
 sys.path.insert(0, str(TOP / "lib/rows"))
-from vectors import session_repaints, vectors
+from vectors import session_repaints, sizes, vectors
 
 # What each reader returns, as all bindings are tested with.
 FIELDS = TOP / "lib/rows/fields.txt"
@@ -139,12 +139,36 @@ def one_field_at_a_time():
 def fed(of, size, feed):
     """Returns what a new terminal that is fed the input of a vector in chunks of a size has and returned, by the names of lib/rows/vectors.txt."""
     with vt220.Terminal(of.encoding, of.terminal) as terminal:
-        told = [feed(terminal, of.input[at : at + size]) for at in range(0, len(of.input), size)]
-        cursor, brush = terminal.cursor(), terminal.brush()
-        return {"text": terminal.show().rstrip("\n"), "cursor": f"{cursor.row};{cursor.col}", "wrap": str(int(cursor.wrap)), "bells": str(terminal.bells()),
-                "brush": " ".join(name for name in ("bold", "underline", "blink", "reverse") if getattr(brush, name)),
-                "alternate": str(int(terminal.alternate())), "paste": str(int(terminal.bracketed_paste())), "pending": terminal.pending(),
-                "reports": b"".join(reports for reports, _ in told), "lines": "".join(lines for _, lines in told)}
+        return found_in(terminal, [feed(terminal, of.input[at : at + size]) for at in range(0, len(of.input), size)])
+
+
+def found_in(terminal, told):
+    """Returns what a terminal has, and what it has returned: pairs of reports and lines."""
+    cursor, brush = terminal.cursor(), terminal.brush()
+    return {"text": terminal.show().rstrip("\n"), "cursor": f"{cursor.row};{cursor.col}", "wrap": str(int(cursor.wrap)), "bells": str(terminal.bells()),
+            "brush": " ".join(name for name in ("bold", "underline", "blink", "reverse") if getattr(brush, name)),
+            "alternate": str(int(terminal.alternate())), "paste": str(int(terminal.bracketed_paste())), "pending": terminal.pending(),
+            "reports": b"".join(reports for reports, _ in told), "lines": "".join(lines for _, lines in told)}
+
+
+def rows_of_sizes():
+    """Each row of lib/rows/sizes.txt, whole and byte by byte. A copy of the terminal goes on after a change of the size, too."""
+    count = 0
+    for count, one in enumerate(sizes(), 1):
+        for size in (1000, 1):
+            parts = [[data[at : at + size] for at in range(0, len(data), size)] for data in (one.input, one.more)]
+            with vt220.Terminal(one.encoding, one.terminal, *one.first) as terminal:
+                told = [terminal.feed_log(part) for part in parts[0]]
+                if one.second:
+                    terminal.resize(*one.second)
+                with terminal.copy() as copied:
+                    for part in parts[1]:
+                        told.append(terminal.feed_log(part))
+                        check(copied.feed_log(part) == told[-1], one.name, "what a copy returns")
+                    differs = differences(found_in(terminal, told), one.wanted)
+                    check(not differs and terminal.rows() == (one.second or one.first)[0], "sizes", f"{one.name}: chunks of {size}: {differs}")
+                    check(both_pages(copied) == both_pages(terminal), one.name, "both pages of a copy")
+    check(count > 30, "sizes", f"{count} rows")
 
 
 def resumed(of, at):
@@ -267,6 +291,7 @@ readers()
 parts()
 one_field_at_a_time()
 rows()
+rows_of_sizes()
 repaints_of_sessions()
 encodings()
 terminals()

@@ -1,4 +1,4 @@
-"""The conformance vectors, as lib/rows/vectors.txt has them, and the repaints of lib/rows/session-repaints.txt."""
+"""The conformance vectors, as lib/rows/vectors.txt has them, the rows of lib/rows/sizes.txt, and the repaints of lib/rows/session-repaints.txt."""
 import pathlib
 import re
 from typing import NamedTuple
@@ -24,6 +24,19 @@ class Vector(NamedTuple):
         """Returns the screen as `vt220 text` writes it: 24 lines, without attributes."""
         lines = re.sub("\033\\[[0-9;]*m", "", self.wanted["text"]).split("\n")
         return "".join(line.rstrip(" ") + "\n" for line in lines + [""] * (24 - len(lines)))
+
+
+class Sized(NamedTuple):
+    """A row of sizes.txt. A size is a pair of rows and columns, and `second` is None if the first one stays. `wanted` is that of a vector."""
+
+    name: str
+    encoding: str
+    terminal: str
+    first: tuple
+    input: bytes
+    second: tuple | None
+    more: bytes
+    wanted: dict
 
 
 def spelled(field):
@@ -57,10 +70,26 @@ def session_repaints():
         yield name, spelled(sent), spelled(repaint)
 
 
+def wanted_by(fields):
+    """Returns what fields name, by their names: the value of each name of AT_POWER_UP, the repaint, or None, and how xterm differs."""
+    named = dict(field.split("=", 1) for field in fields)
+    differs, repaint = named.pop("differs", ""), spelled(named.pop("repaint")) if "repaint" in named else None
+    return AT_POWER_UP | {of: value(of, field) for of, field in named.items()}, repaint, differs
+
+
 def vectors(*kind):
     """Yields each vector of vectors.txt, or those of an encoding and a terminal."""
     for name, encoding, terminal, sent, *fields in lines_of("vectors.txt"):
-        named = dict(field.split("=", 1) for field in fields)
-        differs, repaint = named.pop("differs", ""), spelled(named.pop("repaint")) if "repaint" in named else None
         if kind in ((), (encoding, terminal)):
-            yield Vector(name, encoding, terminal, spelled(sent), AT_POWER_UP | {of: value(of, field) for of, field in named.items()}, repaint, differs)
+            yield Vector(name, encoding, terminal, spelled(sent), *wanted_by(fields))
+
+
+def size_of(field):
+    """Returns the rows and the columns of COLUMNSxROWS, or None for `-`."""
+    return None if field == "-" else tuple(map(int, reversed(field.split("x"))))
+
+
+def sizes():
+    """Yields each row of sizes.txt."""
+    for name, encoding, terminal, first, sent, second, more, *fields in lines_of("sizes.txt"):
+        yield Sized(name, encoding, terminal, size_of(first), spelled(sent), size_of(second), spelled(more), wanted_by(fields)[0])

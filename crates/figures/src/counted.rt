@@ -7,7 +7,7 @@ use vt_picture::{SHOW_LIMIT, show};
 use vt_term::Terminal;
 use vt_update::{UPDATE_LIMIT, update};
 
-/// The call.
+/// The call that is made after each frame.
 #[derive(Clone, Copy)]
 pub(crate) enum Call {
     Nothing,
@@ -38,7 +38,7 @@ impl Call {
     }
 }
 
-/// Plays a recording on a terminal, and keeps a second one for what is shown.
+/// A terminal on which a recording is played, and a second one for what is shown.
 #[derive(Drop)]
 struct Player {
     terminal: Terminal,

@@ -1,4 +1,4 @@
-//! Prints figures: the limits of the crates, and what a server sends.
+//! A program that prints figures: the limits of the crates, and what a server sends.
 //!
 //! `figures limits` prints the constants of the crates that lib/c/include/vt220.h repeats, each with the header's name.
 //!
@@ -67,7 +67,7 @@ fn least_times(
     Ok((updates / sent, repaints / sent))
 }
 
-/// The request that the arguments make.
+/// The choices that the arguments make.
 #[derive(Clone, Copy)]
 struct Asked {
     has_limits: bool,

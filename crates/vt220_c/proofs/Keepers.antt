@@ -19,7 +19,7 @@ use Rattle.vt220_c.specs.contracts.scratch.Scratch as scratch
 use Rattle.vt220_c.specs.contracts.kept.Kept as kept
 use Rattle.vt220_c.specs.contracts.kept_scratch.KeptScratch as kept_scratch
 use Rattle.vt220_c.specs.contracts.kept_xterm.KeptXterm as kept_xterm
-use Rattle.vt_xterm.specs.contracts.front.Front as front
+use Rattle.vt_xterm.specs.contracts.front.SizedFront as front
 use Rattle.vt220_c.specs.contracts.loose.Loose as loose
 use Rattle.vt220_c.proofs.Words.{both, words, both_good, two, two_in, two_out, restated, turning, turns, ended, clauses}
 use Rattle.vt220_c.proofs.Words.{makes}

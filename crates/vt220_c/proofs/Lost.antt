@@ -14,7 +14,8 @@ use Rattle.vt_syntax.specs.Class.{opens_string}
 use Rattle.vt_syntax.specs.Held.{held_from, IsHeldPart}
 use Rattle.vt_syntax.specs.Laws.{SplitLaw, SpellingLaw, ControlLaw}
 use Rattle.vt_term.specs.State.{State}
-use Rattle.vt_term.specs.Sound.{IsSound}
+use Rattle.vt_screen.specs.declared.size.Size.{Size}
+use Rattle.vt_term.specs.Sound.{IsSoundAt}
 use Rattle.vt_term.specs.Play.{play}
 use Rattle.vt_term.proofs.Bytes.{nothing-held}
 use Rattle.vt_utf8.specs.Cells.{cells}
@@ -46,10 +47,10 @@ translation-ascii : (s : State) (c : ℕ) → c < 0x80 → translation s c ≡ c
 unfolding translation
 translation-ascii s c low = let is : nat_lt c 0x80 ≡ true = grind (arith, nat_tests) in rw is refl
 
-module _ (split : SplitLaw) (controls : ControlLaw) (spelling : SpellingLaw)
-    (sounds : (s : State) (bytes : List ℕ) → IsSound s → IsSound (play s bytes).state)
+module _ (size : Size) (split : SplitLaw) (controls : ControlLaw) (spelling : SpellingLaw)
+    (sounds : (s : State) (bytes : List ℕ) → IsSoundAt size s → IsSoundAt size (play s bytes).state)
     (plain : (s : State) (c : ℕ) → 0x80 ≤ c → All IsPlain (translation s c))
-    (writes : (s : State) (c : ℕ) → IsSound s → s.held ≡ Nothing → 0x80 ≤ c → cells c ≡ 1
+    (writes : (s : State) (c : ℕ) → IsSoundAt size s → s.held ≡ Nothing → 0x80 ≤ c → cells c ≡ 1
     → (play s (translation s c)).state.held ≡ s.held) where
   one-byte : (held : Held) (b : ℕ) → IsHeldPart held → bells held (b ∷ []) ≡ rings_by (b == 7) (is_text held)
   one-byte held b is = by (b == 7) refl
@@ -67,7 +68,7 @@ module _ (split : SplitLaw) (controls : ControlLaw) (spelling : SpellingLaw)
       by false h = let e : b ≢ 7 = grind (arith, nat_tests) in controls.by_no_other held b 7 is (omega arith) e
 
   -- a character beyond ASCII rings no bell
-  beyond-quiet : (s : State) (c : ℕ) → IsSound s → 0x80 ≤ c → bells s.held (translation s c) ≡ 0
+  beyond-quiet : (s : State) (c : ℕ) → IsSoundAt size s → 0x80 ≤ c → bells s.held (translation s c) ≡ 0
   beyond-quiet s c sound beyond =
       let bytes = translation s c in
       let none = quiet split controls (length bytes) s.held bytes sound.held
@@ -75,7 +76,7 @@ module _ (split : SplitLaw) (controls : ControlLaw) (spelling : SpellingLaw)
       ap (λ (xs : List ℕ). bells s.held xs) (sym (take_all (length bytes) bytes (omega arith))) ∙ none
 
   -- what is held before it
-  cut : (s : State) (c : ℕ) → IsSound s → 0x80 ≤ c → cells c ≡ 1
+  cut : (s : State) (c : ℕ) → IsSoundAt size s → 0x80 ≤ c → cells c ≡ 1
       → held_from s.held (0x1B ∷ 0x5C ∷ put c s.display) ≡ Nothing
   unfolding play translation opens_string
   cut s c sound beyond one =
@@ -88,7 +89,7 @@ module _ (split : SplitLaw) (controls : ControlLaw) (spelling : SpellingLaw)
       ∙ spelling.event_held (event.Control 0x9C) bytes (inr (omega arith, omega arith, refl))
       ∙ after
 
-  lost-held : (s : State) (c : ℕ) → IsSound s → 0x80 ≤ c → cells c ≡ 1
+  lost-held : (s : State) (c : ℕ) → IsSoundAt size s → 0x80 ≤ c → cells c ≡ 1
       → is_text (play s (translation s c)).state.held ≡ is_text s.held
   unfolding play translation
   lost-held s c sound beyond one = by s.held refl
@@ -103,7 +104,7 @@ module _ (split : SplitLaw) (controls : ControlLaw) (spelling : SpellingLaw)
       by Spoilt e = rw (is, e) (ap is_text (rw e at (cut s c sound beyond one)))
       by (Text osc) e = rw (is, e) (ap is_text (split.held_nil (Text osc) (rw e at sound.held)))
 
-  character-rings : (s t : State) (character : Option ℕ) → IsSound s → IsSound t → is_text t.held ≡ is_text s.held
+  character-rings : (s t : State) (character : Option ℕ) → IsSoundAt size s → IsSoundAt size t → is_text t.held ≡ is_text s.held
       → bells t.held (translated_all t (option_to_list character)) ≡ rung_by_character s.held character
   character-rings s t None sound sound' same = bells-nil split t.held sound'.held
   character-rings s t (Some c) sound sound' same =
@@ -119,11 +120,11 @@ module _ (split : SplitLaw) (controls : ControlLaw) (spelling : SpellingLaw)
       by false h = beyond-quiet t c sound' (grind (arith, nat_tests))
 
   -- a byte, by what `Decoder::push` returns
-  pub utf8-rings : ((s : State) (pending : List ℕ) (b : ℕ) (xs ys : List ℕ) → IsSound s
+  pub utf8-rings : ((s : State) (pending : List ℕ) (b : ℕ) (xs ys : List ℕ) → IsSoundAt size s
       → xs ++ ys ≡ (read pending b).characters
       → translated s pending (b ∷ []) ≡ translated_all s xs ++ translated_all (play s (translated_all s xs)).state ys)
       → cells replacement ≡ 1
-      → (s : State) (pending : List ℕ) (b : ℕ) (lost character : Option ℕ) → IsSound s
+      → (s : State) (pending : List ℕ) (b : ℕ) (lost character : Option ℕ) → IsSoundAt size s
       → IfSome lost (λ c. c ≡ replacement)
       → option_to_list lost ++ option_to_list character ≡ (read pending b).characters
       → bells s.held (translated s pending (b ∷ [])) ≡ rung_by_character s.held character

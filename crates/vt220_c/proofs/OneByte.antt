@@ -1,13 +1,12 @@
 -- A graphic byte between sequences, with nothing pending, is played under TERM=xterm as a VT220's.
-use Rattle.std.proofs.Common.{◌≡◌, ◌∙◌, ap, refl, List, ℕ, zero, suc, [], ◌∷◌, ◌≤◌, ◌<◌, length, take, map, All, arith, if◌then◌else◌}
+use Rattle.std.proofs.Common.{◌≡◌, ◌∙◌, ap, refl, None, List, ℕ, zero, suc, [], ◌∷◌, ◌≤◌, ◌<◌, length, take, map, All, arith, if◌then◌else◌}
 use Rattle.std.proofs.lemmas.List.Elements.{All-from_recursion}
 use Rattle.vt_syntax.specs.Class.{IsPlain}
-use Rattle.vt_syntax.specs.Held.{events_from}
+use Rattle.vt_syntax.specs.Held.{events_from, IsHeldPart}
 use Rattle.vt_syntax.specs.Reading.{events_of}
 use Rattle.vt_syntax.specs.declared.event.Event.TheVariants.{Print}
 use Rattle.vt_syntax.specs.declared.held.Held.TheVariants.{Nothing}
 use Rattle.vt_term.specs.State.{State}
-use Rattle.vt_term.specs.Sound.{IsSound}
 use Rattle.vt_term.specs.Play.{play}
 use Rattle.vt_term.specs.Scrolling.{scrolled_off}
 use Rattle.vt_utf8.specs.Decoding.{pending_after}
@@ -32,17 +31,18 @@ printed law s b n between plain within = rw between (law (take n (b ∷ [])) (on
 print-terminals : (b n : ℕ) → n ≤ 1 → AreTerminals (map Print (take n (b ∷ [])))
 unfolding AreTerminals
 print-terminals b zero within = tt
-print-terminals b (suc zero) within = (λ s. (refl, refl), tt)
+print-terminals b (suc zero) within = (λ s none. (refl, refl), tt)
 print-terminals b (suc (suc n)) within = absurd (omega (arith, within))
 
-module _ (ascii : (w : Whole) (bytes : List ℕ) → IsSound w.state → All (λ b. b < 0x80) bytes → play_xterm w [] bytes ≡ play_bytes w bytes)
-    (terminals : (w : Whole) (bytes : List ℕ) → PlaysTerminals w.state bytes → play_bytes w bytes ≡ record {
+module _ (ascii : (w : Whole) (bytes : List ℕ) → IsHeldPart w.state.held → All (λ b. b < 0x80) bytes → play_xterm w [] bytes ≡ play_bytes w bytes)
+    (terminals : (w : Whole) (bytes : List ℕ) → w.pages.sides ≡ None → PlaysTerminals w.state bytes → play_bytes w bytes ≡ record {
       whole = record w { state = (play w.state bytes).state };
       reports = (play w.state bytes).reports;
       lines = if w.pages.alternate then [] else scrolled_off w.state bytes;
     })
     (plain-events : (run : List ℕ) → All IsPlain run → events_of run ≡ map Print run)
-    (s : State) (front : FrontState) (b n : ℕ) (sound : IsSound s) (none : front.pending ≡ []) (between : s.held ≡ Nothing)
+    (s : State) (front : FrontState) (b n : ℕ) (sound : IsHeldPart s.held) (none : front.pending ≡ [])
+    (reset : front.pages.sides ≡ None) (between : s.held ≡ Nothing)
     (plain : IsPlain b) (within : n ≤ 1) where
   low : All (λ b. b < 0x80) (take n (b ∷ []))
   low = one-all (λ b. b < 0x80) b n (omega (arith, plain.0, plain.1)) within
@@ -55,7 +55,7 @@ module _ (ascii : (w : Whole) (bytes : List ℕ) → IsSound w.state → All (λ
   graphic-played =
       let events = printed plain-events s b n between plain within in
       let terms : PlaysTerminals s (take n (b ∷ [])) = rw events (print-terminals b n within) in
-      rw none (ascii (behind s front) (take n (b ∷ [])) sound low ∙ terminals (behind s front) (take n (b ∷ [])) terms)
+      rw none (ascii (behind s front) (take n (b ∷ [])) sound low ∙ terminals (behind s front) (take n (b ∷ [])) reset terms)
 
   pub graphic-front : ((bytes : List ℕ) → All (λ b. b < 0x80) bytes → pending_after [] bytes ≡ [])
       → front ≡ xterm_front s front (take n (b ∷ []))

@@ -2,7 +2,8 @@
 use Rattle.std.proofs.Common.{◌≡◌, ◌∙◌, ap, refl, List, ℕ, [], ◌∷◌, ◌++◌, ◌+◌, arith}
 use Rattle.vt_syntax.specs.Laws.{SplitLaw}
 use Rattle.vt_term.specs.State.{State}
-use Rattle.vt_term.specs.Sound.{IsSound}
+use Rattle.vt_screen.specs.declared.size.Size.{Size}
+use Rattle.vt_term.specs.Sound.{IsSoundAt, IsSoundSized}
 use Rattle.vt_term.specs.Play.{play}
 use Rattle.vt_term.specs.Play as term
 use Rattle.vt_term.specs.Scrolling.{log}
@@ -22,44 +23,44 @@ translated-nothing s pending = refl
 -- ---- UTF-8
 
 module _ (split : SplitLaw)
-    (none : (s : State) (pending : List ℕ) → IsSound s → play_utf8 s pending [] ≡ record { state = s; reports = [] })
-    (two : (s : State) (pending a b : List ℕ) → IsSound s → play_utf8 s pending (a ++ b)
+    (none : (size : Size) (s : State) (pending : List ℕ) → IsSoundAt size s → play_utf8 s pending [] ≡ record { state = s; reports = [] })
+    (two : (size : Size) (s : State) (pending a b : List ℕ) → IsSoundAt size s → play_utf8 s pending (a ++ b)
     ≡ term.both (play_utf8 s pending a) (play_utf8 (play_utf8 s pending a).state (pending_after pending a) b))
     (append : (pending a b : List ℕ) → pending_after pending (a ++ b) ≡ pending_after (pending_after pending a) b)
-    (parts : (s : State) (pending a b : List ℕ) → IsSound s → translated s pending (a ++ b)
+    (parts : (size : Size) (s : State) (pending a b : List ℕ) → IsSoundAt size s → translated s pending (a ++ b)
     ≡ translated s pending a ++ translated (play_utf8 s pending a).state (pending_after pending a) b)
-    (no-lines : (s : State) → IsSound s → log s [] ≡ [])
+    (no-lines : (size : Size) (s : State) → IsSoundAt size s → log s [] ≡ [])
     (log-two : (s : State) (a b : List ℕ) → log s (a ++ b) ≡ log s a ++ log (play s a).state b) where
-  lines-two : (s : State) (pending a b : List ℕ) → IsSound s → log s (translated s pending (a ++ b))
+  lines-two : (s : State) (pending a b : List ℕ) → IsSoundSized s → log s (translated s pending (a ++ b))
       ≡ log s (translated s pending a)
       ++ log (play_utf8 s pending a).state (translated (play_utf8 s pending a).state (pending_after pending a) b)
   unfolding play_utf8
   lines-two s pending a b sound =
       let t = (play s (translated s pending a)).state in
-      ap (λ (xs : List ℕ). log s xs) (parts s pending a b sound)
+      ap (λ (xs : List ℕ). log s xs) (parts s.display.grid.size s pending a b sound)
       ∙ log-two s (translated s pending a) (translated t (pending_after pending a) b)
 
-  rung-two : (s : State) (pending a b : List ℕ) → IsSound s → bells s.held (translated s pending (a ++ b))
+  rung-two : (s : State) (pending a b : List ℕ) → IsSoundSized s → bells s.held (translated s pending (a ++ b))
       ≡ bells s.held (translated s pending a) + bells (play_utf8 s pending a).state.held
       (translated (play_utf8 s pending a).state (pending_after pending a) b)
   unfolding play_utf8 play
   rung-two s pending a b sound =
       let t = (play s (translated s pending a)).state in
-      ap (λ (xs : List ℕ). bells s.held xs) (parts s pending a b sound)
+      ap (λ (xs : List ℕ). bells s.held xs) (parts s.display.grid.size s pending a b sound)
       ∙ bells-append split s.held (translated s pending a) (translated t (pending_after pending a) b)
 
   pub utf8-are-told : AreTold utf8_told
   utf8-are-told = record {
     nothing = λ s pending sound. rw (
-      none s pending sound,
+      none s.display.grid.size s pending sound,
       translated-nothing s pending,
-      no-lines s sound,
+      no-lines s.display.grid.size s sound,
       bells-nil split s.held sound.held,
     ) refl;
     two = λ s pending a b sound. rw (
       lines-two s pending a b sound,
       rung-two s pending a b sound,
-      two s pending a b sound,
+      two s.display.grid.size s pending a b sound,
       append pending a b,
     ) refl;
   }

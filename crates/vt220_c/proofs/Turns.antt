@@ -3,7 +3,7 @@ use Rattle.std.proofs.Common.{◌≡◌, ◌∙◌, ap, refl, List, ℕ, zero, s
 use Rattle.std.proofs.Common.{get_or, arith, Bool, true, false, ◌<◌, ◌⊎◌, inl, inr}
 use Rattle.std.proofs.Math.Seq.{take-add}
 use Rattle.vt_term.specs.State.{State}
-use Rattle.vt_term.specs.Sound.{IsSound}
+use Rattle.vt_term.specs.Sound.{IsSoundSized}
 use Rattle.vt220_c.specs.Told.{WritesAt, Told, both, AreTold, lines_if, Rings, Plays}
 use Rattle.vt220_c.proofs.Writing.{writes-nothing, writes-more}
 
@@ -36,7 +36,7 @@ module _ {P : Type 0} (told : State → P → List ℕ → Told P) where
   none-rings s p piece n = record { none = λ off. refl; all = λ on. absurd cc }
 
 module _ {P : Type 0} (told : State → P → List ℕ → Told P) (are : AreTold told) where
-  pub plays-nothing : (logs counts : Bool) (s : State) (p : P) (out lines : List ℕ) → IsSound s
+  pub plays-nothing : (logs counts : Bool) (s : State) (p : P) (out lines : List ℕ) → IsSoundSized s
       → Plays logs counts (told s p []) s p out 0 out lines 0 lines 0 0 0
   plays-nothing logs counts s p out lines sound = rw (are.nothing s p sound) (record {
     state = refl;
@@ -47,14 +47,14 @@ module _ {P : Type 0} (told : State → P → List ℕ → Told P) (are : AreTol
   })
 
   -- no bytes scroll nothing off
-  pub none-off : (s : State) (p : P) (piece before after : List ℕ) (n : ℕ) → IsSound s → n ≡ 0 → before ≡ []
+  pub none-off : (s : State) (p : P) (piece before after : List ℕ) (n : ℕ) → IsSoundSized s → n ≡ 0 → before ≡ []
       → after ≡ before ++ (told s p (take n piece)).lines → length after ≡ 0
   none-off s p piece before after n sound none empty is =
       let bytes : (told s p (take n piece)).lines ≡ [] =
       ap (λ (k : ℕ). (told s p (take k piece)).lines) none ∙ ap (λ (t : Told P). t.lines) (are.nothing s p sound) in
       ap (λ (xs : List ℕ). length xs) (is ∙ ap (λ (b : List ℕ). b ++ (told s p (take n piece)).lines) empty ∙ bytes)
 
-  told-two : (s t : State) (p q : P) (piece : List ℕ) (taken k : ℕ) → IsSound s
+  told-two : (s t : State) (p q : P) (piece : List ℕ) (taken k : ℕ) → IsSoundSized s
       → t ≡ (told s p (take taken piece)).state → q ≡ (told s p (take taken piece)).kept
       → told s p (take (taken + k) piece) ≡ both (told s p (take taken piece)) (told t q (take k (drop taken piece)))
   told-two s t p q piece taken k sound state kept =
@@ -63,7 +63,7 @@ module _ {P : Type 0} (told : State → P → List ℕ → Told P) (are : AreTol
 
   -- a turn after those before it
   pub plays-turn : (logs counts : Bool) (s t u : State) (p q r : P) (piece : List ℕ) (taken k : ℕ)
-      (out out' out'' lines lines' lines'' : List ℕ) (m n lm ln b d : ℕ) → IsSound s
+      (out out' out'' lines lines' lines'' : List ℕ) (m n lm ln b d : ℕ) → IsSoundSized s
       → Plays logs counts (told s p (take taken piece)) t q out 0 out' lines 0 lines' m lm b
       → Plays logs counts (told t q (take k (drop taken piece))) u r out' m out'' lines' lm lines'' n ln d
       → Plays logs counts (told s p (take (taken + k) piece)) u r out 0 out'' lines 0 lines'' (m + n) (lm + ln) (b + d)

@@ -1,12 +1,12 @@
 -- The parts of a terminal that are written into a caller's buffer. Contracts of private functions cite this, and no public clause does.
 use Rattle.std.specs.Prelude.{◌≡◌, ◌↔◌, ◌≤◌, ◌<◌, ℕ, List, length}
 use Rattle.vt_syntax.specs.declared.held.Held.TheVariants.{Nothing}
-use Rattle.vt_screen.specs.Grid.{row_of, last_row}
+use Rattle.vt_screen.specs.Grid.{row_of}
 use Rattle.vt_term.specs.State.{State}
 use Rattle.vt_term.specs.Text.{text, line_text}
 use Rattle.vt_picture.specs.Show.{show}
 use Rattle.vt_picture.specs.Picture.{picture}
-use Rattle.vt_picture.specs.Draw.{draw}
+use Rattle.vt_picture.specs.Draw.{sized_draw}
 use Rattle.vt_paint.specs.Repaint.{paint}
 use Rattle.vt220_c.specs.declared.form.Form.{Form}
 use Rattle.vt220_c.specs.declared.form.Form.TheVariants.{Text, RowText, Show, Picture, Draw, Repaint}
@@ -17,16 +17,16 @@ written_as Text s = text s
 written_as (RowText row) s = line_text (row_of s.display.grid row)
 written_as Show s = show s
 written_as Picture s = picture s
-written_as Draw s = draw s
+written_as Draw s = sized_draw s
 written_as Repaint s = paint s
 
 -- a row is one of the screen's, and a repaint is made between sequences
 abbrev pub CanBe : Form → State → Type 0
-CanBe (RowText row) s = (1 ≤ row) × (row ≤ last_row)
+CanBe (RowText row) s = (1 ≤ row) × (row ≤ s.display.grid.size.rows)
 CanBe Repaint s = s.held ≡ Nothing
 CanBe _ s = Unit {0}
 
--- the status if it can't be
+-- the status if the form can't be written
 abbrev pub refusal : Form → ℕ
 refusal (RowText row) = status_no_row
 refusal Repaint = status_partial

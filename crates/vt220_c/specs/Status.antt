@@ -1,7 +1,7 @@
 -- The statuses that the calls return, and the version: those of the header. (this profile)
 use Rattle.std.specs.Prelude.{ℕ}
 
--- it was done
+-- the call succeeded
 abbrev pub status_ok : ℕ
 status_ok = 0
 
@@ -28,6 +28,10 @@ status_room = 5
 -- there is no such row
 abbrev pub status_no_row : ℕ
 status_no_row = 7
+
+-- there is no such size, or two have different sizes
+abbrev pub status_size : ℕ
+status_size = 11
 
 -- 0.4.0, as 10000 * major + 100 * minor + patch
 abbrev pub version : ℕ

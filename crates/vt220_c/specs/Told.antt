@@ -3,7 +3,7 @@
 -- Contracts of private functions and of `Player` cite this, and no public clause does.
 use Rattle.std.specs.Prelude.{◌≡◌, ◌+◌, ◌≤◌, ◌++◌, ℕ, List, [], Bool, true, false, length, take, drop, if◌then◌else◌}
 use Rattle.vt_term.specs.State.{State}
-use Rattle.vt_term.specs.Sound.{IsSound}
+use Rattle.vt_term.specs.Sound.{IsSoundSized}
 use Rattle.vt220_c.specs.Written.{written_over}
 
 -- so many bytes were written over a slice, starting at a place
@@ -21,7 +21,7 @@ pub record Told (P : Type 0) : Type 0 where
   pub lines : List ℕ
   pub rung : ℕ
 
--- bytes, and those that follow
+-- what bytes and those that follow leave together
 abbrev pub both : {P : Type 0} → Told P → Told P → Told P
 both before after = record {
   state = after.state;
@@ -33,12 +33,12 @@ both before after = record {
 
 -- no bytes change nothing, and bytes may be cut anywhere
 pub record AreTold {P : Type 0} (told : State → P → List ℕ → Told P) : Type 0 where
-  pub nothing : (s : State) (p : P) → IsSound s
+  pub nothing : (s : State) (p : P) → IsSoundSized s
       → told s p [] ≡ record { state = s; kept = p; reports = []; lines = []; rung = 0 }
-  pub two : (s : State) (p : P) (a b : List ℕ) → IsSound s
+  pub two : (s : State) (p : P) (a b : List ℕ) → IsSoundSized s
       → told s p (a ++ b) ≡ both (told s p a) (told (told s p a).state (told s p a).kept b)
 
--- no lines without a log
+-- the lines, or none without a log
 abbrev pub lines_if : Bool → List ℕ → List ℕ
 lines_if logs lines = if logs then lines else []
 
@@ -47,7 +47,7 @@ pub record Rings (counts : Bool) (bells rung : ℕ) : Type 0 where
   pub none : counts ≡ false → rung ≡ 0
   pub all : counts ≡ true → rung ≡ bells
 
--- the state, what is kept, the reports and the lines after what is there, and the bells
+-- bytes were played: the state, what is kept, the reports and the lines after what is there, and the bells
 pub record Plays {P : Type 0} (logs counts : Bool) (told : Told P) (t : State) (q : P) (out : List ℕ) (at : ℕ) (out_after : List ℕ) (lines : List ℕ) (lines_at : ℕ) (lines_after : List ℕ) (written lines_written rung : ℕ) : Type 0 where
   pub state : t ≡ told.state
   pub kept : q ≡ told.kept

@@ -11,18 +11,18 @@ use Rattle.vt220_c.specs.Told.{Told}
 use Rattle.vt220_c.specs.Written.{written_over}
 use Rattle.vt220_c.specs.declared.utf8.Vt220Utf8.{Vt220Utf8}
 
--- nothing is pending if the bytes don't begin a character
+-- the bytes that are pending: none if they don't begin a character
 abbrev pub pending_in : Vt220Utf8 → List ℕ
 pending_in u = if nat_le u.len 3 then pending_of (take u.len u.bytes) else []
 
 abbrev pub c_utf8 : List ℕ → Vt220Utf8
 c_utf8 pending = record { bytes = written_over pending (0 ∷ 0 ∷ 0 ∷ []); len = length pending }
 
--- a number that isn't a character of Unicode counts as U+FFFD
+-- the character of a number. A number that isn't a character of Unicode counts as U+FFFD
 abbrev pub character_of : ℕ → ℕ
 character_of n = if nat_lt n 0xD800 || (nat_lt 0xDFFF n && nat_lt n 0x110000) then n else 0xFFFD
 
--- 0 if the character has no cell
+-- the glyph of a character, or 0 if it has no cell
 abbrev pub glyph_for : ℕ → ℕ
 glyph_for n = unwrap_or (shown_as (character_of n)) 0
 

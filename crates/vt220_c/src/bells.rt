@@ -5,13 +5,14 @@ ghost use Rattle.vt_syntax.specs.Event.{event_of, is_control};
 ghost use Rattle.vt_syntax.specs.Held.{IsHeldPart};
 ghost use Rattle.vt_term.specs.Play.{play};
 ghost use Rattle.vt_term.specs.Scrolling.{log};
+ghost use Rattle.vt_term.specs.Text.{row_text_limit};
 ghost use Rattle.vt220_c.specs.Bells.{bells};
 ghost use Rattle.vt220_c.specs.BellCuts.{rung_by_character};
 
 use vt_syntax::EventKind;
 use vt_syntax::laws::{controls, spelled};
-use vt_term::laws::{happened, sized_happened};
-use vt_term::{Held, Lines, Observer, ROW_TEXT_LIMIT, SizedTerminal, Terminal};
+use vt_term::laws::{sized_happened, sized_log_cuts};
+use vt_term::{Held, Lines, Observer, SizedTerminal};
 
 /// BEL.
 const BEL: u8 = 0x07;
@@ -64,7 +65,7 @@ fn rung_by(kind: EventKind) -> usize
     }
 }
 
-/// Counts the bells of a feed.
+/// The observer that counts the bells of a feed.
 #[derive(Drop)]
 pub(crate) struct Bells {
     pub(crate) count: usize,
@@ -141,7 +142,7 @@ pub(crate) struct Rung {
 /// Plays bytes, and returns how often the bell rings. Appends the reports to `out`, which has capacity for ten more bytes for each
 /// byte. Speed: as the only place with this feed, it has the whole dispatcher inline.
 #[inline(never)]
-pub(crate) fn feed_counting(terminal: &mut Terminal, piece: &[u8], out: &mut Vec<u8>) -> usize
+pub(crate) fn feed_counting(terminal: &mut SizedTerminal, piece: &[u8], out: &mut Vec<u8>) -> usize
     requires { vec_len out.old + 10 * length piece.now ≤ vec_capacity out.old }
     ensures state { terminal.new ≡ (play terminal.old piece.now).state }
     ensures reports { out.new.items ≡ out.old.items ++ (play terminal.old piece.now).reports }
@@ -151,19 +152,19 @@ pub(crate) fn feed_counting(terminal: &mut Terminal, piece: &[u8], out: &mut Vec
     ensures capacity { vec_capacity out.old ≤ vec_capacity out.new }
 {
     let _ = terminal.width();
-    happened();
+    sized_happened();
     let mut bells = Bells { count: 0 };
     terminal.feed_observed(piece, &mut bells, out);
     bells.count
 }
 
 /// Plays the front of bytes, and appends the reports to `reports` and at most `most` bytes of the lines that scroll off to
-/// `lines`. If it stops early, `lines` has fewer than `ROW_TEXT_LIMIT` bytes free, or fewer of `most` are left. `reports` has
+/// `lines`. If it stops early, `lines` has fewer than `row_text_limit` bytes free, or fewer of `most` are left. `reports` has
 /// capacity for ten more bytes for each byte. Speed: as the only place with this feed, it has the whole dispatcher inline.
 #[inline(never)]
 #[tactic(auto, unfolding(vt_term::specs::Scrolling::log))]
 pub(crate) fn feed_log_counting(
-    terminal: &mut Terminal,
+    terminal: &mut SizedTerminal,
     piece: &[u8],
     reports: &mut Vec<u8>,
     lines: &mut Vec<u8>,
@@ -171,8 +172,9 @@ pub(crate) fn feed_log_counting(
 ) -> Rung
     requires { vec_len reports.old + 10 * length piece.now ≤ vec_capacity reports.old }
     ensures within { result.taken ≤ length piece.now }
-    ensures all { result.taken < length piece.now → (vec_capacity lines.new < vec_len lines.new + ROW_TEXT_LIMIT)
-        ⊎ (vec_len lines.old + most < vec_len lines.new + ROW_TEXT_LIMIT) }
+    ensures all { result.taken < length piece.now
+        → (vec_capacity lines.new < vec_len lines.new + row_text_limit terminal.old.display.grid.size)
+        ⊎ (vec_len lines.old + most < vec_len lines.new + row_text_limit terminal.old.display.grid.size) }
     ensures state { terminal.new ≡ (play terminal.old (take result.taken piece.now)).state }
     ensures reports { reports.new.items
         ≡ reports.old.items ++ (play terminal.old (take result.taken piece.now)).reports }
@@ -180,17 +182,19 @@ pub(crate) fn feed_log_counting(
     ensures bells { result.bells ≡ bells terminal.old.held (take result.taken piece.now) }
     ensures few_bells { result.bells ≤ result.taken }
     ensures reports_bounded { vec_len reports.new ≤ vec_len reports.old + 10 * result.taken }
-    ensures lines_bounded { vec_len lines.new ≤ vec_len lines.old + ROW_TEXT_LIMIT * result.taken }
+    ensures no_lines { result.taken ≡ 0 → vec_len lines.new ≡ vec_len lines.old }
     ensures lines_fit { vec_len lines.new ≤ vec_len lines.old + most }
     ensures reports_capacity { vec_capacity reports.old ≤ vec_capacity reports.new }
     ensures lines_capacity { vec_capacity lines.old ≤ vec_capacity lines.new }
 {
     let _ = terminal.width();
     sized_happened();
+    sized_log_cuts();
     let end = lines.len().saturating_add(most);
+    let limit = terminal.row_text_limit();
     let mut log = Lines {
         lines,
-        limit: ROW_TEXT_LIMIT,
+        limit,
         end,
         beside: Bells { count: 0 },
     };

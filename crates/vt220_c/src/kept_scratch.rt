@@ -3,6 +3,7 @@ ghost use Rattle.std.specs.Prelude.{◌≡◌, IsSome};
 ghost use Rattle.std.specs.declared.option.Option.{Option};
 ghost use Rattle.std.specs.declared.option.Option.TheVariants.{None, Some};
 ghost use Rattle.std.specs.Coded.{coded_option};
+ghost use Rattle.vt_screen.specs.declared.size.Size.{Size};
 ghost use Rattle.vt220_c.specs.contracts.scratch.Scratch.{the_row};
 ghost use Rattle.vt220_c.specs.Kept.{kept_scratch};
 
@@ -18,7 +19,7 @@ use std::ptr;
 pub struct KeptScratch {
     at: *mut u8,
     alloc: Global,
-    pub ghost inside: { Option (Unit {0}) } by { coded_option the_row.coded },
+    pub ghost inside: { Option Size } by { coded_option the_row.coded },
 }
 
 impl Model for KeptScratch {

@@ -1,17 +1,17 @@
-//! The pointer of the block of what a terminal needs under TERM=xterm, or none: what C may hold.
+//! The pointer of a front's block, or none: what C may hold. The front is what a terminal needs under TERM=xterm.
 ghost use Rattle.std.specs.Prelude.{◌≡◌, IsSome};
 ghost use Rattle.std.specs.declared.option.Option.{Option};
 ghost use Rattle.std.specs.declared.option.Option.TheVariants.{None, Some};
 ghost use Rattle.std.specs.Coded.{coded_option};
 ghost use Rattle.vt_xterm.specs.Play.{FrontState};
-ghost use Rattle.vt_xterm.specs.contracts.front.Front.{the_row};
+ghost use Rattle.vt_xterm.specs.contracts.front.SizedFront.{the_row};
 ghost use Rattle.vt220_c.specs.Kept.{kept_xterm};
 
 use crate::loose::Loose;
 use std::alloc::Global;
 use std::marker::Model;
 use std::ptr;
-use vt_xterm::Front;
+use vt_xterm::SizedFront;
 
 /// The pointer of a front's block, or none.
 #[repr(C)]
@@ -38,7 +38,7 @@ impl KeptXterm {
     }
 
     /// Returns the pointer of a front.
-    pub(crate) fn of(value: Loose<Front, Global>) -> KeptXterm
+    pub(crate) fn of(value: Loose<SizedFront, Global>) -> KeptXterm
         ensures { result.inside ≡ Some value.value }
     {
         let Loose { at, alloc } = value;
@@ -49,13 +49,13 @@ impl KeptXterm {
     }
 
     /// Returns the front of the pointer.
-    pub(crate) fn into_loose(self) -> Loose<Front, Global>
+    pub(crate) fn into_loose(self) -> Loose<SizedFront, Global>
         requires { IsSome self.inside }
         ensures { self.inside ≡ Some result.value }
     {
         let KeptXterm { at, alloc } = self;
         Loose {
-            at: at as *mut Front,
+            at: at as *mut SizedFront,
             alloc,
         }
     }

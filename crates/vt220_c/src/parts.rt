@@ -1,12 +1,12 @@
 //! The parts of the state that decide what later bytes do: brush, sets, tab stops and the saved record.
-ghost use Rattle.std.specs.Prelude.{◌≡◌, IfSome, is_some};
+ghost use Rattle.std.specs.Prelude.{◌≡◌, ◌≤◌, ◌<◌, ◌++◌, IfSome, is_some, length, drop};
 ghost use Rattle.vt220_c.specs.Parts.{c_brush, c_sets, c_saved};
 ghost use Rattle.std.specs.declared.option.Option.TheVariants.{None};
 
 use crate::handle::Vt220;
 use std::alloc::Global;
 use vt_screen::Brush;
-use vt_term::{STOPS, Saved, Sets};
+use vt_term::{Saved, Sets};
 
 /// The attributes and the protection of the next glyph.
 #[repr(C)]
@@ -19,8 +19,7 @@ pub struct Vt220Brush {
     pub is_protected: bool,
 }
 
-/// The graphic sets: the final bytes of those designated as G0 to G3, the slots in GL and GR, and the slot of a pending
-/// single shift, or 0.
+/// The graphic sets: the final bytes of G0 to G3, the slots in GL and GR, and that of a pending single shift, or 0.
 #[repr(C)]
 #[derive(Clone, Copy)]
 pub struct Vt220Sets {
@@ -31,13 +30,6 @@ pub struct Vt220Sets {
     pub gl: u8,
     pub gr: u8,
     pub single_shift: u8,
-}
-
-/// The tab stops: index c - 1 for column c.
-#[repr(C)]
-#[derive(Clone, Copy)]
-pub struct Vt220Stops {
-    pub stop: [bool; STOPS],
 }
 
 /// The state that DECRC restores.
@@ -143,23 +135,35 @@ pub extern "C" fn core_sets(t: &mut Vt220, sets: &mut Vt220Sets, alloc: Global) 
     true
 }
 
-/// Writes the tab stops of the columns 1 to 132, at any width. Returns false, and leaves `stops` unchanged, if the
-/// handle is closed.
+/// Writes truth values into the front of `stops`, if they fit. Returns how many it wrote.
+fn put_stops(from: &[bool], stops: &mut [bool]) -> usize
+    ensures stops { length from.now ≤ length stops.old
+        → (stops.new ≡ from.now ++ drop (length from.now) stops.old) × (result ≡ length from.now) }
+    ensures none { length stops.old < length from.now → (stops.new ≡ stops.old) × (result ≡ 0) }
+{
+    if from.len() > stops.len() {
+        return 0;
+    }
+    stops[..from.len()].copy_from_slice(from);
+    from.len()
+}
+
+/// Writes the tab stops into the front of `stops`: index c - 1 for column c, from 1 to the last one of the wide screen at any width.
+/// Returns how many these are. Returns 0, and leaves `stops` unchanged, if the handle is closed or they don't fit.
 #[unsafe(no_mangle)]
-pub extern "C" fn core_stops(t: &mut Vt220, stops: &mut Vt220Stops, alloc: Global) -> bool
+pub extern "C" fn core_stops(t: &mut Vt220, stops: &mut [bool], alloc: Global) -> usize
     ensures same { t.new.kept.inside ≡ t.old.kept.inside }
-    ensures stops { IfSome t.old.kept.inside (λ s. stops.new ≡ record { stop = s.display.stops }) }
-    ensures closed { t.old.kept.inside ≡ None → stops.new ≡ stops.old }
-    ensures opened { result ≡ is_some t.old.kept.inside }
+    ensures stops { IfSome t.old.kept.inside (λ s. length s.display.stops ≤ length stops.old
+        → (stops.new ≡ s.display.stops ++ drop (length s.display.stops) stops.old) × (result ≡ length s.display.stops)) }
+    ensures none { IfSome t.old.kept.inside (λ s. length stops.old < length s.display.stops → (stops.new ≡ stops.old) × (result ≡ 0)) }
+    ensures closed { t.old.kept.inside ≡ None → (stops.new ≡ stops.old) × (result ≡ 0) }
 {
     let Some(inner) = t.take(alloc) else {
-        return false;
+        return 0;
     };
-    *stops = Vt220Stops {
-        stop: *inner.terminal().stops(),
-    };
+    let count = put_stops(inner.terminal().stops(), stops);
     t.put(inner);
-    true
+    count
 }
 
 /// Writes the saved record. Returns false, and leaves `saved` unchanged, if the handle is closed.

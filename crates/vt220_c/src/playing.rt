@@ -15,7 +15,7 @@ struct Turn {
     bells: usize,
 }
 
-/// The number of bytes at the front of a chunk that were played, and the numbers of bytes of reports and of lines that were
+/// The numbers of bytes at the front of a chunk that were played, and of bytes of reports and of lines that were
 /// written.
 #[derive(Drop)]
 struct Sent {
@@ -58,6 +58,9 @@ fn feed_turn<P: Player>(
     requires some { 1 ≤ limit }
     requires limit { limit ≤ length piece.now }
     requires room { written + REPORT_LIMIT ≤ length out.old }
+    requires kept_fits { P.Fits inner.old.display.grid.size player.old }
+    ensures size { inner.new.display.grid.size ≡ inner.old.display.grid.size }
+    ensures kept_fits { P.Fits inner.old.display.grid.size player.new }
     ensures some { 1 ≤ result.taken }
     ensures within { result.taken ≤ limit }
     ensures state { inner.new ≡ (P.told inner.old player.old (take result.taken piece.now)).state }
@@ -95,8 +98,11 @@ fn log_turn<P: Player>(
     requires some { 1 ≤ limit }
     requires limit { limit ≤ length piece.now }
     requires out_room { written + REPORT_LIMIT ≤ length out.old }
-    requires lines_room { lines_written + P.room ≤ length lines.old }
-    requires capacity { P.room ≤ vec_capacity room.old }
+    requires lines_room { lines_written + P.room inner.old.display.grid.size ≤ length lines.old }
+    requires capacity { P.room inner.old.display.grid.size ≤ vec_capacity room.old }
+    requires kept_fits { P.Fits inner.old.display.grid.size player.old }
+    ensures size { inner.new.display.grid.size ≡ inner.old.display.grid.size }
+    ensures kept_fits { P.Fits inner.old.display.grid.size player.new }
     ensures some { 1 ≤ result.taken }
     ensures within { result.taken ≤ limit }
     ensures state { inner.new ≡ (P.told inner.old player.old (take result.taken piece.now)).state }
@@ -146,8 +152,11 @@ fn any_turn<P: Player>(
     requires limit { limit ≤ length piece.now }
     requires out_room { written + REPORT_LIMIT ≤ length out.old }
     requires lines { lines_written ≤ length lines.old }
-    requires lines_room { logs ≡ true → lines_written + P.room ≤ length lines.old }
-    requires capacity { logs ≡ true → P.room ≤ vec_capacity room.old }
+    requires lines_room { logs ≡ true → lines_written + P.room inner.old.display.grid.size ≤ length lines.old }
+    requires capacity { logs ≡ true → P.room inner.old.display.grid.size ≤ vec_capacity room.old }
+    requires kept_fits { P.Fits inner.old.display.grid.size player.old }
+    ensures size { inner.new.display.grid.size ≡ inner.old.display.grid.size }
+    ensures kept_fits { P.Fits inner.old.display.grid.size player.new }
     ensures some { 1 ≤ result.taken }
     ensures within { result.taken ≤ limit }
     ensures state { inner.new ≡ (P.told inner.old player.old (take result.taken piece.now)).state }
@@ -177,12 +186,12 @@ fn any_turn<P: Player>(
 }
 
 /// Returns whether there is capacity for the lines of a turn, or there is no log.
-fn has_room<P: Player>(player: &P, lines: &[u8], lines_written: usize, logs: bool) -> bool
+fn has_room(limit: usize, lines: &[u8], lines_written: usize, logs: bool) -> bool
     requires { lines_written ≤ length lines.now }
-    ensures room { OnTrue result (logs ≡ true → lines_written + P.room ≤ length lines.now) }
-    ensures full { OnFalse result ((logs ≡ true) × (length lines.now < lines_written + P.room)) }
+    ensures room { OnTrue result (logs ≡ true → lines_written + limit ≤ length lines.now) }
+    ensures full { OnFalse result ((logs ≡ true) × (length lines.now < lines_written + limit)) }
 {
-    !logs || lines.len() - lines_written >= player.lines_limit()
+    !logs || lines.len() - lines_written >= limit
 }
 
 /// Plays a byte if `out` has capacity for its reports. Speed: there is no loop, no log, and no bell is counted.
@@ -193,6 +202,8 @@ pub(crate) fn play_byte<P: Player>(
     byte: u8,
     out: &mut [u8],
 ) -> Front
+    requires kept_fits { P.Fits inner.old.display.grid.size player.old }
+    ensures kept_fits { P.Fits inner.old.display.grid.size player.new }
     ensures within { result.taken ≤ 1 }
     ensures state { inner.new ≡ (P.told inner.old player.old (take result.taken (byte ∷ []))).state }
     ensures kept { player.new ≡ (P.told inner.old player.old (take result.taken (byte ∷ []))).kept }
@@ -229,16 +240,18 @@ pub(crate) fn play<P: Player>(
     lines: &mut [u8],
     room: &mut Vec<u8>,
 ) -> Logged
-    requires { logs ≡ true → P.room ≤ vec_capacity room.old }
+    requires room { logs ≡ true → P.room inner.old.display.grid.size ≤ vec_capacity room.old }
+    requires kept_fits { P.Fits inner.old.display.grid.size player.old }
     ensures within { result.taken ≤ length piece.now }
     ensures fed { Plays logs counts (P.told inner.old player.old (take result.taken piece.now)) inner.new player.new out.old 0
         out.new lines.old 0 lines.new result.written result.lines_written result.bells }
     ensures all { (result.taken ≡ length piece.now) ⊎ (length out.old < result.written + REPORT_LIMIT)
-        ⊎ ((logs ≡ true) × (length lines.old < result.lines_written + P.room)) }
+        ⊎ ((logs ≡ true) × (length lines.old < result.lines_written + P.room inner.old.display.grid.size)) }
     ensures capacity { vec_capacity room.old ≤ vec_capacity room.new }
 {
     let _ = inner.terminal.width();
     player.cuts();
+    let limit = player.lines_limit(&inner.terminal);
     let mut done = Logged {
         taken: 0,
         written: 0,
@@ -247,7 +260,7 @@ pub(crate) fn play<P: Player>(
     };
     while done.taken < piece.len()
         && out.len() - done.written >= REPORT_LIMIT
-        && has_room(player, lines, done.lines_written, logs)
+        && has_room(limit, lines, done.lines_written, logs)
     {
         let rest = &piece[done.taken..];
         let turn = next_turn(inner, player, rest, counts);

@@ -20,3 +20,6 @@ pub(crate) const ROOM: u32 = 5;
 
 /// There is no such row. (Only the header has 6: an unsupported processor.)
 pub(crate) const NO_ROW: u32 = 7;
+
+/// There is no such size, or two have different sizes. (Only the header has 8 to 10.)
+pub(crate) const SIZE: u32 = 11;

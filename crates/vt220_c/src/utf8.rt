@@ -1,8 +1,9 @@
 //! UTF-8 for C: what is pending, how a character is shown, and calls that play UTF-8.
-ghost use Rattle.std.specs.Prelude.{◌≡◌, ◌+◌, ◌≤◌, ◌<◌, ◌⊎◌, ◌∷◌, [], true, false, length, take, IfSome, is_some};
+ghost use Rattle.std.specs.Prelude.{◌≡◌, ◌≢◌, ◌+◌, ◌≤◌, ◌<◌, ◌⊎◌, ◌∷◌, [], true, false, length, take, IfSome};
 ghost use Rattle.std.specs.declared.option.Option.TheVariants.{None, Some};
 ghost use Rattle.vt_term.specs.Scrolling.{log};
 ghost use Rattle.vt_utf8.specs.Decoding.{pending_after};
+ghost use Rattle.vt_utf8.specs.Limits.{utf8_lines_limit};
 ghost use Rattle.vt_utf8.specs.Play.{translated, play_utf8};
 ghost use Rattle.vt220_c.specs.Bells.{bells};
 ghost use Rattle.vt220_c.specs.Utf8.{pending_in, c_utf8, cells_of_character, glyph_for, cells_for};
@@ -12,10 +13,11 @@ use crate::handle::Vt220;
 use crate::inner::{Front, Inner};
 use crate::playing::{play, play_byte};
 use crate::scratch_handle::Vt220Scratch;
+use crate::sizes::room_holds;
 use std::alloc::Global;
 use vt_term::REPORT_LIMIT;
 use vt_utf8::laws::ascii;
-use vt_utf8::{Decoder, UTF8_LINES_LIMIT, cells, shown_as};
+use vt_utf8::{Decoder, cells, shown_as};
 
 /// The pending part of UTF-8: the bytes of a character that isn't complete, and how many there are.
 #[repr(C)]
@@ -187,8 +189,9 @@ pub extern "C" fn core_feed_byte_utf8(
     front.taken
 }
 
-/// Plays UTF-8 with its log, as `core_feed_log` does. `u` is what is pending of a character between chunks. Returns how many
-/// bytes were played: all, or as many as the two buffers have capacity for. Returns 0 if a handle is closed.
+/// Plays UTF-8 with its log, as `core_feed_log` does. `u` is what is pending of a character between chunks. Returns how
+/// many bytes were played: all, or as many as the two buffers have capacity for. Returns 0 if a handle is closed or the
+/// terminal and the scratch buffer have different sizes.
 #[unsafe(no_mangle)]
 #[tactic(auto, unfolding(vt_utf8::specs::Play::play_utf8))]
 pub extern "C" fn core_feed_log_utf8(
@@ -205,17 +208,20 @@ pub extern "C" fn core_feed_log_utf8(
     alloc: Global,
 ) -> usize
     ensures within { result ≤ length piece.now }
-    ensures state { is_some s.old.kept.inside ≡ true → IfSome t.old.kept.inside (λ v. t.new.kept.inside ≡ Some (play_utf8 v (pending_in u.old) (take result piece.now)).state) }
-    ensures pending { is_some s.old.kept.inside ≡ true → IfSome t.old.kept.inside (λ _. u.new ≡ c_utf8 (pending_after (pending_in u.old) (take result piece.now))) }
-    ensures reports { is_some s.old.kept.inside ≡ true → IfSome t.old.kept.inside (λ v. out.new ≡ written_over (play_utf8 v (pending_in u.old) (take result piece.now)).reports out.old) }
-    ensures written { is_some s.old.kept.inside ≡ true → IfSome t.old.kept.inside (λ v. written.new ≡ length (play_utf8 v (pending_in u.old) (take result piece.now)).reports) }
-    ensures lines { is_some s.old.kept.inside ≡ true → IfSome t.old.kept.inside (λ v. lines.new ≡ written_over (log v (translated v (pending_in u.old) (take result piece.now))) lines.old) }
-    ensures lines_written { is_some s.old.kept.inside ≡ true → IfSome t.old.kept.inside (λ v. lines_written.new ≡ length (log v (translated v (pending_in u.old) (take result piece.now)))) }
-    ensures all { is_some s.old.kept.inside ≡ true → IfSome t.old.kept.inside (λ _. (result ≡ length piece.now) ⊎ (length out.old < written.new + REPORT_LIMIT)
-        ⊎ (length lines.old < lines_written.new + UTF8_LINES_LIMIT)) }
-    ensures bells { is_some s.old.kept.inside ≡ true → IfSome t.old.kept.inside (λ v. counts ≡ true → rung.new ≡ bells v.held (translated v (pending_in u.old) (take result piece.now))) }
+    ensures state { IfSome s.old.kept.inside (λ size. IfSome t.old.kept.inside (λ v. v.display.grid.size ≡ size → t.new.kept.inside ≡ Some (play_utf8 v (pending_in u.old) (take result piece.now)).state)) }
+    ensures pending { IfSome s.old.kept.inside (λ size. IfSome t.old.kept.inside (λ v. v.display.grid.size ≡ size → u.new ≡ c_utf8 (pending_after (pending_in u.old) (take result piece.now)))) }
+    ensures reports { IfSome s.old.kept.inside (λ size. IfSome t.old.kept.inside (λ v. v.display.grid.size ≡ size → out.new ≡ written_over (play_utf8 v (pending_in u.old) (take result piece.now)).reports out.old)) }
+    ensures written { IfSome s.old.kept.inside (λ size. IfSome t.old.kept.inside (λ v. v.display.grid.size ≡ size → written.new ≡ length (play_utf8 v (pending_in u.old) (take result piece.now)).reports)) }
+    ensures lines { IfSome s.old.kept.inside (λ size. IfSome t.old.kept.inside (λ v. v.display.grid.size ≡ size → lines.new ≡ written_over (log v (translated v (pending_in u.old) (take result piece.now))) lines.old)) }
+    ensures lines_written { IfSome s.old.kept.inside (λ size. IfSome t.old.kept.inside (λ v. v.display.grid.size ≡ size → lines_written.new ≡ length (log v (translated v (pending_in u.old) (take result piece.now))))) }
+    ensures all { IfSome s.old.kept.inside (λ size. IfSome t.old.kept.inside (λ v. v.display.grid.size ≡ size → (result ≡ length piece.now) ⊎ (length out.old < written.new + REPORT_LIMIT)
+        ⊎ (length lines.old < lines_written.new + utf8_lines_limit v.display.grid.size))) }
+    ensures bells { IfSome s.old.kept.inside (λ size. IfSome t.old.kept.inside (λ v. v.display.grid.size ≡ size → counts ≡ true → rung.new ≡ bells v.held (translated v (pending_in u.old) (take result piece.now)))) }
     ensures none { counts ≡ false → rung.new ≡ 0 }
     ensures scratch { s.new.kept.inside ≡ s.old.kept.inside }
+    ensures other_size { IfSome s.old.kept.inside (λ size. IfSome t.old.kept.inside (λ v. v.display.grid.size ≢ size
+        → (t.new.kept.inside ≡ t.old.kept.inside) × (u.new ≡ u.old) × (result ≡ 0) × (written.new ≡ 0) × (lines_written.new ≡ 0)
+        × (rung.new ≡ 0) × (out.new ≡ out.old) × (lines.new ≡ lines.old))) }
     ensures closed { (t.old.kept.inside ≡ None) ⊎ (s.old.kept.inside ≡ None) → (t.new.kept.inside ≡ t.old.kept.inside) × (u.new ≡ u.old) × (result ≡ 0)
         × (written.new ≡ 0) × (lines_written.new ≡ 0) × (rung.new ≡ 0) × (out.new ≡ out.old) × (lines.new ≡ lines.old) }
 {
@@ -229,6 +235,12 @@ pub extern "C" fn core_feed_log_utf8(
         t.put(inner);
         return 0;
     };
+    if !scratch.serves(inner.terminal()) {
+        t.put(inner);
+        s.put(scratch);
+        return 0;
+    }
+    room_holds();
     let mut decoder = decoder_of(u);
     let logged = scratch.play(&mut inner, &mut decoder, piece, counts, out, lines);
     t.put(inner);

@@ -1,40 +1,63 @@
 //! Calls of C that play what a host sends under TERM=xterm.
-ghost use Rattle.std.specs.Prelude.{◌≡◌, ◌↔◌, ◌+◌, ◌≤◌, ◌<◌, ◌⊎◌, ◌∷◌, [], true, false, length, take, IfSome, is_some};
+ghost use Rattle.std.specs.Prelude.{◌≡◌, ◌≢◌, ◌↔◌, ◌+◌, ◌≤◌, ◌<◌, ◌⊎◌, ◌∷◌, [], IsTrue, true, false, length, take, IfSome, is_some};
 ghost use Rattle.std.specs.declared.option.Option.TheVariants.{None, Some};
 ghost use Rattle.std.specs.Bool.{OnTrue};
+ghost use Rattle.vt_screen.specs.Sizes.{IsSize};
 ghost use Rattle.vt_syntax.specs.declared.held.Held.TheVariants.{Nothing};
-ghost use Rattle.vt_xterm.specs.Play.{front_at_power_up};
-ghost use Rattle.vt220_c.specs.Status.{status_ok, status_closed, status_in_use};
+ghost use Rattle.std.specs.Prelude.{option_map};
+ghost use Rattle.vt_xterm.specs.Limits.{xterm_lines_limit};
+ghost use Rattle.vt_xterm.specs.Play.{front_of};
+ghost use Rattle.vt_xterm.specs.Resizing.{front_on};
+ghost use Rattle.vt220_c.specs.Sizes.{size_of, size_for};
+ghost use Rattle.vt220_c.specs.Status.{status_ok, status_memory, status_closed, status_in_use, status_size};
 ghost use Rattle.vt220_c.specs.Utf8.{c_utf8};
 ghost use Rattle.vt220_c.specs.Written.{written_over};
-ghost use Rattle.vt220_c.specs.Xterm.{xterm_played, xterm_front, xterm_lines, xterm_bells};
+ghost use Rattle.vt220_c.specs.Xterm.{IsSession, xterm_played, xterm_front, xterm_lines, xterm_bells};
 
 use crate::handle::Vt220;
 use crate::inner::{Front as Sent, Inner};
 use crate::playing::{play, play_byte};
 use crate::scratch_handle::Vt220Scratch;
-use crate::status::{CLOSED, IN_USE, MEMORY, OK};
+use crate::sizes::{room_holds, size_for, size_of};
+use crate::status::{CLOSED, IN_USE, MEMORY, OK, SIZE};
 use crate::utf8::{Vt220Utf8, c_pending};
 use crate::xterm_handle::Vt220Xterm;
 use std::alloc::Global;
 use vt_syntax::laws::spelled;
-use vt_term::{Held, REPORT_LIMIT};
+use vt_term::{Held, REPORT_LIMIT, Size, SizedTerminal};
 use vt_utf8::laws::ascii;
-use vt_xterm::laws::transparent;
-use vt_xterm::{Front, LINES_LIMIT};
+use vt_xterm::laws::sized_transparent;
+use vt_xterm::{Sides, SizedFront};
 
-/// Opens a closed handle, with a front at power-up. Returns `OK`, `IN_USE` or `MEMORY`.
+/// Returns whether a terminal and a front have one size.
+pub(crate) fn is_session(terminal: &SizedTerminal, front: &SizedFront) -> bool
+    ensures { IsTrue result ↔ IsSession terminal.now front.now }
+{
+    front.size().same(terminal.size())
+}
+
+/// Opens a closed handle, with a front at power-up for a terminal of so many rows and columns. Returns `OK`, `IN_USE`, `SIZE` if a
+/// screen may not have this size, or `MEMORY`.
 #[unsafe(no_mangle)]
-pub extern "C" fn core_xterm_open(x: &mut Vt220Xterm, alloc: Global) -> u32
-    ensures ok { result ≡ status_ok → x.new.kept.inside ≡ Some front_at_power_up }
+pub extern "C" fn core_xterm_open(
+    x: &mut Vt220Xterm,
+    rows: usize,
+    columns: usize,
+    alloc: Global,
+) -> u32
+    ensures ok { result ≡ status_ok → x.new.kept.inside ≡ option_map front_of (size_for rows columns) }
     ensures not { (0 < result) → x.new.kept.inside ≡ x.old.kept.inside }
     ensures in_use { (result ≡ status_in_use) ↔ (is_some x.old.kept.inside ≡ true) }
-    ensures answers { result ≤ status_in_use }
+    ensures no_size { result ≢ status_in_use → (result ≡ status_size) ↔ (size_for rows columns ≡ None) }
+    ensures answers { (result ≡ status_ok) ⊎ (result ≡ status_memory) ⊎ (result ≡ status_in_use) ⊎ (result ≡ status_size) }
 {
     if x.is_open {
         return IN_USE;
     }
-    let Ok(front) = Front::new(alloc) else {
+    let Some(size) = size_for(rows, columns) else {
+        return SIZE;
+    };
+    let Ok(front) = SizedFront::new(alloc, size) else {
         return MEMORY;
     };
     let Ok(front) = Box::new(alloc, front) else {
@@ -112,19 +135,22 @@ pub extern "C" fn core_feed_xterm(
     alloc: Global,
 ) -> usize
     ensures within { result ≤ length piece.now }
-    ensures state { IfSome t.old.kept.inside (λ s. IfSome x.old.kept.inside (λ front.
+    ensures state { IfSome t.old.kept.inside (λ s. IfSome x.old.kept.inside (λ front. IsSession s front →
         t.new.kept.inside ≡ Some (xterm_played s front (take result piece.now)).whole.state)) }
-    ensures front { IfSome t.old.kept.inside (λ s. IfSome x.old.kept.inside (λ front.
+    ensures front { IfSome t.old.kept.inside (λ s. IfSome x.old.kept.inside (λ front. IsSession s front →
         x.new.kept.inside ≡ Some (xterm_front s front (take result piece.now)))) }
-    ensures reports { IfSome t.old.kept.inside (λ s. IfSome x.old.kept.inside (λ front.
+    ensures reports { IfSome t.old.kept.inside (λ s. IfSome x.old.kept.inside (λ front. IsSession s front →
         out.new ≡ written_over (xterm_played s front (take result piece.now)).reports out.old)) }
-    ensures written { IfSome t.old.kept.inside (λ s. IfSome x.old.kept.inside (λ front.
+    ensures written { IfSome t.old.kept.inside (λ s. IfSome x.old.kept.inside (λ front. IsSession s front →
         written.new ≡ length (xterm_played s front (take result piece.now)).reports)) }
-    ensures all { IfSome t.old.kept.inside (λ _. IfSome x.old.kept.inside (λ _.
+    ensures all { IfSome t.old.kept.inside (λ s. IfSome x.old.kept.inside (λ front. IsSession s front →
         (result ≡ length piece.now) ⊎ (length out.old < written.new + REPORT_LIMIT))) }
-    ensures bells { IfSome t.old.kept.inside (λ s. IfSome x.old.kept.inside (λ front.
+    ensures bells { IfSome t.old.kept.inside (λ s. IfSome x.old.kept.inside (λ front. IsSession s front →
         counts ≡ true → rung.new ≡ xterm_bells s front (take result piece.now))) }
     ensures none { counts ≡ false → rung.new ≡ 0 }
+    ensures other_size { IfSome t.old.kept.inside (λ s. IfSome x.old.kept.inside (λ front. front.pages.other.grid.size ≢ s.display.grid.size
+        → (t.new.kept.inside ≡ t.old.kept.inside) × (x.new.kept.inside ≡ x.old.kept.inside) × (result ≡ 0) × (written.new ≡ 0) × (rung.new ≡ 0)
+        × (out.new ≡ out.old))) }
     ensures closed { (t.old.kept.inside ≡ None) ⊎ (x.old.kept.inside ≡ None) → (t.new.kept.inside ≡ t.old.kept.inside)
         × (x.new.kept.inside ≡ x.old.kept.inside) × (result ≡ 0) × (written.new ≡ 0) × (rung.new ≡ 0) × (out.new ≡ out.old) }
 {
@@ -137,6 +163,11 @@ pub extern "C" fn core_feed_xterm(
         t.put(inner);
         return 0;
     };
+    if !is_session(inner.terminal(), &front) {
+        t.put(inner);
+        x.put(front);
+        return 0;
+    }
     let mut room = Vec::new(alloc);
     let played = play(
         &mut inner,
@@ -155,20 +186,22 @@ pub extern "C" fn core_feed_xterm(
     played.taken
 }
 
-/// Returns whether a byte is printed as on a VT220: it is a graphic byte of ASCII between sequences, and nothing is pending.
+/// Returns whether a byte is printed as on a VT220: it is a graphic byte of ASCII between sequences, nothing is pending, and DECLRMM is
+/// reset.
 #[inline(always)]
-fn is_printed(held: &Held, pending: &[u8], byte: u8) -> bool
-    ensures { OnTrue result ((held.now ≡ Nothing) × (length pending.now ≡ 0) × (0x20 ≤ byte) × (byte ≤ 0x7E)) }
+fn is_printed(sides: Option<Sides>, held: &Held, pending: &[u8], byte: u8) -> bool
+    ensures { OnTrue result ((sides ≡ None) × (held.now ≡ Nothing) × (length pending.now ≡ 0) × (0x20 ≤ byte) × (byte ≤ 0x7E)) }
 {
-    match held {
-        Held::Nothing => pending.is_empty() && 0x20 <= byte && byte <= 0x7E,
-        Held::Escape(_) | Held::Control { .. } | Held::Text { .. } | Held::Spoilt => false,
+    match (sides, held) {
+        (None, Held::Nothing) => pending.is_empty() && 0x20 <= byte && byte <= 0x7E,
+        _ => false,
     }
 }
 
 /// Plays a byte under TERM=xterm, if `out` has capacity for its reports. Speed: most bytes are printed as on a VT220.
 #[inline(always)]
-fn play_byte_xterm(inner: &mut Inner, front: &mut Front, byte: u8, out: &mut [u8]) -> Sent
+fn play_byte_xterm(inner: &mut Inner, front: &mut SizedFront, byte: u8, out: &mut [u8]) -> Sent
+    requires { IsSession inner.old front.old }
     ensures within { result.taken ≤ 1 }
     ensures state { inner.new ≡ (xterm_played inner.old front.old (take result.taken (byte ∷ []))).whole.state }
     ensures front { front.new ≡ xterm_front inner.old front.old (take result.taken (byte ∷ [])) }
@@ -178,9 +211,9 @@ fn play_byte_xterm(inner: &mut Inner, front: &mut Front, byte: u8, out: &mut [u8
 {
     let _ = inner.terminal.width();
     ascii();
-    transparent();
+    sized_transparent();
     spelled();
-    if is_printed(inner.terminal.held(), front.pending(), byte) {
+    if is_printed(front.sides(), inner.terminal.held(), front.pending(), byte) {
         return inner.feed_byte(byte, out);
     }
     play_byte(inner, front, byte, out)
@@ -198,16 +231,19 @@ pub extern "C" fn core_feed_byte_xterm(
     alloc: Global,
 ) -> usize
     ensures within { result ≤ 1 }
-    ensures state { IfSome t.old.kept.inside (λ s. IfSome x.old.kept.inside (λ front.
+    ensures state { IfSome t.old.kept.inside (λ s. IfSome x.old.kept.inside (λ front. IsSession s front →
         t.new.kept.inside ≡ Some (xterm_played s front (take result (byte ∷ []))).whole.state)) }
-    ensures front { IfSome t.old.kept.inside (λ s. IfSome x.old.kept.inside (λ front.
+    ensures front { IfSome t.old.kept.inside (λ s. IfSome x.old.kept.inside (λ front. IsSession s front →
         x.new.kept.inside ≡ Some (xterm_front s front (take result (byte ∷ []))))) }
-    ensures reports { IfSome t.old.kept.inside (λ s. IfSome x.old.kept.inside (λ front.
+    ensures reports { IfSome t.old.kept.inside (λ s. IfSome x.old.kept.inside (λ front. IsSession s front →
         out.new ≡ written_over (xterm_played s front (take result (byte ∷ []))).reports out.old)) }
-    ensures written { IfSome t.old.kept.inside (λ s. IfSome x.old.kept.inside (λ front.
+    ensures written { IfSome t.old.kept.inside (λ s. IfSome x.old.kept.inside (λ front. IsSession s front →
         written.new ≡ length (xterm_played s front (take result (byte ∷ []))).reports)) }
-    ensures all { IfSome t.old.kept.inside (λ _. IfSome x.old.kept.inside (λ _.
+    ensures all { IfSome t.old.kept.inside (λ s. IfSome x.old.kept.inside (λ front. IsSession s front →
         (result ≡ 1) ⊎ (length out.old < written.new + REPORT_LIMIT))) }
+    ensures other_size { IfSome t.old.kept.inside (λ s. IfSome x.old.kept.inside (λ front. front.pages.other.grid.size ≢ s.display.grid.size
+        → (t.new.kept.inside ≡ t.old.kept.inside) × (x.new.kept.inside ≡ x.old.kept.inside) × (result ≡ 0) × (written.new ≡ 0)
+        × (out.new ≡ out.old))) }
     ensures closed { (t.old.kept.inside ≡ None) ⊎ (x.old.kept.inside ≡ None) → (t.new.kept.inside ≡ t.old.kept.inside)
         × (x.new.kept.inside ≡ x.old.kept.inside) × (result ≡ 0) × (written.new ≡ 0) × (out.new ≡ out.old) }
 {
@@ -219,6 +255,11 @@ pub extern "C" fn core_feed_byte_xterm(
         t.put(inner);
         return 0;
     };
+    if !is_session(inner.terminal(), &front) {
+        t.put(inner);
+        x.put(front);
+        return 0;
+    }
     let sent = play_byte_xterm(&mut inner, &mut front, byte, out);
     t.put(inner);
     x.put(front);
@@ -243,25 +284,37 @@ pub extern "C" fn core_feed_log_xterm(
     alloc: Global,
 ) -> usize
     ensures within { result ≤ length piece.now }
-    ensures state { is_some s.old.kept.inside ≡ true → IfSome t.old.kept.inside (λ v. IfSome x.old.kept.inside (λ front.
-        t.new.kept.inside ≡ Some (xterm_played v front (take result piece.now)).whole.state)) }
-    ensures front { is_some s.old.kept.inside ≡ true → IfSome t.old.kept.inside (λ v. IfSome x.old.kept.inside (λ front.
-        x.new.kept.inside ≡ Some (xterm_front v front (take result piece.now)))) }
-    ensures reports { is_some s.old.kept.inside ≡ true → IfSome t.old.kept.inside (λ v. IfSome x.old.kept.inside (λ front.
-        out.new ≡ written_over (xterm_played v front (take result piece.now)).reports out.old)) }
-    ensures written { is_some s.old.kept.inside ≡ true → IfSome t.old.kept.inside (λ v. IfSome x.old.kept.inside (λ front.
-        written.new ≡ length (xterm_played v front (take result piece.now)).reports)) }
-    ensures lines { is_some s.old.kept.inside ≡ true → IfSome t.old.kept.inside (λ v. IfSome x.old.kept.inside (λ front.
-        lines.new ≡ written_over (xterm_lines v front (take result piece.now)) lines.old)) }
-    ensures lines_written { is_some s.old.kept.inside ≡ true → IfSome t.old.kept.inside (λ v. IfSome x.old.kept.inside (λ front.
-        lines_written.new ≡ length (xterm_lines v front (take result piece.now)))) }
-    ensures all { is_some s.old.kept.inside ≡ true → IfSome t.old.kept.inside (λ _. IfSome x.old.kept.inside (λ _.
+    ensures state { IfSome s.old.kept.inside (λ size. IfSome t.old.kept.inside (λ v. IfSome x.old.kept.inside (λ front.
+        IsSession v front → v.display.grid.size ≡ size →
+        t.new.kept.inside ≡ Some (xterm_played v front (take result piece.now)).whole.state))) }
+    ensures front { IfSome s.old.kept.inside (λ size. IfSome t.old.kept.inside (λ v. IfSome x.old.kept.inside (λ front.
+        IsSession v front → v.display.grid.size ≡ size →
+        x.new.kept.inside ≡ Some (xterm_front v front (take result piece.now))))) }
+    ensures reports { IfSome s.old.kept.inside (λ size. IfSome t.old.kept.inside (λ v. IfSome x.old.kept.inside (λ front.
+        IsSession v front → v.display.grid.size ≡ size →
+        out.new ≡ written_over (xterm_played v front (take result piece.now)).reports out.old))) }
+    ensures written { IfSome s.old.kept.inside (λ size. IfSome t.old.kept.inside (λ v. IfSome x.old.kept.inside (λ front.
+        IsSession v front → v.display.grid.size ≡ size →
+        written.new ≡ length (xterm_played v front (take result piece.now)).reports))) }
+    ensures lines { IfSome s.old.kept.inside (λ size. IfSome t.old.kept.inside (λ v. IfSome x.old.kept.inside (λ front.
+        IsSession v front → v.display.grid.size ≡ size →
+        lines.new ≡ written_over (xterm_lines v front (take result piece.now)) lines.old))) }
+    ensures lines_written { IfSome s.old.kept.inside (λ size. IfSome t.old.kept.inside (λ v. IfSome x.old.kept.inside (λ front.
+        IsSession v front → v.display.grid.size ≡ size →
+        lines_written.new ≡ length (xterm_lines v front (take result piece.now))))) }
+    ensures all { IfSome s.old.kept.inside (λ size. IfSome t.old.kept.inside (λ v. IfSome x.old.kept.inside (λ front.
+        IsSession v front → v.display.grid.size ≡ size →
         (result ≡ length piece.now) ⊎ (length out.old < written.new + REPORT_LIMIT)
-        ⊎ (length lines.old < lines_written.new + LINES_LIMIT))) }
-    ensures bells { is_some s.old.kept.inside ≡ true → IfSome t.old.kept.inside (λ v. IfSome x.old.kept.inside (λ front.
-        counts ≡ true → rung.new ≡ xterm_bells v front (take result piece.now))) }
+        ⊎ (length lines.old < lines_written.new + xterm_lines_limit v.display.grid.size)))) }
+    ensures bells { IfSome s.old.kept.inside (λ size. IfSome t.old.kept.inside (λ v. IfSome x.old.kept.inside (λ front.
+        IsSession v front → v.display.grid.size ≡ size →
+        counts ≡ true → rung.new ≡ xterm_bells v front (take result piece.now)))) }
     ensures none { counts ≡ false → rung.new ≡ 0 }
     ensures scratch { s.new.kept.inside ≡ s.old.kept.inside }
+    ensures other_size { IfSome s.old.kept.inside (λ size. IfSome t.old.kept.inside (λ v. IfSome x.old.kept.inside (λ front.
+        (front.pages.other.grid.size ≢ v.display.grid.size) ⊎ (v.display.grid.size ≢ size)
+        → (t.new.kept.inside ≡ t.old.kept.inside) × (x.new.kept.inside ≡ x.old.kept.inside) × (result ≡ 0) × (written.new ≡ 0)
+        × (lines_written.new ≡ 0) × (rung.new ≡ 0) × (out.new ≡ out.old) × (lines.new ≡ lines.old)))) }
     ensures closed { (t.old.kept.inside ≡ None) ⊎ (s.old.kept.inside ≡ None) ⊎ (x.old.kept.inside ≡ None)
         → (t.new.kept.inside ≡ t.old.kept.inside) × (x.new.kept.inside ≡ x.old.kept.inside) × (result ≡ 0) × (written.new ≡ 0)
         × (lines_written.new ≡ 0) × (rung.new ≡ 0) × (out.new ≡ out.old) × (lines.new ≡ lines.old) }
@@ -281,6 +334,13 @@ pub extern "C" fn core_feed_log_xterm(
         s.put(scratch);
         return 0;
     };
+    if !is_session(inner.terminal(), &front) || !scratch.serves(inner.terminal()) {
+        t.put(inner);
+        s.put(scratch);
+        x.put(front);
+        return 0;
+    }
+    room_holds();
     let logged = scratch.play(&mut inner, &mut *front, piece, counts, out, lines);
     t.put(inner);
     s.put(scratch);
@@ -291,13 +351,15 @@ pub extern "C" fn core_feed_log_xterm(
     logged.taken
 }
 
-/// Makes what a terminal needs under TERM=xterm equal to what another one needs. The two handles are different. Returns `OK`, or
-/// `CLOSED` if one of the two is closed.
+/// Makes what a terminal needs under TERM=xterm equal to what another one needs. The two handles are different. Returns `OK`,
+/// `CLOSED` if one of the two is closed, or `SIZE` if they have different sizes.
 #[unsafe(no_mangle)]
 pub extern "C" fn core_xterm_copy(to: &mut Vt220Xterm, from: &mut Vt220Xterm, alloc: Global) -> u32
     ensures from { from.new.kept.inside ≡ from.old.kept.inside }
     ensures closed { (result ≡ status_closed) ↔ ((to.old.kept.inside ≡ None) ⊎ (from.old.kept.inside ≡ None)) }
-    ensures answers { (result ≡ status_ok) ⊎ (result ≡ status_closed) }
+    ensures other_size { IfSome to.old.kept.inside (λ a. IfSome from.old.kept.inside (λ b.
+        (result ≡ status_size) ↔ (a.pages.other.grid.size ≢ b.pages.other.grid.size))) }
+    ensures answers { (result ≡ status_ok) ⊎ (result ≡ status_closed) ⊎ (result ≡ status_size) }
     ensures ok { result ≡ status_ok → to.new.kept.inside ≡ from.old.kept.inside }
     ensures unchanged { (0 < result) → to.new.kept.inside ≡ to.old.kept.inside }
 {
@@ -308,8 +370,85 @@ pub extern "C" fn core_xterm_copy(to: &mut Vt220Xterm, from: &mut Vt220Xterm, al
         to.put(first);
         return CLOSED;
     };
-    first.copy_from(&second);
+    let mut status = SIZE;
+    if first.size().same(second.size()) {
+        first.copy_from(&second);
+        status = OK;
+    }
     to.put(first);
     from.put(second);
+    status
+}
+
+/// Opens a closed handle, with what a front gets if the screen of its terminal changes to a size. Returns `OK` or `MEMORY`.
+fn open_resized(
+    resized: &mut Vt220Xterm,
+    terminal: &SizedTerminal,
+    front: &SizedFront,
+    size: Size,
+    alloc: Global,
+) -> u32
+    requires closed { resized.old.kept.inside ≡ None }
+    requires session { IsSession terminal.now front.now }
+    requires size { IsSize size }
+    ensures ok { result ≡ status_ok → resized.new.kept.inside ≡ Some (front_on size terminal.now.display front.now) }
+    ensures not { (0 < result) → resized.new.kept.inside ≡ None }
+    ensures answers { (result ≡ status_ok) ⊎ (result ≡ status_memory) }
+{
+    let Ok(mut made) = SizedFront::new(alloc, size) else {
+        return MEMORY;
+    };
+    front.resize_into(terminal, &mut made);
+    let Ok(made) = Box::new(alloc, made) else {
+        return MEMORY;
+    };
+    resized.put(made);
     OK
+}
+
+/// Opens a closed handle, with what a front gets if the screen of its terminal `t` changes to so many rows and columns. The handles of
+/// fronts are different. Returns `OK`, `IN_USE`, `CLOSED`, `SIZE` if a screen may not have this size, or if terminal and front have
+/// different sizes, or `MEMORY`.
+#[unsafe(no_mangle)]
+pub extern "C" fn core_xterm_resized(
+    resized: &mut Vt220Xterm,
+    t: &mut Vt220,
+    x: &mut Vt220Xterm,
+    rows: usize,
+    columns: usize,
+    alloc: Global,
+) -> u32
+    ensures same { t.new.kept.inside ≡ t.old.kept.inside }
+    ensures front { x.new.kept.inside ≡ x.old.kept.inside }
+    ensures ok { result ≡ status_ok → IfSome t.old.kept.inside (λ s. IfSome x.old.kept.inside (λ front.
+        resized.new.kept.inside ≡ option_map (λ size. front_on size s.display front) (size_of rows columns))) }
+    ensures not { (0 < result) → resized.new.kept.inside ≡ resized.old.kept.inside }
+    ensures in_use { (result ≡ status_in_use) ↔ (is_some resized.old.kept.inside ≡ true) }
+    ensures closed { result ≢ status_in_use
+        → (result ≡ status_closed) ↔ ((t.old.kept.inside ≡ None) ⊎ (x.old.kept.inside ≡ None)) }
+    ensures no_size { result ≢ status_in_use → IfSome t.old.kept.inside (λ s. IfSome x.old.kept.inside (λ front.
+        (result ≡ status_size)
+        ↔ ((size_of rows columns ≡ None) ⊎ (front.pages.other.grid.size ≢ s.display.grid.size)))) }
+    ensures answers { (result ≡ status_ok) ⊎ (result ≡ status_memory) ⊎ (result ≡ status_in_use) ⊎ (result ≡ status_closed)
+        ⊎ (result ≡ status_size) }
+{
+    if resized.is_open {
+        return IN_USE;
+    }
+    let Some(inner) = t.take(alloc) else {
+        return CLOSED;
+    };
+    let Some(front) = x.take(alloc) else {
+        t.put(inner);
+        return CLOSED;
+    };
+    let mut status = SIZE;
+    if let Some(size) = size_of(rows, columns) {
+        if is_session(inner.terminal(), &front) {
+            status = open_resized(resized, inner.terminal(), &front, size, alloc);
+        }
+    }
+    t.put(inner);
+    x.put(front);
+    status
 }

@@ -6,7 +6,7 @@ use crate::kept_xterm::KeptXterm;
 use crate::loose::Loose;
 use std::alloc::Global;
 use std::mem;
-use vt_xterm::Front;
+use vt_xterm::SizedFront;
 
 /// A handle of C: a front, or none.
 #[repr(C)]
@@ -19,7 +19,7 @@ pub struct Vt220Xterm {
 
 impl Vt220Xterm {
     /// Takes the front out of a handle, which is then closed.
-    pub(crate) fn take(&mut self, alloc: Global) -> Option<Box<Front>>
+    pub(crate) fn take(&mut self, alloc: Global) -> Option<Box<SizedFront>>
         ensures value { MatchOption result (self.old.kept.inside ≡ None) (λ b. self.old.kept.inside ≡ Some b.value) }
         ensures closed { self.new.kept.inside ≡ None }
     {
@@ -40,7 +40,7 @@ impl Vt220Xterm {
     }
 
     /// Puts a front into a closed handle.
-    pub(crate) fn put(&mut self, front: Box<Front>)
+    pub(crate) fn put(&mut self, front: Box<SizedFront>)
         requires { self.old.kept.inside ≡ None }
         ensures { self.new.kept.inside ≡ Some front.value }
     {

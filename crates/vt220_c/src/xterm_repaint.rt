@@ -3,36 +3,39 @@ ghost use Rattle.std.specs.Prelude.{◌≡◌, ◌≢◌, ◌↔◌, ◌≤◌, 
 ghost use Rattle.std.specs.declared.option.Option.TheVariants.{None};
 ghost use Rattle.vt_syntax.specs.declared.held.Held.TheVariants.{Nothing};
 ghost use Rattle.vt_xterm.specs.Play.{behind};
-ghost use Rattle.vt_xterm_paint.specs.Repaint.{xterm_repaint};
+ghost use Rattle.vt_xterm_paint.specs.Repaint.{xterm_repaint, xterm_paint_limit};
 ghost use Rattle.vt220_c.specs.Rebuilt.{IsXtermRebuilt};
-ghost use Rattle.vt220_c.specs.Status.{status_ok, status_closed, status_partial, status_room};
+ghost use Rattle.vt220_c.specs.Status.{status_ok, status_closed, status_partial, status_room, status_size};
 ghost use Rattle.vt220_c.specs.Written.{written_over};
+ghost use Rattle.vt220_c.specs.Xterm.{IsSession};
 
 use crate::bytes::copy_out;
 use crate::handle::Vt220;
 use crate::scratch::Scratch;
 use crate::scratch_handle::Vt220Scratch;
-use crate::status::{CLOSED, OK, PARTIAL, ROOM};
+use crate::sizes::room_holds;
+use crate::status::{CLOSED, OK, PARTIAL, ROOM, SIZE};
+use crate::xterm::is_session;
 use crate::xterm_handle::Vt220Xterm;
 use std::alloc::Global;
-use vt_picture::PICTURE_LIMIT;
-use vt_term::Terminal;
-use vt_xterm::Front;
-use vt_xterm_paint::{XTERM_PAINT_LIMIT, repaint_xterm_reserved};
-
-const _: () = prove!(XTERM_PAINT_LIMIT <= PICTURE_LIMIT);
+use vt_term::SizedTerminal;
+use vt_xterm::SizedFront;
+use vt_xterm_paint::sized::repaint_xterm_reserved;
 
 impl Scratch {
     /// Writes the repaint of a session between sequences into the front of `out`, if it fits. Writes its length to `written`.
     /// Returns `OK`, `ROOM`, or `PARTIAL` if the terminal is inside a sequence.
     fn repaint_xterm(
         &mut self,
-        terminal: &Terminal,
-        front: &Front,
+        terminal: &SizedTerminal,
+        front: &SizedFront,
         out: &mut [u8],
         written: &mut usize,
     ) -> u32
-        requires { written.old ≡ 0 }
+        requires none { written.old ≡ 0 }
+        requires session { IsSession terminal.now front.now }
+        requires size { terminal.now.display.grid.size ≡ self.old }
+        ensures size { self.new ≡ self.old }
         ensures partial { (result ≡ status_partial) ↔ (terminal.now.held ≢ Nothing) }
         ensures none { result ≡ status_partial → written.new ≡ 0 }
         ensures len { terminal.now.held ≡ Nothing → written.new ≡ length (xterm_repaint (behind terminal.now front.now)) }
@@ -42,13 +45,14 @@ impl Scratch {
             → (result ≡ status_room) ↔ (length out.old < length (xterm_repaint (behind terminal.now front.now))) }
         ensures out { result ≡ status_ok → out.new ≡ written_over (xterm_repaint (behind terminal.now front.now)) out.old }
         ensures rebuilds { result ≡ status_ok → IsXtermRebuilt terminal.now front.now }
-        ensures bounded { written.new ≤ XTERM_PAINT_LIMIT }
+        ensures bounded { written.new ≤ xterm_paint_limit terminal.now.display.grid.size }
         ensures unchanged { (0 < result) → out.new ≡ out.old }
         ensures answers { (result ≡ status_ok) ⊎ (result ≡ status_partial) ⊎ (result ≡ status_room) }
     {
         if !terminal.is_between() {
             return PARTIAL;
         }
+        room_holds();
         self.room.clear();
         repaint_xterm_reserved(terminal, front, &mut self.spare, &mut self.room);
         let copied = copy_out(self.room.as_slice(), out);
@@ -58,10 +62,11 @@ impl Scratch {
 }
 
 /// Writes the repaint of a session under TERM=xterm into `out` if it fits. `x` is what the terminal needs next to its state. Writes
-/// the length to `written`. Returns `OK`, `ROOM`, `CLOSED`, or `PARTIAL` if the terminal is inside a sequence.
+/// the length to `written`. Returns `OK`, `ROOM`, `CLOSED`, `SIZE` if two of these have different sizes, or `PARTIAL` if the terminal is
+/// inside a sequence.
 ///
-/// These bytes, played by `core_feed_xterm`, rebuild the session on any terminal and front. The pending part of UTF-8 is left out: if
-/// it is sent after them, it is pending again.
+/// The repaint, played by `core_feed_xterm`, rebuilds the session on any terminal and front of its size. The pending
+/// part of UTF-8 is left out: if it is sent after the repaint, it is pending again.
 #[unsafe(no_mangle)]
 pub extern "C" fn core_xterm_repaint(
     t: &mut Vt220,
@@ -76,19 +81,22 @@ pub extern "C" fn core_xterm_repaint(
     ensures scratch { s.new.kept.inside ≡ s.old.kept.inside }
     ensures closed { (result ≡ status_closed)
         ↔ ((t.old.kept.inside ≡ None) ⊎ (x.old.kept.inside ≡ None) ⊎ (s.old.kept.inside ≡ None)) }
-    ensures none { (result ≡ status_closed) ⊎ (result ≡ status_partial) → written.new ≡ 0 }
-    ensures partial { result ≢ status_closed → IfSome t.old.kept.inside (λ u. (result ≡ status_partial) ↔ (u.held ≢ Nothing)) }
-    ensures len { result ≢ status_closed → IfSome t.old.kept.inside (λ u. IfSome x.old.kept.inside (λ front.
+    ensures other_size { IfSome t.old.kept.inside (λ u. IfSome x.old.kept.inside (λ front. IfSome s.old.kept.inside (λ size.
+        (result ≡ status_size)
+        ↔ ((front.pages.other.grid.size ≢ u.display.grid.size) ⊎ (u.display.grid.size ≢ size))))) }
+    ensures none { (result ≡ status_closed) ⊎ (result ≡ status_size) ⊎ (result ≡ status_partial) → written.new ≡ 0 }
+    ensures partial { result ≢ status_closed → result ≢ status_size → IfSome t.old.kept.inside (λ u. (result ≡ status_partial) ↔ (u.held ≢ Nothing)) }
+    ensures len { result ≢ status_closed → result ≢ status_size → IfSome t.old.kept.inside (λ u. IfSome x.old.kept.inside (λ front.
         u.held ≡ Nothing → written.new ≡ length (xterm_repaint (behind u front)))) }
-    ensures ok { result ≢ status_closed → IfSome t.old.kept.inside (λ u. IfSome x.old.kept.inside (λ front.
+    ensures ok { result ≢ status_closed → result ≢ status_size → IfSome t.old.kept.inside (λ u. IfSome x.old.kept.inside (λ front.
         u.held ≡ Nothing → (result ≡ status_ok) ↔ (length (xterm_repaint (behind u front)) ≤ length out.old))) }
-    ensures room { result ≢ status_closed → IfSome t.old.kept.inside (λ u. IfSome x.old.kept.inside (λ front.
+    ensures room { result ≢ status_closed → result ≢ status_size → IfSome t.old.kept.inside (λ u. IfSome x.old.kept.inside (λ front.
         u.held ≡ Nothing → (result ≡ status_room) ↔ (length out.old < length (xterm_repaint (behind u front))))) }
     ensures out { IfSome t.old.kept.inside (λ u. IfSome x.old.kept.inside (λ front.
         result ≡ status_ok → out.new ≡ written_over (xterm_repaint (behind u front)) out.old)) }
     ensures rebuilds { result ≡ status_ok → IfSome t.old.kept.inside (λ u. IfSome x.old.kept.inside (λ front.
         IsXtermRebuilt u front)) }
-    ensures bounded { written.new ≤ XTERM_PAINT_LIMIT }
+    ensures bounded { IfSome t.old.kept.inside (λ u. written.new ≤ xterm_paint_limit u.display.grid.size) }
     ensures unchanged { (0 < result) → out.new ≡ out.old }
 {
     *written = 0;
@@ -104,7 +112,10 @@ pub extern "C" fn core_xterm_repaint(
         x.put(front);
         return CLOSED;
     };
-    let status = scratch.repaint_xterm(inner.terminal(), &front, out, written);
+    let mut status = SIZE;
+    if is_session(inner.terminal(), &front) && scratch.serves(inner.terminal()) {
+        status = scratch.repaint_xterm(inner.terminal(), &front, out, written);
+    }
     t.put(inner);
     x.put(front);
     s.put(scratch);

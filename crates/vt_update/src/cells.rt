@@ -1,4 +1,4 @@
-//! The cells, row by row.
+//! The part of an update that writes the cells, row by row.
 ghost use Rattle.std.specs.Prelude.{◌≡◌, ◌≤◌, length, vec_capacity};
 ghost use Rattle.vt_update.specs.Private.Appended.{Appended};
 
@@ -8,7 +8,7 @@ use vt_paint::Function;
 use vt_screen::{Cell, MOST};
 use vt_term::SizedTerminal;
 
-/// An erasure is chosen if it saves more cells than this: the number of bytes that it takes.
+/// The number of bytes that an erasure takes. It is chosen if it saves more cells than this.
 const ERASURE: i32 = 3;
 
 /// The number of cells that erasing saves: in the remainder of the row, and in the rows below.

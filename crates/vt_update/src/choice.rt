@@ -1,5 +1,5 @@
-//! The choice of bytes. Updates depend only on their number, and on that they are elements of what updates consist of.
-//! The terminal that they lead to is checked by playing them before they are sent.
+//! The choice of bytes. An update needs that they are few, and elements of what updates consist of. The state to which
+//! they lead is checked by playing them before they are sent.
 ghost use Rattle.std.specs.Prelude.{◌≡◌, ◌≤◌, ◌++◌, drop, vec_len, vec_capacity};
 ghost use Rattle.vt_paint.specs.Spoken.{Speaks};
 ghost use Rattle.vt_update.specs.Private.Appended.{Appended};

@@ -10,8 +10,8 @@ use vt_screen::Cell;
 /// The number of bytes that are kept before they are appended to the output.
 const ROOM: usize = 768;
 
-/// If there are this many bytes, they are appended before more cells are written. The other half has capacity for a run
-/// of cells with everything before it, and for everything after the cells.
+/// The number of bytes that are appended before more cells are written. The other half has capacity for a run of cells
+/// with everything before it, and for everything after the cells.
 const MANY: usize = ROOM / 2;
 
 /// The elements chosen last, which aren't appended yet. An element that doesn't fit is left out. The play then shows

@@ -13,8 +13,8 @@ use vt_term::laws::{sized_cuts, sized_soundness};
 
 // ---- at any size
 
-/// States of the states of one size that bytes lead to a state if and only if playing them reaches it without a report. The bytes
-/// may be whole or cut. No bytes lead from a state only to itself.
+/// States of the states of one size that bytes lead to a state if and only if playing them reaches it without a report.
+/// The bytes may be whole or cut. The empty list of bytes leads from a state only to itself.
 ///
 /// Updates that are sent in turn lead a client along the server's states to the last one, for any states. They also
 /// lead a client there that first gets a repaint, in any state, and then an update.
@@ -35,7 +35,7 @@ pub fn sized_leading()
 // ---- of a VT220
 
 /// States that bytes lead to a state if and only if playing them reaches it without a report. The bytes may be whole or
-/// cut. No bytes lead from a state only to itself.
+/// cut. The empty list of bytes leads from a state only to itself.
 ///
 /// Updates that are sent in turn lead a client along the server's states to the last one, for any states. They also
 /// lead a client there that first gets a repaint, in any state, and then an update.

@@ -1,11 +1,11 @@
-//! Going to a position.
+//! Moves of the cursor to a position.
 ghost use Rattle.std.specs.Prelude.{◌≤◌};
 
 use crate::remote::{Remote, number};
 use vt_paint::{DECAWM, DECOM, Function};
 use vt_term::{Cursor, Margins, SizedTerminal};
 
-/// The most cells that are written again to get past them.
+/// The most cells that are written again to move the cursor past them.
 const FEW: usize = 4;
 
 impl Remote {
@@ -139,8 +139,8 @@ impl Remote {
         true
     }
 
-    /// Moves the cursor to its position and sets its wrap flag, which writing its cell again does. All cells are those
-    /// of the target.
+    /// Moves the cursor to its position in the target. If its wrap flag is set, the last cell of the row is written
+    /// again, which sets the flag. All cells are those of the target.
     pub(crate) fn stand(&mut self, cursor: Cursor, to: &SizedTerminal)
         requires { (1 ≤ cursor.row) × (cursor.row ≤ to.now.display.grid.size.rows) }
     {

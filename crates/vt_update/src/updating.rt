@@ -25,14 +25,14 @@ use vt_paint::sized::{
     changed_places, changes_limit, paint_limit, repaint_changes_reserved, repaint_reserved,
 };
 use vt_screen::{MOST, Size};
-use vt_term::SizedTerminal;
 use vt_term::laws::{sized_cuts, sized_soundness};
+use vt_term::{ROWS, STOPS, SizedTerminal};
 
 /// The most bytes of an update that are played at a time. Fewer are played if there isn't capacity for their reports,
 /// ten bytes for each byte.
 const CHUNK: usize = 1024;
 
-/// The capacity for the reports of the 64 bytes that are always played at a time. No report stays there.
+/// The capacity for the reports of 64 bytes, which can always be played at a time. No report stays there.
 const REPORT_ROOM: usize = 10 * 64;
 
 /// The limit of an update of a VT220 in bytes, and the capacity that it needs: that of a repaint, and capacity to play it.
@@ -239,13 +239,19 @@ pub fn update_reserved(shown: &mut SizedTerminal, to: &SizedTerminal, out: &mut 
     }
     soundness(shown);
     soundness(to);
-    bring::<MOST, MOST>(shown, to, out);
+    let size = to.size();
+    if size.rows <= ROWS && size.wide <= STOPS {
+        bring::<ROWS, STOPS>(shown, to, out);
+    } else {
+        bring::<MOST, MOST>(shown, to, out);
+    }
     true
 }
 
 /// Appends to `out` bytes that lead from `shown` to `to`, and brings `shown` into the state of `to`. Both are between sequences
-/// and have one size, of at most `R` rows and `C` columns. (Speed: so the marks and counts of a VT220 are as large as its screen.)
-#[inline(always)]
+/// and have one size, of at most `R` rows and `C` columns. (Speed: so the marks and counts of a VT220 are as large as its screen. It isn't
+/// inlined, so that those of a larger screen are on no other call's stack.)
+#[inline(never)]
 pub(crate) fn bring<const R: usize, const C: usize>(
     shown: &mut SizedTerminal,
     to: &SizedTerminal,

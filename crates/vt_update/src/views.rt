@@ -1,4 +1,4 @@
-//! The update of a VT220: the calls for `SizedTerminal` at its size.
+//! The calls of the update for a VT220's `Terminal`. Each calls that for its `SizedTerminal`.
 ghost use Rattle.std.specs.Prelude.{◌≡◌, ◌↔◌, ◌⊎◌, ◌+◌, ◌*◌, ◌≤◌, ◌<◌, ◌≢◌, ◌++◌, IsErrOf, OnOk, OnErr, drop, vec_len, vec_capacity};
 ghost use Rattle.std.specs.Str.{IsAscii};
 ghost use Rattle.vt_syntax.specs.declared.held.Held.TheVariants.{Nothing};

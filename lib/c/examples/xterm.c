@@ -8,7 +8,7 @@ int main(void) {
     vt220 terminal = VT220_INIT;
     vt220_scratch scratch = VT220_INIT;
     size_t len;
-    uint32_t status = vt220_open_as(&terminal, VT220_XTERM);
+    uint32_t status = vt220_open_as(&terminal, VT220_XTERM, VT220_ROWS, 80);
     if (status == VT220_OK) status = vt220_scratch_open(&scratch);
     while (status == VT220_OK && (len = fread(bytes, 1, sizeof bytes, stdin)) > 0)
         vt220_feed(&terminal, bytes, len, NULL, 0, NULL); /* without replies all bytes are processed */

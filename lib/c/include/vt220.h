@@ -12,22 +12,33 @@
  *                 control sequence, and is content in a control string. So U+0080 to U+009F aren't controls. U+FFFD is in place of each
  *                 ill-formed part (the Unicode Standard, 3.9).
  *   VT220_XTERM   what programs send if TERM is xterm or xterm-256color: UTF-8, and functions that a VT220 lacks. These are CHA, HPA,
- *                 HPR, VPA, VPR, CNL, CPL, CHT, CBT, SU, SD, REP, SCP, RCP, and the alternate page (?47, ?1047, ?1048, ?1049). Colours
- *                 have no effect. DECSTR and DECSCL leave DECAWM set. DECCOLM has an effect only if ?40 is set. Everything else is as on
- *                 a VT220, and so are the replies.
+ *                 HPR, VPA, VPR, CNL, CPL, CHT, CBT, SU, SD, REP, SCP, RCP, left and right margins (?69, DECSLRM), and the alternate
+ *                 page (?47, ?1047, ?1048, ?1049). Colours have no effect. DECSTR and DECSCL leave DECAWM set. DECCOLM has an effect
+ *                 only if ?40 is set. Everything else is as on a VT220, and so are the replies.
  *
  * BEL changes only the count of vt220_bells. LEDs, printing, double-size lines and sequences of later terminals have no effect.
  * vt220-keys.h has the keyboard, which takes what vt220_modes writes.
  *
+ * Sizes. vt220_open opens a terminal of a VT220's size, 24 rows of 80 columns, and DECCOLM makes it 132 columns wide. vt220_open_as opens one
+ * of 2 to 255 rows and 80 to 255 columns. On a terminal of any other size, and on one that was resized, DECCOLM leaves the width. All else
+ * is as on a VT220. A terminal that was resized to 24 by 80 hasn't a VT220's size, for DECCOLM leaves its width.
+ * vt220_rows and vt220_width return the size, vt220_limit the sizes of buffers, and vt220_resize changes it. The macros of limits, such as
+ * VT220_TEXT_LIMIT, are those of a VT220's size.
+ *
  * The state. Each terminal has the state of a VT220, which the readers, vt220_text and vt220_update are about. A terminal in UTF-8 also
- * keeps the bytes of a character that isn't complete. One under TERM=xterm also keeps the page that isn't shown, and whether DECCOLM has an
- * effect, the alternate page is shown, and pasted text is wanted in brackets. All of it is copied and reset with the terminal, and
- * vt220_language reads it.
+ * keeps the bytes of a character that isn't complete. One under TERM=xterm also keeps the page that isn't shown, left and right margins, and
+ * whether DECCOLM has an effect, the alternate page is shown, and pasted text is wanted in brackets. All of it is copied and reset with the
+ * terminal. vt220_language reads a part of it.
  *
  * Handles. You allocate a vt220 or a vt220_scratch as a struct. All zero means closed. An open handle owns memory until you close it. Only
- * vt220_open, vt220_open_as and vt220_scratch_open allocate. Any call on a closed handle is safe, and reports it. A vt220 takes 30 KB, and
- * 56 KB under TERM=xterm. A vt220_scratch is a work buffer of 690 KB of address space. Only the part that is used becomes resident: 125 KB
- * without pictures. One serves any number of terminals, one call at a time. It keeps nothing between calls.
+ * vt220_open, vt220_open_as, vt220_resize, vt220_scratch_open and vt220_scratch_fit allocate. Any call on a closed handle is safe, and
+ * reports it. A vt220 of a VT220's size takes 30 KB, and 56 KB under TERM=xterm. Of another size it takes 6 KB and 8 bytes for each cell, and
+ * under TERM=xterm 8 bytes more for each cell.
+ *
+ * Scratch buffers. A vt220_scratch is a work buffer. One serves any number of terminals of one size, one call at a time, and keeps nothing
+ * between calls. vt220_scratch_open opens one for a VT220's size, and vt220_scratch_fit makes one serve the size of a terminal. That of a
+ * VT220's size has 690 KB of address space. Only the part that is used becomes resident: 125 KB without pictures. Another one has up to
+ * 218 bytes for each cell.
  *
  * Output structs. The library writes each field of a struct that you pass, and needs nothing in it before. It sets `reserved` to
  * zero. A later version may give these bytes a meaning.
@@ -43,7 +54,7 @@
  *  - malloc, realloc and free belong to one allocator. No call is made from a signal handler, nor in the forked child of a
  *    program with threads.
  *
- * Stack. A call uses at most 8 KB of stack.
+ * Stack. A call uses at most 8 KB of stack, and vt220_update 96 KB if a screen has more than 24 rows or 132 columns.
  *
  * Processor. On x86-64 the library needs x86-64-v2 (SSE4.2, of 2009). On an older processor the open calls return
  * VT220_UNSUPPORTED. On aarch64 it needs nothing beyond ARMv8-A.
@@ -81,6 +92,7 @@ extern "C" {
 #define VT220_UNSUPPORTED 6 /* the processor is older than x86-64-v2 */
 #define VT220_NO_ROW 7      /* there is no such row */
 #define VT220_LANGUAGE 10   /* there is no such language, or a terminal has another one; 8 and 9 are of vt220-keys.h */
+#define VT220_SIZE 11       /* there is no such size, or two terminals, or a terminal and a scratch buffer, have different sizes */
 
 /* What a host sends. VT220_UTF8 | VT220_XTERM is VT220_XTERM. */
 #define VT220_BYTES 0 /* a VT220's bytes */
@@ -93,8 +105,20 @@ extern "C" {
 #define VT220_HELD_CONTROL 2 /* a control sequence */
 #define VT220_HELD_STRING 3  /* a control string */
 
-#define VT220_ROWS 24              /* the rows of the screen, always */
-#define VT220_COLUMNS 132          /* the most columns of the screen */
+/* What vt220_limit returns the limit of. */
+#define VT220_OF_TEXT 0     /* vt220_text */
+#define VT220_OF_ROW_TEXT 1 /* vt220_row_text */
+#define VT220_OF_SHOW 2     /* vt220_show */
+#define VT220_OF_PICTURE 3  /* vt220_picture */
+#define VT220_OF_DRAW 4     /* vt220_draw, if `to` has this size */
+#define VT220_OF_UPDATE 5   /* vt220_update */
+#define VT220_OF_REPAINT 6  /* vt220_repaint */
+#define VT220_OF_LINES 7    /* the capacity for lines with which vt220_feed_log goes on */
+
+#define VT220_ROWS 24              /* the rows of a VT220 */
+#define VT220_COLUMNS 132          /* the most columns of a VT220 */
+#define VT220_MOST_ROWS 255        /* the most rows of a terminal */
+#define VT220_MOST_COLUMNS 255     /* the most columns of a terminal */
 #define VT220_REPORT_LIMIT 10      /* the most bytes of replies for one byte of input */
 #define VT220_TEXT_LIMIT 9528      /* the most bytes of a text */
 #define VT220_ROW_TEXT_LIMIT 397   /* the most bytes of the text of a row */
@@ -103,7 +127,7 @@ extern "C" {
 #define VT220_SHOW_LIMIT 51000     /* the most bytes of a text with attributes */
 #define VT220_PICTURE_LIMIT 659968 /* the most bytes of a picture */
 #define VT220_PAINT_LIMIT 93512    /* the most bytes of a repaint */
-#define VT220_XTERM_PAINT_LIMIT 187060 /* the most bytes of a repaint under TERM=xterm */
+#define VT220_XTERM_PAINT_LIMIT 187076 /* the most bytes of a repaint under TERM=xterm */
 #define VT220_UPDATE_LIMIT 94152   /* the most bytes of an update */
 #define VT220_DRAW_LIMIT 79270     /* the most bytes of a drawing */
 
@@ -129,7 +153,7 @@ typedef struct vt220_scratch {
 
 /* The cursor. */
 typedef struct vt220_cursor_place {
-    size_t row; /* 1 to 24 */
+    size_t row; /* 1 to the number of rows */
     size_t col; /* 1 to the width */
     bool wrap;  /* the last column was written, and the next character begins a new line */
     uint8_t reserved[15];
@@ -137,8 +161,8 @@ typedef struct vt220_cursor_place {
 
 /* The scroll region. */
 typedef struct vt220_margin_rows {
-    size_t top;    /* its first row, 1 to 23 */
-    size_t bottom; /* its last row, 2 to 24 */
+    size_t top;    /* its first row, from 1 */
+    size_t bottom; /* its last row, below the first one */
     uint8_t reserved[16];
 } vt220_margin_rows;
 
@@ -175,7 +199,7 @@ typedef struct vt220_graphic_sets {
     uint8_t reserved[9];
 } vt220_graphic_sets;
 
-/* The tab stops of the columns 1 to 132, whatever the width. */
+/* The tab stops of the columns 1 to 132, whatever the width. vt220_stops_of writes those of any size. */
 typedef struct vt220_tab_stops {
     bool stop[VT220_COLUMNS]; /* stop[c - 1] for column c */
     uint8_t reserved[12];
@@ -183,7 +207,7 @@ typedef struct vt220_tab_stops {
 
 /* The state that DECRC restores. */
 typedef struct vt220_saved_record {
-    size_t row;  /* 1 to 24 */
+    size_t row;  /* 1 to the number of rows */
     size_t col;  /* 1 to the width */
     bool wrap;   /* as in vt220_cursor_place */
     bool origin; /* DECOM */
@@ -194,7 +218,7 @@ typedef struct vt220_saved_record {
     uint8_t reserved[19];
 } vt220_saved_record;
 
-/* The cells in which a row of one terminal differs from that of another. */
+/* The cells in which a row of one terminal differs from that of another, of at most 132 columns. vt220_changes_of writes those of any size. */
 typedef struct vt220_row_marks {
     size_t width;                /* how many cells the row has */
     bool changed[VT220_COLUMNS]; /* changed[c - 1] for column c; false after the width */
@@ -221,11 +245,22 @@ const char *vt220_status_text(uint32_t status);
  * Returns VT220_OK, VT220_IN_USE, VT220_MEMORY or VT220_UNSUPPORTED. */
 uint32_t vt220_open(vt220 *t);
 
-/* Opens a terminal for a language in the same state. Nothing is pending. Under TERM=xterm the main page is shown, and the alternate page is
- * blank.
- *   language    VT220_BYTES, VT220_UTF8 or VT220_XTERM
- * Returns VT220_OK, VT220_IN_USE, VT220_MEMORY, VT220_UNSUPPORTED or VT220_LANGUAGE. */
-uint32_t vt220_open_as(vt220 *t, uint32_t language);
+/* Opens a terminal for a language and of a size in the same state. Nothing is pending. Under TERM=xterm the main page is shown, and the
+ * alternate page is blank.
+ *   language         VT220_BYTES, VT220_UTF8 or VT220_XTERM
+ *   rows, columns    the size: 24 and 80 for that of a VT220, or 2 to 255 rows and 80 to 255 columns
+ * Returns VT220_OK, VT220_IN_USE, VT220_MEMORY, VT220_UNSUPPORTED, VT220_LANGUAGE or VT220_SIZE. */
+uint32_t vt220_open_as(vt220 *t, uint32_t language, size_t rows, size_t columns);
+
+/* Changes the size of a terminal, as xterm does if its window changes, also inside a sequence. If the cursor would be below the last row,
+ * so many rows leave at the top that it is in the last one. They go nowhere: read them before, with vt220_row_text. The rows and columns
+ * that both screens have stay, and the others are blank. The cursor and what DECSC saved are brought inside. The margins are those of the
+ * whole screen, and DECOM is reset, unless the screen has as many rows and columns as before. Tab stops stay, and columns that come in have
+ * those of power-up. Under TERM=xterm as many rows leave the page that isn't shown. The host isn't told: a program with a pseudo-terminal
+ * sets its size (TIOCSWINSZ).
+ *   rows, columns    2 to 255 rows and 80 to 255 columns; DECCOLM then leaves the width, also that of 24 by 80
+ * Returns VT220_OK, VT220_CLOSED, VT220_MEMORY or VT220_SIZE. */
+uint32_t vt220_resize(vt220 *t, size_t rows, size_t columns);
 
 /* Closes a terminal and frees its memory. Does nothing if it is closed. */
 void vt220_close(vt220 *t);
@@ -233,9 +268,13 @@ void vt220_close(vt220 *t);
 /* Returns whether a terminal is open. */
 bool vt220_is_open(const vt220 *t);
 
-/* Opens a scratch buffer.
+/* Opens a scratch buffer for terminals of a VT220's size.
  * Returns VT220_OK, VT220_IN_USE, VT220_MEMORY or VT220_UNSUPPORTED. */
 uint32_t vt220_scratch_open(vt220_scratch *s);
+
+/* Makes a scratch buffer serve terminals of the size of `t`, and opens it if it is closed. Does nothing if it serves this size.
+ * Returns VT220_OK, VT220_CLOSED if `t` is, or VT220_MEMORY, and then the scratch buffer serves what it served before. */
+uint32_t vt220_scratch_fit(vt220_scratch *s, const vt220 *t);
 
 /* Closes a scratch buffer and frees its memory. Does nothing if it is closed. */
 void vt220_scratch_close(vt220_scratch *s);
@@ -261,15 +300,15 @@ size_t vt220_feed(vt220 *t, const uint8_t *bytes, size_t len, uint8_t *reports, 
  * IND or NEL at the bottom margin, or a character that is written there when the wrap flag is set. Under TERM=xterm SU scrolls off the
  * rows that it moves past row 1, and on the alternate page nothing does. Nothing else scrolls a line off. A line is written as by
  * vt220_row_text.
- *   s                   an open scratch buffer
+ *   s                   a scratch buffer for this size
  *   bytes, len          the input
  *   reports, size       the buffer for replies; *written receives their length. A null `written` drops them, as in vt220_feed
  *   lines, lines_size   the buffer for lines; *lines_written receives their length
  * Returns how many bytes were processed. If these are fewer than len, fewer than VT220_REPORT_LIMIT bytes of `reports` are free, or too
- * few of `lines`: empty both and call again with the remainder. Too few are fewer than VT220_ROW_TEXT_LIMIT, in UTF-8 fewer than
- * VT220_UTF8_LINES_LIMIT, and under TERM=xterm fewer than VT220_XTERM_LINES_LIMIT. Buffers of these sizes always take at least one byte.
- * Buffers of 5 KB and 200 KB cost no speed.
- * Returns 0 if a handle is closed: a loop that ends when all is processed must also end on 0. */
+ * few of `lines`: empty both and call again with the remainder. Too few are fewer than vt220_limit returns for VT220_OF_LINES: at a VT220's
+ * size VT220_ROW_TEXT_LIMIT, in UTF-8 VT220_UTF8_LINES_LIMIT, and under TERM=xterm VT220_XTERM_LINES_LIMIT. Buffers of these sizes always
+ * take at least one byte. Buffers of 5 KB and 200 KB cost no speed.
+ * Returns 0 if a handle is closed or the scratch buffer is for another size: a loop that ends when all is processed must also end on 0. */
 size_t vt220_feed_log(vt220 *t, vt220_scratch *s, const uint8_t *bytes, size_t len, uint8_t *reports, size_t size, size_t *written,
                       uint8_t *lines, size_t lines_size, size_t *lines_written);
 
@@ -288,40 +327,46 @@ uint64_t vt220_bells(const vt220 *t);
 uint32_t vt220_reset(vt220 *t);
 
 /* Brings `to` into the state of `from`, also if `from` is inside a sequence. Both are open before. `to` keeps its language. What that
- * keeps is copied, too: in UTF-8 what is pending of `from`, and under TERM=xterm its pages, for which `from` has to have this language.
- * Returns VT220_OK, VT220_CLOSED or VT220_LANGUAGE. */
+ * keeps is copied, too: in UTF-8 what is pending of `from`, and under TERM=xterm its pages, for which `from` has to have this language. The two have one size.
+ * Returns VT220_OK, VT220_CLOSED, VT220_LANGUAGE or VT220_SIZE. */
 uint32_t vt220_copy(vt220 *to, const vt220 *from);
 
-/* Writes the screen as text: 24 lines of UTF-8, each without the spaces at its end, and LF.
- *   out, size   the output buffer; VT220_TEXT_LIMIT bytes are always enough
- *   written     receives the length; 0 if a handle is closed
- * Returns VT220_OK, VT220_ROOM or VT220_CLOSED. */
+/* Returns the most bytes of what a call writes for a terminal, at its present size and in its language.
+ *   what    one of VT220_OF_..
+ * Returns 0 on a closed terminal, or for another number. */
+size_t vt220_limit(const vt220 *t, uint32_t what);
+
+/* Writes the screen as text: a line of UTF-8 for each row, each without the spaces at its end, and LF.
+ *   out, size   the output buffer; VT220_TEXT_LIMIT bytes are always enough at a VT220's size
+ *   written     receives the length; 0 if a handle is closed, or the scratch buffer is for another size
+ * Returns VT220_OK, VT220_ROOM, VT220_CLOSED or VT220_SIZE. */
 uint32_t vt220_text(const vt220 *t, vt220_scratch *s, uint8_t *out, size_t size, size_t *written);
 
-/* Writes one line of vt220_text, that of a row from 1 to 24, with its LF.
- *   out, size   the output buffer; VT220_ROW_TEXT_LIMIT bytes are always enough
- *   written     receives the length; 0 if a handle is closed or there is no such row
- * Returns VT220_OK, VT220_ROOM, VT220_CLOSED or VT220_NO_ROW. */
+/* Writes one line of vt220_text, that of a row from 1 on, with its LF.
+ *   out, size   the output buffer; VT220_ROW_TEXT_LIMIT bytes are always enough at a VT220's size
+ *   written     receives the length; 0 if a handle is closed, there is no such row, or the scratch buffer is for another size
+ * Returns VT220_OK, VT220_ROOM, VT220_CLOSED, VT220_SIZE or VT220_NO_ROW. */
 uint32_t vt220_row_text(const vt220 *t, vt220_scratch *s, size_t row, uint8_t *out, size_t size, size_t *written);
 
 /* Writes the screen as text with SGR sequences for the attributes, for modern terminals. The attributes are reset after each line.
- *   out, size   the output buffer; VT220_SHOW_LIMIT bytes are always enough
- *   written     receives the length; 0 if a handle is closed
- * Returns VT220_OK, VT220_ROOM or VT220_CLOSED. */
+ *   out, size   the output buffer; VT220_SHOW_LIMIT bytes are always enough at a VT220's size
+ *   written     receives the length; 0 if a handle is closed, or the scratch buffer is for another size
+ * Returns VT220_OK, VT220_ROOM, VT220_CLOSED or VT220_SIZE. */
 uint32_t vt220_show(const vt220 *t, vt220_scratch *s, uint8_t *out, size_t size, size_t *written);
 
 /* Writes the screen as a picture: an SVG document.
- *   out, size   the output buffer; VT220_PICTURE_LIMIT bytes are always enough
- *   written     receives the length; 0 if a handle is closed
- * Returns VT220_OK, VT220_ROOM or VT220_CLOSED. */
+ *   out, size   the output buffer; VT220_PICTURE_LIMIT bytes are always enough at a VT220's size
+ *   written     receives the length; 0 if a handle is closed, or the scratch buffer is for another size
+ * Returns VT220_OK, VT220_ROOM, VT220_CLOSED or VT220_SIZE. */
 uint32_t vt220_picture(const vt220 *t, vt220_scratch *s, uint8_t *out, size_t size, size_t *written);
 
-/* Writes the repaint: bytes that, fed to any terminal of the same language, whatever its state, leave it exactly as `t` is. They are ASCII
+/* Writes the repaint: bytes that, fed to any terminal of the same language and size, whatever its state, leave it exactly as `t` is. They are ASCII
  * and cause no replies. What is pending of UTF-8 is left out: feed its bytes (vt220_language) after them, and these are pending again. Two
- * terminals of a language with nothing pending are equal if and only if their bytes are. Terminals of others lack some of these functions.
- *   out, size   the output buffer; VT220_PAINT_LIMIT bytes are always enough, under TERM=xterm VT220_XTERM_PAINT_LIMIT
- *   written     receives the length; 0 if a handle is closed or the terminal is inside a sequence
- * Returns VT220_OK, VT220_ROOM, VT220_CLOSED or VT220_PARTIAL. */
+ * terminals of a language and size with nothing pending are equal if and only if their bytes are. Terminals of others lack some of these functions.
+ *   out, size   the output buffer; at a VT220's size VT220_PAINT_LIMIT bytes are always enough, and under TERM=xterm
+ *               VT220_XTERM_PAINT_LIMIT
+ *   written     receives the length; 0 if a handle is closed, the terminal is inside a sequence, or the scratch buffer is for another size
+ * Returns VT220_OK, VT220_ROOM, VT220_CLOSED, VT220_SIZE or VT220_PARTIAL. */
 uint32_t vt220_repaint(const vt220 *t, vt220_scratch *s, uint8_t *out, size_t size, size_t *written);
 
 /* Writes the repaint for a terminal of a language. For VT220_BYTES and VT220_UTF8 it is that of the state of a VT220, with the page that is
@@ -332,41 +377,51 @@ uint32_t vt220_repaint_as(const vt220 *t, uint32_t language, vt220_scratch *s, u
 
 /* Writes an update: bytes that, fed to a terminal in the state of `shown`, leave it in exactly the state of `to`. They cause no
  * replies. Brings `shown` into the state of `to` as well, and doesn't modify `to`. `shown` isn't one under TERM=xterm; `to` has any language,
- * and of a session under TERM=xterm it is the page that is shown.
- *   out, size   the output buffer; VT220_UPDATE_LIMIT bytes are always enough
+ * and of a session under TERM=xterm it is the page that is shown. The two have one size.
+ *   out, size   the output buffer; VT220_UPDATE_LIMIT bytes are always enough at a VT220's size
  *   written     receives the length, which is 0 if and only if the states are equal;
- *               0 also if a handle is closed or a terminal is inside a sequence
- * If width and tab stops are equal, an update has at most 28 * n + 230 bytes for n cells that differ. It is ASCII: graphic
- * characters, and CUP, CUF, CUB, BS, CR, LF, ED, EL, IL, DL, SGR, DECSCA, DECSTBM, HTS, TBC, SCS, locking and single shifts,
+ *               0 also if a handle is closed, a terminal is inside a sequence, or two of the handles have different sizes.
+ * If width and tab stops are equal, an update has at most 28 * n + 230 bytes for n cells that differ, and 4 more from 100 rows on. It is
+ * ASCII: graphic characters, and CUP, CUF, CUB, BS, CR, LF, ED, EL, IL, DL, SGR, DECSCA, DECSTBM, HTS, TBC, SCS, locking and single shifts,
  * DECSC, SM, RM, DECKPAM, DECKPNM, S7C1T, S8C1T, DECSTR and RIS. Doesn't modify the bytes of `out` after it.
- * Returns VT220_OK, VT220_ROOM, VT220_CLOSED, VT220_PARTIAL or VT220_LANGUAGE. */
+ * Returns VT220_OK, VT220_ROOM, VT220_CLOSED, VT220_SIZE, VT220_PARTIAL or VT220_LANGUAGE. */
 uint32_t vt220_update(vt220 *shown, const vt220 *to, vt220_scratch *s, uint8_t *out, size_t size, size_t *written);
 
 /* Writes a drawing: bytes that make a terminal of today, such as xterm, show the screen of `to`. That terminal reads UTF-8, and has at least
- * 24 rows and the columns of `to`. Its first 24 rows are drawn on.
+ * the rows and the columns of `to`. Its first rows are drawn on.
  *   shown       what that terminal shows: the terminal that was drawn on it last; NULL if it shows anything else
- *   out, size   the output buffer; VT220_DRAW_LIMIT bytes are always enough
- *   written     receives the length, which is 0 if both show the same; 0 also if a handle is closed
- * With NULL, or another width, that terminal is erased first. Otherwise only the places that show something else are written. The bytes are
+ *   out, size   the output buffer; VT220_DRAW_LIMIT bytes are always enough at a VT220's size
+ *   written     receives the length, which is 0 if both show the same; 0 also if a handle is closed, or the scratch buffer is for another size
+ * With NULL, or another width or number of rows, that terminal is erased first. Otherwise only the places that show something else are written. The bytes are
  * characters in UTF-8 and CUP, ED, SGR and DECTCEM. A reverse screen (DECSCNM) is drawn by the attributes of its cells. What is shown, before
  * and after, decides the bytes. At the end, that terminal's cursor is where that of `to` is, and its attributes are reset. Modifies no
  * terminal: vt220_copy keeps what is shown now.
- * Returns VT220_OK, VT220_ROOM or VT220_CLOSED. */
+ * Returns VT220_OK, VT220_ROOM, VT220_CLOSED, or VT220_SIZE if the scratch buffer has another size than `to`. */
 uint32_t vt220_draw(const vt220 *shown, const vt220 *to, vt220_scratch *s, uint8_t *out, size_t size, size_t *written);
 
-/* Finds the cells of a row of `to`, 1 to 24, for which `shown` has another cell or none. Call it before vt220_update, and redraw
+/* Finds the cells of a row of `to`, from 1 on, for which `shown` has another cell or none. Call it before vt220_update, and redraw
  * these cells alone. If `shown` and `to` differ in their width (vt220_width), redraw the whole screen instead: no mark names the cells
  * of `shown` after the width of `to`. The cursor and DECSCNM aren't part of the cells.
- * Returns VT220_OK, VT220_CLOSED or VT220_NO_ROW. On an error *marks isn't modified. */
+ * Returns VT220_OK, VT220_CLOSED, VT220_NO_ROW, or VT220_SIZE if the two have different sizes or more than 132 columns. On an error *marks
+ * isn't modified. */
 uint32_t vt220_row_changes(const vt220 *shown, const vt220 *to, size_t row, vt220_row_marks *marks);
 
-/* Writes the cells of a row, 1 to 24, to the front of `cells`.
- *   cells, size   the output array and how many cells it has; VT220_COLUMNS are always enough
+/* Finds the same cells, at any size. changed[c - 1] receives whether column c differs, for each column of the row of `to`.
+ *   changed, size    the output array and its length; vt220_width(to) is enough
+ * Returns VT220_OK, VT220_CLOSED, VT220_NO_ROW, VT220_SIZE if the two have different sizes, or VT220_ROOM. On an error `changed` isn't
+ * modified. */
+uint32_t vt220_changes_of(const vt220 *shown, const vt220 *to, size_t row, bool *changed, size_t size);
+
+/* Writes the cells of a row, from 1 on, to the front of `cells`.
+ *   cells, size   the output array and how many cells it has; vt220_width is enough
  * Returns how many cells were written, which is the width. Returns 0, and writes nothing, if the terminal is closed, there is no
  * such row, or the array is smaller than the width. */
 size_t vt220_row(const vt220 *t, size_t row, vt220_cell *cells, size_t size);
 
-/* Returns how many columns the screen has: 80 or 132; 0 on a closed terminal. */
+/* Returns how many rows the screen has; 0 on a closed terminal. */
+size_t vt220_rows(const vt220 *t);
+
+/* Returns how many columns the screen has, on a VT220 80 or 132; 0 on a closed terminal. */
 size_t vt220_width(const vt220 *t);
 
 /* Writes the cursor's position and the wrap flag to *cursor.
@@ -390,8 +445,14 @@ bool vt220_brush(const vt220 *t, vt220_brush_look *brush);
 bool vt220_sets(const vt220 *t, vt220_graphic_sets *sets);
 
 /* Writes the tab stops of the columns 1 to 132 to *stops.
- * Returns true, or false on a closed terminal, and then writes nothing. */
+ * Returns true, or false on a closed terminal or one with another number of stops, and then writes nothing. */
 bool vt220_stops(const vt220 *t, vt220_tab_stops *stops);
+
+/* Writes the tab stops to the front of `stops`: stops[c - 1] for column c. A VT220 has 132, whatever the width, and a terminal of any other
+ * size one for each column.
+ *   stops, size    the output array and its length; VT220_MOST_COLUMNS are always enough
+ * Returns how many were written. Returns 0, and writes nothing, if the terminal is closed or the array is smaller. */
+size_t vt220_stops_of(const vt220 *t, bool *stops, size_t size);
 
 /* Writes the state that DECRC restores to *saved.
  * Returns true, or false on a closed terminal, and then writes nothing. */

@@ -58,7 +58,7 @@ static void lines(uint8_t *input) {
 
 int main(void) {
     uint8_t *input = allocate(LEN);
-    CHECK(vt220_open(&t) == VT220_OK && vt220_open_as(&u, VT220_UTF8) == VT220_OK && vt220_scratch_open(&s) == VT220_OK);
+    CHECK(vt220_open(&t) == VT220_OK && vt220_open_as(&u, VT220_UTF8, VT220_ROWS, 80) == VT220_OK && vt220_scratch_open(&s) == VT220_OK);
     bells(input);
     replies(input);
     lines(input);

@@ -215,7 +215,7 @@ static void drawn_under_xterm(void) {
     };
     vt220 x = VT220_INIT, shown = opened("anything");
     size_t len;
-    CHECK(vt220_open_as(&x, VT220_XTERM) == VT220_OK);
+    CHECK(vt220_open_as(&x, VT220_XTERM, VT220_ROWS, 80) == VT220_OK);
     feed(&x, "\033[1;7manything\033[7;7H\033[?25l");
     for (size_t i = 0; i < sizeof texts / sizeof *texts; i++) {
         vt220 t = opened(texts[i]);
@@ -413,7 +413,7 @@ static void feed_nothing(vt220 *t, size_t *written) {
     CHECK(vt220_feed_log(t, &s, NULL, 0, NULL, 0, written, NULL, 0, &logged) == 0 && logged == 0);
     for (size_t i = 0; i < 2; i++) {
         vt220 other = VT220_INIT;
-        CHECK(vt220_open_as(&other, languages[i]) == VT220_OK && vt220_feed(&other, NULL, 0, NULL, 0, written) == 0);
+        CHECK(vt220_open_as(&other, languages[i], VT220_ROWS, 80) == VT220_OK && vt220_feed(&other, NULL, 0, NULL, 0, written) == 0);
         CHECK(vt220_feed_log(&other, &s, NULL, 0, NULL, 0, written, NULL, 0, &logged) == 0 && logged == 0);
         vt220_close(&other);
     }
@@ -460,11 +460,11 @@ static void dropped_replies(void) {
 static void statuses(void) {
     CHECK(strcmp(vt220_status_text(VT220_CLOSED), "a handle is closed") == 0);
     CHECK(strcmp(vt220_status_text(VT220_PARTIAL), "a terminal is inside a sequence") == 0);
-    for (uint32_t status = 0; status < 10; status++) {
+    for (uint32_t status = 0; status < 12; status++) {
         CHECK(vt220_status_text(status) != NULL && strcmp(vt220_status_text(status), "unknown status") != 0);
         for (uint32_t before = 0; before < status; before++) CHECK(strcmp(vt220_status_text(status), vt220_status_text(before)) != 0);
     }
-    CHECK(strcmp(vt220_status_text(11), "unknown status") == 0 && strcmp(vt220_status_text(UINT32_MAX), "unknown status") == 0);
+    CHECK(strcmp(vt220_status_text(12), "unknown status") == 0 && strcmp(vt220_status_text(UINT32_MAX), "unknown status") == 0);
 }
 
 int main(void) {

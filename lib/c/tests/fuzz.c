@@ -346,8 +346,8 @@ static void open_all(void) {
     vt220 *all[] = {&a, &b, &c, &power_up};
     for (int i = 0; i < 4; i++) MUST(vt220_open(all[i]) == VT220_OK);
     MUST(vt220_scratch_open(&s) == VT220_OK && vt220_scratch_open(&s2) == VT220_OK);
-    MUST(vt220_open_as(&u, VT220_UTF8) == VT220_OK && vt220_open_as(&v, VT220_UTF8) == VT220_OK);
-    MUST(vt220_open_as(&x, VT220_XTERM) == VT220_OK && vt220_open_as(&y, VT220_XTERM) == VT220_OK);
+    MUST(vt220_open_as(&u, VT220_UTF8, VT220_ROWS, 80) == VT220_OK && vt220_open_as(&v, VT220_UTF8, VT220_ROWS, 80) == VT220_OK);
+    MUST(vt220_open_as(&x, VT220_XTERM, VT220_ROWS, 80) == VT220_OK && vt220_open_as(&y, VT220_XTERM, VT220_ROWS, 80) == VT220_OK);
 }
 
 int LLVMFuzzerTestOneInput(const uint8_t *data, size_t len) {

@@ -66,9 +66,12 @@ static size_t feeds(const uint8_t *bytes, size_t len, bool counts, size_t *rung)
 }
 
 uint32_t core_version(void) { return VT220_VERSION; }
-uint32_t core_open(handle *t) { return opens(t); }
+uint32_t core_open(handle *t, size_t rows, size_t columns) { return opens(t); }
+uint32_t core_resized(handle *resized, handle *t, size_t rows, size_t columns) { return stay(t), opens(resized); }
 uint32_t core_scratch_open(handle *s) { return opens(s); }
-uint32_t core_xterm_open(handle *x) { return opens(x); }
+uint32_t core_scratch_fit(handle *s, handle *t) { return stay(t), s->is_open ? move(s), VT220_OK : opens(s); }
+uint32_t core_xterm_open(handle *x, size_t rows, size_t columns) { return opens(x); }
+uint32_t core_xterm_resized(handle *resized, handle *t, handle *x, size_t rows, size_t columns) { return stay(t), stay(x), opens(resized); }
 void core_close(handle *t) { closes(t); }
 void core_scratch_close(handle *s) { closes(s); }
 void core_xterm_close(handle *x) { closes(x); }
@@ -147,9 +150,12 @@ uint32_t core_draw_from(handle *shown, handle *to, handle *s, uint8_t *out, size
     return stay(shown), stay(to), move(s), VT220_OK;
 }
 
-uint32_t core_row_changes(handle *shown, handle *to, size_t row, vt220_row_marks *marks) { return stay(shown), stay(to), VT220_OK; }
+uint32_t core_row_changes(handle *shown, handle *to, size_t row, bool *changed, size_t size) { return stay(shown), stay(to), VT220_OK; }
 size_t core_row(handle *t, size_t row, vt220_cell *cells, size_t size) { return stay(t), size; }
 size_t core_width(handle *t) { return stay(t), 80; }
+size_t core_rows(handle *t) { return stay(t), VT220_ROWS; }
+size_t core_limit(handle *t, uint32_t what) { return stay(t), what; }
+size_t core_stops(handle *t, bool *stops, size_t size) { return stay(t), size; }
 
 #define READS(name, type) \
     bool core_##name(handle *t, type *part) { return stay(t), true; }
@@ -158,7 +164,6 @@ READS(margins, vt220_margin_rows)
 READS(modes, vt220_mode_set)
 READS(brush, vt220_brush_look)
 READS(sets, vt220_graphic_sets)
-READS(stops, vt220_tab_stops)
 READS(saved, vt220_saved_record)
 
 bool core_is_between(handle *t) { return stay(t), true; }
@@ -174,7 +179,7 @@ static size_t written, logged;
 /* Each call that may move a block, twice: the second finds what the first left. */
 static void handles_have_the_new_blocks(void) {
     CHECK(vt220_open(&t) == VT220_OK && vt220_open(&u) == VT220_OK && vt220_scratch_open(&s) == VT220_OK);
-    CHECK(vt220_open_as(&in_utf8, VT220_UTF8) == VT220_OK && vt220_open_as(&x, VT220_XTERM) == VT220_OK && vt220_open_as(&y, VT220_XTERM) == VT220_OK);
+    CHECK(vt220_open_as(&in_utf8, VT220_UTF8, VT220_ROWS, 80) == VT220_OK && vt220_open_as(&x, VT220_XTERM, VT220_ROWS, 80) == VT220_OK && vt220_open_as(&y, VT220_XTERM, VT220_ROWS, 80) == VT220_OK);
     for (int turn = 0; turn < 2; turn++) {
         CHECK(vt220_feed(&t, BYTES("a\ab"), out, sizeof out, &written) == 3);
         CHECK(vt220_feed(&t, BYTES("a\ab"), NULL, 0, NULL) == 3);
@@ -198,6 +203,8 @@ static void handles_have_the_new_blocks(void) {
         CHECK(vt220_text(&t, &s, out, sizeof out, &written) == VT220_OK && vt220_row_text(&t, &s, 1, out, sizeof out, &written) == VT220_OK);
         CHECK(vt220_show(&t, &s, out, sizeof out, &written) == VT220_OK && vt220_picture(&t, &s, out, sizeof out, &written) == VT220_OK);
         CHECK(vt220_repaint(&t, &s, out, sizeof out, &written) == VT220_OK && vt220_same_state(&t, &u));
+        CHECK(vt220_resize(&t, 30, 90) == VT220_OK && vt220_resize(&in_utf8, 30, 90) == VT220_OK && vt220_resize(&x, 30, 90) == VT220_OK);
+        CHECK(vt220_scratch_fit(&s, &x) == VT220_OK && vt220_rows(&x) == VT220_ROWS);
         CHECK(live_blocks() == 8);
     }
 }

@@ -10,14 +10,15 @@ static int processor(unsigned leaf, unsigned *a, unsigned *b, unsigned *c, unsig
 
 static int opened;
 
-uint32_t core_open(handle *t) {
+uint32_t core_open(handle *t, size_t rows, size_t columns) {
+    (void)rows, (void)columns;
     opened++;
     t->at = &opened, t->is_open = true;
     return VT220_OK;
 }
 
-uint32_t core_scratch_open(handle *s) { return core_open(s); }
-uint32_t core_xterm_open(handle *x) { return core_open(x); }
+uint32_t core_scratch_open(handle *s) { return core_open(s, VT220_ROWS, VT220_COLUMNS); }
+uint32_t core_xterm_open(handle *x, size_t rows, size_t columns) { return core_open(x, rows, columns); }
 void core_close(handle *t) { t->is_open = false; }
 void core_xterm_close(handle *x) { core_close(x); }
 
@@ -39,7 +40,7 @@ static void try_one(unsigned low, unsigned high, bool leaf, bool is_enough) {
     features = low, more_features = high, has_leaf = leaf, opened = 0;
     CHECK(vt220_open(&t) == (is_enough ? VT220_OK : VT220_UNSUPPORTED) && vt220_is_open(&t) == is_enough);
     CHECK(vt220_scratch_open(&s) == (is_enough ? VT220_OK : VT220_UNSUPPORTED) && vt220_scratch_is_open(&s) == is_enough);
-    CHECK(vt220_open_as(&x, VT220_XTERM) == (is_enough ? VT220_OK : VT220_UNSUPPORTED) && vt220_is_open(&x) == is_enough);
+    CHECK(vt220_open_as(&x, VT220_XTERM, VT220_ROWS, 80) == (is_enough ? VT220_OK : VT220_UNSUPPORTED) && vt220_is_open(&x) == is_enough);
     CHECK(opened == (is_enough ? 4 : 0));
 }
 

@@ -70,7 +70,7 @@ static void *reads(void *unused) {
     vt220 mine = VT220_INIT, my_pages = VT220_INIT;
     uint8_t *out = (uint8_t *)malloc(VT220_PICTURE_LIMIT), pending[3];
     size_t written, bad = 0;
-    if (out == NULL || vt220_scratch_open(&s) != VT220_OK || vt220_open(&mine) != VT220_OK || vt220_open_as(&my_pages, VT220_XTERM) != VT220_OK) abort();
+    if (out == NULL || vt220_scratch_open(&s) != VT220_OK || vt220_open(&mine) != VT220_OK || vt220_open_as(&my_pages, VT220_XTERM, VT220_ROWS, 80) != VT220_OK) abort();
     for (int i = 0; i < ROUNDS; i++) {
         if (!reads_all(one, twin, &s, out)) bad++;
         if (kept_by(with_pages).language != VT220_XTERM || !kept_by(with_pages).alternate || kept_by(with_pages).bracketed_paste) bad++;
@@ -99,7 +99,7 @@ int main(void) {
     handles = (shared *)mmap(NULL, 4096, PROT_READ | PROT_WRITE, MAP_PRIVATE | MAP_ANONYMOUS, -1, 0);
     if (pages == MAP_FAILED || handles == MAP_FAILED) abort();
     is_paged = true;
-    CHECK(vt220_open(&handles->t) == VT220_OK && vt220_open(&handles->same) == VT220_OK && vt220_open_as(&handles->x, VT220_XTERM) == VT220_OK);
+    CHECK(vt220_open(&handles->t) == VT220_OK && vt220_open(&handles->same) == VT220_OK && vt220_open_as(&handles->x, VT220_XTERM, VT220_ROWS, 80) == VT220_OK);
     is_paged = false;
     CHECK(used > 2 * VT220_ROWS * VT220_COLUMNS);
     vt220 *both[] = {&handles->t, &handles->same};

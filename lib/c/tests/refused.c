@@ -40,7 +40,7 @@ typedef union handle {
 } handle;
 
 static uint32_t open_one(handle *h, enum kind kind) {
-    return kind == SCRATCH ? vt220_scratch_open(&h->s) : vt220_open_as(&h->t, (uint32_t)kind);
+    return kind == SCRATCH ? vt220_scratch_open(&h->s) : vt220_open_as(&h->t, (uint32_t)kind, VT220_ROWS, 80);
 }
 
 static void close_one(handle *h, enum kind kind) {
@@ -73,7 +73,42 @@ static void each_refused(enum kind kind) {
     CHECK(blocks == 0);
 }
 
-/* No call but those that open takes memory. */
+/* A resize without memory leaves the terminal, and a scratch buffer serves what it served. */
+static void each_change_refused(uint32_t language) {
+    static uint8_t out[VT220_TEXT_LIMIT];
+    vt220 t = VT220_INIT, before = VT220_INIT;
+    vt220_scratch s = VT220_INIT;
+    size_t written;
+    CHECK(vt220_open_as(&t, language, VT220_ROWS, 80) == VT220_OK && vt220_open_as(&before, language, VT220_ROWS, 80) == VT220_OK && vt220_scratch_open(&s) == VT220_OK);
+    CHECK(vt220_feed(&t, BYTES("text\a\033[1"), NULL, 0, NULL) == 8 && vt220_copy(&before, &t) == VT220_OK);
+    long held = blocks;
+    for (unsigned long n = 0;; n++) {
+        granted = n, calls = 0;
+        uint32_t status = vt220_resize(&t, 40, 120);
+        granted = ~0ul;
+        CHECK(blocks == held);
+        if (status == VT220_OK) break;
+        CHECK(status == VT220_MEMORY && vt220_same_state(&t, &before) && vt220_bells(&t) == 1);
+    }
+    CHECK(vt220_rows(&t) == 40 && vt220_bells(&t) == 1);
+    for (unsigned long n = 0;; n++) {
+        granted = n, calls = 0;
+        uint32_t status = vt220_scratch_fit(&s, &t);
+        granted = ~0ul;
+        CHECK(blocks == held);
+        if (status == VT220_OK) break;
+        CHECK(status == VT220_MEMORY && vt220_text(&before, &s, out, sizeof out, &written) == VT220_OK);
+    }
+    CHECK(vt220_text(&t, &s, out, sizeof out, &written) == VT220_OK);
+    calls = 0;
+    CHECK(vt220_scratch_fit(&s, &t) == VT220_OK && calls == 0);
+    vt220_close(&t);
+    vt220_close(&before);
+    vt220_scratch_close(&s);
+    CHECK(blocks == 0);
+}
+
+/* No call but those that open and those that change a size takes memory. */
 static void none_taken(void) {
     static uint8_t out[VT220_PICTURE_LIMIT];
     static vt220_cell cells[VT220_COLUMNS];
@@ -85,7 +120,7 @@ static void none_taken(void) {
     memset(&modes, 0, sizeof modes);
     size_t written;
     CHECK(vt220_open(&t) == VT220_OK && vt220_open(&to) == VT220_OK && vt220_scratch_open(&s) == VT220_OK);
-    CHECK(vt220_open_as(&u, VT220_UTF8) == VT220_OK && vt220_open_as(&x, VT220_XTERM) == VT220_OK && vt220_open_as(&y, VT220_XTERM) == VT220_OK);
+    CHECK(vt220_open_as(&u, VT220_UTF8, VT220_ROWS, 80) == VT220_OK && vt220_open_as(&x, VT220_XTERM, VT220_ROWS, 80) == VT220_OK && vt220_open_as(&y, VT220_XTERM, VT220_ROWS, 80) == VT220_OK);
     calls = 0;
     CHECK(vt220_feed(&t, BYTES("\033[?3h\033[6nx\n"), out, 110, &written) == 11 && written == 6);
     CHECK(vt220_text(&t, &s, out, sizeof out, &written) == VT220_OK && vt220_repaint(&t, &s, out, sizeof out, &written) == VT220_OK);
@@ -127,6 +162,7 @@ static void none_taken(void) {
 
 int main(void) {
     each_refused(BYTES_OF_A_VT220), each_refused(UTF8), each_refused(XTERM), each_refused(SCRATCH);
+    each_change_refused(VT220_BYTES), each_change_refused(VT220_UTF8), each_change_refused(VT220_XTERM);
     none_taken();
     return finish("refused");
 }

@@ -1,4 +1,4 @@
-/* The vectors of lib/rows/vectors.txt, whose head describes their form. */
+/* The vectors of lib/rows/vectors.txt and the rows of lib/rows/sizes.txt, whose heads describe their forms. */
 #ifndef ROWS_H
 #define ROWS_H
 
@@ -66,15 +66,29 @@ static inline void set_field(row *r, const char *field, char *value) {
     else check(strcmp(field, "differs") == 0, field, "a field's name");
 }
 
-static inline row read_row(char *line) {
-    row r = {.name = strsep(&line, "\t"), .encoding = strsep(&line, "\t"), .terminal = strsep(&line, "\t"), .cursor_row = 1, .cursor_col = 1};
-    append_spelled(&r.input, strsep(&line, "\t\n"));
+/* Sets what the rest of a line names. */
+static inline void set_fields(row *r, char *line) {
     for (char *field = strsep(&line, "\t\n"); field != NULL && *field != 0; field = strsep(&line, "\t\n")) {
         char *value = strchr(field, '=');
         if (value == NULL) abort();
         *value = 0;
-        set_field(&r, field, value + 1);
+        set_field(r, field, value + 1);
     }
+}
+
+/* Returns a row with its first three fields. Leaves *line at the next one. */
+static inline row begun_row(char **line) {
+    return (row){.name = strsep(line, "\t"), .encoding = strsep(line, "\t"), .terminal = strsep(line, "\t"), .cursor_row = 1, .cursor_col = 1};
+}
+
+static inline void free_row(row *r) {
+    free(r->input.at), free(r->text.at), free(r->reports.at), free(r->pending.at), free(r->lines.at), free(r->repaint.at);
+}
+
+static inline row read_row(char *line) {
+    row r = begun_row(&line);
+    append_spelled(&r.input, strsep(&line, "\t\n"));
+    set_fields(&r, line);
     return r;
 }
 
@@ -88,7 +102,48 @@ static inline size_t each_row(const char *path, const char *encoding, const char
         if (line[0] == '#' || line[0] == '\n') continue;
         row r = read_row(line);
         if (strcmp(r.encoding, encoding) == 0 && strcmp(r.terminal, terminal) == 0) use(&r), count++;
-        free(r.input.at), free(r.text.at), free(r.reports.at), free(r.pending.at), free(r.lines.at), free(r.repaint.at);
+        free_row(&r);
+    }
+    fclose(file);
+    return count;
+}
+
+/* A row of sizes. `of` has the first input. Rows are 0 without another size. */
+typedef struct sized_row {
+    row of;
+    size_t rows, columns, other_rows, other_columns;
+    bytes more;
+} sized_row;
+
+/* Reads COLUMNSxROWS, or `-`, which leaves the numbers. */
+static inline void read_size(const char *field, size_t *rows, size_t *columns) {
+    char *end = NULL;
+    if (*field == '-') return;
+    *columns = strtoul(field, &end, 10);
+    *rows = strtoul(end + 1, NULL, 10);
+}
+
+static inline sized_row read_sized(char *line) {
+    sized_row r = {.of = begun_row(&line)};
+    read_size(strsep(&line, "\t"), &r.rows, &r.columns);
+    append_spelled(&r.of.input, strsep(&line, "\t"));
+    read_size(strsep(&line, "\t"), &r.other_rows, &r.other_columns);
+    append_spelled(&r.more, strsep(&line, "\t\n"));
+    set_fields(&r.of, line);
+    return r;
+}
+
+/* Calls `use` with each row of a file of sizes. Returns how many there are. */
+static inline size_t each_size(const char *path, void (*use)(const sized_row *)) {
+    static char line[4096];
+    size_t count = 0;
+    FILE *file = fopen(path, "r");
+    if (file == NULL) abort();
+    while (fgets(line, sizeof line, file) != NULL) {
+        if (line[0] == '#' || line[0] == '\n') continue;
+        sized_row r = read_sized(line);
+        use(&r), count++;
+        free_row(&r.of), free(r.more.at);
     }
     fclose(file);
     return count;
@@ -96,7 +151,7 @@ static inline size_t each_row(const char *path, const char *encoding, const char
 
 /* Checks what a terminal has after a vector: the screen, the cursor, the brush, the bells and the replies. */
 static inline void check_row(const row *r, const vt220 *t, vt220_scratch *s, const bytes *replies) {
-    static uint8_t shown[VT220_SHOW_LIMIT];
+    static uint8_t shown[1100000]; /* a full screen of any size has fewer */
     vt220_cursor_place cursor;
     vt220_brush_look look;
     char found[64];

@@ -1,13 +1,13 @@
-/* stack: each call uses at most 8 KB of stack. Each runs on a thread whose stack was painted before. */
+/* stack: each call uses at most 8 KB of stack, and an update of a large screen 96 KB. Each runs on a thread whose stack was painted before. */
 #include "check.h"
 #include <pthread.h>
 #include <sys/mman.h>
 
-enum { STACK = 256 * 1024, PAINT = 0xA5, LIMIT = 8192 };
+enum { STACK = 256 * 1024, PAINT = 0xA5, LIMIT = 8192, LARGE = 96 * 1024 };
 
 static vt220 a = VT220_INIT, b = VT220_INIT, u = VT220_INIT, x = VT220_INIT, y = VT220_INIT;
 static vt220_scratch s = VT220_INIT;
-static uint8_t out[VT220_PICTURE_LIMIT], input[60000];
+static uint8_t out[14000000], input[60000];
 static size_t written;
 
 static void *nothing(void *unused) { return unused; }
@@ -17,7 +17,7 @@ static void *opens(void *unused) {
     vt220_scratch room = VT220_INIT;
     if (vt220_open(&t) != VT220_OK || vt220_scratch_open(&room) != VT220_OK) abort();
     vt220_close(&t);
-    if (vt220_open_as(&t, VT220_XTERM) != VT220_OK) abort();
+    if (vt220_open_as(&t, VT220_XTERM, VT220_ROWS, 80) != VT220_OK) abort();
     vt220_close(&t);
     vt220_scratch_close(&room);
     return unused;
@@ -29,7 +29,7 @@ static void *feeds(void *unused) {
 }
 
 static void *drops(void *unused) {
-    static uint8_t lines[100000];
+    static uint8_t lines[400000];
     size_t lines_written;
     vt220_feed(&b, input, sizeof input, NULL, 0, NULL);
     for (size_t at = 0; at < sizeof input;)
@@ -38,7 +38,7 @@ static void *drops(void *unused) {
 }
 
 static void *logs(void *unused) {
-    static uint8_t lines[100000];
+    static uint8_t lines[400000];
     size_t lines_written;
     for (size_t at = 0; at < sizeof input;)
         at += vt220_feed_log(&b, &s, input + at, sizeof input - at, out, 5120, &written, lines, sizeof lines, &lines_written);
@@ -46,7 +46,7 @@ static void *logs(void *unused) {
 }
 
 static void *feeds_utf8(void *unused) {
-    static uint8_t lines[100000];
+    static uint8_t lines[400000];
     size_t lines_written;
     vt220_feed(&u, input, sizeof input, NULL, 0, NULL);
     for (size_t at = 0; at < sizeof input;)
@@ -61,7 +61,7 @@ static void *feeds_xterm(void *unused) {
 }
 
 static void *logs_xterm(void *unused) {
-    static uint8_t lines[100000];
+    static uint8_t lines[400000];
     size_t lines_written;
     for (size_t at = 0; at < sizeof input;)
         at += vt220_feed_log(&x, &s, input + at, sizeof input - at, NULL, 0, NULL, lines, sizeof lines, &lines_written);
@@ -90,11 +90,14 @@ static void *updates(void *unused) {
 }
 
 static void *reads(void *unused) {
-    vt220_cell cells[VT220_COLUMNS];
+    vt220_cell cells[VT220_MOST_COLUMNS];
     vt220_tab_stops stops;
     vt220_saved_record saved;
     vt220_row_marks marks;
-    vt220_row(&b, 1, cells, VT220_COLUMNS);
+    bool marked[VT220_MOST_COLUMNS];
+    vt220_row(&b, 1, cells, VT220_MOST_COLUMNS);
+    vt220_changes_of(&a, &b, 1, marked, VT220_MOST_COLUMNS);
+    vt220_stops_of(&b, marked, VT220_MOST_COLUMNS);
     vt220_stops(&b, &stops);
     vt220_saved(&b, &saved);
     vt220_row_changes(&a, &b, 1, &marks);
@@ -107,6 +110,13 @@ static void *copies(void *unused) {
     vt220_copy(&y, &x);
     vt220_reset(&a);
     vt220_reset(&y);
+    return unused;
+}
+
+static void *resizes(void *unused) {
+    for (vt220 **each = (vt220 *[]){&a, &b, &u, &x, &y, NULL}; *each != NULL; each++)
+        if (vt220_resize(*each, VT220_MOST_ROWS, VT220_MOST_COLUMNS) != VT220_OK) abort();
+    if (vt220_scratch_fit(&s, &b) != VT220_OK) abort();
     return unused;
 }
 
@@ -151,7 +161,7 @@ static void fill(void) {
 int main(void) {
     fill();
     CHECK(vt220_open(&a) == VT220_OK && vt220_open(&b) == VT220_OK && vt220_scratch_open(&s) == VT220_OK);
-    CHECK(vt220_open_as(&u, VT220_UTF8) == VT220_OK && vt220_open_as(&x, VT220_XTERM) == VT220_OK && vt220_open_as(&y, VT220_XTERM) == VT220_OK);
+    CHECK(vt220_open_as(&u, VT220_UTF8, VT220_ROWS, 80) == VT220_OK && vt220_open_as(&x, VT220_XTERM, VT220_ROWS, 80) == VT220_OK && vt220_open_as(&y, VT220_XTERM, VT220_ROWS, 80) == VT220_OK);
     depth(opens), depth(feeds);
     size_t empty = depth(nothing);
     CHECK(empty < STACK / 2);
@@ -178,6 +188,16 @@ int main(void) {
     measure("picture", draws, LIMIT, empty);
     measure("readers", reads, LIMIT, empty);
     measure("copy and reset", copies, LIMIT, empty);
+    measure("resize", resizes, LIMIT, empty);
+    feeds(NULL);
+    vt220_feed(&b, (const uint8_t *)"\030", 1, out, 10, &written);
+    measure("update of a large screen", updates, LARGE, empty);
+    measure("feed of a large screen", feeds, LIMIT, empty);
+    measure("feed of a large screen with a log", logs_xterm, LIMIT, empty);
+    measure("text, row text, show and repaint of a large screen", writes, LIMIT, empty);
+    measure("picture of a large screen", draws, LIMIT, empty);
+    measure("readers of a large screen", reads, LIMIT, empty);
+    measure("copy and reset of a large screen", copies, LIMIT, empty);
     vt220_close(&a), vt220_close(&b), vt220_close(&u), vt220_close(&x), vt220_close(&y), vt220_scratch_close(&s);
     return finish("stack");
 }

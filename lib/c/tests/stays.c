@@ -40,22 +40,25 @@ static void reading(void) {
     vt220_mode_set modes;
     vt220_brush_look brush;
     vt220_graphic_sets sets;
-    vt220_tab_stops stops;
     vt220_saved_record saved;
-    vt220_row_marks marks;
+    bool stops[VT220_COLUMNS], marks[VT220_COLUMNS];
     for (size_t row = 0; row <= VT220_ROWS + 1; row++) {
         STAYS(core_row(&t, row, cells, VT220_COLUMNS));
         STAYS(core_row(&t, row, cells, 1));
-        STAYS(core_row_changes(&t, &u, row, &marks));
+        STAYS(core_row_changes(&t, &u, row, marks, VT220_COLUMNS));
+        STAYS(core_row_changes(&t, &u, row, marks, 1));
     }
     STAYS(core_cursor(&t, &cursor));
     STAYS(core_margins(&t, &margins));
     STAYS(core_modes(&t, &modes));
     STAYS(core_brush(&t, &brush));
     STAYS(core_sets(&t, &sets));
-    STAYS(core_stops(&t, &stops));
+    STAYS(core_stops(&t, stops, VT220_COLUMNS));
+    STAYS(core_stops(&t, stops, 1));
     STAYS(core_saved(&t, &saved));
+    STAYS(core_rows(&t));
     STAYS(core_width(&t));
+    STAYS(core_limit(&t, VT220_OF_TEXT));
     STAYS(core_is_between(&t));
     STAYS(core_held_kind(&t));
     STAYS(core_same_state(&t, &u));
@@ -64,8 +67,8 @@ static void reading(void) {
 int main(void) {
     /* Blank, with text, with columns that the other terminal lacks, and inside a sequence. */
     static const char *const states[] = {"\030", "abc\033[5;10H\033[1mx\a", "\033[?3hwide", "\033[1"};
-    CHECK(core_open(&t) == VT220_OK && core_open(&u) == VT220_OK && core_scratch_open(&s) == VT220_OK);
-    CHECK(core_xterm_open(&x) == VT220_OK && core_xterm_open(&y) == VT220_OK);
+    CHECK(core_open(&t, VT220_ROWS, NARROW) == VT220_OK && core_open(&u, VT220_ROWS, NARROW) == VT220_OK && core_scratch_open(&s) == VT220_OK);
+    CHECK(core_xterm_open(&x, VT220_ROWS, NARROW) == VT220_OK && core_xterm_open(&y, VT220_ROWS, NARROW) == VT220_OK);
     for (size_t i = 0; i < sizeof states / sizeof states[0]; i++) {
         const uint8_t *bytes = (const uint8_t *)states[i];
         size_t len = strlen(states[i]);
@@ -93,6 +96,26 @@ int main(void) {
         STAYS(core_copy(&u, &t));
         STAYS(core_reset(&u));
     }
+    /* Terminals of another size than the scratch buffer's and the pages', and those that a resize reads. */
+    handle made = {NULL, false}, made_pages = {NULL, false};
+    STAYS(core_xterm_resized(&made_pages, &u, &x, 30, 90));
+    STAYS(core_resized(&made, &t, 30, 90));
+    STAYS(core_resized(&made, &t, 1, 90));
+    CHECK(made.is_open && made_pages.is_open);
+    handle kept = t;
+    t = made;
+    writing(sizeof out);
+    reading();
+    STAYS(core_feed_log(&t, &s, out, 1, true, out, sizeof out, &written, lines, sizeof lines, &logged, &rung));
+    STAYS(core_feed_log_utf8(&t, &s, &pending, out, 1, true, out, sizeof out, &written, lines, sizeof lines, &logged, &rung));
+    STAYS(core_feed_xterm(&t, &x, out, 1, true, out, sizeof out, &written, &rung));
+    STAYS(core_feed_byte_xterm(&t, &x, 'a', out, sizeof out, &written));
+    STAYS(core_feed_log_xterm(&t, &s, &x, out, 1, true, out, sizeof out, &written, lines, sizeof lines, &logged, &rung));
+    STAYS(core_copy(&u, &t));
+    STAYS(core_xterm_resized(&made, &t, &x, 30, 90));
+    core_close(&t);
+    core_xterm_close(&made_pages);
+    t = kept;
     core_close(&t);
     core_close(&u);
     core_scratch_close(&s);

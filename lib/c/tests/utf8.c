@@ -7,7 +7,7 @@ static uint8_t text[VT220_TEXT_LIMIT];
 
 static vt220 opened(void) {
     vt220 t = VT220_INIT;
-    CHECK(vt220_open_as(&t, VT220_UTF8) == VT220_OK && kept_by(&t).language == VT220_UTF8);
+    CHECK(vt220_open_as(&t, VT220_UTF8, VT220_ROWS, 80) == VT220_OK && kept_by(&t).language == VT220_UTF8);
     return t;
 }
 

@@ -8,7 +8,7 @@ static vt220_scratch s = VT220_INIT;
 
 static vt220 opened(void) {
     vt220 t = VT220_INIT;
-    CHECK(vt220_open_as(&t, VT220_XTERM) == VT220_OK);
+    CHECK(vt220_open_as(&t, VT220_XTERM, VT220_ROWS, 80) == VT220_OK);
     return t;
 }
 
@@ -193,9 +193,9 @@ static void handles(void) {
     uint8_t out[20], pending[3] = {1, 2, 3};
     size_t written = 9;
     CHECK(!kept_by(&t).alternate && !kept_by(&t).bracketed_paste && kept_by(&t).language == VT220_BYTES && put_pending(&t, pending) == 0 && pending[2] == 3);
-    CHECK(vt220_open_as(&t, 4) == VT220_LANGUAGE && vt220_open_as(&t, UINT32_MAX) == VT220_LANGUAGE && !vt220_is_open(&t));
-    CHECK(vt220_open_as(&t, VT220_UTF8 | VT220_XTERM) == VT220_OK && vt220_open_as(&t, VT220_XTERM) == VT220_IN_USE && vt220_open(&t) == VT220_IN_USE);
-    CHECK(vt220_open_as(&t, 4) == VT220_IN_USE && vt220_is_open(&t) && kept_by(&t).language == VT220_XTERM && vt220_bells(&t) == 0);
+    CHECK(vt220_open_as(&t, 4, VT220_ROWS, 80) == VT220_LANGUAGE && vt220_open_as(&t, UINT32_MAX, VT220_ROWS, 80) == VT220_LANGUAGE && !vt220_is_open(&t));
+    CHECK(vt220_open_as(&t, VT220_UTF8 | VT220_XTERM, VT220_ROWS, 80) == VT220_OK && vt220_open_as(&t, VT220_XTERM, VT220_ROWS, 80) == VT220_IN_USE && vt220_open(&t) == VT220_IN_USE);
+    CHECK(vt220_open_as(&t, 4, VT220_ROWS, 80) == VT220_IN_USE && vt220_is_open(&t) && kept_by(&t).language == VT220_XTERM && vt220_bells(&t) == 0);
     CHECK(vt220_feed(&t, BYTES("a\a\033[?47h"), out, sizeof out, &written) == 8 && written == 0 && kept_by(&t).alternate);
     memcpy(&moved, &t, sizeof t), memset(&t, 0, sizeof t);
     CHECK(!kept_by(&t).alternate && kept_by(&moved).alternate && vt220_bells(&moved) == 1);
@@ -241,7 +241,7 @@ static void shown_on_a_vt220(void) {
     CHECK(vt220_feed(&p, BYTES("main\033[?1049halté\xE2"), NULL, 0, NULL) == 18);
     for (size_t i = 0; i < 2; i++) {
         vt220 q = VT220_INIT;
-        CHECK(vt220_open_as(&q, languages[i]) == VT220_OK && vt220_feed(&q, BYTES("old\033[3"), NULL, 0, NULL) == 6);
+        CHECK(vt220_open_as(&q, languages[i], VT220_ROWS, 80) == VT220_OK && vt220_feed(&q, BYTES("old\033[3"), NULL, 0, NULL) == 6);
         CHECK(vt220_repaint_as(&p, languages[i], &s, out, sizeof out, &len) == VT220_OK && vt220_feed(&q, out, len, NULL, 0, NULL) == len);
         CHECK(vt220_same_state(&p, &q) && !kept_by(&q).alternate);
         CHECK(vt220_feed(&p, BYTES("\xC3\x84"), NULL, 0, NULL) == 2 && vt220_copy(&other, &q) == VT220_CLOSED);
@@ -314,7 +314,7 @@ static void copied_handles(void) {
     CHECK(vt220_feed(&q, BYTES("\033[?47l"), NULL, 0, NULL) == 6 && shows(&q, "main") && !kept_by(&q).alternate);
     /* what is pending goes to a terminal in UTF-8, and the page that is shown to a VT220 */
     vt220 utf8 = VT220_INIT, bytes = VT220_INIT;
-    CHECK(vt220_open_as(&utf8, VT220_UTF8) == VT220_OK && vt220_open(&bytes) == VT220_OK && vt220_feed(&p, BYTES("é\xE2"), NULL, 0, NULL) == 3);
+    CHECK(vt220_open_as(&utf8, VT220_UTF8, VT220_ROWS, 80) == VT220_OK && vt220_open(&bytes) == VT220_OK && vt220_feed(&p, BYTES("é\xE2"), NULL, 0, NULL) == 3);
     CHECK(vt220_copy(&utf8, &p) == VT220_OK && has_pending(&utf8, &one) && vt220_same_state(&utf8, &p) && kept_by(&utf8).language == VT220_UTF8);
     CHECK(vt220_copy(&bytes, &utf8) == VT220_OK && vt220_same_state(&bytes, &p) && vt220_copy(&utf8, &bytes) == VT220_OK && has_pending(&utf8, &(struct bytes){NULL, 0, 0}));
     vt220_close(&p), vt220_close(&utf8), vt220_close(&bytes);

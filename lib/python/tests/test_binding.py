@@ -186,7 +186,7 @@ def test_a_number_is_a_row_from_1_to_24(call):
 
 def test_the_text_of_a_status_is_that_of_its_number():
     assert vt220.status_text(7) == "there is no such row"
-    for other in (11, 99, 2**32 - 1, 2**32 + 7, 2**64 + 7, -1):
+    for other in (12, 99, 2**32 - 1, 2**32 + 7, 2**64 + 7, -1):
         assert vt220.status_text(other) == "unknown status"
     for wrong in (7.0, "7", None):
         with pytest.raises(TypeError):
@@ -393,3 +393,42 @@ def test_lines_that_scroll_off():
     terminal.close()
     with pytest.raises(vt220.Closed):
         terminal.feed_log(b"x")
+
+
+def test_a_terminal_of_another_size():
+    terminal = vt220.Terminal(terminal="xterm", rows=40, columns=120)
+    terminal.feed(b"\033[40;118Hend")
+    assert (terminal.rows(), terminal.width(), len(terminal.row(40)), terminal.stops()[-1]) == (40, 120, 120, 113)
+    assert terminal.text().count("\n") == 40 and terminal.row_text(40).endswith("end\n")
+    with pytest.raises(vt220.NoRow):
+        terminal.row(41)
+    terminal.resize(255, 255)
+    other = vt220.Terminal(terminal="xterm", rows=255, columns=255)
+    other.feed(terminal.repaint())
+    assert other.same_state(terminal) and terminal.copy().same_state(terminal) and "</svg>" in terminal.picture()
+    assert terminal.feed_log(b"\n" * 300)[1].count("\n") == 85
+
+
+def test_two_sizes():
+    small, large = vt220.Terminal(), vt220.Terminal(rows=25, columns=80)
+    for call in (small.copy_from, small.update, lambda to: small.changed(to, 1)):
+        with pytest.raises(vt220.OtherSize):
+            call(large)
+    assert large.draw(small) == large.draw()
+    for size in ((1, 80), (256, 80), (24, 79), (24, 256)):
+        with pytest.raises(vt220.OtherSize):
+            vt220.Terminal(rows=size[0], columns=size[1])
+        with pytest.raises(vt220.OtherSize):
+            small.resize(*size)
+    # A terminal that was resized to 24 by 80 isn't a VT220's: DECCOLM leaves its width.
+    large.resize(24, 80)
+    large.feed(b"\033[?3h")
+    assert large.width() == 80 and large.copy().same_state(large)
+    with pytest.raises(vt220.OtherSize):
+        small.copy_from(large)
+
+
+def test_a_thread_draws_two_sizes_in_turn():
+    small, large = vt220.Terminal(), vt220.Terminal(rows=50, columns=200)
+    for _ in range(3):
+        assert small.text().count("\n") == 24 and large.text().count("\n") == 50

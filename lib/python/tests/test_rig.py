@@ -100,6 +100,26 @@ def test_132_columns_directory_and_environment(tmp_path):
     assert terminal.text() == screen.text
 
 
+def test_another_size_and_a_window_that_changes():
+    with shell("trap 'stty size' WINCH; stty size; printf '\\033[40;1Hlow'; read x; read x; echo end", rows=40, columns=120) as rig:
+        rig.wait("low", row=40)
+        screen = rig.last
+        assert (screen.width, len(screen.rows), screen.rows[0], screen.rows[39], rig.rows, rig.columns) == (120, 40, "40 120", "low", 40, 120)
+        assert screen.hidden == () and "width: 120" in screen.stored() and len(screen.stored().split("\n")) > 41
+        rig.resize(30, 100)
+        assert (rig.last.width, len(rig.last.rows), rig.last.rows[29]) == (100, 30, "low") and rig.last != screen
+        rig.wait("30 100")
+        rig.resize(24, 80)
+        rig.wait("24 80")
+        assert (rig.last.width, len(rig.last.rows), rig.last.hidden) == (80, 24, ())
+        for size in ((1, 80), (24, 79), (256, 80), (24, 256)):
+            with pytest.raises(vt220.OtherSize):
+                rig.resize(*size)
+        assert [event.data for event in rig.events if event.who == "size"] == [b"100x30", b"80x24"]
+    with pytest.raises(vt220.OtherSize):
+        run("true", columns=300)
+
+
 def test_a_command_that_is_not_there():
     run("true").close()  # the watchdog starts with the first one
     before = len(os.listdir("/proc/self/fd"))
@@ -241,7 +261,7 @@ def test_a_place_that_is_no_integer_is_refused_at_once(options):
             rig.screen.at("x", row=1.5)
 
 
-@pytest.mark.parametrize("mask, fault", [((0, 1, 1), vt220.NoRow), ((25, 1, 1), vt220.NoRow), ((1, 0, 1), ValueError), ((1, 133, 1), ValueError), ((1.5, 1, 1), TypeError)])
+@pytest.mark.parametrize("mask, fault", [((0, 1, 1), vt220.NoRow), ((25, 1, 1), vt220.NoRow), ((1, 0, 1), ValueError), ((1, 256, 1), ValueError), ((1.5, 1, 1), TypeError)])
 def test_a_mask_that_no_screen_has_is_refused(mask, fault):
     with pytest.raises(fault):
         screen_of(b"x").stored([mask])
@@ -249,8 +269,8 @@ def test_a_mask_that_no_screen_has_is_refused(mask, fault):
 
 @pytest.mark.parametrize("options, fault", [
     ({"what": "x", "row": 0}, vt220.NoRow), ({"what": "x", "row": 25}, vt220.NoRow), ({"text": "x", "row": -1}, vt220.NoRow),
-    ({"cursor": (25, 1)}, vt220.NoRow), ({"what": "x", "col": 0}, ValueError), ({"what": "x", "col": 133}, ValueError),
-    ({"cursor": (1, 133)}, ValueError),
+    ({"cursor": (25, 1)}, vt220.NoRow), ({"what": "x", "col": 0}, ValueError), ({"what": "x", "col": 256}, ValueError),
+    ({"cursor": (1, 256)}, ValueError),
 ])
 def test_a_place_that_no_screen_has_is_refused_at_once(options, fault):
     with shell("sleep 1000") as rig:
@@ -429,6 +449,16 @@ def test_a_page_plays_a_failure(tmp_path, template):
     assert unpacked(played["bytes"]) == rig.recording and sum(size for _, size in lines) == len(rig.recording) and lines == sorted(lines, key=lambda line: line[0])
     begun = played["options"]
     assert [label for _, label in begun["markers"]] == ["<no>", "\\n"] and begun["poster"] == lines[-1][0] / 1e6 and begun["start"] == 0
+
+
+def test_a_page_has_the_size_of_the_screen_and_its_changes(tmp_path, template):
+    with shell("printf one; read answer", rows=40, columns=120, reports=Reports(tmp_path / "r", "sized-1")) as rig:
+        rig.wait("one")
+        rig.resize(30, 100)
+        rig.report()
+    (played,) = inside((tmp_path / "r" / "sized-1.html").read_text().split("|")[1])
+    begun, ((time, size, place),) = played["options"], played["changes"]
+    assert (begun["rows"], begun["columns"], size, place, begun["poster"]) == (40, 120, "100x30", 3, time)
 
 
 def test_a_page_has_no_other_options(template, monkeypatch):

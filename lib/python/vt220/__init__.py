@@ -28,21 +28,23 @@ import threading
 from typing import Any, Callable, Dict, List, NamedTuple, Optional, Tuple, Type, Union
 
 __all__ = [
-    "ROWS", "COLUMNS", "REPORT_LIMIT", "TEXT_LIMIT", "ROW_TEXT_LIMIT", "SHOW_LIMIT", "PICTURE_LIMIT", "PAINT_LIMIT", "XTERM_PAINT_LIMIT", "UPDATE_LIMIT", "DRAW_LIMIT",
-    "KEY_LIMIT", "TYPED_LIMIT", "VERSION", "HELD", "ENCODINGS", "TERMINALS", "Error", "Memory", "InUse", "Closed", "Partial", "Room", "Unsupported", "NoRow", "NoKey", "NoCharacter", "OtherLanguage",
+    "ROWS", "COLUMNS", "MOST_ROWS", "MOST_COLUMNS", "REPORT_LIMIT", "TEXT_LIMIT", "ROW_TEXT_LIMIT", "SHOW_LIMIT", "PICTURE_LIMIT", "PAINT_LIMIT", "XTERM_PAINT_LIMIT", "UPDATE_LIMIT", "DRAW_LIMIT",
+    "KEY_LIMIT", "TYPED_LIMIT", "VERSION", "HELD", "ENCODINGS", "TERMINALS", "Error", "Memory", "InUse", "Closed", "Partial", "Room", "Unsupported", "NoRow", "NoKey", "NoCharacter", "OtherLanguage", "OtherSize",
     "NoLibrary", "Brush", "Cell", "Cursor", "Margins", "Modes", "Saved", "Sets", "Terminal", "key", "key_length", "shown", "status_text",
     "version",
 ]
 
 ROWS = 24
 COLUMNS = 132
+MOST_ROWS = 255
+MOST_COLUMNS = 255
 REPORT_LIMIT = 10
 TEXT_LIMIT = 9528
 ROW_TEXT_LIMIT = 397
 SHOW_LIMIT = 51000
 PICTURE_LIMIT = 659968
 PAINT_LIMIT = 93512
-XTERM_PAINT_LIMIT = 187060
+XTERM_PAINT_LIMIT = 187076
 UPDATE_LIMIT = 94152
 DRAW_LIMIT = 79270
 KEY_LIMIT = 7
@@ -55,6 +57,8 @@ ENCODINGS = ("dec", "utf-8")
 TERMINALS = ("vt220", "xterm")
 # The most bytes that one call of the library plays: other threads wait for its end.
 _PIECE = 65536
+# The statuses after which a call is made again, with other buffers, and what a limit is of.
+_ROOM, _SIZE, _OF_LINES = 5, 11, 7
 # The highest number of a status. No call returns it.
 _NO_STATUS = 2**32 - 1
 
@@ -109,7 +113,7 @@ class Unsupported(Error):
 class NoRow(Error, IndexError):
     """Reports that there is no such row."""
 
-    words = "rows count from 1 to 24"
+    words = "rows count from 1 to the number of rows"
 
 
 class NoKey(Error, ValueError):
@@ -130,6 +134,12 @@ class OtherLanguage(Error, ValueError):
     words = "the terminal has another language"
 
 
+class OtherSize(Error, ValueError):
+    """Reports that there is no such size, or that two terminals have different sizes."""
+
+    words = "there is no such size, or two terminals have different sizes"
+
+
 class NoLibrary(Error, ImportError):
     """Reports that libvt220.so isn't found, can't be loaded, or is of another version."""
 
@@ -138,6 +148,7 @@ class NoLibrary(Error, ImportError):
 
 _STATUSES: Dict[int, Type[Error]] = {
     1: Memory, 2: InUse, 3: Closed, 4: Partial, 5: Room, 6: Unsupported, 7: NoRow, 8: NoKey, 9: NoCharacter, 10: OtherLanguage,
+    11: OtherSize,
 }
 
 
@@ -257,8 +268,8 @@ _Modes = _struct(Modes._fields, {}, ctypes.c_bool, 19)
 _Brush = _struct(Brush._fields, {}, ctypes.c_bool, 11)
 _Sets = _struct(Sets._fields, _BYTES, ctypes.c_uint8, 9)
 _Saved = _struct(Saved._fields, {**_SIZES, **_BYTES}, ctypes.c_bool, 19)
-_Stops = _struct(("stop",), {}, ctypes.c_bool * COLUMNS, 12)
-_Marks = _struct(("width", "changed"), {"width": ctypes.c_size_t}, ctypes.c_bool * COLUMNS, 12)
+# A truth value for each column, of any screen.
+_Columns = ctypes.c_bool * MOST_COLUMNS
 
 
 def _built(name: str) -> Optional[str]:
@@ -285,11 +296,13 @@ def _declare(library: ctypes.PyDLL) -> None:
     handle, size, status = ctypes.POINTER(_Handle), ctypes.c_size_t, ctypes.c_uint32
     buffer, told, boolean = ctypes.c_void_p, ctypes.POINTER(ctypes.c_size_t), ctypes.c_bool
     calls: List[Tuple[str, Any, List[Any]]] = [
-        ("open_as", status, [handle, status]),
+        ("open_as", status, [handle, status, size, size]),
+        ("resize", status, [handle, size, size]),
         ("language", boolean, [handle, ctypes.POINTER(_Language)]),
         ("close", None, [handle]),
         ("is_open", boolean, [handle]),
         ("scratch_open", status, [handle]),
+        ("scratch_fit", status, [handle, handle]),
         ("scratch_close", None, [handle]),
         ("scratch_is_open", boolean, [handle]),
         ("feed", size, [handle, buffer, size, buffer, size, told]),
@@ -303,19 +316,21 @@ def _declare(library: ctypes.PyDLL) -> None:
         ("repaint_as", status, [handle, status, handle, buffer, size, told]),
         ("update", status, [handle, handle, handle, buffer, size, told]),
         ("draw", status, [handle, handle, handle, buffer, size, told]),
-        ("row_changes", status, [handle, handle, size, ctypes.POINTER(_Marks)]),
+        ("changes_of", status, [handle, handle, size, buffer, size]),
         ("copy", status, [handle, handle]),
         ("reset", status, [handle]),
         ("bells", ctypes.c_uint64, [handle]),
         ("status_text", ctypes.c_char_p, [status]),
         ("row", size, [handle, size, buffer, size]),
         ("cursor", boolean, [handle, ctypes.POINTER(_Cursor)]),
+        ("rows", size, [handle]),
         ("width", size, [handle]),
+        ("limit", size, [handle, status]),
         ("margins", boolean, [handle, ctypes.POINTER(_Margins)]),
         ("modes", boolean, [handle, ctypes.POINTER(_Modes)]),
         ("brush", boolean, [handle, ctypes.POINTER(_Brush)]),
         ("sets", boolean, [handle, ctypes.POINTER(_Sets)]),
-        ("stops", boolean, [handle, ctypes.POINTER(_Stops)]),
+        ("stops_of", size, [handle, buffer, size]),
         ("saved", boolean, [handle, ctypes.POINTER(_Saved)]),
         ("is_between", boolean, [handle]),
         ("held_kind", status, [handle]),
@@ -410,12 +425,20 @@ def _expect(status: int) -> None:
         raise _STATUSES.get(status, Error)()
 
 
-def _check_row(row: int) -> int:
-    """Returns the number of a row. Raises NoRow if no screen has this row, and TypeError if the number isn't an integer."""
+def _check_row(row: int, last: int) -> int:
+    """Returns the number of a row. Raises NoRow if the screen has no such row, and TypeError if the number isn't an integer."""
     number = operator.index(row)
-    if not 1 <= number <= ROWS:
-        raise NoRow(f"{NoRow.words}, so there is no row {number}")
+    if not 1 <= number <= last:
+        raise NoRow(f"rows count from 1 to {last}, so there is no row {number}")
     return number
+
+
+def _check_size(rows: int, columns: int) -> Tuple[int, int]:
+    """Returns a size. Raises OtherSize if no screen has it, and TypeError if the numbers aren't integers."""
+    size = operator.index(rows), operator.index(columns)
+    if not (2 <= size[0] <= MOST_ROWS and 80 <= size[1] <= MOST_COLUMNS):
+        raise OtherSize(f"a screen has 2 to {MOST_ROWS} rows of 80 to {MOST_COLUMNS} columns, not {size[0]} of {size[1]}")
+    return size
 
 
 def _language(encoding: str, terminal: str) -> int:
@@ -493,13 +516,17 @@ class _Work(threading.local):
     def out(self) -> "ctypes.Array[ctypes.c_char]":
         return ctypes.create_string_buffer(PICTURE_LIMIT)
 
+    def grow(self, size: int) -> None:
+        """Makes the buffer for what is written larger, which a screen of another size than a VT220's may need."""
+        self.out = ctypes.create_string_buffer(size)
+
     @functools.cached_property
     def reports(self) -> "ctypes.Array[ctypes.c_char]":
         return ctypes.create_string_buffer(4096)
 
     @functools.cached_property
     def cells(self) -> "ctypes.Array[ctypes.c_char]":
-        return ctypes.create_string_buffer(12 * COLUMNS)
+        return ctypes.create_string_buffer(12 * MOST_COLUMNS)
 
 
 _work = _Work()
@@ -517,7 +544,7 @@ class _Rows(Dict[bytes, Tuple[Cell, ...]]):
     """Keeps rows that were read before, by their bytes: most rows of a screen are those of the screen before."""
 
     def __missing__(self, raw: bytes) -> Tuple[Cell, ...]:
-        row = tuple(map(_cells.__getitem__, _CUTS[len(raw)](raw)))
+        row = tuple(map(_cells.__getitem__, struct.unpack(f"{12}s" * (len(raw) // 12), raw)))
         if len(self) >= 4096:
             self.clear()
         self[raw] = row
@@ -525,7 +552,6 @@ class _Rows(Dict[bytes, Tuple[Cell, ...]]):
 
 
 assert ctypes.sizeof(_Cell) == 12
-_CUTS = {12 * width: struct.Struct("12s" * width).unpack for width in (80, 132)}
 _cells, _rows = _Cells(), _Rows()
 
 
@@ -577,18 +603,31 @@ class _ByCtypes:
 
 
 def _written(function: Callable[..., int], *before: object, after: Tuple[int, ...] = ()) -> bytes:
-    """Returns what a call writes. Its other arguments come before the scratch buffer, or after it."""
+    """Returns what a call writes. Its other arguments come before the scratch buffer, or after it.
+
+    The scratch buffer is made for another size, and the output buffer larger, if the call asks for it.
+    """
     written, work = ctypes.c_size_t(), _work
-    _expect(function(*before, work.scratch.handle, *after, work.out, PICTURE_LIMIT, written))
+    status = function(*before, work.scratch.handle, *after, work.out, len(work.out), written)
+    if status == _SIZE:
+        _expect(_library.vt220_scratch_fit(work.scratch.handle, [it for it in before if isinstance(it, _Handle)][-1]))
+        status = function(*before, work.scratch.handle, *after, work.out, len(work.out), written)
+    if status == _ROOM:
+        work.grow(written.value)
+        status = function(*before, work.scratch.handle, *after, work.out, len(work.out), written)
+    _expect(status)
     return ctypes.string_at(work.out, written.value)
 
 
-def _open(language: int, handle: _Handle) -> int:
-    return int(_library.vt220_open_as(handle, language))
+def _open(language: int, rows: int, columns: int, handle: _Handle) -> int:
+    return int(_library.vt220_open_as(handle, language, rows, columns))
 
 
 class Terminal:
     """Opens a terminal in its power-up state. Its host sends the VT220's own bytes ("dec"), or UTF-8 ("utf-8").
+
+    Without a size it has a VT220's: 24 rows of 80 columns, which DECCOLM makes 132. Another one has 2 to 255 rows of 80 to 255 columns, and
+    DECCOLM leaves its width. resize() changes the size.
 
     With terminal="xterm" its host sends what programs send under TERM=xterm-256color. This is always UTF-8. alternate() returns whether
     the alternate page is shown. A copy and repaint() have both pages. All other calls are about the page that is shown.
@@ -601,9 +640,9 @@ class Terminal:
     as here.
     """
 
-    def __init__(self, encoding: str = "dec", terminal: str = "vt220") -> None:
+    def __init__(self, encoding: str = "dec", terminal: str = "vt220", rows: int = ROWS, columns: int = 80) -> None:
         self._language = _language(encoding, terminal)
-        self._owned = _Owned(functools.partial(_open, self._language), _library.vt220_close)
+        self._owned = _Owned(functools.partial(_open, self._language, *_check_size(rows, columns)), _library.vt220_close)
         self._handle = self._owned.handle
 
     @property
@@ -615,6 +654,18 @@ class Terminal:
     def terminal(self) -> str:
         """The terminal that the host writes for, one of TERMINALS."""
         return TERMINALS[self._language == 2]
+
+    def rows(self) -> int:
+        """Returns the number of rows."""
+        return int(_library.vt220_rows(self._opened()))
+
+    def resize(self, rows: int, columns: int) -> None:
+        """Changes the size, as xterm does if its window changes. Each has 2 to 255 rows of 80 to 255 columns.
+
+        If the cursor would be below the last row, so many rows leave at the top that it is in the last one: read them before, with
+        row_text(). DECCOLM leaves the width then. Raises OtherSize if no screen has this size.
+        """
+        _expect(_library.vt220_resize(self._opened(), *_check_size(rows, columns)))
 
     def _kept(self) -> _Language:
         """Returns what this terminal keeps for its language."""
@@ -662,16 +713,23 @@ class Terminal:
         """
         work = _work
         play, data = functools.partial(_library.vt220_feed_log, self._opened(), work.scratch.handle), _whole(data)
+        self._fit(work)
         start = ctypes.cast(ctypes.c_char_p(data), ctypes.c_void_p).value or 0
         reports, lines, written, logged, at = [], [], ctypes.c_size_t(), ctypes.c_size_t(), 0
         while at < len(data):
-            played = play(start + at, min(len(data) - at, _PIECE), work.reports, len(work.reports), written, work.out, PICTURE_LIMIT, logged)
+            played = play(start + at, min(len(data) - at, _PIECE), work.reports, len(work.reports), written, work.out, len(work.out), logged)
             if not played:  # another thread has closed the terminal
                 raise Closed()
             at += played
             reports.append(ctypes.string_at(work.reports, written.value))
             lines.append(ctypes.string_at(work.out, logged.value))
         return b"".join(reports), b"".join(lines).decode()
+
+    def _fit(self, work: _Work) -> None:
+        """Makes the buffers of a log serve this terminal's size."""
+        _expect(_library.vt220_scratch_fit(work.scratch.handle, self._handle))
+        if len(work.out) < _library.vt220_limit(self._handle, _OF_LINES):
+            work.grow(_library.vt220_limit(self._handle, _OF_LINES))
 
     def feed_until_report(self, data: Bytes) -> Tuple[int, bytes]:
         """Plays bytes of the host up to the first one that asks for a report.
@@ -690,12 +748,12 @@ class Terminal:
         return at, ctypes.string_at(room, written.value) if written.value else b""
 
     def text(self) -> str:
-        """Returns the screen's text: 24 lines, each without the spaces at its end and with a line feed."""
+        """Returns the screen's text: a line for each row, each without the spaces at its end and with a line feed."""
         return _library.calls.text(self._handle).decode()  # type: ignore[no-any-return]
 
     def row_text(self, row: int) -> str:
-        """Returns one line of text(), that of a row from 1 to 24. Raises as row() does."""
-        return _library.calls.row_text(self._handle, _check_row(row)).decode()  # type: ignore[no-any-return]
+        """Returns one line of text(), that of a row from 1 on. Raises as row() does."""
+        return _library.calls.row_text(self._handle, _check_row(row, self.rows())).decode()  # type: ignore[no-any-return]
 
     def show(self) -> str:
         """Returns the screen's text with SGR sequences for the attributes."""
@@ -725,30 +783,35 @@ class Terminal:
         """Returns bytes that make a terminal of today, such as xterm, show this screen, given that it shows that of `shown`.
 
         None stands for anything else. The bytes are characters in UTF-8 and CUP, ED, SGR and DECTCEM, and there are none if both show the same.
-        That terminal has at least 24 rows, and the columns of this one. Afterwards it shows this terminal, so keep a copy().
+        That terminal has at least the rows and the columns of this one. Afterwards it shows this terminal, so keep a copy().
         """
         return _library.calls.draw(None if shown is None else shown._handle, self._handle)  # type: ignore[no-any-return]
 
     def changed(self, to: "Terminal", row: int) -> List[int]:
-        """Returns the columns of a row of `to`, 1 to 24, in which this terminal has another cell or none. Raises as row() does.
+        """Returns the columns of a row of `to`, from 1 on, in which this terminal has another cell or none. Raises as row() does.
 
-        If the two differ in width(), redraw the whole screen instead: columns after the width of `to` aren't in the list.
+        If the two differ in width(), redraw the whole screen instead: columns after the width of `to` aren't in the list. Raises OtherSize if
+        the two have different sizes.
         """
-        marks, number = _Marks(), _check_row(row)
-        _expect(_library.vt220_row_changes(self._opened(), to._opened(), number, marks))
-        return [place + 1 for place, changed in enumerate(marks.changed) if changed]
+        marks, number = _Columns(), _check_row(row, to.rows())
+        _expect(_library.vt220_changes_of(self._opened(), to._opened(), number, marks, len(marks)))
+        return [place + 1 for place, changed in enumerate(marks) if changed]
 
     def copy_from(self, other: "Terminal") -> None:
         """Brings this terminal into the state of another one, also if the other is inside a sequence. In UTF-8 pending() is copied, too.
 
-        A terminal of TERM=xterm also gets both pages. Raises OtherLanguage if it is one and the other isn't.
+        A terminal of TERM=xterm also gets both pages. Raises OtherLanguage if it is one and the other isn't, and OtherSize if the two have
+        different sizes.
         """
         _expect(_library.vt220_copy(self._opened(), other._opened()))
 
     def copy(self) -> "Terminal":
-        """Returns a new terminal of this encoding in the state of this one, also inside a sequence. Its bells() counts from 0."""
+        """Returns a new terminal of this encoding and size in the state of this one, also inside a sequence. Its bells() counts from 0."""
+        # A VT220's screen may be 132 columns wide, and one that was resized to 24 by 80 isn't a VT220's.
         copied = Terminal(self.encoding, self.terminal)
-        copied.copy_from(self)
+        if _library.vt220_copy(copied._handle, self._opened()) == _SIZE:
+            copied.resize(self.rows(), self.width())
+            copied.copy_from(self)
         return copied
 
     __copy__ = copy
@@ -766,14 +829,15 @@ class Terminal:
 
     def _raw(self, row: int) -> bytes:
         """Returns a row's cells as the library writes them: 12 bytes a cell, the glyph's number and five booleans."""
-        number, cells = _check_row(row), _work.cells
-        count = _library.vt220_row(self._handle, number, cells, COLUMNS)
+        number, cells = operator.index(row), _work.cells
+        count = _library.vt220_row(self._handle, number if 0 < number <= MOST_ROWS else 0, cells, MOST_COLUMNS)
         if not count:
+            _check_row(row, self.rows())
             raise Closed()
         return cells.raw[: 12 * count]
 
     def row(self, row: int) -> List[Cell]:
-        """Returns the cells of a row, 1 to 24. Raises NoRow, which is an IndexError, if there is no such row, and TypeError if the
+        """Returns the cells of a row, from 1 on. Raises NoRow, which is an IndexError, if there is no such row, and TypeError if the
         number isn't an integer."""
         return list(_rows[self._raw(row)])
 
@@ -808,14 +872,14 @@ class Terminal:
         return self._told(_library.vt220_saved, _Saved, Saved)  # type: ignore[no-any-return]
 
     def stops(self) -> List[int]:
-        """Returns the columns, 1 to 132, that have a tab stop."""
-        stops = _Stops()
-        if not _library.vt220_stops(self._handle, stops):
+        """Returns the columns that have a tab stop: of a VT220 1 to 132, at any width."""
+        stops = _Columns()
+        if not _library.vt220_stops_of(self._handle, stops, len(stops)):
             raise Closed()
-        return [place + 1 for place, stop in enumerate(stops.stop) if stop]
+        return [place + 1 for place, stop in enumerate(stops) if stop]
 
     def width(self) -> int:
-        """Returns the number of columns: 80 or 132."""
+        """Returns the number of columns, of a VT220 80 or 132."""
         return int(_library.vt220_width(self._opened()))
 
     def is_between(self) -> bool:

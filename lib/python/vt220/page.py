@@ -12,17 +12,20 @@ import json
 import os
 import pathlib
 import re
-from typing import Any, Iterable, Mapping, Optional, Sequence, Tuple
+from typing import Any, Dict, Iterable, Mapping, Optional, Sequence, Tuple
 
-__all__ = ["FIELDS", "NoTemplate", "live", "page", "recording", "side_by_side", "template"]
+__all__ = ["FIELDS", "NoTemplate", "is_size", "live", "page", "recording", "side_by_side", "template"]
 
 # The fields that a template leaves open. The script of the page is between the last two.
 FIELDS = ("TITLE", "PLAYERS", "REST")
 # The characters of base64 of a recording that are before the script, at most. It is a multiple of four.
 BEGINNING = 1 << 18
+# The size that a template is for, as its style names it, and the limits of others: the fewest and the most columns, and rows.
+SIZED = "--columns: {}; --rows: {};"
+SIZE, COLUMNS, ROWS = (80, 24), (80, 255), (2, 255)
 # How a page plays, if its options don't name it. Times are in seconds; a marker is a time and a label, and an input a time and a text.
 OPTIONS: Mapping[str, object] = {"start": 0, "poster": None, "speed": 1, "pause": 1, "autoplay": False, "loop": False, "stops": False, "controls": True,
-                                "encoding": "dec", "terminal": "vt220", "markers": (), "inputs": (), "keystrokes": False}
+                                "encoding": "dec", "terminal": "vt220", "rows": SIZE[1], "columns": SIZE[0], "markers": (), "inputs": (), "keystrokes": False}
 
 
 class NoTemplate(OSError):
@@ -51,15 +54,20 @@ def hashed(text: str) -> str:
     return f"'sha256-{base64.b64encode(hashlib.sha256(text.encode()).digest()).decode()}'"
 
 
+def is_size(columns: int, rows: int) -> bool:
+    """Returns whether a screen may have so many columns and rows."""
+    return COLUMNS[0] <= columns <= COLUMNS[1] and ROWS[0] <= rows <= ROWS[1]
+
+
 def recording(
     content: bytes, chunks: Optional[Iterable[Tuple[int, int]]], title: str, notes: Sequence[str] = (), read: Optional[Mapping[str, object]] = None,
-    asked: Mapping[str, object] = {}, **options: object,
+    asked: Mapping[str, object] = {}, changes: Sequence[Tuple[float, str, int]] = (), **options: object,
 ) -> str:
     """Returns a recording as the element <vt220-player> takes it: JSON with its bytes, and for each chunk its microseconds and its number of bytes.
 
     Without chunks it is played as over a line of 9600 baud. `notes` are sentences on what can't be shown. The options are those of OPTIONS, as
     apps/page/vt220-page describes them. `read` is what was read of the recording, and `asked` what is asked for: lib/js/src/reading.js describes them, and
-    decides by them how it is played.
+    decides by them how it is played. Without `read`, `changes` are those of the size: the seconds, "COLUMNSxROWS", and how many bytes come before.
     """
     unknown = options.keys() - OPTIONS.keys()
     if unknown:
@@ -67,7 +75,8 @@ def recording(
     listed = None if chunks is None else packed("\n".join(f"{micros} {size}" for micros, size in chunks).encode())
     made = {"title": title, "notes": list(notes), "options": {**OPTIONS, **options}, "chunks": listed, "length": len(content)}
     # The bytes come last: what is before them is read while they come.
-    return json.dumps({**made, **({} if read is None else {"read": read, "asked": asked}), "bytes": packed(content)})
+    how: Dict[str, object] = {"read": read, "asked": asked} if read is not None else {"changes": list(changes)} if changes else {}
+    return json.dumps({**made, **how, "bytes": packed(content)})
 
 
 def _player(recorded: str, attributes: str = "", name: str = "rest") -> Tuple[str, str]:
@@ -83,12 +92,29 @@ def _player(recorded: str, attributes: str = "", name: str = "rest") -> Tuple[st
     return f'<vt220-player early{attributes}><script type="application/json">{inside}</script>Loading</vt220-player>', rest
 
 
-def _filled(title: str, players: str, rest: str = "") -> str:
-    """Returns the template with a title, players, and what comes after the script. Raises NoTemplate if there is none."""
+def _size(recorded: str) -> Tuple[int, int]:
+    """Returns the columns and the rows at which what recording() returns begins, as lib/js/src/reading.js decides on it."""
+    made = json.loads(recorded)
+    wanted = made.get("asked", {}).get("size") or made.get("read", {}).get("size") or (made["options"]["columns"], made["options"]["rows"])
+    columns, rows = wanted
+    return (columns, rows) if is_size(columns, rows) and wanted != [132, 24] else SIZE
+
+
+def _for_size(text: str, size: Tuple[int, int]) -> str:
+    """Returns a template for a size. Its policy names its style by a hash. So a player is as large before the script runs as afterwards."""
+    style = re.search("<style>(.*?)</style>", text, re.S)
+    if size == SIZE or style is None:
+        return text
+    sized = style[1].replace(SIZED.format(*SIZE), SIZED.format(*size))
+    return text.replace(hashed(style[1]), hashed(sized)).replace(style[1], sized)
+
+
+def _filled(title: str, players: str, rest: str = "", size: Tuple[int, int] = SIZE) -> str:
+    """Returns the template with a title, players, and what comes after the script, for a size. Raises NoTemplate if there is none."""
     path = template()
     if path is None:
         raise NoTemplate("a page needs the template that `make js` builds; VT220_PAGE can name it")
-    values, text = {"TITLE": html.escape(title), "PLAYERS": players, "REST": rest}, path.read_text(encoding="utf-8")
+    values, text = {"TITLE": html.escape(title), "PLAYERS": players, "REST": rest}, _for_size(path.read_text(encoding="utf-8"), size)
     if rest and "@REST@" not in text:
         raise NoTemplate(f"{path} is the template of an earlier version")
     return re.sub(f"@({'|'.join(FIELDS)})@", lambda match: values[match[1]], text)
@@ -96,7 +122,8 @@ def _filled(title: str, players: str, rest: str = "") -> str:
 
 def page(content: bytes, chunks: Optional[Iterable[Tuple[int, int]]], title: str, notes: Sequence[str] = (), **options: Any) -> str:
     """Returns the page of a recording, whose arguments are those of recording(). Raises NoTemplate if there is no template."""
-    return _filled(title, *_player(recording(content, chunks, title, notes, **options), " links"))
+    made = recording(content, chunks, title, notes, **options)
+    return _filled(title, *_player(made, " links"), size=_size(made))
 
 
 def live(title: str, address: str) -> str:

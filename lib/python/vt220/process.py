@@ -126,9 +126,13 @@ def _spawn(path: str, argv: Sequence[str], env: Dict[str, str], cwd: Optional[st
     return pid.value
 
 
-def _set_line(line: int, columns: int, encoding: str) -> None:
+def _set_size(line: int, rows: int, columns: int) -> None:
+    fcntl.ioctl(line, termios.TIOCSWINSZ, struct.pack("4H", rows, columns, 0, 0))
+
+
+def _set_line(line: int, rows: int, columns: int, encoding: str) -> None:
     """Gives a pseudo-terminal its size, and tells it whether characters are of UTF-8."""
-    fcntl.ioctl(line, termios.TIOCSWINSZ, struct.pack("4H", 24, columns, 0, 0))
+    _set_size(line, rows, columns)
     if encoding == "utf-8":
         modes = termios.tcgetattr(line)
         modes[0] |= _IUTF8
@@ -136,9 +140,10 @@ def _set_line(line: int, columns: int, encoding: str) -> None:
 
 
 class Process:
-    """Starts a command on a pseudo-terminal of 24 rows. `line` is the descriptor of the pseudo-terminal's other side."""
+    """Starts a command on a pseudo-terminal. `line` is the descriptor of the pseudo-terminal's other side."""
 
-    def __init__(self, argv: Sequence[str], env: Dict[str, str], cwd: Optional[Union[str, "os.PathLike[str]"]], columns: int, encoding: str) -> None:
+    def __init__(self, argv: Sequence[str], env: Dict[str, str], cwd: Optional[Union[str, "os.PathLike[str]"]], rows: int, columns: int,
+                 encoding: str) -> None:
         path = argv[0] if "/" in argv[0] else shutil.which(argv[0], path=env.get("PATH", os.defpath))
         directory = None if cwd is None else os.fspath(cwd)
         if path is None:
@@ -148,7 +153,7 @@ class Process:
         self.line, self.pid, self.ending = -1, -1, -1
         line, slave = os.openpty()
         try:
-            _set_line(line, columns, encoding)
+            _set_line(line, rows, columns, encoding)
             os.set_blocking(line, False)
             self.pid = _spawn(path, argv, {**env, watchdog.MARK: self.mark}, directory, os.ttyname(slave))
         except BaseException:
@@ -158,6 +163,10 @@ class Process:
             os.close(slave)
         self.line, self.ending = line, os.pidfd_open(self.pid)
         _watchdog.tell(self.pid)
+
+    def resize(self, rows: int, columns: int) -> None:
+        """Changes the size of the pseudo-terminal. The system sends SIGWINCH to the programs in its foreground."""
+        _set_size(self.line, rows, columns)
 
     def ended(self) -> Optional[int]:
         """Returns the command's exit status, the negative number of the signal that ended it, or None while it runs."""

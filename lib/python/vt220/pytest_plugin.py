@@ -7,7 +7,7 @@ from typing import Any, Dict, Iterator, List, Optional, Set
 
 import pytest
 
-from . import ENCODINGS
+from . import ENCODINGS, ROWS
 from .rig import ENDINGS, TIMEOUT, Directory, Failure, Reports, Rig, recorded
 
 _KEY = "vt220_screens"
@@ -47,14 +47,14 @@ class Session:
             if re.fullmatch(rf"-\d+\.({'|'.join(ENDINGS)})", old.name[len(self.name) :]):
                 old.unlink(missing_ok=True)
 
-    def run(self, *argv: str, columns: int = 80, cwd: Optional[Directory] = None, env: Optional[Dict[str, str]] = None,
+    def run(self, *argv: str, rows: int = ROWS, columns: int = 80, cwd: Optional[Directory] = None, env: Optional[Dict[str, str]] = None,
             timeout: Optional[float] = None, term: Optional[str] = None, encoding: Optional[str] = None, terminal: str = "vt220") -> Rig:
-        """Runs a command on a terminal of 80 or 132 columns, and returns its Rig.
+        """Runs a command on a terminal of 24 rows and 80 or 132 columns, or of another size, and returns its Rig.
 
         The command is in UTF-8, or has the bytes of a VT220. With terminal="xterm" it has TERM=xterm-256color.
         """
         reports = Reports(self.directory, f"{self.name}-{len(self.rigs) + 1}", self.colour, self.good_of(len(self.rigs) + 1))
-        rig = Rig(argv, columns=columns, cwd=cwd, env=env, timeout=timeout or self.timeout, term=term, encoding=encoding or self.encoding,
+        rig = Rig(argv, rows=rows, columns=columns, cwd=cwd, env=env, timeout=timeout or self.timeout, term=term, encoding=encoding or self.encoding,
                   screens=self.screens, update=self.update, reports=reports, used=lambda path: self.used.add(str(path)), terminal=terminal)
         self.rigs.append(rig)
         return rig

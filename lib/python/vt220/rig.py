@@ -20,7 +20,7 @@ import shlex
 import time
 from typing import Callable, Dict, Iterator, List, NamedTuple, Optional, Pattern, Sequence, Tuple, Union
 
-from . import ROWS, Bytes, Modes, Terminal
+from . import COLUMNS, ROWS, Bytes, Modes, Terminal, _check_size
 from .cast import asciicast
 from .expected import NoGlyph, expression_as_shown, expression_of_text, text_as_shown
 from .keyboard import Chord, Key, alt, ctrl, shift, spelled
@@ -140,9 +140,16 @@ class Reports(NamedTuple):
             option = ["--terminal", "xterm"]
         else:
             option = [] if rig.encoding == "dec" else ["--encoding", rig.encoding]
-        words = " ".join([*option, shlex.quote(recording)])
         files = f"picture:   {picture}\nrecording: {recording}\nasciicast: {cast}\n{page_line}"
+        if not rig.is_of_a_vt220:
+            return f"{files}play it:   vt220 show {' '.join([*option, shlex.quote(cast)])}"
+        words = " ".join([*option, shlex.quote(recording)])
         return f"{files}play it:   python3 -m vt220 {words}   (or: vt220 show {words})"
+
+
+def _is_vt220(rows: int, columns: int) -> bool:
+    """Returns whether a screen that is opened with this size is a VT220's."""
+    return rows == ROWS and columns in (80, COLUMNS)
 
 
 class Rig:
@@ -150,23 +157,28 @@ class Rig:
 
     The command is in UTF-8, and so are the keys that it gets. With the encoding "dec" it gets the bytes of a VT220, and sends them.
     With the terminal "xterm" it is in UTF-8, TERM is xterm-256color, and its keys are those of xterm.
+
+    The screen has a VT220's size, 24 rows of 80 columns or of 132, or another one of 2 to 255 rows and 80 to 255 columns. resize() changes it.
     """
 
-    def __init__(self, argv: Sequence[str], *, columns: int = 80, cwd: Optional[Directory] = None, env: Optional[Dict[str, str]] = None,
+    def __init__(self, argv: Sequence[str], *, rows: int = ROWS, columns: int = 80, cwd: Optional[Directory] = None, env: Optional[Dict[str, str]] = None,
                  timeout: float = TIMEOUT, term: Optional[str] = None, encoding: str = "utf-8", screens: Optional[Directory] = None,
                  update: bool = False, reports: Optional[Reports] = None, used: Optional[Callable[[pathlib.Path], None]] = None,
                  terminal: str = "vt220") -> None:
-        if columns not in (80, 132):
-            raise ValueError("a VT220 has 80 or 132 columns")
+        _check_size(rows, columns)
+        is_vt220 = _is_vt220(rows, columns)
         self.argv, self.timeout = [os.fspath(word) for word in argv], timeout
         self.screens, self.update = pathlib.Path(screens if screens is not None else "screens"), update
         self.reports, self._used = reports or Reports(), used
-        self.terminal, self.recording, self.events = Terminal(encoding, terminal), bytearray(), []  # type: ignore[var-annotated]
-        self.encoding, self.columns = self.terminal.encoding, columns
+        self.terminal = Terminal(encoding, terminal) if is_vt220 else Terminal(encoding, terminal, rows, columns)
+        self.recording, self.events = bytearray(), []  # type: ignore[var-annotated]
+        self.encoding, self.rows, self.columns = self.terminal.encoding, rows, columns
+        # The size at the beginning, and the present one if it isn't a VT220's.
+        self.first_size, self._size = (rows, columns), None if is_vt220 else (rows, columns)
         self.environment = environment(term or TERMS[terminal], self.encoding, env)
         self._output, self._is_open, self._started = bytearray(), True, time.monotonic()
-        self.process = Process(self.argv, self.environment, cwd, columns, self.encoding)
-        if columns == 132:
+        self.process = Process(self.argv, self.environment, cwd, rows, columns, self.encoding)
+        if is_vt220 and columns == COLUMNS:
             # The recording begins with it, so that it shows the same when it is played.
             self._play(b"\033[?3h" if terminal == "vt220" else b"\033[?40h\033[?3h\033[?40l")
         self.last = self._look()
@@ -207,7 +219,27 @@ class Rig:
 
     def _look(self) -> Screen:
         """Returns the screen as it is now. A character whose bytes aren't complete isn't on it."""
-        return Screen(self.terminal.repaint("vt220"), self.encoding)
+        return Screen(self.terminal.repaint("vt220"), self.encoding, self._size)
+
+    @property
+    def is_of_a_vt220(self) -> bool:
+        """Whether the screen has always had a VT220's size."""
+        return self._size is None
+
+    def resize(self, rows: int, columns: int) -> None:
+        """Changes the size of the window. The program gets SIGWINCH. What it has written before is played first.
+
+        The screen changes as xterm's does (Terminal.resize). Raises OtherSize if no screen has this size.
+        """
+        while self._read(0):
+            pass
+        self.terminal.resize(rows, columns)
+        self.rows, self.columns, self._size = rows, columns, (rows, columns)
+        self._note("size", f"{columns}x{rows}".encode())
+        if self._is_open:
+            self.process.resize(rows, columns)
+        if self.terminal.is_between():
+            self.last = self._look()
 
     def _flush(self) -> None:
         """Writes as much of what waits for the program as the line takes now."""
@@ -331,7 +363,7 @@ class Rig:
         """
         __tracebackhide__ = True
         for place in ((row, col), cursor or (None, None)):
-            check_row(place[0])
+            check_row(place[0], self.rows)
             check_column(place[1])
         conditions: List[Callable[[Screen], object]] = []
         expressions: List["Pattern[str]"] = []
@@ -407,7 +439,7 @@ class Rig:
         found = functools.partial(Screen.stored, masks=masks, allow_substitutes=allow_substitutes)
         stored = found(self.last) if self.update else renewed(path.read_text(encoding="utf-8"))
         if self.encoding != "dec" and not allow_substitutes:
-            check_substitutes(str(path), stored)
+            check_substitutes(str(path), stored, self.rows)
         if self.update:
             path.parent.mkdir(parents=True, exist_ok=True)
             path.write_text(stored, encoding="utf-8")
@@ -415,7 +447,7 @@ class Rig:
         try:
             self._until(lambda: found(self.last) == stored, f"the screen {name}", timeout)
         except Failure as fault:
-            self._differs(path, str(fault).split("\n")[0], Stored(stored), Stored(found(self.last)))
+            self._differs(path, str(fault).split("\n")[0], Stored(stored, self.rows), Stored(found(self.last), self.rows))
 
     # What is said when it fails.
 
@@ -446,24 +478,44 @@ class Rig:
         return "\n".join(lines)
 
 
+# The codes of events in an asciicast. What isn't the program's is input.
+_CODES = {"program": "o", "size": "r"}
+
+
 def _asciicast(rig: Rig) -> Iterator[bytes]:
     """Returns the lines of an asciicast of all that went over the line. Its first line has the size, and TERM and LC_ALL as the program had them."""
     kept = {name: rig.environment[name] for name in ("TERM", "LC_ALL")}
-    head = {"width": rig.columns, "height": ROWS, "command": shlex.join(rig.argv), "env": kept}
-    events = ((event.at, "o" if event.who == "program" else "i", event.data) for event in rig.events)
+    rows, columns = rig.first_size
+    head = {"width": columns, "height": rows, "command": shlex.join(rig.argv), "env": kept}
+    events = ((event.at, _CODES.get(event.who, "i"), event.data) for event in rig.events)
     return asciicast(head, events, rig.encoding)
+
+
+def _micros(event: Event) -> int:
+    """Returns when an event was, in microseconds."""
+    return int(event.at * 1e6)
 
 
 def _chunks(rig: Rig) -> List[Tuple[int, int]]:
     """Returns when each part of the program's output came, in microseconds, and its number of bytes."""
-    return [(int(event.at * 1e6), len(event.data)) for event in rig.events if event.who == "program"]
+    return [(_micros(event), len(event.data)) for event in rig.events if event.who == "program"]
+
+
+def _sizes(rig: Rig) -> Dict[str, object]:
+    """Returns the size at which a recording begins, unless it is a VT220's, and the changes of it, as a call of the module page takes them."""
+    (rows, columns), place, changes = rig.first_size, 0, []
+    for event in rig.events:
+        place += len(event.data) if event.who == "program" else 0
+        changes += [(_micros(event) / 1e6, event.data.decode(), place)] if event.who == "size" else []
+    first = {} if _is_vt220(rows, columns) else {"rows": rows, "columns": columns}
+    return {**first, **({"changes": changes} if changes else {})}
 
 
 def recorded(rig: Rig, written: Callable[..., str] = recording, **options: object) -> str:
     """Returns what the program wrote, as a call of the module page writes it. The markers are what the test sent."""
     markers = [(event.at, _short(event.data)) for event in rig.events if event.who == "test"]
     languages = {"encoding": rig.encoding, "terminal": rig.terminal.terminal}
-    return written(bytes(rig.recording), _chunks(rig), " ".join(rig.argv), markers=markers, **languages, **options)
+    return written(bytes(rig.recording), _chunks(rig), " ".join(rig.argv), markers=markers, **languages, **_sizes(rig), **options)
 
 
 def _write_page(path: str, rig: Rig) -> str:
@@ -471,9 +523,9 @@ def _write_page(path: str, rig: Rig) -> str:
 
     It first shows the end.
     """
-    chunks = _chunks(rig)
+    times = [_micros(event) for event in rig.events if event.who in _CODES]
     try:
-        text = recorded(rig, page, poster=chunks[-1][0] / 1e6 if chunks else 0)
+        text = recorded(rig, page, poster=times[-1] / 1e6 if times else 0)
     except NoTemplate:
         return ""
     pathlib.Path(path).write_text(text, encoding="utf-8")

@@ -5,7 +5,7 @@ import operator
 import re
 from typing import Dict, Iterable, Iterator, List, NamedTuple, Optional, Pattern, Sequence, Tuple, Union
 
-from . import COLUMNS, ROWS, Brush, Cell, Cursor, Margins, Modes, Saved, Sets, Terminal, _check_row
+from . import COLUMNS, MOST_COLUMNS, ROWS, Brush, Cell, Cursor, Margins, Modes, Saved, Sets, Terminal, _check_row
 from .expected import SUBSTITUTE, NoGlyph, expression_as_shown, expression_of_text, text_as_shown
 
 # The name of each attribute in a stored screen, in the order of Cell's fields after the glyph.
@@ -80,16 +80,17 @@ class Place(_Position):
 
 
 class Screen:
-    """Holds the state of a terminal at one moment. Two screens are equal if and only if their repaints are equal bytes.
+    """Holds the state of a terminal at one moment. Two screens are equal if and only if their sizes and repaints are.
 
-    The encoding is that of the program. The texts that a test looks for are mapped to what a screen in this encoding shows of them.
+    The encoding is that of the program. The texts that a test looks for are mapped to what a screen in this encoding shows of them. The size
+    is the rows and columns, or None for a VT220's, which may be 132 columns wide.
     """
 
-    def __init__(self, repaint: bytes, encoding: str = "dec") -> None:
-        self.repaint, self.encoding = repaint, encoding
+    def __init__(self, repaint: bytes, encoding: str = "dec", size: Optional[Tuple[int, int]] = None) -> None:
+        self.repaint, self.encoding, self.size = repaint, encoding, size
 
     def __eq__(self, other: object) -> bool:
-        return isinstance(other, Screen) and self.repaint == other.repaint
+        return isinstance(other, Screen) and (self.repaint, self.size) == (other.repaint, other.size)
 
     def __hash__(self) -> int:
         return hash(self.repaint)
@@ -100,23 +101,30 @@ class Screen:
     @functools.cached_property
     def _terminal(self) -> Terminal:
         terminal = Terminal()
+        if self.size is not None:
+            terminal.resize(*self.size)
         terminal.feed(self.repaint)
         return terminal
 
+    @property
+    def _height(self) -> int:
+        """The number of rows."""
+        return ROWS if self.size is None else self.size[0]
+
     @functools.cached_property
     def text(self) -> str:
-        """The 24 lines, each without the spaces at its end and with a line feed."""
+        """The lines of all rows, each without the spaces at its end and with a line feed."""
         return self._terminal.text()
 
     @functools.cached_property
     def rows(self) -> Tuple[str, ...]:
-        """The 24 lines, each without the spaces at its end. The first one is rows[0]."""
-        return tuple(self.text.split("\n")[:ROWS])
+        """The lines of all rows, each without the spaces at its end. The first one is rows[0]."""
+        return tuple(self.text.split("\n")[: self._height])
 
     @functools.cached_property
     def cells(self) -> Tuple[Tuple[Cell, ...], ...]:
-        """The cells of the 24 rows, with their attributes. The first one is cells[0][0]."""
-        return tuple(tuple(self._terminal.row(row)) for row in range(1, ROWS + 1))
+        """The cells of all rows, with their attributes. The first one is cells[0][0]."""
+        return tuple(tuple(self._terminal.row(row)) for row in range(1, self._height + 1))
 
     @functools.cached_property
     def cursor(self) -> Cursor:
@@ -149,7 +157,7 @@ class Screen:
 
         The parts are the attributes of the next character, the graphic sets, a pending single shift, the tab stops, and what DECRC restores.
         """
-        return tuple(_hidden(self._terminal))
+        return tuple(_hidden(self._terminal, COLUMNS if self.size is None else self.size[1]))
 
     def _padded(self, row: int) -> str:
         """Returns a row with spaces at its end: up to the cursor, and up to the last cell that isn't a space without attributes."""
@@ -164,7 +172,7 @@ class Screen:
         It is searched in a row without the spaces at its end, and then in the row with those up to the cursor and up to the last cell that
         isn't a space without attributes. The expression is compared as it is.
         """
-        numbers = range(1, ROWS + 1) if row is None else [row]
+        numbers = range(1, self._height + 1) if row is None else [row]
         lines = itertools.chain((self.rows[number - 1] for number in numbers), map(self._padded, numbers))
         return any(expression.search(line) if col is None else expression.match(line, col - 1) for line in lines)
 
@@ -173,10 +181,10 @@ class Screen:
 
         Raises NoGlyph if the text has a character that is shown as U+2426. With allow_substitutes=True it is found by that.
         """
-        check_row(row)
+        check_row(row, self._height)
         left, expression = nth, expression_of_text(text, self.encoding, allow_substitutes)
         length = len(text_as_shown(text, self.encoding))
-        for number in range(1, ROWS + 1) if row is None else [row]:
+        for number in range(1, self._height + 1) if row is None else [row]:
             line = self._padded(number)
             found = expression.search(line)
             while found:
@@ -192,7 +200,7 @@ class Screen:
 
         Raises NoGlyph if the expression of a mask has a character that is shown as U+2426, unless allow_substitutes is true.
         """
-        lines, raws = list(self.rows), [self._terminal._raw(row) for row in range(1, ROWS + 1)]
+        lines, raws = list(self.rows), [self._terminal._raw(row) for row in range(1, self._height + 1)]
         for row, col, length in self._masked(masks, allow_substitutes):
             line, raw = lines[row - 1].ljust(self.width), raws[row - 1]
             lines[row - 1] = (line[: col - 1] + MASK * length + line[col - 1 + length :]).rstrip(" ")
@@ -212,7 +220,7 @@ class Screen:
                         if found.end() > found.start():
                             yield row, found.start() + 1, found.end() - found.start()
             else:
-                check_row(mask[0])
+                check_row(mask[0], self._height)
                 check_column(mask[1])
                 yield mask
 
@@ -221,7 +229,7 @@ class Screen:
         yield f"cursor: {row} {col}" + (" wrap" if wrap else "")
         if self.width != 80:
             yield f"width: {self.width}"
-        if self.margins != (1, ROWS):
+        if self.margins != (1, self._height):
             yield f"margins: {self.margins.top} {self.margins.bottom}"
         modes = zip(MODES, self.modes, _modes_at_power_up())
         changed = [("+" if is_set else "-") + name for name, is_set, at_first in modes if is_set != at_first]
@@ -250,21 +258,21 @@ def _runs(raw: bytes) -> str:
     return "; ".join(runs)
 
 
-def check_row(row: Optional[int]) -> None:
-    """Raises NoRow if a row is given that no screen has, and TypeError if it isn't an integer."""
+def check_row(row: Optional[int], last: int = ROWS) -> None:
+    """Raises NoRow if a row is given that a screen of so many rows hasn't, and TypeError if it isn't an integer."""
     if row is not None:
-        _check_row(row)
+        _check_row(row, last)
 
 
 def check_column(col: Optional[int]) -> None:
     """Raises ValueError if a column is given that no screen has, and TypeError if it isn't an integer."""
-    if col is not None and not 1 <= operator.index(col) <= COLUMNS:
-        raise ValueError(f"columns count from 1 to {COLUMNS}, so there is no column {col}")
+    if col is not None and not 1 <= operator.index(col) <= MOST_COLUMNS:
+        raise ValueError(f"columns count from 1 to {MOST_COLUMNS}, so there is no column {col}")
 
 
-def check_substitutes(name: str, text: str) -> None:
+def check_substitutes(name: str, text: str, height: int = ROWS) -> None:
     """Raises NoGlyph if the text of a stored screen has U+2426, since that is shown for most characters that a VT220 lacks."""
-    for row, line in enumerate(text.split("\n")[:ROWS], 1):
+    for row, line in enumerate(text.split("\n")[:height], 1):
         if SUBSTITUTE in line:
             raise NoGlyph(f"{name} has {SUBSTITUTE} in row {row}, column {line.index(SUBSTITUTE) + 1}: it is shown for any character without a "
                           "similar glyph. So this test would pass on a wrong text. Mask it, or write allow_substitutes=True")
@@ -289,13 +297,13 @@ def _at_first() -> _Parts:
     return _parts(Terminal())
 
 
-def _hidden(terminal: Terminal) -> Iterator[str]:
+def _hidden(terminal: Terminal, columns: int = COLUMNS) -> Iterator[str]:
     """Returns a line for each hidden part that isn't as at power-up. The lines of what DECRC restores begin with 'saved'."""
     now, first = _parts(terminal), _at_first()
     yield from _looks("", now.brush, now.sets, first.sets)
     if now.sets.single_shift:
         yield f"single shift: G{now.sets.single_shift}"
-    if now.stops != first.stops:
+    if now.stops != list(range(9, columns + 1, 8)):
         yield "tab stops: " + (" ".join(map(str, now.stops)) or "none")
     saved, wrap, origin = now.saved, " wrap" if now.saved.wrap else "", " origin" if now.saved.origin else ""
     if (saved.row, saved.col, wrap, origin) != (first.saved.row, first.saved.col, "", ""):
@@ -335,10 +343,10 @@ def renewed(text: str) -> str:
 class Stored:
     """Holds a stored screen as it was read from its file."""
 
-    def __init__(self, text: str) -> None:
+    def __init__(self, text: str, height: int = ROWS) -> None:
         lines = text.split("\n")
-        self.rows = lines[:ROWS] + [""] * (ROWS - len(lines[:ROWS]))
-        self.rest = [line for line in lines[ROWS:] if line]
+        self.rows = lines[:height] + [""] * (height - len(lines[:height]))
+        self.rest = [line for line in lines[height:] if line]
 
     def attributes(self) -> Places:
         """Returns the names of the attributes of each cell that has any."""
@@ -351,7 +359,7 @@ class Stored:
                 columns, _, names = run.partition(" ")
                 first, _, last = columns.partition("-")
                 if first.isdigit() and (last or first).isdigit():
-                    for col in range(int(first), min(int(last or first), 132) + 1):
+                    for col in range(int(first), min(int(last or first), MOST_COLUMNS) + 1):
                         places[int(row), col] = names
         return places
 

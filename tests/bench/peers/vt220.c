@@ -11,7 +11,7 @@ int main(int argc, char **argv)
     uint32_t language = argc > 2 ? strtoul(argv[2], NULL, 10) : VT220_BYTES;
     bool drops = argc > 3;
     vt220 t = VT220_INIT;
-    if (size > sizeof piece || vt220_open_as(&t, language) != VT220_OK)
+    if (size > sizeof piece || vt220_open_as(&t, language, VT220_ROWS, 80) != VT220_OK)
         return 1;
     while ((n = fread(piece, 1, size, stdin)) > 0)
         for (size_t at = 0; at < n;)

@@ -2,7 +2,7 @@
 use Rattle.std.specs.Prelude.{◌≡◌, ℕ, List, ◌++◌}
 use Rattle.vt_paint.specs.Spoken.{Speaks}
 
--- to what was there before, elements of what updates are made of are appended
+-- `after` is what was there before, and then elements of what updates are made of
 pub record Appended (before after : List ℕ) : Type 0 where
   pub sent : List ℕ
   pub is_after : after ≡ before ++ sent

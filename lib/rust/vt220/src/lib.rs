@@ -13,7 +13,7 @@ use std::slice;
 use vt220_sys as sys;
 
 pub use vt220_sys::{
-    VT220_COLUMNS as COLUMNS, VT220_DRAW_LIMIT as DRAW_LIMIT, VT220_KEY_LIMIT as KEY_LIMIT, VT220_PAINT_LIMIT as PAINT_LIMIT, VT220_PICTURE_LIMIT as PICTURE_LIMIT,
+    VT220_COLUMNS as COLUMNS, VT220_MOST_COLUMNS as MOST_COLUMNS, VT220_MOST_ROWS as MOST_ROWS, VT220_DRAW_LIMIT as DRAW_LIMIT, VT220_KEY_LIMIT as KEY_LIMIT, VT220_PAINT_LIMIT as PAINT_LIMIT, VT220_PICTURE_LIMIT as PICTURE_LIMIT,
     VT220_REPORT_LIMIT as REPORT_LIMIT, VT220_ROWS as ROWS, VT220_ROW_TEXT_LIMIT as ROW_TEXT_LIMIT,
     VT220_SHOW_LIMIT as SHOW_LIMIT, VT220_TEXT_LIMIT as TEXT_LIMIT, VT220_UPDATE_LIMIT as UPDATE_LIMIT,
     VT220_TYPED_LIMIT as TYPED_LIMIT, VT220_UTF8_LINES_LIMIT as UTF8_LINES_LIMIT, VT220_VERSION as VERSION,
@@ -124,6 +124,8 @@ pub enum Error {
     NoCharacter,
     /// A terminal has another language than the call needs.
     OtherLanguage,
+    /// There is no such size, or two terminals have different sizes.
+    OtherSize,
 }
 
 impl Error {
@@ -136,6 +138,7 @@ impl Error {
             Error::NoKey => sys::VT220_NO_KEY,
             Error::NoCharacter => sys::VT220_NO_CHARACTER,
             Error::OtherLanguage => sys::VT220_LANGUAGE,
+            Error::OtherSize => sys::VT220_SIZE,
         }
     }
 }
@@ -160,6 +163,7 @@ fn result(status: u32) -> Result<(), Error> {
         sys::VT220_NO_KEY => Err(Error::NoKey),
         sys::VT220_NO_CHARACTER => Err(Error::NoCharacter),
         sys::VT220_LANGUAGE => Err(Error::OtherLanguage),
+        sys::VT220_SIZE => Err(Error::OtherSize),
         other => unreachable!("status {other} of an open terminal with enough capacity"),
     }
 }
@@ -236,7 +240,8 @@ pub fn shown(character: char) -> Option<(char, usize)> {
     if cells == 0 { None } else { Some((char::from_u32(glyph)?, cells)) }
 }
 
-/// Owns a scratch buffer, in which the calls that write a whole screen work. One serves any number of terminals.
+/// Owns a scratch buffer, in which the calls that write a whole screen work. One serves any number of terminals. For another size than the
+/// last one it takes other memory.
 pub struct Scratch {
     handle: sys::vt220_scratch,
     /// What the calls write to. A result is a copy of what was written, so it takes no more memory than it needs.
@@ -260,16 +265,26 @@ impl Scratch {
         Ok(Scratch { handle, out })
     }
 
-    /// Returns a copy of the bytes that a call writes. The call is given the handle, the buffer, and where it writes their number.
-    fn written(&mut self, call: impl FnOnce(*mut sys::vt220_scratch, *mut u8, *mut usize) -> u32) -> Result<Vec<u8>, Error> {
-        let mut written = 0;
-        result(call(&mut self.handle, self.out.as_mut_ptr(), &mut written))?;
+    /// Makes the buffers serve the size of a terminal, and as many bytes as what it writes may have. Returns that number.
+    fn serve(&mut self, of: *const sys::vt220, what: u32) -> Result<usize, Error> {
+        // SAFETY: both handles are open.
+        result(unsafe { sys::vt220_scratch_fit(&mut self.handle, of) })?;
+        let limit = unsafe { sys::vt220_limit(of, what) }.max(PICTURE_LIMIT);
+        self.out.try_reserve_exact(limit).map_err(|_| Error::Memory)?;
+        Ok(limit)
+    }
+
+    /// Returns a copy of the bytes that a call writes of a terminal. The call is given the handle, the buffer and its size, and where it
+    /// writes their number.
+    fn written(&mut self, of: *const sys::vt220, what: u32, call: impl FnOnce(*mut sys::vt220_scratch, *mut u8, usize, *mut usize) -> u32) -> Result<Vec<u8>, Error> {
+        let (mut written, limit) = (0, self.serve(of, what)?);
+        result(call(&mut self.handle, self.out.as_mut_ptr(), limit, &mut written))?;
         // SAFETY: the call has written so many bytes, and has succeeded only if they fit.
         Ok(unsafe { slice::from_raw_parts(self.out.as_ptr(), written) }.to_vec())
     }
 
-    fn text(&mut self, call: impl FnOnce(*mut sys::vt220_scratch, *mut u8, *mut usize) -> u32) -> Result<String, Error> {
-        Ok(String::from_utf8(self.written(call)?).expect("a text is UTF-8"))
+    fn text(&mut self, of: *const sys::vt220, what: u32, call: impl FnOnce(*mut sys::vt220_scratch, *mut u8, usize, *mut usize) -> u32) -> Result<String, Error> {
+        Ok(String::from_utf8(self.written(of, what, call)?).expect("a text is UTF-8"))
     }
 }
 
@@ -300,6 +315,43 @@ impl Terminal {
         Terminal::open_as(Language::Bytes)
     }
 
+    /// Opens a terminal for a language and of a size in its power-up state: 2 to 255 rows of 80 to 255 columns. At another size than 24 by
+    /// 80 DECCOLM leaves the width.
+    ///
+    /// ```
+    /// use vt220::{Language, Scratch, Terminal};
+    /// let mut terminal = Terminal::open_size(Language::Utf8, 40, 120).unwrap();
+    /// terminal.feed(b"\x1b[40;118Hend");
+    /// assert_eq!((terminal.rows(), terminal.width()), (40, 120));
+    /// terminal.resize(30, 100).unwrap();
+    /// assert_eq!(terminal.text(&mut Scratch::new().unwrap()).lines().count(), 30);
+    /// ```
+    ///
+    /// # Errors
+    ///
+    /// `OtherSize` if there is no such size; `Memory` if the allocation fails; `Unsupported` on an old processor.
+    pub fn open_size(language: Language, rows: usize, columns: usize) -> Result<Terminal, Error> {
+        let mut handle = sys::vt220::INIT;
+        result(unsafe { sys::vt220_open_as(&mut handle, language.number(), rows, columns) })?;
+        Ok(Terminal(handle))
+    }
+
+    /// Changes the size, as xterm does if its window changes, also inside a sequence: 2 to 255 rows of 80 to 255 columns. DECCOLM then
+    /// leaves the width. If the cursor would be below the last row, so many rows leave at the top that it is in the last one: read them
+    /// before, with `row_text`.
+    ///
+    /// # Errors
+    ///
+    /// `OtherSize` if there is no such size; `Memory` if the allocation fails, and then nothing has changed.
+    pub fn resize(&mut self, rows: usize, columns: usize) -> Result<(), Error> {
+        result(unsafe { sys::vt220_resize(&mut self.0, rows, columns) })
+    }
+
+    /// Returns how many rows the screen has.
+    pub fn rows(&self) -> usize {
+        unsafe { sys::vt220_rows(&self.0) }
+    }
+
     /// Opens a terminal for a language in its power-up state.
     ///
     /// ```
@@ -317,9 +369,7 @@ impl Terminal {
     ///
     /// `Memory` if the allocation fails; `Unsupported` on an old processor.
     pub fn open_as(language: Language) -> Result<Terminal, Error> {
-        let mut handle = sys::vt220::INIT;
-        result(unsafe { sys::vt220_open_as(&mut handle, language.number()) })?;
-        Ok(Terminal(handle))
+        Terminal::open_size(language, ROWS, 80)
     }
 
     fn kept(&self) -> sys::vt220_language_state {
@@ -353,14 +403,18 @@ impl Terminal {
         self.kept().bracketed_paste
     }
 
-    /// Opens another terminal of the same language in the same state.
+    /// Opens another terminal of the same language and size in the same state.
     ///
     /// # Errors
     ///
     /// `Memory` if the allocation fails.
     pub fn try_clone(&self) -> Result<Terminal, Error> {
         let mut copy = Terminal::open_as(self.language())?;
-        copy.copy_from(self)?;
+        // A VT220's screen may be 132 columns wide, and one that was resized to 24 by 80 isn't a VT220's.
+        if copy.copy_from(self) == Err(Error::OtherSize) {
+            copy.resize(self.rows(), self.width())?;
+            copy.copy_from(self)?;
+        }
         Ok(copy)
     }
 
@@ -369,7 +423,7 @@ impl Terminal {
     ///
     /// # Errors
     ///
-    /// `OtherLanguage` if this terminal is under TERM=xterm and the other one isn't.
+    /// `OtherLanguage` if this terminal is under TERM=xterm and the other one isn't; `OtherSize` if the two have different sizes.
     pub fn copy_from(&mut self, other: &Terminal) -> Result<(), Error> {
         result(unsafe { sys::vt220_copy(&mut self.0, &other.0) })
     }
@@ -396,9 +450,9 @@ impl Terminal {
     /// Processes all bytes of the host. Returns the replies to it, and the lines that scroll off the top of the screen, each as
     /// `row_text` returns it. The alternate page has no such lines.
     pub fn feed_log(&mut self, bytes: &[u8], scratch: &mut Scratch) -> (Vec<u8>, String) {
-        let t = &mut self.0;
-        replies_and_lines(bytes, scratch, |s, rest, (out, size, written), (log, logged)| unsafe {
-            sys::vt220_feed_log(t, s, rest.as_ptr(), rest.len(), out, size, written, log, PICTURE_LIMIT, logged)
+        let t: *mut sys::vt220 = &mut self.0;
+        replies_and_lines(bytes, t, scratch, |s, rest, (out, size, written), (log, log_size, logged)| unsafe {
+            sys::vt220_feed_log(t, s, rest.as_ptr(), rest.len(), out, size, written, log, log_size, logged)
         })
     }
 
@@ -407,28 +461,28 @@ impl Terminal {
         unsafe { sys::vt220_bells(&self.0) }
     }
 
-    /// Returns the screen as text: 24 lines, each without the spaces at its end, and with LF.
+    /// Returns the screen as text: a line for each row, each without the spaces at its end, and with LF.
     pub fn text(&self, scratch: &mut Scratch) -> String {
-        scratch.text(|s, out, written| unsafe { sys::vt220_text(&self.0, s, out, TEXT_LIMIT, written) }).expect("a text has no error")
+        scratch.text(&self.0, sys::VT220_OF_TEXT, |s, out, size, written| unsafe { sys::vt220_text(&self.0, s, out, size, written) }).expect("a text has no error")
     }
 
-    /// Returns one line of the text, that of a row from 1 to 24.
+    /// Returns one line of the text, that of a row from 1 on.
     ///
     /// # Errors
     ///
     /// `NoRow` if there is no such row.
     pub fn row_text(&self, row: usize, scratch: &mut Scratch) -> Result<String, Error> {
-        scratch.text(|s, out, written| unsafe { sys::vt220_row_text(&self.0, s, row, out, ROW_TEXT_LIMIT, written) })
+        scratch.text(&self.0, sys::VT220_OF_ROW_TEXT, |s, out, size, written| unsafe { sys::vt220_row_text(&self.0, s, row, out, size, written) })
     }
 
     /// Returns the screen as text with SGR sequences for the attributes.
     pub fn show(&self, scratch: &mut Scratch) -> String {
-        scratch.text(|s, out, written| unsafe { sys::vt220_show(&self.0, s, out, SHOW_LIMIT, written) }).expect("a text has no error")
+        scratch.text(&self.0, sys::VT220_OF_SHOW, |s, out, size, written| unsafe { sys::vt220_show(&self.0, s, out, size, written) }).expect("a text has no error")
     }
 
     /// Returns the screen as a picture: an SVG document.
     pub fn picture(&self, scratch: &mut Scratch) -> String {
-        scratch.text(|s, out, written| unsafe { sys::vt220_picture(&self.0, s, out, PICTURE_LIMIT, written) }).expect("a picture has no error")
+        scratch.text(&self.0, sys::VT220_OF_PICTURE, |s, out, size, written| unsafe { sys::vt220_picture(&self.0, s, out, size, written) }).expect("a picture has no error")
     }
 
     /// Returns bytes that, fed to any terminal of the same language, whatever its state, leave it exactly as this one is. What is pending of
@@ -449,7 +503,7 @@ impl Terminal {
     /// `Partial` inside a sequence; `OtherLanguage` if it is for TERM=xterm and this terminal isn't.
     pub fn repaint_as(&self, language: Language, scratch: &mut Scratch) -> Result<Vec<u8>, Error> {
         let number = language.number();
-        scratch.written(|s, out, written| unsafe { sys::vt220_repaint_as(&self.0, number, s, out, XTERM_PAINT_LIMIT, written) })
+        scratch.written(&self.0, sys::VT220_OF_REPAINT, |s, out, size, written| unsafe { sys::vt220_repaint_as(&self.0, number, s, out, size, written) })
     }
 
     /// Returns bytes that lead from the state of this terminal to that of another, and brings this one there. This one is a VT220, and `to`
@@ -457,17 +511,18 @@ impl Terminal {
     ///
     /// # Errors
     ///
-    /// `Partial` if one of the two is inside a sequence; `OtherLanguage` if this one is under TERM=xterm.
+    /// `Partial` if one of the two is inside a sequence; `OtherLanguage` if this one is under TERM=xterm; `OtherSize` if the two have
+    /// different sizes.
     pub fn update(&mut self, to: &Terminal, scratch: &mut Scratch) -> Result<Vec<u8>, Error> {
-        scratch.written(|s, out, written| unsafe { sys::vt220_update(&mut self.0, &to.0, s, out, UPDATE_LIMIT, written) })
+        scratch.written(&to.0, sys::VT220_OF_UPDATE, |s, out, size, written| unsafe { sys::vt220_update(&mut self.0, &to.0, s, out, size, written) })
     }
 
     /// Returns bytes that make a terminal of today, such as xterm, show this screen, given that it shows that of `shown`. `None` stands for
     /// anything else. The bytes are characters in UTF-8 and CUP, ED, SGR and DECTCEM, and there are none if both show the same. That terminal
-    /// has at least 24 rows, and the columns of this one. Afterwards it shows this terminal, so keep a copy (`copy_from`).
+    /// has at least the rows and the columns of this one. Afterwards it shows this terminal, so keep a copy (`copy_from`).
     pub fn draw(&self, shown: Option<&Terminal>, scratch: &mut Scratch) -> Vec<u8> {
         let shown = shown.map_or(std::ptr::null(), |shown| std::ptr::addr_of!(shown.0));
-        scratch.written(|s, out, written| unsafe { sys::vt220_draw(shown, &self.0, s, out, DRAW_LIMIT, written) }).expect("a drawing has no error")
+        scratch.written(&self.0, sys::VT220_OF_DRAW, |s, out, size, written| unsafe { sys::vt220_draw(shown, &self.0, s, out, size, written) }).expect("a drawing has no error")
     }
 
     /// Returns which cells of a row of `to` this terminal doesn't have: index c - 1 is for column c. If the two differ in `width`,
@@ -475,24 +530,24 @@ impl Terminal {
     ///
     /// # Errors
     ///
-    /// `NoRow` if there is no such row.
+    /// `NoRow` if there is no such row; `OtherSize` if the two have different sizes.
     pub fn row_changes(&self, to: &Terminal, row: usize) -> Result<Vec<bool>, Error> {
-        let mut marks = sys::vt220_row_marks { width: 0, changed: [false; COLUMNS], reserved: [0; 12] };
-        result(unsafe { sys::vt220_row_changes(&self.0, &to.0, row, &mut marks) })?;
-        Ok(marks.changed[..marks.width].to_vec())
+        let mut changed = vec![false; to.width()];
+        result(unsafe { sys::vt220_changes_of(&self.0, &to.0, row, changed.as_mut_ptr(), changed.len()) })?;
+        Ok(changed)
     }
 
-    /// Returns the cells of a row, 1 to 24, or `None` if there is no such row.
+    /// Returns the cells of a row, from 1 on, or `None` if there is no such row.
     pub fn row(&self, row: usize) -> Option<Vec<Cell>> {
-        let mut cells = [sys::vt220_cell::default(); COLUMNS];
-        let count = unsafe { sys::vt220_row(&self.0, row, cells.as_mut_ptr(), COLUMNS) };
+        let mut cells = [sys::vt220_cell::default(); MOST_COLUMNS];
+        let count = unsafe { sys::vt220_row(&self.0, row, cells.as_mut_ptr(), MOST_COLUMNS) };
         if count == 0 {
             return None;
         }
         cells[..count].iter().map(cell_of).collect()
     }
 
-    /// Returns how many columns the screen has: 80 or 132.
+    /// Returns how many columns the screen has: of a VT220 80 or 132.
     pub fn width(&self) -> usize {
         unsafe { sys::vt220_width(&self.0) }
     }
@@ -533,11 +588,12 @@ impl Terminal {
         Sets { g: [now.g0, now.g1, now.g2, now.g3], gl: now.gl, gr: now.gr, single_shift }
     }
 
-    /// Returns which columns have a tab stop: index c - 1 is for column c.
-    pub fn stops(&self) -> [bool; COLUMNS] {
-        let mut now = sys::vt220_tab_stops { stop: [false; COLUMNS], reserved: [0; 12] };
-        unsafe { sys::vt220_stops(&self.0, &mut now) };
-        now.stop
+    /// Returns which columns have a tab stop: index c - 1 is for column c. A VT220 has 132, at any width.
+    pub fn stops(&self) -> Vec<bool> {
+        let mut stops = vec![false; MOST_COLUMNS];
+        let count = unsafe { sys::vt220_stops_of(&self.0, stops.as_mut_ptr(), stops.len()) };
+        stops.truncate(count);
+        stops
     }
 
     /// Returns the state that DECRC restores.
@@ -591,14 +647,15 @@ fn replies(bytes: &[u8], mut feed: impl FnMut(&[u8], &mut [u8]) -> (usize, usize
 /// and where it writes their length, and the same for lines. It returns how many bytes it processed.
 fn replies_and_lines(
     bytes: &[u8],
+    of: *const sys::vt220,
     scratch: &mut Scratch,
-    mut feed: impl FnMut(*mut sys::vt220_scratch, &[u8], (*mut u8, usize, *mut usize), (*mut u8, *mut usize)) -> usize,
+    mut feed: impl FnMut(*mut sys::vt220_scratch, &[u8], (*mut u8, usize, *mut usize), (*mut u8, usize, *mut usize)) -> usize,
 ) -> (Vec<u8>, String) {
     let mut lines = Vec::new();
     let reports = replies(bytes, |rest, buffer| {
         let (mut taken, mut written) = (0, 0);
-        let logged = scratch.written(|s, log, logged| {
-            taken = feed(s, rest, (buffer.as_mut_ptr(), buffer.len(), &mut written), (log, logged));
+        let logged = scratch.written(of, sys::VT220_OF_LINES, |s, log, size, logged| {
+            taken = feed(s, rest, (buffer.as_mut_ptr(), buffer.len(), &mut written), (log, size, logged));
             sys::VT220_OK
         });
         lines.extend(logged.expect("both are open"));

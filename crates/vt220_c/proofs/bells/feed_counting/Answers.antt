@@ -10,7 +10,7 @@ returns-clause-bells c =
     let bytes = take c.feed_observed.result piece in
     let rung : c.feed_observed.new.observer.count ≡ bells c.args.terminal.now.held bytes =
     all-rang c.args.terminal.now bytes c.feed_observed.new.observer.count
-    (c.happened.ensures.events c.args.terminal.now bytes c.width.ensures.sound) fed.saw in
+    (c.sized_happened.ensures.events _ c.args.terminal.now bytes c.width.ensures.sound) fed.saw in
     rung ∙ ap (λ (l : List ℕ). bells c.args.terminal.now.held l)
     (all-taken c.feed_observed.result piece fed.within fed.all)
 
@@ -20,7 +20,7 @@ returns-clause-few c =
     omega (
       arith,
       c.feed_observed.ensures.saw.few,
-      c.happened.ensures.count c.args.terminal.now bytes,
+      c.sized_happened.ensures.count c.args.terminal.now bytes,
       length-take c.feed_observed.result c.args.piece.now,
       c.feed_observed.ensures.within,
     )

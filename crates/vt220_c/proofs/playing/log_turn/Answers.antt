@@ -17,12 +17,12 @@ returns-clause-some g c =
     c.args.player.now piece c.clear-2.new.self.items fed.new.lines.items fed.result c.width.ensures.sound zero
     c.clear-2.ensures.items fed.ensures.lines in
     omega (arith, empty, fed.new.lines.ok) in
-    let enough : g.P.Player.room ≤ vec_capacity c.clear-2.new.self =
+    let enough : g.P.Player.room c.args.inner.now.display.grid.size ≤ vec_capacity c.clear-2.new.self =
     omega (arith, c.clear-2.ensures.capacity, c.requires.capacity) in
-    let free : g.P.Player.room ≤ length c.args.lines.now - c.args.lines_written = omega (arith, c.requires.lines_room) in
+    let free : g.P.Player.room c.args.inner.now.display.grid.size ≤ length c.args.lines.now - c.args.lines_written = omega (arith, c.requires.lines_room) in
     some-taken fed.result (length piece) (vec_capacity c.clear-2.new.self) (vec_capacity fed.new.lines)
-    (vec_len c.clear-2.new.self) (vec_len fed.new.lines) (length c.args.lines.now - c.args.lines_written) g.P.Player.room
-    fed.ensures.all none (omega (arith, len, one)) enough fed.ensures.lines_capacity free
+    (vec_len c.clear-2.new.self) (vec_len fed.new.lines) (length c.args.lines.now - c.args.lines_written) (g.P.Player.room c.args.inner.now.display.grid.size)
+    (rw c.inner.view_is at fed.ensures.all) none (omega (arith, len, one)) enough fed.ensures.lines_capacity free
 
 pub overflow_sub-out : goal.overflow_sub-out
 overflow_sub-out g c = grind (arith, common_steps)

@@ -1,4 +1,5 @@
-use Rattle.std.proofs.Common.{arith, length-drop}
+use Rattle.std.proofs.Common.{◌∙◌, refl, subst, arith, length-drop}
+use Rattle.vt_screen.specs.declared.size.Size.{Size}
 use Rattle.vt220_c.proofs.Pieces.{rest-of}
 use Rattle.vt220_c.proofs.Turns.{plays-nothing, plays-turn}
 use Rattle.vt220_c.proofs.playing.play.Goals as goal
@@ -10,6 +11,8 @@ loop-done-init g c = record {
       c.args.out.now c.args.lines.now (rw c.inner.view_is at c.width.ensures.sound);
   fits = omega arith;
   few = omega arith;
+  size = refl;
+  kept = c.requires.kept_fits;
   capacity = omega arith;
 }
 
@@ -37,5 +40,7 @@ loop-done-preserved g c =
           });
       fits = omega (arith, sent.fits, c.loop-done.auto.out);
       few = omega (arith, before.few, turn.few, sent.some);
+      size = sent.size ∙ before.size;
+      kept = subst (λ (z : Size). g.P.Player.Fits z c.any_turn-sent.new.player) before.size sent.kept_fits;
       capacity = omega (arith, before.capacity, sent.capacity);
     }

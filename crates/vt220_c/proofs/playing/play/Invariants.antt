@@ -1,5 +1,5 @@
 -- The bytes before the place are played.
-use Rattle.std.proofs.Common.{◌-◌, ◌≤◌, length, take, vec_capacity}
+use Rattle.std.proofs.Common.{◌≡◌, ◌-◌, ◌≤◌, length, take, vec_capacity}
 use Rattle.vt220_c.specs.Told.{Plays}
 use Rattle.vt220_c.proofs.playing.play.Given as goal
 
@@ -10,6 +10,8 @@ invariant-loop-done g l = record {
       l.initial.out 0 l.out l.initial.lines 0 l.lines l.done.written l.done.lines_written l.done.bells;
   fits : l.done.written ≤ length l.initial.out;
   few : l.done.bells ≤ l.done.taken;
+  size : l.inner.display.grid.size ≡ l.initial.inner.display.grid.size;
+  kept : g.P.Player.Fits l.initial.inner.display.grid.size l.player;
   capacity : vec_capacity l.initial.room ≤ vec_capacity l.room;
 }
 

@@ -111,6 +111,39 @@ impl Row {
     }
 }
 
+/// A row of lib/rows/sizes.txt: a size is its rows and columns.
+pub struct Sized {
+    pub name: String,
+    pub language: Language,
+    pub first: (usize, usize),
+    pub input: Vec<u8>,
+    pub second: Option<(usize, usize)>,
+    pub more: Vec<u8>,
+    pub wanted: Row,
+}
+
+/// Returns the rows and the columns of COLUMNSxROWS, or `None` for `-`.
+fn size_of(field: &str) -> Option<(usize, usize)> {
+    let (columns, rows) = field.split_once('x')?;
+    Some((rows.parse().unwrap(), columns.parse().unwrap()))
+}
+
+/// Returns the rows of sizes. `None` if there is no such file: what is packed has none.
+pub fn sizes() -> Option<Vec<Sized>> {
+    let (rows, mut scratch) = (rows_of("VT220_SIZES", "lib/rows/sizes.txt")?, Scratch::new().unwrap());
+    let read = |fields: Vec<String>| {
+        let language = match (fields[1].as_str(), fields[2].as_str()) {
+            (_, "xterm") => Language::Xterm,
+            ("utf-8", _) => Language::Utf8,
+            _ => Language::Bytes,
+        };
+        let (first, second) = (size_of(&fields[3]).unwrap(), size_of(&fields[5]));
+        let (input, more, wanted) = (spelled(&fields[4]), spelled(&fields[6]), Row::wanted(&fields[7..], &mut scratch));
+        Sized { name: fields[0].clone(), language, first, input, second, more, wanted }
+    };
+    Some(rows.into_iter().map(read).collect())
+}
+
 /// Feeds an input in chunks of a size, with the log and without one. Returns the terminal, and what that leads to.
 pub fn fed(language: Language, input: &[u8], size: usize, scratch: &mut Scratch) -> (Terminal, Row) {
     let (mut terminal, mut other) = (Terminal::open_as(language).unwrap(), Terminal::open_as(language).unwrap());

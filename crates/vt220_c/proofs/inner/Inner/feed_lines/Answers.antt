@@ -21,11 +21,11 @@ returns-clause-quiet c =
 
 pub returns-then-not-looks-clause-state : goal.returns-then-not-looks-clause-state
 returns-then-not-looks-clause-state c =
-    sym (ap (λ (p : Played). p.state) (c.cuts.ensures.none c.args.self.now (rw (← c.self.view_is) c.width.ensures.sound)))
+    sym (ap (λ (p : Played). p.state) (c.sized_cuts.ensures.none c.args.self.now.display.grid.size c.args.self.now (rw (← c.self.view_is) c.width.ensures.sound)))
 
 pub returns-then-not-looks-clause-silent : goal.returns-then-not-looks-clause-silent
 returns-then-not-looks-clause-silent c =
-    ap (λ (p : Played). p.reports) (c.cuts.ensures.none c.args.self.now (rw (← c.self.view_is) c.width.ensures.sound))
+    ap (λ (p : Played). p.reports) (c.sized_cuts.ensures.none c.args.self.now.display.grid.size c.args.self.now (rw (← c.self.view_is) c.width.ensures.sound))
 
 pub returns-then-not-looks-clause-quiet : goal.returns-then-not-looks-clause-quiet
 returns-then-not-looks-clause-quiet c =

@@ -19,7 +19,7 @@ invariant-loop-taken l = record {
   capacity : vec_capacity l.initial.room ≤ vec_capacity l.room;
   few : l.bells ≤ l.taken;
   few_reports : l.written ≤ 10 * l.taken;
-  few_lines : l.lines_written ≤ 397 * l.taken;
+  size : l.self.display.grid.size ≡ l.initial.self.display.grid.size;
   bells : l.bells ≡ bells l.initial.self.held (take l.taken l.piece);
 }
 

@@ -44,9 +44,6 @@ returns-clause-lines_fit c = grind (arith, common_steps)
 pub returns-clause-few : goal.returns-clause-few
 returns-clause-few c = grind (arith, common_steps)
 
-pub returns-clause-few_lines : goal.returns-clause-few_lines
-returns-clause-few_lines c = grind (arith, common_steps)
-
 pub returns-clause-bells : goal.returns-clause-bells
 returns-clause-bells c = grind (arith, common_steps)
 

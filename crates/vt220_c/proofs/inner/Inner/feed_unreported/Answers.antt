@@ -9,5 +9,5 @@ loop-taken-preserved c =
     let same : (taken + n) - taken ≡ n = omega arith in
     record {
       within = omega arith;
-      state = more-state c.cuts.ensures.two _ _ _ _ n c.loop-taken.invariant.state _ (rw same at c.feed_part.ensures);
+      state = more-state c.sized_cuts.ensures.two _ _ _ _ n c.loop-taken.invariant.state _ (rw same at c.feed_part.ensures);
     }

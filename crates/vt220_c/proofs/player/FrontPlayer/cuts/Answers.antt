@@ -1,5 +1,0 @@
-use Rattle.vt220_c.proofs.Telling.{xterm-are-told}
-use Rattle.vt220_c.proofs.player.FrontPlayer.cuts.Goals as goal
-
-pub returns : goal.returns
-returns c = xterm-are-told c.cuts.ensures.two c.cuts-2.ensures.pending c.log_cuts.ensures.two

@@ -1,0 +1,302 @@
+/* sizes FILE: terminals of another size than a VT220's: opening, reading, the limits, writing, resizing, and the statuses of two sizes. Each row of
+ * FILE, which is lib/rows/sizes.txt, is played whole and byte by byte. */
+#include "rows.h"
+
+enum { ROOM = 14000000 };
+
+static vt220_scratch s = VT220_INIT;
+static uint8_t out[ROOM], other[ROOM];
+static size_t written;
+
+static vt220 opened(uint32_t language, size_t rows, size_t columns, const char *text) {
+    vt220 t = VT220_INIT;
+    CHECK(vt220_open_as(&t, language, rows, columns) == VT220_OK && vt220_feed(&t, (const uint8_t *)text, strlen(text), NULL, 0, NULL) == strlen(text));
+    return t;
+}
+
+/* A terminal's size and the states at power-up, for each language. */
+static void open_and_read(void) {
+    static const struct {
+        size_t rows, columns, stops;
+    } sizes[] = {{24, 80, 132}, {2, 80, 80}, {255, 255, 255}, {40, 120, 120}, {24, 132, 132}, {25, 80, 80}, {24, 81, 81}};
+    for (size_t i = 0; i < sizeof sizes / sizeof sizes[0]; i++) {
+        for (uint32_t language = VT220_BYTES; language <= VT220_XTERM; language++) {
+            vt220 t = opened(language, sizes[i].rows, sizes[i].columns, "\033[999;999Hx");
+            vt220_cursor_place cursor;
+            vt220_margin_rows margins;
+            static vt220_cell cells[VT220_MOST_COLUMNS];
+            static bool stops[VT220_MOST_COLUMNS];
+            check_number(sizes[i].rows, vt220_rows(&t), __func__, "rows");
+            check_number(sizes[i].columns, vt220_width(&t), __func__, "columns");
+            CHECK(vt220_cursor(&t, &cursor) && cursor.row == sizes[i].rows && cursor.col == sizes[i].columns && cursor.wrap);
+            CHECK(vt220_margins(&t, &margins) && margins.top == 1 && margins.bottom == sizes[i].rows);
+            CHECK(vt220_row(&t, sizes[i].rows, cells, sizes[i].columns) == sizes[i].columns && cells[sizes[i].columns - 1].glyph == 'x');
+            CHECK(vt220_row(&t, sizes[i].rows + 1, cells, VT220_MOST_COLUMNS) == 0 && vt220_row(&t, 1, cells, sizes[i].columns - 1) == 0);
+            check_number(sizes[i].stops, vt220_stops_of(&t, stops, VT220_MOST_COLUMNS), __func__, "stops");
+            CHECK(vt220_stops_of(&t, stops, sizes[i].stops - 1) == 0 && stops[8] && !stops[7] && !stops[0]);
+            vt220_tab_stops old;
+            CHECK(vt220_stops(&t, &old) == (sizes[i].stops == VT220_COLUMNS));
+            vt220_close(&t);
+            CHECK(vt220_rows(&t) == 0 && vt220_stops_of(&t, stops, VT220_MOST_COLUMNS) == 0);
+        }
+    }
+}
+
+static void no_sizes(void) {
+    static const size_t sizes[][2] = {{1, 80}, {256, 80}, {24, 79}, {24, 256}, {0, 0}, {SIZE_MAX, 80}, {24, SIZE_MAX}};
+    vt220 t = VT220_INIT;
+    for (size_t i = 0; i < sizeof sizes / sizeof sizes[0]; i++) {
+        for (uint32_t language = VT220_BYTES; language <= VT220_XTERM; language++)
+            CHECK(vt220_open_as(&t, language, sizes[i][0], sizes[i][1]) == VT220_SIZE && !vt220_is_open(&t));
+        t = opened(VT220_XTERM, 24, 80, "x");
+        CHECK(vt220_resize(&t, sizes[i][0], sizes[i][1]) == VT220_SIZE && vt220_rows(&t) == 24 && vt220_width(&t) == 80);
+        vt220_close(&t);
+    }
+    CHECK(vt220_resize(&t, 24, 80) == VT220_CLOSED);
+}
+
+/* DECCOLM leaves the width of any other size than 24 by 80. */
+static void deccolm(void) {
+    vt220 t = opened(VT220_BYTES, 24, 80, "\033[?3h"), u = opened(VT220_BYTES, 30, 100, "x\033[?3h");
+    CHECK(vt220_width(&t) == 132 && vt220_width(&u) == 100);
+    CHECK(vt220_scratch_fit(&s, &u) == VT220_OK && vt220_row_text(&u, &s, 1, out, sizeof out, &written) == VT220_OK && written == 1);
+    vt220_close(&t);
+    vt220_close(&u);
+}
+
+/* The limits of a VT220's size are the macros, and what is written keeps within the limits. */
+static void limits(void) {
+    static const size_t macros[] = {VT220_TEXT_LIMIT, VT220_ROW_TEXT_LIMIT, VT220_SHOW_LIMIT, VT220_PICTURE_LIMIT, VT220_DRAW_LIMIT, VT220_UPDATE_LIMIT};
+    static const size_t repaints[] = {VT220_PAINT_LIMIT, VT220_PAINT_LIMIT, VT220_XTERM_PAINT_LIMIT};
+    static const size_t lines[] = {VT220_ROW_TEXT_LIMIT, VT220_UTF8_LINES_LIMIT, VT220_XTERM_LINES_LIMIT};
+    for (uint32_t language = VT220_BYTES; language <= VT220_XTERM; language++) {
+        vt220 t = opened(language, 24, 80, "");
+        for (uint32_t what = VT220_OF_TEXT; what <= VT220_OF_UPDATE; what++) check_number(macros[what], vt220_limit(&t, what), __func__, "a limit");
+        check_number(repaints[language], vt220_limit(&t, VT220_OF_REPAINT), __func__, "a repaint's limit");
+        check_number(lines[language], vt220_limit(&t, VT220_OF_LINES), __func__, "the lines' limit");
+        CHECK(vt220_limit(&t, VT220_OF_LINES + 1) == 0 && vt220_limit(&t, UINT32_MAX) == 0);
+        vt220_close(&t);
+        CHECK(vt220_limit(&t, VT220_OF_TEXT) == 0);
+    }
+}
+
+/* Fills a screen with cells that differ in all attributes. */
+static void fill(vt220 *t) {
+    char piece[64];
+    for (size_t i = 0; i < vt220_rows(t) * vt220_width(t); i++) {
+        int len = snprintf(piece, sizeof piece, "\033[%zu;%zuH\033[0;%s%zu\"q%c", i / vt220_width(t) + 1, i % vt220_width(t) + 1, i % 2 ? "1;4;5;7m\033[" : "m\033[", i % 2, (char)('!' + i % 90));
+        vt220_feed(t, (const uint8_t *)piece, (size_t)len, NULL, 0, NULL);
+    }
+}
+
+typedef uint32_t writes(const vt220 *t, vt220_scratch *s, uint8_t *out, size_t size, size_t *written);
+
+static uint32_t draws(const vt220 *t, vt220_scratch *room, uint8_t *to, size_t size, size_t *len) { return vt220_draw(NULL, t, room, to, size, len); }
+static uint32_t first_row(const vt220 *t, vt220_scratch *room, uint8_t *to, size_t size, size_t *len) { return vt220_row_text(t, room, 1, to, size, len); }
+
+/* Each call that writes, on a full screen: within its limit, and its status if the scratch buffer has another size. */
+static void written_forms(void) {
+    static const struct {
+        writes *call;
+        uint32_t what;
+    } forms[] = {{vt220_text, VT220_OF_TEXT}, {first_row, VT220_OF_ROW_TEXT}, {vt220_show, VT220_OF_SHOW}, {vt220_picture, VT220_OF_PICTURE}, {draws, VT220_OF_DRAW}, {vt220_repaint, VT220_OF_REPAINT}};
+    static const size_t sizes[][2] = {{2, 80}, {40, 120}, {120, 200}, {255, 255}};
+    for (size_t i = 0; i < sizeof sizes / sizeof sizes[0]; i++) {
+        for (uint32_t language = VT220_BYTES; language <= VT220_XTERM; language += 2) {
+            vt220 t = opened(language, sizes[i][0], sizes[i][1], ""), to = opened(language, sizes[i][0], sizes[i][1], "\033[3 q\033[?7lgarbage\033[1");
+            vt220_scratch small = VT220_INIT;
+            CHECK(vt220_scratch_open(&small) == VT220_OK && vt220_scratch_fit(&s, &t) == VT220_OK);
+            fill(&t);
+            for (size_t j = 0; j < sizeof forms / sizeof forms[0]; j++) {
+                CHECK(forms[j].call(&t, &s, out, sizeof out, &written) == VT220_OK && written > 0 && written <= vt220_limit(&t, forms[j].what));
+                size_t len = written;
+                CHECK(forms[j].call(&t, &s, other, len - 1, &written) == VT220_ROOM && written == len);
+                CHECK(forms[j].call(&t, &s, other, len, &written) == VT220_OK && written == len && memcmp(out, other, len) == 0);
+                CHECK(forms[j].call(&t, &small, out, sizeof out, &written) == VT220_SIZE && written == 0);
+            }
+            /* the last form is the repaint */
+            CHECK(vt220_repaint(&t, &s, out, sizeof out, &written) == VT220_OK && vt220_feed(&to, out, written, NULL, 0, NULL) == written && vt220_same_state(&t, &to));
+            vt220_scratch_close(&small);
+            vt220_close(&t);
+            vt220_close(&to);
+        }
+    }
+}
+
+/* Updates: few bytes or many lead to the other state; without capacity nothing changes. */
+static void updates(void) {
+    static const size_t sizes[][2] = {{2, 80}, {24, 80}, {40, 120}, {255, 255}};
+    for (size_t i = 0; i < sizeof sizes / sizeof sizes[0]; i++) {
+        vt220 shown = opened(VT220_BYTES, sizes[i][0], sizes[i][1], "one"), to = opened(VT220_BYTES, sizes[i][0], sizes[i][1], ""), client = opened(VT220_BYTES, sizes[i][0], sizes[i][1], "one");
+        vt220 before = opened(VT220_BYTES, sizes[i][0], sizes[i][1], "");
+        CHECK(vt220_scratch_fit(&s, &to) == VT220_OK);
+        for (int turn = 0; turn < 3; turn++) {
+            if (turn == 0) vt220_feed(&to, BYTES("one two"), NULL, 0, NULL);
+            if (turn == 1) fill(&to);
+            if (turn == 2) vt220_feed(&to, BYTES("\033[2J\033[2;2Hx\033[2g\033H"), NULL, 0, NULL);
+            CHECK(vt220_copy(&before, &shown) == VT220_OK);
+            CHECK(vt220_update(&shown, &to, &s, out, 1, &written) == VT220_ROOM && vt220_same_state(&shown, &before));
+            CHECK(vt220_update(&shown, &to, &s, out, sizeof out, &written) == VT220_OK && written > 0 && written <= vt220_limit(&to, VT220_OF_UPDATE));
+            CHECK(vt220_feed(&client, out, written, NULL, 0, NULL) == written && vt220_same_state(&client, &to) && vt220_same_state(&shown, &to));
+            CHECK(vt220_update(&shown, &to, &s, out, 0, &written) == VT220_OK && written == 0);
+        }
+        vt220_close(&shown);
+        vt220_close(&to);
+        vt220_close(&client);
+        vt220_close(&before);
+    }
+}
+
+/* Two sizes: no call mixes them, and nothing changes. */
+static void two_sizes(void) {
+    for (uint32_t language = VT220_BYTES; language <= VT220_XTERM; language += 2) {
+        vt220 a = opened(VT220_BYTES, 24, 80, "a"), b = opened(language, 25, 80, "b"), c = opened(language, 24, 80, "c");
+        static bool changed[VT220_MOST_COLUMNS];
+        vt220_row_marks marks;
+        CHECK(vt220_scratch_fit(&s, &b) == VT220_OK);
+        CHECK(vt220_copy(&b, &c) == VT220_SIZE && vt220_update(&a, &b, &s, out, sizeof out, &written) == VT220_SIZE && written == 0);
+        CHECK(vt220_row_changes(&a, &b, 1, &marks) == VT220_SIZE && vt220_changes_of(&a, &b, 1, changed, VT220_MOST_COLUMNS) == VT220_SIZE);
+        CHECK(!vt220_same_state(&a, &b));
+        size_t logged = 1;
+        CHECK(vt220_feed_log(&c, &s, BYTES("x"), out, 100, &written, other, 100000, &logged) == 0 && written == 0 && logged == 0);
+        CHECK(vt220_feed_log(&b, &s, BYTES("x"), out, 100, &written, other, 100000, &logged) == 1 && written == 0 && logged == 0);
+        CHECK(vt220_draw(&a, &b, &s, out, sizeof out, &written) == VT220_OK && written > 0);
+        size_t len = written;
+        CHECK(vt220_draw(NULL, &b, &s, other, sizeof other, &written) == VT220_OK && written == len && memcmp(out, other, len) == 0);
+        CHECK(vt220_draw(&b, &a, &s, out, sizeof out, &written) == VT220_SIZE && written == 0);
+        vt220_close(&a);
+        vt220_close(&b);
+        vt220_close(&c);
+    }
+}
+
+/* The marks of a row, at any size. */
+static void changes(void) {
+    vt220 a = opened(VT220_BYTES, 40, 200, "same\033[40;200Hx"), b = opened(VT220_BYTES, 40, 200, "same\033[40;200Hy\033[40;1Hz");
+    static bool changed[200];
+    vt220_row_marks marks;
+    CHECK(vt220_changes_of(&a, &b, 40, changed, 200) == VT220_OK);
+    for (size_t i = 0; i < 200; i++) CHECK(changed[i] == (i == 0 || i == 199));
+    CHECK(vt220_changes_of(&a, &b, 40, changed, 199) == VT220_ROOM && vt220_changes_of(&a, &b, 41, changed, 200) == VT220_NO_ROW);
+    CHECK(vt220_changes_of(&a, &b, 0, changed, 200) == VT220_NO_ROW && vt220_changes_of(&a, &b, 1, NULL, 0) == VT220_ROOM);
+    CHECK(vt220_row_changes(&a, &b, 40, &marks) == VT220_SIZE && vt220_row_changes(&a, &a, 1, &marks) == VT220_SIZE);
+    CHECK(vt220_changes_of(&a, &a, 40, changed, 200) == VT220_OK && !changed[0] && !changed[199]);
+    CHECK(vt220_changes_of(&a, &a, 41, changed, 200) == VT220_NO_ROW && vt220_changes_of(&a, &a, 1, changed, 199) == VT220_ROOM);
+    vt220_close(&b);
+    CHECK(vt220_changes_of(&a, &b, 40, changed, 200) == VT220_CLOSED);
+    vt220_close(&a);
+}
+
+static void row_is(const vt220 *t, size_t row, const char *text) {
+    CHECK(vt220_scratch_fit(&s, t) == VT220_OK && vt220_row_text(t, &s, row, out, sizeof out, &written) == VT220_OK);
+    CHECK(written == strlen(text) + 1 && memcmp(out, text, written - 1) == 0);
+}
+
+/* A resize: what stays, what leaves, and what is brought inside. */
+static void resizes(void) {
+    for (uint32_t language = VT220_BYTES; language <= VT220_XTERM; language++) {
+        vt220 t = opened(language, 24, 80, "\a\033[3;9r\033[1;1Htop\033[23;1Hlow\033[24;80Hx\0337\033[24;5Hlast\033[1");
+        vt220_cursor_place cursor;
+        vt220_margin_rows margins;
+        CHECK(vt220_resize(&t, 10, 100) == VT220_OK && vt220_rows(&t) == 10 && vt220_width(&t) == 100 && vt220_bells(&t) == 1);
+        row_is(&t, 9, "low");
+        CHECK(vt220_cursor(&t, &cursor) && cursor.row == 10 && cursor.col == 9 && !vt220_is_between(&t));
+        CHECK(vt220_margins(&t, &margins) && margins.top == 1 && margins.bottom == 10);
+        CHECK(vt220_feed(&t, BYTES("m\0338y"), NULL, 0, NULL) == 4 && vt220_is_between(&t));
+        char line[90];
+        snprintf(line, sizeof line, "    last%71sxy", "");
+        row_is(&t, 10, line);
+        CHECK(vt220_resize(&t, 24, 80) == VT220_OK && vt220_rows(&t) == 24 && vt220_width(&t) == 80);
+        row_is(&t, 24, "");
+        line[80] = '\0';
+        row_is(&t, 10, line);
+        vt220 same = opened(language, 24, 80, ""), of_a_vt220 = opened(language, 24, 80, "");
+        CHECK(vt220_resize(&same, 24, 80) == VT220_OK && vt220_copy(&same, &t) == VT220_OK && vt220_copy(&of_a_vt220, &t) == VT220_SIZE);
+        CHECK(vt220_feed(&same, BYTES("\033[?40h\033[?3h"), NULL, 0, NULL) == 11 && vt220_width(&same) == 80);
+        vt220_close(&same);
+        vt220_close(&of_a_vt220);
+        vt220_close(&t);
+    }
+}
+
+/* Under TERM=xterm both pages change their size, and what is pending stays. */
+static void resizes_pages(void) {
+    vt220 t = opened(VT220_XTERM, 24, 80, "main\033[?1049h\033[2Jother\033[?2004h\xC3");
+    CHECK(vt220_resize(&t, 30, 120) == VT220_OK && kept_by(&t).alternate && kept_by(&t).bracketed_paste && kept_by(&t).pending_len == 1);
+    CHECK(vt220_feed(&t, BYTES("\xA9\033[30;120Hx\033[?1049l\033[30;120Hy"), NULL, 0, NULL) == 29);
+    row_is(&t, 1, "main");
+    CHECK(vt220_rows(&t) == 30 && vt220_width(&t) == 120 && !kept_by(&t).alternate);
+    CHECK(vt220_repaint(&t, &s, out, sizeof out, &written) == VT220_OK && written <= vt220_limit(&t, VT220_OF_REPAINT));
+    vt220 u = opened(VT220_XTERM, 30, 120, "old");
+    CHECK(vt220_feed(&u, out, written, NULL, 0, NULL) == written && vt220_same_state(&t, &u) && vt220_copy(&t, &u) == VT220_OK);
+    CHECK(vt220_reset(&u) == VT220_OK && vt220_rows(&u) == 30 && vt220_width(&u) == 120);
+    vt220_close(&t);
+    vt220_close(&u);
+}
+
+/* A log's lines are those of the rows that scroll off, at any size. */
+static void logs(void) {
+    for (uint32_t language = VT220_BYTES; language <= VT220_XTERM; language++) {
+        vt220 t = opened(language, 3, 255, "");
+        size_t logged, need = vt220_limit(&t, VT220_OF_LINES);
+        CHECK(vt220_scratch_fit(&s, &t) == VT220_OK);
+        CHECK(vt220_feed_log(&t, &s, BYTES("one\r\ntwo\r\nthree\r\nfour\r\n"), NULL, 0, NULL, out, need, &logged) > 0);
+        CHECK(logged >= 4 && memcmp(out, "one\n", 4) == 0);
+        CHECK(vt220_feed_log(&t, &s, BYTES("x\r\n"), NULL, 0, NULL, out, need - 1, &logged) == 0 && logged == 0);
+        vt220_close(&t);
+    }
+}
+
+/* A scratch buffer serves one size at a time. */
+static void scratches(void) {
+    vt220 t = opened(VT220_BYTES, 40, 120, ""), u = opened(VT220_BYTES, 24, 80, ""), closed = VT220_INIT;
+    vt220_scratch room = VT220_INIT;
+    CHECK(vt220_scratch_fit(&room, &closed) == VT220_CLOSED && !vt220_scratch_is_open(&room));
+    CHECK(vt220_scratch_fit(&room, &u) == VT220_OK && vt220_text(&u, &room, out, sizeof out, &written) == VT220_OK && written == 24);
+    CHECK(vt220_text(&t, &room, out, sizeof out, &written) == VT220_SIZE && vt220_scratch_fit(&room, &closed) == VT220_CLOSED);
+    CHECK(vt220_scratch_fit(&room, &t) == VT220_OK && vt220_text(&t, &room, out, sizeof out, &written) == VT220_OK && written == 40);
+    void *block = room.room;
+    CHECK(vt220_scratch_fit(&room, &t) == VT220_OK && room.room == block && vt220_scratch_open(&room) == VT220_IN_USE);
+    vt220_scratch_close(&room);
+    CHECK(!vt220_scratch_is_open(&room));
+    vt220_close(&t);
+    vt220_close(&u);
+}
+
+/* Feeds bytes in chunks, with their log. Appends the replies and the lines. */
+static void play_part(vt220 *t, const bytes *input, size_t chunk, bytes *replies, bytes *lines) {
+    static uint8_t room[5120];
+    for (size_t at = 0, now, len, off; at < input->len; at += now) {
+        size_t left = input->len - at < chunk ? input->len - at : chunk;
+        CHECK((now = vt220_feed_log(t, &s, input->at + at, left, room, sizeof room, &len, out, sizeof out, &off)) == left);
+        append(replies, room, len), append(lines, out, off);
+    }
+}
+
+/* Plays a row in chunks, and checks what it has then. */
+static void play_size(const sized_row *r, size_t chunk) {
+    uint32_t language = strcmp(r->of.terminal, "xterm") == 0 ? VT220_XTERM : strcmp(r->of.encoding, "utf-8") == 0 ? VT220_UTF8 : VT220_BYTES;
+    vt220 t = opened(language, r->rows, r->columns, "");
+    bytes replies = {0}, lines = {0};
+    CHECK(vt220_scratch_fit(&s, &t) == VT220_OK);
+    play_part(&t, &r->of.input, chunk, &replies, &lines);
+    if (r->other_rows > 0) CHECK(vt220_resize(&t, r->other_rows, r->other_columns) == VT220_OK && vt220_rows(&t) == r->other_rows && vt220_width(&t) == r->other_columns);
+    CHECK(vt220_scratch_fit(&s, &t) == VT220_OK);
+    play_part(&t, &r->more, chunk, &replies, &lines);
+    check_row(&r->of, &t, &s, &replies);
+    check_same(&r->of.lines, lines.at, lines.len, r->of.name, "the lines");
+    check_number(r->of.alternate, kept_by(&t).alternate, r->of.name, "the page");
+    check_same(&r->of.pending, kept_by(&t).pending, kept_by(&t).pending_len, r->of.name, "what is pending");
+    free(replies.at), free(lines.at);
+    vt220_close(&t);
+}
+
+static void play_both(const sized_row *r) { play_size(r, 1000), play_size(r, 1); }
+
+int main(int count, char **words) {
+    if (count != 2) return 2;
+    CHECK(each_size(words[1], play_both) > 30);
+    open_and_read(), no_sizes(), deccolm(), limits(), written_forms(), updates(), two_sizes(), changes(), resizes(), resizes_pages(), logs(), scratches();
+    vt220_scratch_close(&s);
+    return finish("sizes");
+}

@@ -35,6 +35,8 @@ static struct {
     bool is_read_only;
     uint8_t version;       /* of the protocol */
     bool asks;             /* the log is to be asked for */
+    struct window window;  /* that the keeper was told last */
+    bool has_window;       /* the keeper is to be told the window */
     bool is_behind;        /* whether there is something new to draw */
     char why;              /* the frame that ended it; 'k' for the key, 's' for a signal, 'm' if out of memory, '?' if the
                             * keeper is gone; 0 as long as it goes on */
@@ -108,26 +110,43 @@ static void read_keys(void) {
 }
 
 static bool has_keys(void) {
-    return it.frame_at < it.frame_len || it.typed_at < it.typed_len || it.asks;
+    return it.frame_at < it.frame_len || it.typed_at < it.typed_len || it.asks || it.has_window;
+}
+
+static void put_frame(char letter, const void *bytes, uint32_t len) {
+    it.frame[0] = (uint8_t)letter;
+    memcpy(it.frame + 1, &len, sizeof len);
+    memcpy(it.frame + FRAME_HEAD, bytes, len);
+    it.frame_at = 0;
+    it.frame_len = FRAME_HEAD + len;
+}
+
+static struct window window_here(void) {
+    size_t rows, columns;
+    outer_size(&rows, &columns);
+    return (struct window){(uint16_t)rows, (uint16_t)columns}; /* as the line has them */
+}
+
+/* Has the keeper told the window, if it isn't the one that the keeper was told last. */
+static void look_at_window(void) {
+    struct window window = window_here();
+    it.has_window = it.version >= PROTOCOL_SIZE && memcmp(&window, &it.window, sizeof window) != 0;
 }
 
 static void begin_frame(void) {
-    if (it.asks) {
-        static const uint8_t frame[FRAME_HEAD] = {FRAME_LOG};
-        memcpy(it.frame, frame, sizeof frame);
-        it.frame_at = 0;
-        it.frame_len = sizeof frame;
+    if (it.has_window) {
+        it.window = window_here();
+        put_frame(FRAME_WINDOW, &it.window, sizeof it.window);
+        it.has_window = false;
+    } else if (it.asks) {
+        put_frame(FRAME_LOG, "", 0);
         it.asks = false;
         scroll_wait();
-        return;
+    } else {
+        uint32_t len = it.typed_len - it.typed_at < KEYS_LIMIT ? (uint32_t)(it.typed_len - it.typed_at) : KEYS_LIMIT;
+        put_frame(FRAME_KEYS, it.typed + it.typed_at, len);
+        it.typed_at += len;
     }
-    uint32_t len = it.typed_len - it.typed_at < KEYS_LIMIT ? (uint32_t)(it.typed_len - it.typed_at) : KEYS_LIMIT;
-    it.frame[0] = FRAME_KEYS;
-    memcpy(it.frame + 1, &len, sizeof len);
-    memcpy(it.frame + FRAME_HEAD, it.typed + it.typed_at, len);
-    it.typed_at += len;
-    it.frame_at = 0;
-    it.frame_len = FRAME_HEAD + len;
 }
 
 /* Sends keys. Those that the keeper can't read now wait here. If the keeper has ended, the next read shows it. */
@@ -137,15 +156,25 @@ static void send_keys(void) {
         ssize_t n = send(it.socket, it.frame + it.frame_at, it.frame_len - it.frame_at, MSG_NOSIGNAL | MSG_DONTWAIT);
         if (n < 0 && errno == EINTR) continue;
         if (n < 0 && errno == EAGAIN) return;
-        if (n < 0) it.typed_at = it.typed_len, it.asks = false;
+        if (n < 0) it.typed_at = it.typed_len, it.asks = it.has_window = false;
         it.frame_at = n < 0 ? it.frame_len : it.frame_at + (size_t)n;
     }
 }
 
 /* --- frames --- */
 
+/* Gives the terminal the session's size. A repaint follows, so what is shown until then doesn't matter. */
+static void take_size(const uint8_t *bytes, size_t len) {
+    struct window size = {0};
+    if (len == sizeof size) memcpy(&size, bytes, len);
+    uint32_t status = vt220_resize(&it.terminal, size.rows, size.columns);
+    if (status != VT220_OK) it.why = status == VT220_MEMORY ? 'm' : '?';
+}
+
 static void take_frame(char letter, const uint8_t *bytes, size_t len) {
-    if (letter == FRAME_PLAY) {
+    if (letter == FRAME_SIZE) {
+        take_size(bytes, len);
+    } else if (letter == FRAME_PLAY) {
         vt220_feed(&it.terminal, bytes, len, NULL, 0, NULL);
         it.is_behind = true;
     } else if (letter == FRAME_BELL) {
@@ -248,6 +277,7 @@ static void obey_signals(void) {
     if (outer_told.was_continued || outer_told.has_new_size) {
         if (!draw_resize()) it.why = 'm';
         it.is_behind = true;
+        look_at_window();
     }
     outer_told.to_stop = outer_told.was_continued = outer_told.has_new_size = 0;
 }
@@ -283,7 +313,7 @@ static void turn(const sigset_t *open_mask) {
     if (it.is_behind && outer_is_done() && it.why == 0) {
         it.is_behind = false;
         if (scroll_is_on()) scroll_draw();
-        else draw(&it.terminal);
+        else if (!draw(&it.terminal)) it.why = 'm';
     }
 }
 
@@ -323,10 +353,10 @@ static int say(const char *name) {
 
 /* Prints the screen as text, without the empty lines at its end. */
 static void print_screen(void) {
-    static uint8_t text[VT220_TEXT_LIMIT];
+    static uint8_t text[TEXT_MOST];
     vt220_scratch scratch = VT220_INIT;
     size_t len = 0;
-    if (vt220_scratch_open(&scratch) != VT220_OK) return;
+    if (vt220_scratch_fit(&scratch, &it.terminal) != VT220_OK) return;
     vt220_text(&it.terminal, &scratch, text, sizeof text, &len);
     vt220_scratch_close(&scratch);
     while (len > 1 && text[len - 1] == '\n' && text[len - 2] == '\n') len--;
@@ -356,6 +386,7 @@ static int follow(const char *name) {
     while (it.why == 0 && !it.is_behind) read_frames(0); /* a keeper that takes no more clients sends no screen */
     if (it.why != 0 && it.why != FRAME_ENDED) return say(name);
     outer_hold_signals(&open_mask);
+    look_at_window(); /* before this, no signal told of a change */
     if (!draw_enter()) it.why = 'm';
     while (it.why == 0) turn(&open_mask);
     draw_leave();
@@ -380,6 +411,8 @@ int attach(int socket, const char *name, bool is_read_only, bool removes) {
     it.version = hello.version;
     it.keys.language = hello.language;
     it.keys.can_scroll = true;
+    it.window = window_here();
+    if (it.version >= PROTOCOL_SIZE) wire_send(socket, FRAME_WINDOW, &it.window, sizeof it.window); /* if it can't be sent, no frame comes */
     int status = hello.is_over ? show_last(name, removes) : follow(name);
     scroll_leave();
     vt220_close(&it.terminal);

@@ -24,6 +24,23 @@ bool waits_for_room(const struct client *c) {
     return !is_sent(c) || c->wants_log || c->is_reading;
 }
 
+/* Returns the most bytes of a frame for a client. An update of the session's terminal has the most of those about its screen. Lines of the log
+ * may have more if the screen is small. */
+size_t frame_most(void) {
+    size_t update = vt220_limit(&the.terminal, VT220_OF_UPDATE);
+    return update > LINES_LIMIT ? update : LINES_LIMIT;
+}
+
+/* Gives a client capacity for a frame of so many bytes. Returns false if allocation fails. */
+bool make_room(struct client *c, size_t limit) {
+    if (limit <= c->limit) return true;
+    uint8_t *more = realloc(c->out, FRAME_HEAD + limit + SMALL_FRAMES);
+    if (more == NULL) return false;
+    c->out = more;
+    c->limit = limit;
+    return true;
+}
+
 /* Returns the address for the bytes of a frame. When all was sent, it first moves to the front, so that a whole update fits. */
 static uint8_t *frame_room(struct client *c) {
     if (is_sent(c)) c->at = c->len = 0;
@@ -39,7 +56,7 @@ static void put_frame(struct client *c, char letter, size_t len) {
 
 static void put(struct client *c, char letter, const void *bytes, size_t len) {
     uint8_t *room = frame_room(c);
-    if (len + FRAME_HEAD > sizeof c->out - c->len) return;
+    if (c->len + len > c->limit + SMALL_FRAMES) return;
     if (len > 0) memcpy(room, bytes, len);
     put_frame(c, letter, len);
 }
@@ -55,11 +72,12 @@ static void refuse(struct client *c, const char *why) {
     leave(c);
 }
 
-/* Adds a repaint, which leaves any terminal in the state of `settled`. */
+/* Adds the session's size if it isn't that of a VT220, and then a repaint, which leaves any terminal of this size in the state of `settled`. */
 static void put_repaint(struct client *c) {
+    if (!the.is_vt220) put(c, FRAME_SIZE, &the.size, sizeof the.size);
     uint8_t *room = frame_room(c), none[VT220_REPORT_LIMIT];
     size_t len = 0, reports;
-    vt220_repaint_as(&the.settled, VT220_BYTES, &the.scratch, room, FRAME_LIMIT, &len);
+    vt220_repaint_as(&the.settled, VT220_BYTES, &the.scratch, room, c->limit, &len);
     for (size_t at = 0; at < len;) at += vt220_feed(&c->shown, room + at, len - at, none, sizeof none, &reports);
     put_frame(c, FRAME_PLAY, len);
     c->changes = the.changes;
@@ -69,7 +87,7 @@ static void put_repaint(struct client *c) {
 static void put_update(struct client *c) {
     uint8_t *room = frame_room(c);
     size_t len = 0;
-    vt220_update(&c->shown, &the.settled, &the.scratch, room, FRAME_LIMIT, &len);
+    vt220_update(&c->shown, &the.settled, &the.scratch, room, c->limit, &len);
     if (len > 0) put_frame(c, FRAME_PLAY, len);
     c->changes = the.changes;
 }
@@ -95,7 +113,7 @@ static void put_brackets(struct client *c) {
 static void put_screen(struct client *c) {
     uint8_t *room = frame_room(c);
     size_t len = 0;
-    vt220_text(&the.terminal, &the.scratch, room, FRAME_LIMIT, &len);
+    vt220_text(&the.terminal, &the.scratch, room, c->limit, &len);
     put_frame(c, FRAME_SCREEN, len);
     c->log_at = log_begin();
     c->log_end = log_end();
@@ -107,7 +125,7 @@ static void put_screen(struct client *c) {
 /* Adds the next lines of the log, or its end. */
 static void put_lines(struct client *c) {
     uint8_t *room = frame_room(c);
-    size_t len = log_read(&c->log_at, c->log_end, room, FRAME_LIMIT, &c->log_lost);
+    size_t len = log_read(&c->log_at, c->log_end, room, LINES_LIMIT, &c->log_lost);
     c->is_reading = len > 0;
     if (c->is_reading) put_frame(c, FRAME_LINES, len);
     else put(c, FRAME_LOGGED, &c->log_lost, c->log_lost > 0 ? sizeof c->log_lost : 0);
@@ -198,19 +216,22 @@ static size_t count_attached(void) {
     return count;
 }
 
-static void admit(struct client *c, bool removes) {
-    if (count_attached() >= ATTACHED_LIMIT || vt220_open(&c->shown) != VT220_OK) {
+/* Attaches a client. The session then follows its window, too, so its first screen has this size. */
+static void admit(struct client *c) {
+    if (count_attached() >= ATTACHED_LIMIT || !open_like(&c->shown, VT220_BYTES)) {
         put(c, FRAME_FULL, NULL, 0);
         leave(c);
         return;
     }
     c->state = ATTACHED;
     c->deadline = LLONG_MAX;
+    follow_windows();
+    if (c->deadline == 0) return; /* no memory for this size */
     put_repaint(c);
     put_brackets(c);
     if (!the.is_over) return;
     put_ending(c);
-    c->awaits_seen = removes ? SEEN_BY_REMOVER : SEEN_BY_NONE; /* otherwise it only looks: the session and its log stay */
+    c->awaits_seen = c->flags & FLAG_REMOVES ? SEEN_BY_REMOVER : SEEN_BY_NONE; /* otherwise it only looks: the session and its log stay */
 }
 
 static void detach_all(void) {
@@ -225,8 +246,8 @@ static void detach_all(void) {
 static size_t write_line(char *to) {
     char end[64] = "-\t-";
     if (the.is_over) snprintf(end, sizeof end, "%lld\t%d", (long long)the.ending.time, shell_status(the.ending.status));
-    return (size_t)snprintf(to, SMALL_FRAMES, "%s\t%d\t%zu\t%zu\t%ld\t%lld\t%s\t%s\t%s\t%s", the.is_over ? "ended" : "running", VT220_ROWS,
-                            vt220_width(&the.terminal), count_attached(), (long)the.command, (long long)the.began, end, the.title,
+    return (size_t)snprintf(to, SMALL_FRAMES, "%s\t%zu\t%zu\t%zu\t%ld\t%lld\t%s\t%s\t%s\t%s", the.is_over ? "ended" : "running",
+                            vt220_rows(&the.terminal), vt220_width(&the.terminal), count_attached(), (long)the.command, (long long)the.began, end, the.title,
                             encoding_name(the.language), terminal_name(the.language));
 }
 
@@ -238,9 +259,9 @@ static void answer(struct client *c) {
     } else if (c->ask == ASK_LIST) {
         len = write_line((char *)room);
     } else if (c->ask == ASK_TEXT) {
-        vt220_text(&the.terminal, &the.scratch, room, FRAME_LIMIT, &len);
+        vt220_text(&the.terminal, &the.scratch, room, c->limit, &len);
     } else if (c->ask == ASK_REPAINT) {
-        vt220_repaint_as(&the.settled, VT220_BYTES, &the.scratch, room, FRAME_LIMIT, &len);
+        vt220_repaint_as(&the.settled, VT220_BYTES, &the.scratch, room, c->limit, &len);
     } else {
         refuse(c, "this vt220-keep doesn't know what is asked");
         return;
@@ -249,29 +270,49 @@ static void answer(struct client *c) {
     leave(c);
 }
 
-/* Reads the client's first bytes, and begins or does what it asks. */
-static void begin(struct client *c) {
-    bool is_known = c->in[HELLO_LOWEST] <= PROTOCOL_HIGHEST && c->in[HELLO_HIGHEST] >= PROTOCOL_LOWEST;
-    uint8_t version = c->in[HELLO_HIGHEST] < PROTOCOL_HIGHEST ? c->in[HELLO_HIGHEST] : PROTOCOL_HIGHEST;
-    uint8_t told[4 + sizeof KEEP_VERSION - 1] = {is_known ? version : 0, PROTOCOL_LOWEST, PROTOCOL_HIGHEST, the.is_over + the.is_shown};
+/* Returns whether a client that knows no sizes can take what it asks. */
+static bool suits_older(char ask) {
+    if (ask == ASK_ATTACH) return the.is_vt220;
+    if (ask == ASK_REPAINT) return frame_most() <= OLDER_LIMIT;
+    return (ask != ASK_TEXT && ask != ASK_LOG) || vt220_limit(&the.terminal, VT220_OF_TEXT) <= OLDER_LIMIT;
+}
+
+/* Replies which version is spoken, and what a client that types keys has to know. Returns whether there is such a version. */
+static bool greet(struct client *c) {
+    uint8_t highest = c->in[HELLO_HIGHEST], lowest = PROTOCOL_LOWEST;
+    if (highest < PROTOCOL_SIZE && !suits_older(c->ask)) lowest = PROTOCOL_SIZE;
+    bool is_known = c->in[HELLO_LOWEST] <= PROTOCOL_HIGHEST && highest >= lowest;
+    c->version = !is_known ? 0 : highest < PROTOCOL_HIGHEST ? highest : PROTOCOL_HIGHEST;
+    uint8_t told[4 + sizeof KEEP_VERSION - 1] = {c->version, lowest, PROTOCOL_HIGHEST, the.is_over + the.is_shown};
     memcpy(told + 4, KEEP_VERSION, sizeof KEEP_VERSION - 1);
     put(c, FRAME_HELLO, told, sizeof told);
+    if (types_keys(c->ask) && c->version >= PROTOCOL_ENCODING) put(c, FRAME_ENCODING, &(uint8_t){the.language != VT220_BYTES}, 1);
+    if (types_keys(c->ask) && c->version >= PROTOCOL_TERMINAL) put(c, FRAME_TERMINAL, &(uint8_t){the.language == VT220_XTERM}, 1);
+    return is_known;
+}
+
+/* Returns whether a frame must come before what is asked can be done. */
+static bool awaits_frame(const struct client *c) {
+    return c->ask == ASK_RENAME || c->ask == ASK_UPGRADE || (c->ask == ASK_ATTACH && c->version >= PROTOCOL_SIZE);
+}
+
+/* Reads the client's first bytes, and begins or does what it asks. */
+static void begin(struct client *c) {
     c->ask = (char)c->in[HELLO_ASK];
-    c->version = told[0];
-    if (types_keys(c->ask) && told[0] >= PROTOCOL_ENCODING) put(c, FRAME_ENCODING, &(uint8_t){the.language != VT220_BYTES}, 1);
-    if (types_keys(c->ask) && told[0] >= PROTOCOL_TERMINAL) put(c, FRAME_TERMINAL, &(uint8_t){the.language == VT220_XTERM}, 1);
-    uint8_t flags = c->in[HELLO_FLAGS];
-    c->is_read_only = flags & FLAG_READ_ONLY;
+    c->flags = c->in[HELLO_FLAGS];
+    bool is_known = greet(c);
     c->in_len -= HELLO_LENGTH;
     memmove(c->in, c->in + HELLO_LENGTH, c->in_len);
     if (!is_known) {
         leave(c);
+    } else if (awaits_frame(c)) {
+        return;
     } else if (c->ask == ASK_ATTACH) {
-        admit(c, flags & FLAG_REMOVES);
+        admit(c);
     } else if (c->ask == ASK_SEND) {
         c->state = SENDING;
         c->deadline = LLONG_MAX;
-    } else if (c->ask == ASK_LOG && version >= PROTOCOL_LOG) {
+    } else if (c->ask == ASK_LOG && c->version >= PROTOCOL_LOG) {
         c->state = READING;
         c->wants_log = true;
     } else if (c->ask == ASK_KILL) {
@@ -279,7 +320,7 @@ static void begin(struct client *c) {
         c->deadline = LLONG_MAX;
         if (the.is_over) give_up();
         else hang_up();
-    } else if (c->ask != ASK_RENAME && c->ask != ASK_UPGRADE) { /* for these, a frame must come first */
+    } else {
         answer(c);
     }
 }
@@ -329,9 +370,16 @@ static void upgrade_for(struct client *c) {
     refuse(c, why);
 }
 
+/* A client's window is known, or has changed. The session follows it when the turn of the loop is over. */
+static void take_window(struct client *c, const uint8_t *bytes) {
+    memcpy(&c->window, bytes, sizeof c->window);
+    if (c->state == ASKING) admit(c);
+}
+
 /* Handles a frame. Returns false if it is to be tried again: its keys don't fit into the queue now, or the directory is locked. */
 static bool take_frame(struct client *c, char letter, const uint8_t *bytes, size_t len) {
-    bool is_typing = c->state == SENDING || (c->state == ATTACHED && !c->is_read_only);
+    bool is_typing = c->state == SENDING || (c->state == ATTACHED && !(c->flags & FLAG_READ_ONLY));
+    bool attaches = c->ask == ASK_ATTACH && (c->state == ASKING || c->state == ATTACHED);
     if (letter == FRAME_KEYS && is_typing && !the.is_over) return add_input(bytes, len, false);
     if (letter == FRAME_DONE && c->state == SENDING) {
         put(c, FRAME_ANSWER, NULL, 0);
@@ -342,6 +390,8 @@ static bool take_frame(struct client *c, char letter, const uint8_t *bytes, size
         upgrade_for(c);
     } else if (letter == FRAME_LOG && c->state == ATTACHED) {
         c->wants_log = true;
+    } else if (letter == FRAME_WINDOW && attaches && c->version >= PROTOCOL_SIZE && len == sizeof c->window) {
+        take_window(c, bytes);
     } else if (letter == FRAME_SEEN && c->awaits_seen != SEEN_BY_NONE) {
         end_was_shown(c->awaits_seen == SEEN_BY_REMOVER);
     }
@@ -424,6 +474,14 @@ static size_t free_place(void) {
     return i;
 }
 
+/* Returns a client with capacity for what is sent to it, or null if allocation fails. */
+struct client *new_client(void) {
+    struct client *c = calloc(1, sizeof *c);
+    if (c == NULL || make_room(c, frame_most())) return c;
+    free(c);
+    return NULL;
+}
+
 void let_in(long long time) {
     int socket = accept4(the.listener, NULL, NULL, SOCK_CLOEXEC);
     if (socket < 0) {
@@ -432,7 +490,7 @@ void let_in(long long time) {
         return;
     }
     size_t i = is_same_user(socket) ? free_place() : CLIENT_LIMIT;
-    struct client *c = i < CLIENT_LIMIT ? calloc(1, sizeof *c) : NULL;
+    struct client *c = i < CLIENT_LIMIT ? new_client() : NULL;
     if (c == NULL) {
         static const char full[FRAME_HEAD] = {FRAME_FULL};
         send(socket, full, sizeof full, MSG_NOSIGNAL | MSG_DONTWAIT);
@@ -452,6 +510,7 @@ void let_go(size_t i) {
     close(c->socket);
     if (c->program >= 0) close(c->program);
     vt220_close(&c->shown);
+    free(c->out);
     free(c);
     the.clients[i] = NULL;
     if (!has_clients()) malloc_trim(0); /* a keeper may live for months after a crowd */

@@ -13,8 +13,6 @@
 #include <unistd.h>
 #include <utmp.h>
 
-enum { ROWS = 24, COLUMNS = 80 };
-
 /* Resets every signal, also those that the parent ignores, so that Ctrl-C can end the command. */
 static void free_signals(void) {
     sigset_t none;
@@ -38,10 +36,9 @@ static void set_line(int slave, tcflag_t erasing) {
     tcsetattr(slave, TCSANOW, &it);
 }
 
-static bool open_line(struct line *line, int *told, tcflag_t erasing) {
-    struct winsize size = {.ws_row = ROWS, .ws_col = COLUMNS};
+static bool open_line(struct line *line, int *told, const struct winsize *size, tcflag_t erasing) {
     if (pipe2(told, O_CLOEXEC) != 0) return false;
-    if (openpty(&line->master, &line->slave, NULL, NULL, &size) != 0) {
+    if (openpty(&line->master, &line->slave, NULL, NULL, size) != 0) {
         int why = errno;
         close(told[0]);
         close(told[1]);
@@ -55,10 +52,11 @@ static bool open_line(struct line *line, int *told, tcflag_t erasing) {
     return true;
 }
 
-int start_command(struct line *line, char **command, tcflag_t erasing, void (*prepare)(const void *), const void *of, int *status) {
+int start_command(struct line *line, char **command, const struct winsize *size, tcflag_t erasing, void (*prepare)(const void *), const void *of,
+                  int *status) {
     int told[2], error = 0;
     *status = COMMAND_REFUSED;
-    if (!open_line(line, told, erasing)) return errno;
+    if (!open_line(line, told, size, erasing)) return errno;
     line->command = fork();
     if (line->command == 0) {
         free_signals();

@@ -1,8 +1,9 @@
-/* A command on a new pseudo-terminal of 24 rows by 80 columns. */
+/* A command on a new pseudo-terminal. */
 #ifndef COMMAND_H
 #define COMMAND_H
 
 #include <stdbool.h>
+#include <sys/ioctl.h>
 #include <sys/types.h>
 #include <termios.h>
 
@@ -17,9 +18,10 @@ struct line {
     pid_t command;
 };
 
-/* Runs a command. `erasing` is IUTF8 if the line erases whole characters of UTF-8, and 0 if it erases bytes. `prepare`, unless it is NULL, is
+/* Runs a command on a pseudo-terminal of a size. `erasing` is IUTF8 if the line erases whole characters of UTF-8, and 0 if it erases bytes. `prepare`, unless it is NULL, is
  * called in its process before it begins. Returns 0 when it runs. Otherwise returns the error, and nothing is open: *status is then that of
  * env(1). */
-int start_command(struct line *line, char **command, tcflag_t erasing, void (*prepare)(const void *), const void *of, int *status);
+int start_command(struct line *line, char **command, const struct winsize *size, tcflag_t erasing, void (*prepare)(const void *), const void *of,
+                  int *status);
 
 #endif

@@ -1,6 +1,7 @@
 /* vt220-keep: keeps programs running in the background, each on an emulated terminal.
  *   make keeper */
 #include "keep.h"
+#include "outer.h"
 #include <errno.h>
 #include <fcntl.h>
 #include <getopt.h>
@@ -15,10 +16,12 @@
 #include <unistd.h>
 
 static const char usage[] =
-    "usage: vt220-keep new [-A] [--locale=LOCALE] [--encoding=dec|utf-8] [--terminal=vt220|xterm] NAME COMMAND [ARGUMENT ...]\n"
+    "usage: vt220-keep new [-A] [--locale=LOCALE] [--encoding=dec|utf-8] [--terminal=vt220|xterm] [--size=COLUMNSxROWS] NAME COMMAND\n"
+    "                   [ARGUMENT ...]\n"
     "                                       run a command on a new VT220 in the background;\n"
     "                                       -A attaches to it, or to the session NAME if there is one;\n"
-    "                                       --terminal=xterm: for a command that has TERM=xterm-256color, in UTF-8\n"
+    "                                       --terminal=xterm: for a command that has TERM=xterm-256color, in UTF-8;\n"
+    "                                       --size=120x40: of this size, whatever the windows of its clients have\n"
     "       vt220-keep attach [-r] NAME     show a session on this terminal, and send it keys; -r only shows it\n"
     "       vt220-keep detach NAME          detach all clients\n"
     "       vt220-keep list [--tsv]         list sessions; --tsv: one line each with tabs, for scripts\n"
@@ -75,7 +78,7 @@ static void set_patience(void) {
 
 struct options {
     bool attaches, is_read_only, is_for_scripts, is_text;
-    const char *locale, *encoding, *terminal;
+    const char *locale, *encoding, *terminal, *size;
 };
 
 static void check_name(const char *name) {
@@ -131,9 +134,34 @@ static uint32_t language_wanted(const struct options *options) {
     return is_xterm ? VT220_XTERM : is_utf8 ? VT220_UTF8 : VT220_BYTES;
 }
 
+/* Reads a number of at most three digits, and moves after it. */
+static uint16_t read_number(const char **at) {
+    unsigned number = 0;
+    for (const char *end = *at + 3; *at < end && **at >= '0' && **at <= '9'; ++*at) number = 10 * number + (unsigned)(**at - '0');
+    return (uint16_t)number;
+}
+
+/* Returns the size that an option gives. Ends the program if it gives none. */
+static struct window size_given(const char *given) {
+    const char *at = given;
+    struct window size = {.columns = read_number(&at)};
+    bool has_both = *at == 'x';
+    if (has_both) at++, size.rows = read_number(&at);
+    if (has_both && *at == 0 && is_size(&size)) return size;
+    fail(2, "new: --size is columns and rows, as 120x40: 80 to %d columns and 2 to %d rows, not '%.100s'", VT220_MOST_COLUMNS, VT220_MOST_ROWS, given);
+}
+
+/* Returns the size of a new session: that of its option, of the window of a client that attaches at once, or otherwise a VT220's. */
+static struct window size_wanted(const struct options *options) {
+    size_t rows = VT220_ROWS, columns = NARROW;
+    if (options->size != NULL) return size_given(options->size);
+    if (options->attaches && isatty(STDIN_FILENO)) outer_size(&rows, &columns);
+    return nearest_size(rows, columns);
+}
+
 static int do_new(char **words, const struct options *options) {
     struct folder folder = open_folder();
-    struct beginning beginning = {words[0], options->locale, words + 1, language_wanted(options)};
+    struct beginning beginning = {words[0], options->locale, words + 1, language_wanted(options), size_wanted(options), options->size != NULL};
     check_name(words[0]);
     if (strcmp(words[1], "--") == 0) beginning.command++;
     if (*beginning.command == NULL) fail(2, "new: an argument is missing; vt220-keep --help shows which");
@@ -272,7 +300,7 @@ static const struct command *command_of(const char *word) {
 
 /* Reads the options after the command; returns the index of the first argument. */
 static int read_options(const struct command *command, int argc, char **argv, struct options *options) {
-    static const struct option none[] = {{"help", 0, NULL, 'h'}, {0}}, for_new[] = {{"help", 0, NULL, 'h'}, {"locale", 1, NULL, 'L'}, {"encoding", 1, NULL, 'E'}, {"terminal", 1, NULL, 'T'}, {0}},
+    static const struct option none[] = {{"help", 0, NULL, 'h'}, {0}}, for_new[] = {{"help", 0, NULL, 'h'}, {"locale", 1, NULL, 'L'}, {"encoding", 1, NULL, 'E'}, {"terminal", 1, NULL, 'T'}, {"size", 1, NULL, 'S'}, {0}},
                                for_list[] = {{"help", 0, NULL, 'h'}, {"tsv", 0, NULL, 't'}, {0}};
     const struct option *longer = command->run == do_new ? for_new : command->run == do_list ? for_list : none;
     opterr = 0;
@@ -286,6 +314,7 @@ static int read_options(const struct command *command, int argc, char **argv, st
         case 'L': options->locale = optarg; break;
         case 'E': options->encoding = optarg; break;
         case 'T': options->terminal = optarg; break;
+        case 'S': options->size = optarg; break;
         default: fail(2, "%s: unknown option '%s'; vt220-keep --help lists them", command->word, argv[optind < argc ? optind : argc - 1]);
         }
     }

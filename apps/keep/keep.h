@@ -14,7 +14,13 @@
 
 #define KEEP_VERSION "0.4.0" /* of vt220-keep, which has its own */
 
-enum { NAME_LIMIT = 64, WHY_LIMIT = PATH_MAX + 512 /* a reason may begin with a path */ };
+enum {
+    NAME_LIMIT = 64,
+    WHY_LIMIT = PATH_MAX + 512, /* a reason may begin with a path */
+    NARROW = 80,                /* the columns of a VT220 at power-up */
+    ROW_TEXT_MOST = 3 * VT220_MOST_COLUMNS + 1, /* the most bytes of the text of a row, at any size */
+    TEXT_MOST = VT220_MOST_ROWS * ROW_TEXT_MOST /* and of that of a screen */
+};
 
 /* --- keep.c --- */
 
@@ -88,7 +94,14 @@ struct beginning {
     const char *name, *locale;
     char **command;
     uint32_t language; /* of the program */
+    struct window size;
+    bool is_fixed;     /* the size follows no window */
 };
+
+/* --- size.c: sizes of a session --- */
+
+struct window nearest_size(size_t rows, size_t columns); /* the size nearest to this one that a session may have */
+bool is_size(const struct window *size);                /* whether a session may have it */
 
 #define RESUME "resume" /* the command by which a keeper starts the program that replaces it; its arguments are numbers of files */
 
@@ -138,7 +151,7 @@ int shell_status(int ending);
 
 bool draw_enter(void);
 bool draw_resize(void);
-void draw(const vt220 *t); /* only when all is written that was drawn before */
+bool draw(const vt220 *t); /* only when all is written that was drawn before; false if allocation fails */
 size_t draw_rows(void);
 /* Draws lines of UTF-8 from the top, and this hint in a corner, unless these lines are drawn already. Each line has an LF. */
 void draw_lines(const uint8_t *const *lines, size_t count, const char *hint);

@@ -153,7 +153,7 @@ static void show(const char *name, char *line, bool is_for_scripts) {
     if (strcmp(field[0], "ended") == 0) {
         snprintf(state, sizeof state, "ended with status %.8s, %s", field[7], day_and_time(field[6], ended, sizeof ended));
     } else {
-        snprintf(state, sizeof state, "%.4sx%-4.4s %.4s attached  %.10s", field[1], field[2], field[3], field[4]);
+        snprintf(state, sizeof state, "%3.3sx%-3.3s  %.4s attached  %.10s", field[2], field[1], field[3], field[4]);
     }
     printf("%-15s %s  %s  %s\n", name, state, day_and_time(field[5], began, sizeof began), field[8]);
 }

@@ -4,7 +4,7 @@
 #include <stdlib.h>
 #include <string.h>
 
-enum { LINES_KEPT = 10000, ROOM_FIRST = 65536, ROOM_LIMIT = LINES_KEPT * VT220_ROW_TEXT_LIMIT };
+enum { LINES_KEPT = 10000, ROOM_FIRST = 65536, ROOM_LIMIT = LINES_KEPT * ROW_TEXT_MOST };
 
 static struct {
     uint8_t *ring;

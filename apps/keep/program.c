@@ -9,7 +9,10 @@
 #include <sys/ioctl.h>
 #include <unistd.h>
 
-enum { DRAIN_LIMIT = 256 /* the most chunks that are read once the command has ended */ };
+enum {
+    DRAIN_LIMIT = 256, /* the most chunks that are read once the command has ended */
+    LINES_ROOM = PIECE * VT220_ROW_TEXT_LIMIT /* more than vt220_feed_log needs at any size to go on */
+};
 
 /* --- what goes to the program --- */
 
@@ -36,7 +39,14 @@ void write_program(void) {
 
 /* --- what comes from the program --- */
 
-/* Copies the terminal to `settled` if it is between sequences, and sets the window of the pseudo-terminal to its width. Returns whether it
+/* Sets the window of the pseudo-terminal to the terminal's size. */
+void set_line_size(void) {
+    the.width = vt220_width(&the.terminal);
+    struct winsize size = {.ws_row = (unsigned short)vt220_rows(&the.terminal), .ws_col = (unsigned short)the.width};
+    ioctl(the.master, TIOCSWINSZ, &size);
+}
+
+/* Copies the terminal to `settled` if it is between sequences, and tells the program its width if DECCOLM has changed it. Returns whether it
  * is between sequences. */
 bool settle(void) {
     bool is_between = vt220_is_between(&the.terminal);
@@ -45,11 +55,7 @@ bool settle(void) {
         vt220_copy(&the.settled, &the.terminal);
         the.since_len = 0;
     }
-    if (the.width != vt220_width(&the.terminal)) {
-        the.width = vt220_width(&the.terminal);
-        struct winsize size = {.ws_row = VT220_ROWS, .ws_col = (unsigned short)the.width};
-        ioctl(the.master, TIOCSWINSZ, &size);
-    }
+    if (the.width != vt220_width(&the.terminal)) set_line_size();
     return is_between;
 }
 
@@ -70,7 +76,7 @@ void remember(const uint8_t *bytes, size_t len) {
 /* Plays bytes of the program, sends the reports, and keeps the lines that scroll off. If the queue is full, all reports of a chunk are
  * dropped, since a program that asks and never reads must not stop its own screen. */
 static void feed(const uint8_t *bytes, size_t len) {
-    static uint8_t reports[PIECE * VT220_REPORT_LIMIT], lines[PIECE * VT220_ROW_TEXT_LIMIT];
+    static uint8_t reports[PIECE * VT220_REPORT_LIMIT], lines[LINES_ROOM];
     for (size_t n = 1, written, lines_written; len > 0 && n > 0; bytes += n, len -= n) {
         n = vt220_feed_log(&the.terminal, &the.scratch, bytes, len, reports, sizeof reports, &written, lines, sizeof lines, &lines_written);
         add_input(reports, written, true);
@@ -148,8 +154,9 @@ static void set_environment(const void *of) {
  * command runs. Returns true when the command runs. Returns false if it can't be run: *status is then that of env(1). */
 bool run_command(const struct beginning *beginning, char *why, int *status) {
     struct line line;
-    the.width = 80;
-    int error = start_command(&line, beginning->command, beginning->language != VT220_BYTES ? IUTF8 : 0, set_environment, beginning, status);
+    the.width = beginning->size.columns;
+    const struct winsize size = {.ws_row = beginning->size.rows, .ws_col = beginning->size.columns};
+    int error = start_command(&line, beginning->command, &size, beginning->language != VT220_BYTES ? IUTF8 : 0, set_environment, beginning, status);
     if (error == 0) the.master = line.master, the.slave = line.slave, the.command = line.command;
     else if (*status == COMMAND_REFUSED) snprintf(why, WHY_LIMIT, "cannot open a pseudo-terminal: %s", strerror(error));
     else snprintf(why, WHY_LIMIT, "%.200s: %s", beginning->command[0], strerror(error));

@@ -7,7 +7,10 @@
  * whether the command has ended (1; 2 if a client that was attached has shown that), and the keeper's own version as text.
  *
  * A keeper runs as long as its session, so it may be older than the client. A version of the protocol may therefore add asks and
- * frames, but never changes what one means. A client that speaks more than one version is served in the highest that both know. */
+ * frames, but never changes what one means. A client that speaks more than one version is served in the highest that both know.
+ *
+ * A client of a version before PROTOCOL_SIZE knows no size but a VT220's. While one is attached, the session keeps its size. What such a client
+ * asks of a session of another size may be more than it can take. It is then told that version 0 is spoken, and PROTOCOL_SIZE as the lowest. */
 #ifndef KEEP_PROTOCOL_H
 #define KEEP_PROTOCOL_H
 
@@ -16,12 +19,13 @@
 
 enum {
     PROTOCOL_LOWEST = 1,
-    PROTOCOL_HIGHEST = 6,
+    PROTOCOL_HIGHEST = 7,
     PROTOCOL_LOG = 2,    /* since this version there is a log */
     PROTOCOL_UPGRADE = 3, /* since this version a keeper can become another program */
     PROTOCOL_ENCODING = 4, /* since this version a client knows whether keys are sent in UTF-8 */
     PROTOCOL_TERMINAL = 5, /* since this version a client knows whether keys are those of xterm */
-    PROTOCOL_PASTE = 6     /* since this version a client knows whether pasted text goes in brackets */
+    PROTOCOL_PASTE = 6,    /* since this version a client knows whether pasted text goes in brackets */
+    PROTOCOL_SIZE = 7      /* since this version a client tells its window, and knows the session's size */
 };
 enum { HELLO_LENGTH = 8, HELLO_MAGIC = 4, HELLO_LOWEST = 4, HELLO_HIGHEST = 5, HELLO_ASK = 6, HELLO_FLAGS = 7 };
 
@@ -49,6 +53,7 @@ enum {
     FRAME_LOG = 'G',  /* since version 2, of an attached client: it wants the log */
     FRAME_NAME = 'N', /* the new name */
     FRAME_PROGRAM = 'U', /* since version 3: it is empty, and a file is passed with it, the program to become */
+    FRAME_WINDOW = 'W', /* since version 7, of a client that attaches: a struct window, that of its terminal. It comes first, and at each change */
     FRAME_SEEN = 'S'  /* the end of the command was shown. It counts if the client attached before the end, or with FLAG_REMOVES */
 };
 
@@ -58,6 +63,7 @@ enum {
     FRAME_ENCODING = 'C', /* since version 4, right after FRAME_HELLO, for a client that attaches or sends keys: 1 for UTF-8, otherwise 0 */
     FRAME_TERMINAL = 'X', /* since version 5, right after FRAME_ENCODING: 1 if the program has TERM=xterm-256color, otherwise 0 */
     FRAME_PLAY = 'P',     /* a repaint first, then updates: the client plays them on its terminal */
+    FRAME_SIZE = 'Y',     /* since version 7: a struct window. The client resizes its terminal, and a repaint follows. Before, it has a VT220's size */
     FRAME_BELL = 'B',     /* the program rang the bell */
     FRAME_PASTE = 'V',    /* since version 6: 1 if the program wants pasted text in brackets (?2004), otherwise 0, as at the beginning */
     FRAME_SCREEN = 'T',   /* the log begins: the text of the screen, which follows the last line of the log */
@@ -76,8 +82,14 @@ struct ending {
     int64_t time; /* of the end, in seconds since 1970 */
 };
 
+struct window {
+    uint16_t rows, columns;
+};
+
 enum {
-    FRAME_LIMIT = VT220_UPDATE_LIMIT, /* of what a keeper sends */
+    FRAME_LIMIT = 1954260,            /* of what a keeper sends: the limit of an update of the largest terminal */
+    OLDER_LIMIT = VT220_UPDATE_LIMIT, /* and to a client that knows no sizes */
+    LINES_LIMIT = OLDER_LIMIT,        /* of the lines of one frame */
     KEYS_LIMIT = 4096                 /* of what a client sends */
 };
 

@@ -9,7 +9,7 @@ static struct {
     enum { OFF, WAITING, ON } state;
     uint8_t *bytes; /* the lines that came, and after them the screen */
     size_t len, room;
-    uint8_t screen[VT220_TEXT_LIMIT];
+    uint8_t screen[TEXT_MOST];
     size_t screen_len;
     const uint8_t **lines;
     size_t count, top; /* how many lines there are, and which one is in the first row */

@@ -16,7 +16,7 @@
 
 enum { LINGER = 86400, SHOWN_LINGER = 3600 * 1000 };
 
-struct session the = {.master = -1, .slave = -1, .listener = -1};
+struct session the = {.master = -1, .slave = -1, .listener = -1, .size = {VT220_ROWS, NARROW}, .is_vt220 = true};
 
 static volatile sig_atomic_t has_child_ended, is_told_to_end, is_told_to_bind;
 
@@ -179,6 +179,7 @@ static void turn(const sigset_t *open_mask) {
     for (size_t i = 0; i < CLIENT_LIMIT; i++) {
         if (place[i] != 0 && is_done(the.clients[i], time)) let_go(i);
     }
+    follow_windows();
     if (the.listener >= 0 && polled[0].revents & POLLIN) let_in(time);
 }
 
@@ -225,13 +226,12 @@ struct report {
     char why[WHY_LIMIT];
 };
 
-/* Opens the terminals for a language. Closes those that are open. Returns false if allocation fails. */
+/* Opens the terminals for a language, in the session's size. Closes those that are open. Returns false if allocation fails. */
 bool open_terminals(uint32_t language) {
     the.language = language;
     vt220_close(&the.terminal);
     vt220_close(&the.settled);
-    bool has_room = vt220_scratch_is_open(&the.scratch) || vt220_scratch_open(&the.scratch) == VT220_OK;
-    return has_room && vt220_open_as(&the.terminal, language) == VT220_OK && vt220_open_as(&the.settled, language) == VT220_OK;
+    return open_like(&the.terminal, language) && open_like(&the.settled, language) && vt220_scratch_fit(&the.scratch, &the.terminal) == VT220_OK;
 }
 
 /* Opens everything that a keeper needs, and runs the command. Returns false if that fails. */
@@ -245,6 +245,8 @@ static bool begin(const struct beginning *beginning, struct report *report) {
     if (the.linger < 0) return false;
     the.listener = open_listener(the.folder.file, the.name, &the.socket, report->why);
     if (the.listener < 0) return false;
+    set_size(beginning->size);
+    the.is_fixed = beginning->is_fixed;
     bool is_open = open_terminals(beginning->language);
     if (!is_open) snprintf(report->why, WHY_LIMIT, "out of memory");
     if (is_open && run_command(beginning, report->why, &report->status)) return true;

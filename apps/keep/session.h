@@ -3,7 +3,7 @@
  * Clients see `settled`, the newest state between sequences, so a client that attaches while the program is inside a
  * sequence gets a screen at once. For each client there is a terminal in the state that was sent to it. An update leads from
  * there to `settled`. It is made when its time has come and the last one is wholly written. So a slow client gets the newest
- * state, and no older states wait in a queue. */
+ * state, and no older states wait in a queue. After a change of the session's size this terminal is a new one, and a repaint leads there. */
 #ifndef KEEP_SESSION_H
 #define KEEP_SESSION_H
 
@@ -30,7 +30,9 @@ struct client {
     uint8_t version;       /* of the protocol; 0 if it isn't known */
     enum { BRACKETS_OFF, BRACKETS_ON, BRACKETS_UNKNOWN } brackets; /* what it was told of FRAME_PASTE; unknown after it was handed over */
     int program;           /* the file that it passed, a new program for the keeper; -1 if it passed none */
-    bool is_read_only, rings;
+    uint8_t flags;
+    bool rings;
+    struct window window;  /* that of its terminal; nothing until it is told */
     enum { SEEN_BY_NONE, SEEN_BY_WATCHER, SEEN_BY_REMOVER } awaits_seen; /* whether it is to confirm the end. The numbers are handed over */
     bool needs_repaint;    /* it was handed over, and `shown` isn't what it shows */
     vt220 shown;           /* as the client's own terminal is when it has played all of `out` */
@@ -47,7 +49,8 @@ struct client {
     size_t in_len;
     uint8_t in[FRAME_HEAD + KEYS_LIMIT];
     size_t at, len; /* `out` is written up to `at` */
-    uint8_t out[FRAME_HEAD + FRAME_LIMIT + SMALL_FRAMES];
+    size_t limit;   /* `out` has capacity for a frame of so many bytes, and for small ones */
+    uint8_t *out;
 };
 
 struct session {
@@ -60,7 +63,10 @@ struct session {
     unsigned long changes; /* of `settled`, so far */
     uint8_t since[SINCE_LIMIT]; /* what was played since `settled`: the beginning of a sequence */
     size_t since_len;
-    size_t width;
+    struct window size;    /* of both terminals; in a VT220's size DECCOLM may have made them wider */
+    bool is_vt220;         /* they have a VT220's size, also after DECCOLM */
+    bool is_fixed;         /* the size follows no window */
+    size_t width;          /* of the terminal, as the program was told */
     int master, slave, listener; /* the program's terminal line, and where clients come in; -1 once closed */
     pid_t command;
     long long listens_at; /* the listener isn't looked at before this time */
@@ -93,6 +99,9 @@ void ring_clients(void);
 void tell_end(void);
 void answer_waiting(void);
 bool has_clients(void);
+size_t frame_most(void);
+bool make_room(struct client *c, size_t limit);
+struct client *new_client(void);
 
 /* program.c */
 bool run_command(const struct beginning *beginning, char *why, int *status);
@@ -100,6 +109,7 @@ bool read_program(void);
 void write_program(void);
 bool add_input(const uint8_t *bytes, size_t len, bool is_report);
 bool settle(void);
+void set_line_size(void);
 void remember(const uint8_t *bytes, size_t len);
 void drain_program(void);
 void hang_up(void);
@@ -110,6 +120,11 @@ void log_start(uint64_t place);
 uint64_t log_begin(void);
 uint64_t log_end(void);
 size_t log_read(uint64_t *place, uint64_t end, uint8_t *to, size_t size, uint64_t *lost);
+
+/* size.c */
+void set_size(struct window size);                /* that of terminals that are opened next */
+bool open_like(vt220 *t, uint32_t language);      /* a terminal of the session's size; false if allocation fails */
+void follow_windows(void);                        /* gives the session the size for which its clients' windows ask */
 
 /* session.c */
 bool open_terminals(uint32_t language);

@@ -20,9 +20,9 @@
 #include <sys/wait.h>
 #include <unistd.h>
 
-/* Since form 2 there is ITEM_ENCODING, and since form 3 ITEM_TERMINAL. A session without the latter is written in form 2, so that a program
- * that knows no form 3 can go on with it. */
-enum { FORM_LOWEST = 1, FORM_ENCODING = 2, FORM = 3 };
+/* Since form 2 there is ITEM_ENCODING, since form 3 ITEM_TERMINAL, and since form 4 ITEM_SIZE and ITEM_WINDOW. A session is written in the lowest
+ * form that has all of it, so that a program that knows no higher one can go on with it. */
+enum { FORM_LOWEST = 1, FORM_ENCODING = 2, FORM_TERMINAL = 3, FORM = 4 };
 
 static const char fits[] = "can go on"; /* what the new program reports; anything else is the reason why it can't */
 
@@ -38,6 +38,7 @@ enum {
     ITEM_NAME = 'N',
     ITEM_FOLDER = 'D', /* the path of its directory */
     ITEM_TITLE = 'T',
+    ITEM_SIZE = 'W',   /* a struct handed_size, if the size isn't a VT220's, it is fixed, or windows are handed over */
     ITEM_ENCODING = 'E', /* a struct handed_pending of `settled`, if the session is in UTF-8 */
     ITEM_TERMINAL = 'X', /* instead of it, and empty, if the command has TERM=xterm-256color */
     ITEM_SCREEN = 'P', /* the repaint of `settled`, and with ITEM_TERMINAL then what is pending */
@@ -46,6 +47,7 @@ enum {
     ITEM_REPORTS = 'R',
     ITEM_LINES = 'L',  /* whole lines of the log; several items */
     ITEM_CLIENT = 'C', /* a struct handed_client, and what came from the client and isn't handled, and what isn't sent to it */
+    ITEM_WINDOW = 'V', /* a struct window, that of this client, if there is ITEM_SIZE. Otherwise it is that of a VT220 */
     ITEM_END = 'Z'
 };
 
@@ -58,6 +60,11 @@ struct handed_session {
     struct ending ending;
 };
 
+struct handed_size {
+    struct window size;
+    uint8_t is_vt220, is_fixed;
+};
+
 /* The bytes of a character that isn't complete, and how many there are. */
 struct handed_pending {
     uint8_t bytes[3], len;
@@ -65,7 +72,7 @@ struct handed_pending {
 
 struct handed_client {
     int32_t socket;
-    uint8_t state, ask, is_read_only, rings, awaits_seen, wants_log, is_reading;
+    uint8_t state, ask, flags, rings, awaits_seen, wants_log, is_reading;
     uint8_t version; /* 0 in the state of a program that knows no version 6 */
     uint32_t in_len, out_len;
     uint64_t log_at, log_end;
@@ -96,7 +103,23 @@ static void put_session(FILE *to) {
     put_item(to, ITEM_TITLE, the.title, strlen(the.title));
 }
 
-enum { SCREEN_LIMIT = VT220_XTERM_PAINT_LIMIT + 3 }; /* a repaint, and then what is pending */
+/* Returns whether a client's window is the one that a client has of which none is handed over. */
+static bool has_usual_window(const struct client *c) {
+    bool counts = c->state == ATTACHED && c->version >= PROTOCOL_SIZE;
+    return !counts || (c->window.rows == VT220_ROWS && c->window.columns == NARROW);
+}
+
+/* Returns whether sizes are handed over. */
+static bool has_sizes(void) {
+    bool has_all = the.is_vt220 && !the.is_fixed;
+    for (size_t i = 0; i < CLIENT_LIMIT && has_all; i++) has_all = the.clients[i] == NULL || has_usual_window(the.clients[i]);
+    return !has_all;
+}
+
+static void put_size(FILE *to) {
+    const struct handed_size it = {the.size, the.is_vt220, the.is_fixed};
+    if (has_sizes()) put_item(to, ITEM_SIZE, &it, sizeof it);
+}
 
 static vt220_language_state kept_by(const vt220 *t) {
     vt220_language_state kept = {0};
@@ -104,22 +127,31 @@ static vt220_language_state kept_by(const vt220 *t) {
     return kept;
 }
 
-/* Writes bytes that rebuild a terminal. `out` has SCREEN_LIMIT bytes. Returns false if the terminal is inside a sequence. */
-static bool paint(const vt220 *t, uint8_t *out, size_t *len) {
+/* Returns the bytes that rebuild a terminal: a repaint, and then what is pending. The caller frees them. Returns null if the terminal is inside a
+ * sequence, or allocation fails. */
+static uint8_t *paint(const vt220 *t, size_t *len) {
     vt220_language_state kept = kept_by(t);
-    if (vt220_repaint(t, &the.scratch, out, SCREEN_LIMIT, len) != VT220_OK) return false;
+    size_t limit = vt220_limit(t, VT220_OF_REPAINT);
+    uint8_t *out = malloc(limit + sizeof kept.pending);
+    if (out == NULL || vt220_repaint(t, &the.scratch, out, limit, len) != VT220_OK) {
+        free(out);
+        return NULL;
+    }
     memcpy(out + *len, kept.pending, kept.pending_len);
     *len += kept.pending_len;
-    return true;
+    return out;
 }
 
 /* Returns whether two terminals have the same pages. CAN ends a sequence that they are inside of, which leaves nothing of it. */
 static bool has_same_pages(vt220 *t, vt220 *other) {
-    static uint8_t bytes[SCREEN_LIMIT], others[SCREEN_LIMIT];
     size_t len = 0, others_len = 0;
     vt220_feed(t, (const uint8_t *)"\030", 1, NULL, 0, NULL);
     vt220_feed(other, (const uint8_t *)"\030", 1, NULL, 0, NULL);
-    return paint(t, bytes, &len) && paint(other, others, &others_len) && len == others_len && memcmp(bytes, others, len) == 0;
+    uint8_t *bytes = paint(t, &len), *others = paint(other, &others_len);
+    bool is_same = bytes != NULL && others != NULL && len == others_len && memcmp(bytes, others, len) == 0;
+    free(bytes);
+    free(others);
+    return is_same;
 }
 
 /* Returns whether bytes of ITEM_SCREEN, and then those that were played since `settled`, lead to the terminal's state. They don't if the middle
@@ -134,23 +166,23 @@ static bool leads_here(vt220 *other, vt220 *copy, const uint8_t *bytes, size_t l
 
 /* Writes the terminal. Returns false if what is written doesn't lead to its state. */
 static bool put_terminal(FILE *to, char *why) {
-    static uint8_t bytes[SCREEN_LIMIT];
     vt220 other = VT220_INIT, copy = VT220_INIT;
     vt220_language_state kept = kept_by(&the.settled);
     size_t len = 0;
-    bool is_written = paint(&the.settled, bytes, &len);
+    uint8_t *bytes = paint(&the.settled, &len);
     struct handed_pending pending = {.len = kept.pending_len};
     memcpy(pending.bytes, kept.pending, sizeof pending.bytes);
     if (the.language == VT220_XTERM) put_item(to, ITEM_TERMINAL, "", 0);
     else if (the.language == VT220_UTF8) put_item(to, ITEM_ENCODING, &pending, sizeof pending);
-    put_item(to, ITEM_SCREEN, bytes, is_written && the.language == VT220_UTF8 ? len - pending.len : len);
+    put_item(to, ITEM_SCREEN, bytes, bytes != NULL && the.language == VT220_UTF8 ? len - pending.len : len);
     put_item(to, ITEM_SINCE, the.since, the.since_len);
-    bool is_open = vt220_open_as(&other, the.language) == VT220_OK && vt220_open_as(&copy, the.language) == VT220_OK;
-    bool is_same = is_open && is_written && leads_here(&other, &copy, bytes, len);
+    bool is_open = open_like(&other, the.language) && open_like(&copy, the.language);
+    bool is_same = is_open && bytes != NULL && leads_here(&other, &copy, bytes, len);
     vt220_close(&other);
     vt220_close(&copy);
+    free(bytes);
     if (!is_open) return refused(why, "out of memory");
-    if (!is_written) return refused(why, "its terminal can't be written as bytes");
+    if (bytes == NULL) return refused(why, "its terminal can't be written as bytes");
     return is_same || refused(why, "the command is inside a long control sequence; try again later");
 }
 
@@ -163,27 +195,29 @@ static void put_input(FILE *to) {
 }
 
 static void put_log(FILE *to) {
-    static uint8_t lines[FRAME_LIMIT];
+    static uint8_t lines[LINES_LIMIT];
     uint64_t place = log_begin(), lost = 0;
     for (size_t len; (len = log_read(&place, log_end(), lines, sizeof lines, &lost)) > 0;) put_item(to, ITEM_LINES, lines, len);
 }
 
 static void put_client(FILE *to, const struct client *c) {
     const struct handed_client it = {
-        .socket = c->socket, .state = (uint8_t)c->state, .ask = (uint8_t)c->ask, .is_read_only = c->is_read_only, .rings = c->rings,
+        .socket = c->socket, .state = (uint8_t)c->state, .ask = (uint8_t)c->ask, .flags = c->flags, .rings = c->rings,
         .awaits_seen = c->awaits_seen, .wants_log = c->wants_log, .is_reading = c->is_reading, .version = c->version, .in_len = (uint32_t)c->in_len,
         .out_len = (uint32_t)(c->len - c->at), .log_at = c->log_at, .log_end = c->log_end, .deadline = c->deadline, .came = c->came};
     put_head(to, ITEM_CLIENT, sizeof it + it.in_len + it.out_len);
     fwrite(&it, sizeof it, 1, to);
     fwrite(c->in, 1, it.in_len, to);
     fwrite(c->out + c->at, 1, it.out_len, to);
+    if (has_sizes()) put_item(to, ITEM_WINDOW, &c->window, sizeof c->window);
 }
 
 static bool put_state(FILE *to, char *why) {
-    struct heading heading = {.form = the.language == VT220_XTERM ? FORM : FORM_ENCODING};
+    struct heading heading = {.form = has_sizes() ? FORM : the.language == VT220_XTERM ? FORM_TERMINAL : FORM_ENCODING};
     memcpy(heading.magic, magic, sizeof magic);
     fwrite(&heading, sizeof heading, 1, to);
     put_session(to);
+    put_size(to);
     if (!put_terminal(to, why)) return false;
     put_input(to);
     put_log(to);
@@ -313,6 +347,16 @@ static bool take_session(const uint8_t *bytes, size_t len) {
     return has_line && take_file(the.folder.file) && take_file(the.listener);
 }
 
+static bool take_size(const uint8_t *bytes, size_t len) {
+    struct handed_size it;
+    if (len != sizeof it) return false;
+    memcpy(&it, bytes, sizeof it);
+    set_size(it.size);
+    the.is_vt220 = the.is_vt220 && it.is_vt220;
+    the.is_fixed = it.is_fixed;
+    return is_size(&it.size) && open_terminals(the.language);
+}
+
 /* What is pending once the screen is there. */
 static struct handed_pending taken;
 
@@ -335,21 +379,24 @@ static bool take_text(char *to, size_t room, const uint8_t *bytes, size_t len) {
     return true;
 }
 
+/* The client that was taken over last. */
+static struct client *last_taken;
+
 /* Takes a client over. One that is attached gets a repaint when everything was sent that waits for it. */
 static bool take_client(const uint8_t *bytes, size_t len) {
     struct handed_client it;
     size_t i = 0;
     while (i < CLIENT_LIMIT && the.clients[i] != NULL) i++;
-    struct client *c = i < CLIENT_LIMIT && len >= sizeof it ? calloc(1, sizeof *c) : NULL;
+    struct client *c = i < CLIENT_LIMIT && len >= sizeof it ? new_client() : NULL;
     if (c == NULL) return false;
     memcpy(&it, bytes, sizeof it);
     the.clients[i] = c;
-    if (it.in_len > sizeof c->in || it.out_len > sizeof c->out || len != sizeof it + it.in_len + it.out_len) return false;
+    if (it.in_len > sizeof c->in || len != sizeof it + it.in_len + it.out_len || !make_room(c, it.out_len)) return false;
     c->socket = it.socket;
     c->program = -1;
     c->state = it.state;
     c->ask = (char)it.ask;
-    c->is_read_only = it.is_read_only;
+    c->flags = it.flags;
     c->rings = it.rings;
     c->awaits_seen = it.awaits_seen;
     c->wants_log = it.wants_log;
@@ -364,8 +411,16 @@ static bool take_client(const uint8_t *bytes, size_t len) {
     c->len = it.out_len;
     memcpy(c->in, bytes + sizeof it, it.in_len);
     memcpy(c->out, bytes + sizeof it + it.in_len, it.out_len);
+    c->window = (struct window){VT220_ROWS, NARROW};
     c->needs_repaint = c->state == ATTACHED;
-    return take_file(c->socket) && c->state <= LEAVING && (c->state != ATTACHED || vt220_open(&c->shown) == VT220_OK);
+    last_taken = c;
+    return take_file(c->socket) && c->state <= LEAVING && (c->state != ATTACHED || open_like(&c->shown, VT220_BYTES));
+}
+
+static bool take_window(const uint8_t *bytes, size_t len) {
+    if (last_taken == NULL || len != sizeof last_taken->window) return false;
+    memcpy(&last_taken->window, bytes, len);
+    return true;
 }
 
 static bool take_item(char letter, const uint8_t *bytes, size_t len) {
@@ -374,6 +429,7 @@ static bool take_item(char letter, const uint8_t *bytes, size_t len) {
     case ITEM_NAME: return take_text(the.name, sizeof the.name, bytes, len);
     case ITEM_FOLDER: return take_text(the.folder.path, sizeof the.folder.path, bytes, len);
     case ITEM_TITLE: return take_text(the.title, sizeof the.title, bytes, len);
+    case ITEM_SIZE: return take_size(bytes, len);
     case ITEM_ENCODING: return take_encoding(bytes, len);
     case ITEM_TERMINAL: return open_terminals(VT220_XTERM);
     case ITEM_SCREEN: return take_screen(bytes, len);
@@ -382,6 +438,7 @@ static bool take_item(char letter, const uint8_t *bytes, size_t len) {
     case ITEM_REPORTS: return add_input(bytes, len, true);
     case ITEM_LINES: log_append(bytes, len); return true;
     case ITEM_CLIENT: return take_client(bytes, len);
+    case ITEM_WINDOW: return take_window(bytes, len);
     default: return false;
     }
 }

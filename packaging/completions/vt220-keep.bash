@@ -14,7 +14,7 @@ _vt220_keep() {
     if [[ ${COMP_WORDS[at]} != -* || $index -gt 1 ]]; then index=$((index + 1)); fi
   done
   case $command in
-    new) options="$options -A --locale= --encoding= --terminal=" ;;
+    new) options="$options -A --locale= --encoding= --terminal= --size=" ;;
     attach) options="$options -r" ;;
     list) options="$options --tsv" ;;
     send) options="$options -l" ;;

@@ -12,6 +12,7 @@ complete -c vt220-keep -n '__fish_seen_subcommand_from new' -s A -d 'Attach to i
 complete -c vt220-keep -n '__fish_seen_subcommand_from new' -l locale -x -d 'The locale of the command'
 complete -c vt220-keep -n '__fish_seen_subcommand_from new' -l encoding -x -a 'dec utf-8' -d 'What the command writes'
 complete -c vt220-keep -n '__fish_seen_subcommand_from new' -l terminal -x -a 'vt220 xterm' -d 'The terminal that it writes for'
+complete -c vt220-keep -n '__fish_seen_subcommand_from new' -l size -x -d 'Its columns and rows'
 complete -c vt220-keep -n '__fish_seen_subcommand_from attach' -s r -d 'Only show it'
 complete -c vt220-keep -n '__fish_seen_subcommand_from serve' -l socket -r -d 'Listen to a socket of the file system'
 complete -c vt220-keep -n '__fish_seen_subcommand_from serve' -l port -x -d 'The port of 127.0.0.1'

@@ -16,7 +16,7 @@ import time
 import fleet
 from redis.exceptions import AuthenticationError, NoPermissionError, RedisError
 
-from .config import CHOICES, Beyond, Settings, Unclear, seconds, within
+from .config import CHOICES, Beyond, Settings, Unclear, screen, seconds, within
 
 LEAVING = 10.0  # seconds to wait for a store after a signal to end, at most
 HEALTH = 2.0  # seconds to wait for a store that the page's /healthz asks
@@ -28,12 +28,21 @@ def option(read, name):
     """Returns a reader of an option's number, which is within its bounds. A number of bytes may be all."""
 
     def number(word):
+        return word if name == "keep" and word == "all" and read is int else within(name, read(word))
+
+    return explained(number)
+
+
+def explained(read):
+    """Returns a reader of an option that says what is beyond its bounds."""
+
+    def explaining(word):
         try:
-            return word if name == "keep" and word == "all" and read is int else within(name, read(word))
+            return read(word)
         except Beyond as error:
             raise argparse.ArgumentTypeError(error) from None
 
-    return number
+    return explaining
 
 
 def override(chosen, words, *names):
@@ -98,11 +107,12 @@ def do_daemon(words, settings):
 
 
 def chosen_language(words, chosen):
-    """Returns the encoding and the terminal of a session, of the command line or of the configuration. Under TERM=xterm all is UTF-8."""
+    """Returns the language of a session, of the command line or of the configuration. Under TERM=xterm all is UTF-8."""
     terminal = words.terminal or chosen.terminal
     if terminal == "xterm" and words.encoding == "dec":
         raise Unclear("--terminal xterm is in UTF-8, and doesn't go with --encoding dec")
-    return "utf-8" if terminal == "xterm" else words.encoding or chosen.encoding, terminal
+    encoding = "utf-8" if terminal == "xterm" else words.encoding or chosen.encoding
+    return fleet.keys.Language(encoding, terminal, words.size or chosen.size)
 
 
 def replay(settings, words, language):
@@ -140,12 +150,12 @@ def do_view(store, incarnation, words):
 @of_session
 def do_screen(store, incarnation, words):
     """Writes the screen as text, as bytes for another terminal, or as a picture."""
-    terminal = fleet.session.as_it_is(store, incarnation).terminal
+    session = fleet.session.as_it_is(store, incarnation)
     if words.word == "text":
-        sys.stdout.write(terminal.text())
+        sys.stdout.write(session.terminal.text())
     else:
-        repaint = terminal.repaint("vt220")
-        sys.stdout.buffer.write(fleet.export.picture(repaint) if words.word == "picture" else repaint)
+        repaint = session.terminal.repaint("vt220")
+        sys.stdout.buffer.write(fleet.export.picture(repaint, session.language.screen) if words.word == "picture" else repaint)
 
 
 @of_session
@@ -228,10 +238,11 @@ def add_hosts(add):
     each.add_argument("--most", type=option(int, "most"), help="the most sessions that it plays (1000000)")
     each.add_argument("--retain", type=option(seconds, "retain"), help="how long an ended session stays in the store, such as 7d (for ever)")
     add("daemon", do_daemon, "has all sessions of this machine, and alone knows the store there; the next daemon goes on with them", METRICS)
-    each = add("host", do_host, "runs a command on a pseudo-terminal of 24 rows by 80 columns, as a session of this machine's daemon", NAME)
+    each = add("host", do_host, "runs a command on a pseudo-terminal, as a session of this machine's daemon", NAME)
     each.add_argument("--input", action="store_true", help="allows viewers to type")
     each.add_argument("--encoding", choices=CHOICES["encoding"], help="what the command writes: the VT220's own bytes, or UTF-8 (dec)")
     each.add_argument("--terminal", choices=CHOICES["terminal"], help="the terminal that the command writes for; xterm is in UTF-8 (vt220)")
+    each.add_argument("--size", type=explained(screen), metavar="COLUMNSxROWS", help="the size of its screen, from 80x2 to 255x255 (80x24)")
     each.add_argument("--replay", metavar="FILE", help="sends a file's bytes instead of running a command")
     each.add_argument("--user", help="runs the command and its holder as this user, which needs root")
     each.add_argument("--rate", type=option(int, "rate"), default=9600, help="bytes a second for --replay (9600)")

@@ -5,6 +5,7 @@ The file is the first of these that is given or exists: that of --config, that o
 """
 import configparser
 import os
+import re
 from dataclasses import dataclass, fields
 
 from .store import connect
@@ -12,6 +13,7 @@ from .store import connect
 PATHS = ("~/.config/vt220-fleet.conf", "/etc/vt220-fleet.conf")
 DEFAULT_STORE = "redis://127.0.0.1:6379"
 CHOICES = {"encoding": ("dec", "utf-8"), "terminal": ("vt220", "xterm")}  # of what a session's program writes
+COLUMNS, ROWS = (80, 255), (2, 255)  # the fewest and the most of a screen
 
 
 class Unclear(Exception):
@@ -49,6 +51,7 @@ class Host:
     orphan: float = 7 * 86400.0
     encoding: str = "dec"
     terminal: str = "vt220"
+    size: str = "80x24"
     daemon: str = ""
     metrics: str = ""
 
@@ -79,6 +82,19 @@ BOUNDS = {"every": (1, 10**9), "lease": (0.01, 10**7), "most": (1, 10**9), "time
 MOST = 10**12
 
 
+def is_screen(word):
+    """Returns whether these are columns and rows of a screen, as in 120x40."""
+    found = re.fullmatch("([1-9][0-9]{0,2})x([1-9][0-9]{0,2})", word)
+    return bool(found) and all(least <= int(each) <= most for each, (least, most) in zip(found.groups(), (COLUMNS, ROWS)))
+
+
+def screen(word):
+    """Reads a size. Raises Beyond if no screen has it."""
+    if not is_screen(word):
+        raise Beyond(f"a size is columns and rows, as 120x40: {COLUMNS[0]} to {COLUMNS[1]} columns and {ROWS[0]} to {ROWS[1]} rows")
+    return word
+
+
 def within(name, value):
     """Returns a number that a setting or an option may have. Raises Beyond if it may not."""
     least, most = BOUNDS.get(name, (0, MOST))
@@ -96,6 +112,8 @@ def value_of(kind, text, where, name):
             return None
         if name in CHOICES and text not in CHOICES[name]:
             raise Beyond(f"expected one of {', '.join(CHOICES[name])}")
+        if name == "size":
+            return screen(text)
         return kind(text) if kind is str else within(name, seconds(text) if kind is float else kind(text))
     except Beyond as error:
         raise Unclear(f"{where} = {text}: {error}") from None

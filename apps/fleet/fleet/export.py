@@ -8,7 +8,7 @@ import vt220.cast
 import vt220.page
 from vt220.process import TERMS
 
-from .keys import key, language_of
+from .keys import DEC, key, language_of
 from .session import bytes_of
 
 PROGRAM = os.path.join(os.path.dirname(os.path.abspath(__file__)), "..", "..", "..", "crates", "vt220", "out", "vt220")
@@ -30,20 +30,21 @@ def log(store, incarnation, out):
 
 
 def language(store, incarnation):
-    """Returns the encoding of a session's bytes, and the terminal that they are for."""
-    return language_of(*store.hmget(key(incarnation, "about"), "encoding", "terminal"))
+    """Returns what a session's bytes are: their encoding, and the terminal and the screen that they are for."""
+    return language_of(*store.hmget(key(incarnation, "about"), *DEC._fields))
 
 
 def asciicast(store, incarnation, title, out):
     """Writes an asciicast, version 2."""
-    encoding, terminal = language(store, incarnation)
+    written = language(store, incarnation)
     parts = bytes_of(store, incarnation)
     if not (first := next(parts, None)):
         return
     _, begin, _ = first
-    head = {"width": 80, "height": 24, "timestamp": begin // 1000, "title": title, "env": {"TERM": TERMS[terminal]}}
+    size = {"width": written.size()["columns"], "height": written.size()["rows"]}
+    head = {**size, "timestamp": begin // 1000, "title": title, "env": {"TERM": TERMS[written.terminal]}}
     events = (((moment - begin) / 1000, "o", data) for _, moment, data in itertools.chain([first], parts))
-    out.writelines(vt220.cast.asciicast(head, events, encoding))
+    out.writelines(vt220.cast.asciicast(head, events, written.encoding))
 
 
 def ttyrec(store, incarnation, _title, out):
@@ -54,12 +55,14 @@ def ttyrec(store, incarnation, _title, out):
 
 def page(store, incarnation, title, out):
     """Writes a page that plays the session in a browser."""
-    encoding, terminal = language(store, incarnation)
+    written = language(store, incarnation)
     parts = [(moment, data) for _, moment, data in bytes_of(store, incarnation)]
     chunks = [((moment - parts[0][0]) * 1000, len(data)) for moment, data in parts]
-    out.write(vt220.page.page(b"".join(data for _, data in parts), chunks, title, encoding=encoding, terminal=terminal).encode())
+    options = {"encoding": written.encoding, "terminal": written.terminal, **(written.size() if written.screen != DEC.screen else {})}
+    out.write(vt220.page.page(b"".join(data for _, data in parts), chunks, title, **options).encode())
 
 
-def picture(repaint):
-    """Returns a repaint as SVG, as the vt220 program draws it."""
-    return subprocess.run([program(), "picture"], input=repaint, stdout=subprocess.PIPE, check=True).stdout
+def picture(repaint, screen):
+    """Returns a repaint of a screen as SVG, as the vt220 program draws it."""
+    options = [] if screen == DEC.screen else ["--size", screen]
+    return subprocess.run([program(), "picture", *options], input=repaint, stdout=subprocess.PIPE, check=True).stdout

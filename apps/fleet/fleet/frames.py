@@ -1,8 +1,6 @@
 """What viewers get: a repaint at first, and then updates, at most twenty a second, and only while somebody looks."""
 import time
 
-import vt220
-
 from .keys import key
 
 FRAME = 0.05  # seconds between updates to viewers
@@ -48,7 +46,7 @@ class Frames:
             if session.shown is None:
                 # Not deleted: ids only grow in a stream that stays, whatever the clock does.
                 calls.append(("XTRIM", stream, "MAXLEN", 0))
-            session.shown, session.step = vt220.Terminal(), 0
+            session.shown, session.step = session.language.viewed(), 0
             frame = {"repaint": session.terminal.repaint("vt220")}
             session.shown.feed(frame["repaint"])
         else:

@@ -41,7 +41,7 @@ class Picture:
 
     def __init__(self, incarnation):
         self.incarnation, self.number, self.shown = incarnation, 0, -1
-        self.terminal = vt220.Terminal()
+        self.terminal = vt220.Terminal()  # until there is one to show
         self.modes = self.terminal.modes()
         self.begin, self.updates = 0, []  # since which number an update led from each screen to the next: (number, bytes)
         self.facts, self.facts_changed = {}, 0
@@ -162,7 +162,7 @@ class Gallery:
         with self.lock:
             self.order, self.followed = order, {i: self.followed.get(i) or Followed(self.store, i) for i in order}
             for each in listed:  # so no client is told of a session without its facts
-                facts = {name: each[name] for name in ("name", "state", "worker", "host", "fault", "lag", "size", "input")}
+                facts = {name: each[name] for name in ("name", "state", "worker", "host", "fault", "lag", "size", "input", "screen")}
                 self.followed[each["incarnation"]].picture.learn(facts)
         asked = [each for each in self.followed.values() if not each.is_final]
         answers = self.store.run_all([self.store.call_of("watch", each.incarnation) for each in asked])

@@ -17,7 +17,7 @@ from .wire import STREAMS
 
 log = logging.getLogger("fleet.host")
 
-REPORT = re.compile(rb"(?:\x1b\[|\x9b)(?:\?62;1;6c|>1;10;0c|0n|[0-9]{1,2};[0-9]{1,3}R|\?13n|\?27;1n)", re.DOTALL)
+REPORT = re.compile(rb"(?:\x1b\[|\x9b)(?:\?62;1;6c|>1;10;0c|0n|[0-9]{1,3};[0-9]{1,3}R|\?13n|\?27;1n)", re.DOTALL)
 REPORT_LIMIT = 10
 WAITING = 1 << 20  # bytes that may wait for a worker; then the program is made to wait
 HELD = 1 << 20  # bytes that a host could send again if the store went back
@@ -65,13 +65,14 @@ class WentBack(keys.Fault):
 class Host:
     """A session's only writer."""
 
-    def __init__(self, store, name, lease=10.0, takes_input=False, command="", incarnation=None, encoding="dec", terminal="vt220", me=None):
+    def __init__(self, store, name, lease=10.0, takes_input=False, command="", incarnation=None, encoding="dec", terminal="vt220",
+                 screen="80x24", me=None):
         self.store, self.name, self.lease = store, keys.checked_name(name), lease
         self.incarnation = incarnation or keys.new_id()
         self.me = me or name_of_host()
         self.about = ["host", self.me, "input", int(takes_input), "command", command[:500]]
-        self.language = keys.Language(encoding, terminal)
-        needed = keys.NEEDED[self.language]
+        self.language = keys.Language(encoding, terminal, screen)
+        needed = keys.needed(self.language)
         if needed > keys.OLDEST:  # a worker that doesn't know this format doesn't take the session
             said = zip(keys.Language._fields, self.language, keys.DEC)
             self.about += [word for name, value, usual in said if value != usual for word in (name, value)] + ["needs", needed]

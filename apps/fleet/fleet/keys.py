@@ -19,7 +19,7 @@ the incarnation, so that a name can be used again without meeting anything of it
     fleet:of:WORKER              set of the incarnations that a worker owns
 
     fleet:INCARNATION:about      hash: name, host, started, owner, end (of the bytes), played, answered, how it ended, and unless it is
-                                 a VT220 with its own bytes: the encoding, the terminal, and the format that the session needs
+                                 a VT220 with its own bytes: the encoding, the terminal, the screen, and the format that the session needs
     fleet:INCARNATION:bytes      stream of what the host sent. The id of an entry is POSITION-0, the position after its last byte.
                                  The first entry is 0-1; the last one, POSITION-2, carries the exit status
     fleet:INCARNATION:answers    stream of reports. The id of a report is the position just after the byte that asked for it
@@ -44,20 +44,36 @@ from typing import NamedTuple
 
 import vt220
 
-# The formats that this program reads and writes. Since 3 a session has an encoding, and since 4 a terminal.
-FORMATS = (2, 3, 4)
+from .config import is_screen
+
+# The formats that this program reads and writes. Since 3 a session has an encoding, since 4 a terminal, and since 5 a size of its screen.
+FORMATS = (2, 3, 4, 5)
 FORMAT, OLDEST = max(FORMATS), min(FORMATS)
 
 
 class Language(NamedTuple):
-    """What a session's program writes: the encoding, and the terminal that it writes for."""
+    """What a session's program writes: the encoding, the terminal that it writes for, and the columns and rows of that one's screen."""
 
     encoding: str = "dec"
     terminal: str = "vt220"
+    screen: str = "80x24"
+
+    def size(self):
+        """Returns the rows and the columns, by these names."""
+        return dict(zip(("columns", "rows"), map(int, self.screen.split("x"))))
+
+    def opened(self):
+        """Returns a terminal of this language."""
+        return vt220.Terminal(self.encoding, self.terminal, **self.size())
+
+    def viewed(self):
+        """Returns a terminal for what viewers get of one of this language."""
+        return vt220.Terminal(**self.size())
 
 
 DEC, UTF8, XTERM = Language(), Language("utf-8"), Language("utf-8", "xterm")
-NEEDED = {DEC: OLDEST, UTF8: 3, XTERM: 4}  # the oldest format in which a session of a language is written
+NEEDED = {DEC: OLDEST, UTF8: 3, XTERM: 4}  # the oldest format in which a session of a language is written that has a VT220's size
+SIZED = 5  # and of any other one
 ALL, LIVE, NAMES, WAITING, SUSPECTS, TRYING, FOREIGN, WORKERS, DRAINING, UNFIT = (
     "fleet:all", "fleet:live", "fleet:names", "fleet:waiting", "fleet:suspects", "fleet:trying", "fleet:foreign",
     "fleet:workers", "fleet:draining", "fleet:unfit",
@@ -152,13 +168,20 @@ def now():
     return int(time.time() * 1000)
 
 
-def language_of(encoding, terminal):
+def language_of(encoding, terminal, screen):
     """Returns a session's language, as `about` has it. Raises Wrong if there is no such one."""
-    said = [text(each) or default for each, default in zip((encoding, terminal), DEC)]
-    if Language(*said) not in NEEDED:
+    language = Language(*(text(each) or default for each, default in zip((encoding, terminal, screen), DEC)))
+    if language._replace(screen=DEC.screen) not in NEEDED:
         wrong = shown(encoding)[:40], shown(terminal)[:40]
         raise Wrong(f"the session has the encoding {wrong[0]!r}" + (f" and the terminal {wrong[1]!r}" if terminal else ""))
-    return Language(*said)
+    if not is_screen(language.screen):
+        raise Wrong(f"the session has the size {shown(screen)[:40]!r}")
+    return language
+
+
+def needed(language):
+    """Returns the oldest format in which a session of a language is written."""
+    return NEEDED[language] if language in NEEDED else SIZED
 
 
 def version(number=FORMAT):
@@ -177,7 +200,7 @@ def agreed(said, formats=FORMATS, language=DEC):
     """Returns the format to write: the newest one that all living workers know, as the store says, if this program knows it. It is
     never older than the language needs."""
     newest = number(said, 0)
-    return max(newest if newest in formats else max(formats), NEEDED[language])
+    return max(newest if newest in formats else max(formats), needed(language))
 
 
 def checked_name(name):

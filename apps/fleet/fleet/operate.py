@@ -9,8 +9,8 @@ from . import keys
 from .claims import SHOWN
 from .keys import key
 
-FIELDS = ("name", "host", "owner", "end", "played", "seen", "closed", "started", "input", "command", "encoding", "terminal")
-COLUMNS = ("NAME", "STATE", "HOST", "WORKER", "LAG", "SIZE", "LAST OUTPUT")
+FIELDS = ("name", "host", "owner", "end", "played", "seen", "closed", "started", "input", "command", *keys.DEC._fields)
+COLUMNS = ("NAME", "STATE", "HOST", "WORKER", "LAG", "SIZE", "SCREEN", "LAST OUTPUT")
 SIGNALS = {"HUP": 1, "INT": 2, "KILL": 9, "TERM": 15}
 
 
@@ -69,7 +69,7 @@ def described(incarnation, fields, fault, status):
     try:
         end, played, started, seen = (keys.number(fields[name]) for name in ("end", "played", "started", "seen"))
         made |= {"size": end, "lag": max(0, end - played), "started": started, "seen": seen}
-        keys.language_of(fields["encoding"], fields["terminal"])
+        keys.language_of(*(fields[name] for name in keys.DEC._fields))
     except keys.Wrong as wrong:
         made["fault"] = made["fault"] or f"Wrong: {wrong}"
     return made
@@ -132,7 +132,7 @@ def show_list(store, is_json, is_all):
         return 0
     rows = [COLUMNS]
     for each in listed:
-        told = each["worker"] or "-", str(each["lag"]), str(each["size"]), ago(each["seen"])
+        told = each["worker"] or "-", str(each["lag"]), str(each["size"]), each["screen"], ago(each["seen"])
         rows.append((each["name"], each["state"], each["host"], *told))
     widths = [max(len(row[column]) for row in rows) for column in range(len(COLUMNS))]
     for row in rows:

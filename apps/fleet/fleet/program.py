@@ -43,7 +43,7 @@ def environment_of(language, user):
     """Returns the environment for a program, and gives this process to a user, if there is one. Nothing of the fleet's is in it, where an
     address or a password may be."""
     kept = {name: value for name, value in os.environ.items() if not name.startswith("FLEET_") and "REDIS" not in name}
-    kept |= {"TERM": TERMS[language[1]], "LC_ALL": LOCALES[language[0]], "LINES": "24", "COLUMNS": "80"}
+    kept |= {"TERM": TERMS[language[1]], "LC_ALL": LOCALES[language[0]], "LINES": str(language.size()["rows"]), "COLUMNS": str(language.size()["columns"])}
     if not user:
         return kept
     try:
@@ -207,7 +207,7 @@ class Program(threading.Thread):
         if self.before:
             self.before.join()
             self.before = None
-        language_of(*(each.encode() for each in self.state.language))
+        language_of(*(each.encode() for each in self.host.language))
         self.host.resume(lambda host: is_dead_here(host) and not self.is_gone and not self.is_left)
         self.host.adopt(self.state.base, self.state.end, self.state.last)
         self.is_named = True

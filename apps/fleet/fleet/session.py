@@ -6,7 +6,7 @@ a checkpoint's position is before the bytes that begin a character and wait for 
 """
 import vt220
 
-from .keys import DEC, FORMATS, PIECE, Damaged, Language, Long, Lost, Trimmed, Version, Wrong
+from .keys import DEC, FORMATS, PIECE, Damaged, Long, Lost, Trimmed, Version, Wrong
 from .keys import format_of, key, language_of, number as number_of, position, read_checkpoint, text
 
 
@@ -14,15 +14,11 @@ class Session:
     """A session's terminal, played up to the position `at`."""
 
     def __init__(self, incarnation, at=0, repaint=b"", formats=FORMATS, language=DEC):
-        self.incarnation, self.at, self.formats = incarnation, at, formats
+        self.incarnation, self.at, self.formats, self.language = incarnation, at, formats, language
         self.newest = 0  # the newest format of what was read
-        self.terminal = vt220.Terminal(*language)
+        self.terminal = language.opened()
         self.terminal.feed(repaint)
         self.status = None
-
-    @property
-    def language(self):
-        return Language(self.terminal.encoding, self.terminal.terminal)
 
     def data_of(self, entry_id, fields):
         """Returns what of an entry wasn't played yet. Raises a fault if it isn't a host's, or if bytes before it are missing."""
@@ -84,7 +80,7 @@ def look_up(store, incarnation):
     """Returns a session as its checkpoint has it, and the position where its bytes end. Raises Lost if the store has lost it."""
     with store.pipeline(transaction=True) as together:
         together.hgetall(key(incarnation, "checkpoint"))
-        together.hmget(key(incarnation, "about"), "end", "encoding", "terminal")
+        together.hmget(key(incarnation, "about"), "end", *DEC._fields)
         together.exists(key(incarnation, "bytes"))
         fields, (end, *said), is_there = store.all_of(together)
     if end is None or not is_there:

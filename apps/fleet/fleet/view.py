@@ -22,20 +22,21 @@ class Drawing:
     """Draws a terminal on today's terminals. Only what changed is drawn."""
 
     def __init__(self, out):
-        self.out, self.shown, self.line = out, None, ""
+        self.out, self.shown, self.line, self.rows = out, None, "", vt220.ROWS
 
     def draw(self, terminal):
         is_erased = self.shown is None or self.shown.width() != terminal.width()
         self.say(terminal.draw(self.shown).decode())
         if is_erased:
+            self.rows, self.shown = terminal.rows(), terminal.copy()
             self.note(self.line)
-            self.shown = vt220.Terminal()
-        self.shown.copy_from(terminal)
+        else:
+            self.shown.copy_from(terminal)
 
     def note(self, line):
         """Writes a line below the screen."""
         self.line = line
-        self.say(f"\0337\033[{vt220.ROWS + 1};1H\033[0m\033[K{line[:80]}\0338")
+        self.say(f"\0337\033[{self.rows + 1};1H\033[0m\033[K{line[:80]}\0338")
 
     def say(self, words):
         self.out.write(words)
@@ -50,7 +51,7 @@ class Viewer:
         self.terminal, self.last = vt220.Terminal(), "0-0"
         self.by, self.step = None, 0
         self.worker, self.fault, self.is_over, self.takes_input = "", "", False, False
-        self.language = keys.DEC
+        self.language, self.is_known = keys.DEC, False  # known: the store has said how the session is
 
     def ask(self):
         """Tells the worker that somebody looks, and learns how the session is. Call it each second."""
@@ -62,7 +63,10 @@ class Viewer:
             self.is_over, self.fault = True, self.fault or "Lost: the store no longer has this session"
             return
         self.worker, self.fault, self.is_over = keys.text(answer[1]), keys.shown(answer[2]), bool(answer[3])
-        self.takes_input, self.language = answer[5] == b"1", keys.language_of(answer[6], answer[7])
+        self.takes_input, language = answer[5] == b"1", keys.language_of(*answer[6:9])
+        if language.screen != self.language.screen:
+            self.terminal = language.viewed()
+        self.language, self.is_known = language, True
         if order(answer[4]) < order(self.last):  # the stream began anew
             self.last = "0-0"
 
@@ -79,6 +83,8 @@ class Viewer:
     def play(self, fields):
         """A repaint leads there from anywhere; an update only from where the one before it led. Returns whether it was played."""
         by, step = fields.get(b"by"), keys.number(fields.get(b"step"))
+        if not self.is_known:
+            return False
         if b"repaint" in fields:
             self.terminal.feed(fields[b"repaint"])
         elif (by, step) == (self.by, self.step + 1):
@@ -112,7 +118,7 @@ class Keyboard:
         data = os.read(0, 1024)
         if not data or LEAVE in data:
             return False
-        read = typed(self.held + data, modes, *language)
+        read = typed(self.held + data, modes, language.encoding, language.terminal)
         self.held = read.held
         self.sender.type(read.sent)
         if read.refused:

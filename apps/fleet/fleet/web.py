@@ -224,7 +224,7 @@ class Page:
         if not self.settings.typing:
             raise PermissionError("this page doesn't type: fleet web --typing")
         modes = followed.picture.modes
-        encoding, terminal = followed.language
+        encoding, terminal, _ = followed.language
         data = vt220.key(str(said["key"]), modes, terminal=terminal) if "key" in said else spelled(str(said["text"])[:4096], modes, encoding)
         if followed.incarnation not in typed:
             typed[followed.incarnation] = Typing(self, socket, followed.incarnation)

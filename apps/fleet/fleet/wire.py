@@ -9,7 +9,7 @@ import struct
 HEAD, NUMBER, ENTRY = struct.Struct("=cI"), struct.Struct("=Q"), struct.Struct("=BQQ")
 HELD = 1 << 20  # bytes that a daemon hasn't acknowledged; then the program is made to wait. As many acknowledged ones are kept
 LONGEST = 1 << 18  # of a frame of a holder
-VERSION = "2"  # of these frames
+VERSION, SIZED = "2", "3"  # of these frames; and of those of a session whose size isn't a VT220's, which then has a word of its own
 STREAMS = ("answers", "keys", "signals")  # an input has the number of its stream here
 PLACE = "vt220-fleet/daemon"  # of a daemon's socket, in the runtime directory
 
@@ -68,14 +68,15 @@ class State:
     def __init__(self, data):
         try:
             version, name, incarnation, takes_input, encoding, terminal, *rest = data.decode("utf-8", "surrogateescape").split("\0")[:-1]
+            screen = [rest.pop(0)] if version == SIZED else []
             numbers = [int(each) for each in rest[:8]]
             self.base, self.end = numbers[:2]
             self.last = {stream: f"{numbers[2 + 2 * at]}-{numbers[3 + 2 * at]}" for at, stream in enumerate(STREAMS)}
         except (ValueError, IndexError):
             raise Strange("no state of a holder") from None
-        if version != VERSION:
-            raise Strange(f"a holder of version {version[:9]!r}; this daemon knows version {VERSION}")
-        self.name, self.incarnation, self.language = name, incarnation, (encoding, terminal)
+        if version not in (VERSION, SIZED):
+            raise Strange(f"a holder of version {version[:9]!r}; this daemon knows the versions {VERSION} and {SIZED}")
+        self.name, self.incarnation, self.language = name, incarnation, (encoding, terminal, *screen)
         self.takes_input, self.command = takes_input == "1", " ".join(rest[8:])
 
 

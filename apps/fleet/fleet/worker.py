@@ -59,7 +59,7 @@ class Kept(Session):
         self.is_dirty = True  # something was played since viewers were sent a frame
         self.taken, self.begun = time.monotonic(), self.at
         self.is_on_trial = False  # workers died in its company; this one takes no other until it caught up
-        self.needed = keys.NEEDED[self.language]
+        self.needed = keys.needed(self.language)
 
     def play_some(self, every, budget, number=keys.FORMAT):
         """Plays what was read, up to so many bytes, and makes a checkpoint if one is due. Returns what is left of the bytes."""
@@ -218,7 +218,7 @@ class Worker:
         with self.store.pipeline(transaction=True) as together:
             for each in incarnations:
                 together.hgetall(key(each, "checkpoint"))
-                together.hmget(key(each, "about"), "end", "name", "encoding", "terminal")
+                together.hmget(key(each, "about"), "end", "name", *keys.DEC._fields)
                 together.exists(key(each, "bytes"))
             together.hget(keys.TRYING, self.claims.me)
             *answers, suspect = self.store.all_of(together)

@@ -1,10 +1,10 @@
 /* Holds the program of a session: its pseudo-terminal, its process, and the bytes that the store may not have yet. It runs as the
  * session's user, and knows no store: it speaks with the host daemon of its machine, and outlives it.
  *
- *   vt220-fleet-holder SOCKET ORPHAN PATIENCE INPUT ENCODING TERMINAL NAME COMMAND ..
+ *   vt220-fleet-holder SOCKET ORPHAN PATIENCE INPUT ENCODING TERMINAL SCREEN NAME COMMAND ..
  *
  * ORPHAN: the milliseconds without a daemon after which the program is ended; -1: never. PATIENCE: the milliseconds after a signal to end
- * for which the holder waits until the session's end is in the store. INPUT is 0 or 1. fleet/wire.py describes the frames. */
+ * for which the holder waits until the session's end is in the store. INPUT is 0 or 1. SCREEN is the size, as 120x40: columns and rows. fleet/wire.py describes the frames. */
 #define _GNU_SOURCE /* for ppoll */
 #include "../../keep/command.h"
 #include "../../keep/frame.h"
@@ -49,7 +49,8 @@ struct entry_id {
 };
 
 static struct {
-    const char *socket, *input, *encoding, *terminal, *name;
+    const char *socket, *input, *encoding, *terminal, *screen, *name;
+    struct winsize size;
     char **command;
     long long orphan, patience;
     struct line line;
@@ -130,7 +131,7 @@ static void drop_before(uint64_t position) {
 /* Starts the program. If it can't be started, it has written why, and has ended. */
 static void start_program(void) {
     char why[1024];
-    int error = start_command(&the.line, the.command, strcmp(the.encoding, "utf-8") == 0 ? IUTF8 : 0, NULL, NULL, &the.status);
+    int error = start_command(&the.line, the.command, &the.size, strcmp(the.encoding, "utf-8") == 0 ? IUTF8 : 0, NULL, NULL, &the.status);
     the.is_started = true;
     if (error == 0) {
         close(the.line.slave); /* so the terminal is closed when the last program has closed it */
@@ -198,8 +199,11 @@ static bool send_state(int link) {
     size_t len = 0;
     FILE *to = open_memstream(&state, &len);
     if (to == NULL) return false;
-    fprintf(to, "2%c%s%c%s%c%s%c", 0, the.name, 0, the.incarnation, 0, the.input, 0);
-    fprintf(to, "%s%c%s%c%" PRIu64 "%c%" PRIu64 "%c", the.encoding, 0, the.terminal, 0, the.base, 0, end(), 0);
+    bool is_sized = strcmp(the.screen, "80x24") != 0; /* otherwise the state has the form of before, so an older daemon knows it */
+    fprintf(to, "%c%c%s%c%s%c%s%c", is_sized ? '3' : '2', 0, the.name, 0, the.incarnation, 0, the.input, 0);
+    fprintf(to, "%s%c%s%c", the.encoding, 0, the.terminal, 0);
+    if (is_sized) fprintf(to, "%s%c", the.screen, 0);
+    fprintf(to, "%" PRIu64 "%c%" PRIu64 "%c", the.base, 0, end(), 0);
     for (size_t i = 0; i < STREAMS; i++) fprintf(to, "%" PRIu64 "%c%" PRIu64 "%c", the.last[i].moment, 0, the.last[i].number, 0);
     for (char **word = the.command; *word != NULL; word++) fprintf(to, "%s%c", *word, 0);
     bool is_sent = fclose(to) == 0 && wire_send(link, STATE, state, len);
@@ -397,12 +401,13 @@ static void heed_signals(sigset_t *open_mask) {
 
 int main(int argc, char **argv) {
     sigset_t open_mask;
-    if (argc < 9) {
-        fprintf(stderr, "usage: vt220-fleet-holder SOCKET ORPHAN PATIENCE INPUT ENCODING TERMINAL NAME COMMAND ..\n");
+    bool is_read = argc >= 10 && sscanf(argv[7], "%3hux%3hu", &the.size.ws_col, &the.size.ws_row) == 2;
+    if (!is_read) {
+        fprintf(stderr, "usage: vt220-fleet-holder SOCKET ORPHAN PATIENCE INPUT ENCODING TERMINAL SCREEN NAME COMMAND ..\n");
         return 2;
     }
     the.socket = argv[1], the.orphan = atoll(argv[2]), the.patience = atoll(argv[3]);
-    the.input = argv[4], the.encoding = argv[5], the.terminal = argv[6], the.name = argv[7], the.command = argv + 8;
+    the.input = argv[4], the.encoding = argv[5], the.terminal = argv[6], the.screen = argv[7], the.name = argv[8], the.command = argv + 9;
     heed_signals(&open_mask);
     if (!meet_daemon()) {
         fprintf(stderr, "fleet: there is no host daemon at %s: %s; fleet daemon is one\n", the.socket, strerror(errno));

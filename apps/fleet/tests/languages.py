@@ -1,12 +1,16 @@
-"""Sessions in UTF-8, and for TERM=xterm-256color: where checkpoints are, what rebuilds their terminals, who plays them, and what programs and
+"""Sessions in UTF-8, for TERM=xterm-256color, and of any size: where checkpoints are, what rebuilds their terminals, who plays them, and what programs and
 viewers get."""
 import asyncio
+import base64
 import json
 import os
 import random
+import subprocess
+
+import aiohttp
 
 from harness import (
-    PATIENCE, Processes, Source, another_daemon, begun, bury, check, fleet, keys, raises, session, settings, stores, until,
+    PATIENCE, PROGRAM, Processes, Source, another_daemon, begun, bury, check, fleet, keys, local, raises, session, settings, stores, until,
     wait_for, worker, written,
 )
 from operators import OnTerminal
@@ -71,8 +75,9 @@ PIECES = [TEXT.encode(), b"\xe2\x94", b"\xff", b"\xc2\x9b6n", b"\033[6n", b"\033
 def cut_anywhere(url, name, chance, pieces, count, whole, is_same):
     """Has a session get pieces that are cut at random, while workers die. The library plays them at once on `whole`."""
     at, data = 0, b"".join(chance.choice(pieces)[: chance.randint(1, 12)] for _ in range(count)) + b"\030"
+    screen = f"{whole.width()}x{whole.rows()}"
     reports = whole.feed(data)
-    source, one = Source(url, name, encoding=whole.encoding, terminal=whole.terminal), worker(url, every=1, keep=0)
+    source, one = Source(url, name, encoding=whole.encoding, terminal=whole.terminal, screen=screen), worker(url, every=1, keep=0)
     while at < len(data):
         size = chance.randint(1, 35)
         source.send(data[at : at + size])
@@ -96,7 +101,7 @@ def ill_formed_bytes_are_cut_anywhere(url, _):
 
 def taken_by_newer_workers(url, source, other, old):
     """An older worker takes the other session alone, and a newer one this one. Returns the newer one, when it has played all."""
-    name, store, needed = source.name, source.store, keys.NEEDED[source.host.language]
+    name, store, needed = source.name, source.store, keys.needed(source.host.language)
 
     def is_apart():
         return store.hget(keys.FOREIGN, source.incarnation) == b"%d" % needed and not store.hget(source.part("about"), "owner")
@@ -106,7 +111,7 @@ def taken_by_newer_workers(url, source, other, old):
     new = worker(url, every=1)
     check(until(lambda: source.incarnation in new.kept and not new.due and place(source) == len(source.sent), old, new), "a newer one plays it")
     formats = [store.hget(each.part("checkpoint"), "v").split(b".")[0] for each in (source, other)]
-    check(formats == [b"%d" % needed, b"%d" % keys.NEEDED[other.host.language]], f"each has its format: {formats}")
+    check(formats == [b"%d" % needed, b"%d" % keys.needed(other.host.language)], f"each has its format: {formats}")
     return new
 
 
@@ -293,3 +298,107 @@ def keys_are_those_of_an_xterm(machine, _):
     check(wait_for(lambda: source.keys() == wanted + b"\033OH"), f"by type: {source.keys()}")
     os.write(view.master, b"\x1d")
     check(view.status() == 0, "the viewer leaves")
+
+
+LARGE = "120x40"
+# The last row and column, and questions there: what is below row 24 and beyond column 80 is on a larger screen alone.
+CORNERS = b"\033[?3hfirst\r\n\033[40;100Hlast\033[6n\033[40;120H*\033[6n"
+PLACES = b"\033[40;104R\033[40;120R"
+
+
+def large(data=b"", **options):
+    made = vt220.Terminal(rows=40, columns=120, **options)
+    made.feed(data)
+    return made
+
+
+def a_session_of_a_size_is_rebuilt(url, _):
+    """Each byte is another worker's. DECCOLM leaves the width."""
+    source = Source(url, "large", screen=LARGE)
+    for number, byte in enumerate(CORNERS):
+        one = worker(url, every=1, keep=0)
+        source.send(bytes([byte]))
+        check(until(lambda: played(source) == number + 1 and not one.due, one), f"byte {number} is played")
+        source.receive()
+        one.leave()
+    one = worker(url, every=1, keep=0)
+    source.end(0)
+    check(until(source.is_ended, one), f"it ends: {source.fault()}")
+    lines = source.store.hget(source.part("ended"), "text").decode().split("\n")
+    check(lines[:2] == ["first", ""] and lines[39] == " " * 99 + "last" + " " * 16 + "*" and len(lines) == 41, f"the text: {lines[39]}")
+    check(source.receive().reports() == PLACES, f"the reports: {source.reports()}")
+    now = session.as_it_is(source.store, source.incarnation)
+    check(now.language.screen == LARGE and now.terminal.same_state(large(CORNERS)), "a reader sees the same")
+
+
+def pieces_of_a_size_are_cut_anywhere(url, _):
+    cut_anywhere(url, "sized", random.Random(seed), PIECES_OF_PAGES, 500, large(terminal="xterm"), is_same)
+
+
+def an_older_worker_takes_no_session_of_another_size(url, _):
+    old = Worker(stores.connect(url), settings(every=1), formats=(keys.OLDEST, keys.NEEDED[keys.UTF8], keys.NEEDED[keys.XTERM]))
+    source, other = Source(url, "large", screen=LARGE, **XTERM).send(CORNERS), Source(url, "xterm", **XTERM).send(PAGES)
+    new = taken_by_newer_workers(url, source, other, old)
+    source.end(0)
+    check(until(source.is_ended, old, new), "and ends it")
+    check("last" in source.store.hget(source.part("ended"), "text").decode().splitlines()[39], "the text")
+
+
+def a_wrong_size_is_a_fault(url, _):
+    for number, screen in enumerate((b"79x24", b"256x24", b"80x1", b"80x256", b"x", b"80", b"\xff", "\u0661\u0662\u0660x40".encode())):
+        source, one = Source(url, f"wrong size {number}").send(b"x"), worker(url)
+        source.store.hset(source.part("about"), "screen", screen)
+        check(until(source.fault, one) and source.fault().startswith("Wrong: the session has the size"), source.fault())
+        check(raises(keys.Wrong, session.as_it_is, source.store, source.incarnation), "for readers, too")
+
+
+def a_program_has_its_size(machine, _):
+    name, url, workers = "program", machine.url, Processes(machine, 1)
+    command = ["sh", "-c", "stty size; echo $COLUMNS $LINES; stty raw -echo; printf '\\033[40;100Hready'; head -c 1 >/dev/null; printf '\\033[39;1Hback'; cat"]
+    host, store, incarnation = begun(machine, name, command, "--input", "--size", LARGE, says=b"ready")
+    check(written(store, name).split()[:4] == [b"40", b"120", b"120", b"40"], f"its line and its environment: {written(store, name)}")
+    another_daemon(machine)
+    check(fleet(url, "type", name, "x")[0] == 0, "another daemon goes on with it")
+    check(wait_for(lambda: b"back" in written(store, name)), "the program goes on")
+    wait_for(lambda: "back" in fleet(url, "text", name)[1])
+    lines = fleet(url, "text", name)[1].splitlines()
+    check(lines[39] == " " * 99 + "ready" and lines[38] == "back" and len(lines) == 40, f"the text: {lines[38:]}")
+    data = written(store, name)
+    for word in ("text", "picture"):
+        wanted = subprocess.run([PROGRAM, word, "--quiet", "--size", LARGE], input=data, capture_output=True).stdout.decode()
+        check(fleet(url, word, name)[1] == wanted, f"the {word} is that of the program")
+    repaint = subprocess.run([local.PYTHON, local.COMMAND, "repaint", name], env=os.environ | machine.where(), capture_output=True).stdout
+    check(large(repaint).same_state(large(data)), "and so is the repaint")
+    recording = [json.loads(line) for line in fleet(url, "export", name)[1].splitlines()]
+    check((recording[0]["width"], recording[0]["height"]) == (120, 40), "the recording has its size")
+    listed = json.loads(fleet(url, "list", "--json")[1])
+    check(listed["screen"] == LARGE and f"  {LARGE}  " in fleet(url, "list")[1], "the list has it")
+    status, page, said = fleet(url, "export", "--page", name)
+    check(status == 0 and '"rows": 40, "columns": 120' in page, f"and the page: {said}")
+    check(fleet(url, "kill", "--signal", "KILL", "--patience", str(PATIENCE), name)[0] == 0 and host.wait(PATIENCE) == 137, "it ends")
+    for wrong in ("79x24", "256x24", "80x1", "80x256", "80", "+80x24", ""):
+        status, _, said = fleet(url, "host", "--size", wrong, "other", "true")
+        check(status == 2 and "80 to 255 columns and 2 to 255 rows" in said, f"{wrong} is refused: {status} {said}")
+
+
+def viewers_see_a_size(machine, _):
+    """A viewer on a terminal, and the page, which is told the size with the session."""
+    name, workers = "large", Processes(machine, 1)
+    source = Source(machine.url, name, lease=600, screen=LARGE).send(CORNERS).listen()
+    view = OnTerminal(machine.url, "view", name)
+    check(wait_for(lambda: view.has(b"\033[40;100Hlast")), "the last row is drawn")
+    source.send(b"\033[39;1Hmore")
+    check(wait_for(lambda: view.has(b"\033[39;1Hmore")), "and what comes after that")
+    served = Served(machine)
+
+    async def ask():
+        made, facts = vt220.Terminal(rows=40, columns=120), None
+        async with aiohttp.ClientSession() as client, client.ws_connect(f"http://127.0.0.1:{served.port}/live") as socket:
+            await socket.send_json({"token": served.token()})
+            while facts is None or not made.same_state(large(CORNERS + b"\033[39;1Hmore")):
+                for news in json.loads((await socket.receive(PATIENCE)).data).get("news", []):
+                    facts = news.get("facts", facts)
+                    made.feed(base64.b64decode(news.get("bytes", "")))
+        return facts["screen"]
+
+    check(asyncio.run(ask()) == LARGE, "the page gets the size, and what leads to the screen")

@@ -24,7 +24,7 @@ def proportional(pid):
 
 def idle_holders(machine, count):
     """Starts sessions whose programs are idle. Returns the processes of their holders."""
-    words = [HOLDER, machine.where()["FLEET_DAEMON"], "-1", "0", "1", "dec", "vt220"]
+    words = [HOLDER, machine.where()["FLEET_DAEMON"], "-1", "0", "1", "dec", "vt220", "80x24"]
     return [subprocess.Popen([*words, f"idle-{number}", "sleep", "infinity"], stderr=subprocess.DEVNULL) for number in range(count)]
 
 

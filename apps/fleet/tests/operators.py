@@ -95,7 +95,7 @@ def list_tells_how_sessions_are(machine, data):
     check(wait_for(lambda: state(store, "bad\u00e4 <b>&")["state"] == "fault"), "one with a fault")
     status, out, said = fleet(url, "list", "--all")
     lines = out.splitlines()
-    check(status == 0 and lines[0].split() == "NAME STATE HOST WORKER LAG SIZE LAST OUTPUT".split(), "a table")
+    check(status == 0 and lines[0].split() == "NAME STATE HOST WORKER LAG SIZE SCREEN LAST OUTPUT".split(), "a table")
     check(len(lines) == 5 and "Version: " in said, f"a line for each, and the fault: {len(lines)} {said}")
     check("over" not in fleet(url, "list")[1], "ended ones only with --all")
     listed = [json.loads(line) for line in fleet(url, "list", "--all", "--json")[1].splitlines()]

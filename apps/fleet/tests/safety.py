@@ -153,8 +153,8 @@ def rights_of_calls(urls):
             check(raises(stores.NoPermissionError, call, *words), f"{user}: no {words[0]}")
 
 
-def state_of_holder(name="other", version=wire.VERSION, encoding="dec", numbers="0"):
-    return wire.framed(wire.STATE, "".join(f"{word}\0" for word in (version, name, "", "1", encoding, "vt220", *[numbers] * 8, "true")).encode("utf-8", "surrogateescape"))
+def state_of_holder(name="other", version=wire.VERSION, encoding="dec", numbers="0", screen=()):
+    return wire.framed(wire.STATE, "".join(f"{word}\0" for word in (version, name, "", "1", encoding, "vt220", *screen, *[numbers] * 8, "true")).encode("utf-8", "surrogateescape"))
 
 
 def what_is_no_holder_harms_no_session(machine, _):
@@ -170,6 +170,7 @@ def what_is_no_holder_harms_no_session(machine, _):
     too_long = wire.HEAD.pack(wire.STATE, wire.LONGEST + 1)
     strange = [b"x" * 100, too_long, wire.framed(wire.STATE), wire.packed(wire.BYTES, 1, b"x"), state_of_holder(version="1"), state_of_holder("a\nb")]
     strange += [state_of_holder("\udcff"), state_of_holder("x" * 300), state_of_holder(encoding="utf-7"), state_of_holder(numbers="x"), state_of_holder("good")]
+    strange += [state_of_holder(version=wire.SIZED), *(state_of_holder(version=wire.SIZED, screen=[each]) for each in ("79x24", "80x256", "x", "-80x24"))]
     strange += [state_of_holder() + frame for frame in (wire.packed(wire.BYTES, 5, b"x"), wire.packed(wire.BYTES, 1 << 63, b"x"), wire.framed(wire.TAKEN))]
     for number, data in enumerate(strange):
         with connected() as made:
@@ -191,7 +192,7 @@ def what_is_no_holder_harms_no_session(machine, _):
 
 ANSWERS = "stty -echo; echo on; while read x; do echo got $x; done"
 UNITS = os.path.join(HERE, "..", "systemd")
-ATTACK = r"""cat %s/*/password /proc/*/environ; %s %s -1 0 1 dec vt220 victim true; echo "status $?"; until [ -e %s/go ]; do sleep 0.1; done; [ "$(id -u)" -ne 0 ] && kill -9 -1; echo survived"""
+ATTACK = r"""cat %s/*/password /proc/*/environ; %s %s -1 0 1 dec vt220 80x24 victim true; echo "status $?"; until [ -e %s/go ]; do sleep 0.1; done; [ "$(id -u)" -ne 0 ] && kill -9 -1; echo survived"""
 
 
 class Units:

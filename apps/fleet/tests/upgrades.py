@@ -194,7 +194,7 @@ class Said:
     def __init__(self, machine, command):
         self.path = os.path.join(machine.folder, "said")
         self.listener = listening(self.path)
-        words = [HOLDER, self.path, "-1", "0", "1", "dec", "vt220", "said", *command]
+        words = [HOLDER, self.path, "-1", "0", "1", "dec", "vt220", "80x24", "said", *command]
         self.holder = subprocess.Popen(words)
         self.meet()
 

@@ -127,6 +127,25 @@ def real_sessions_in_the_browser(machine, _):
     check(browser.said == [], f"the browser complains of nothing: {browser.said[:2]}")
 
 
+def sessions_of_several_sizes_in_the_browser(machine, _):
+    """Each has the size of its session: a large one, and then a VT220 in its place, and back."""
+    served = Served(machine)
+    Processes(machine, 1)
+    large = Source(machine.url, "large", lease=600, screen="120x40").listen().send(b"first\r\n\033[40;100Hlast")
+    Source(machine.url, "usual", lease=600).listen().send(b"a VT220\033[24;80H*")
+    browser = Browser(served.url)
+    check(wait_for(lambda: count(browser, "li") == 2), "both sessions are there")
+    for number in range(2):
+        choose(browser, "large")
+        check(wait_for(lambda: [row.rstrip() for row in lines(browser)] == ["first", *[""] * 38, " " * 99 + "last"]), f"40 rows: {lines(browser)[:2]}")
+        choose(browser, "usual")
+        check(wait_for(lambda: [row.rstrip() for row in lines(browser)] == ["a VT220", *[""] * 22, " " * 79 + "*"]), f"24 rows: {lines(browser)[:2]}")
+    choose(browser, "large")
+    large.send(b"\033[39;120H+")
+    check(wait_for(lambda: len(lines(browser)) == 40 and lines(browser)[38].endswith("+")), "an update of the large one")
+    check(browser.said == [], f"the browser complains of nothing: {browser.said[:2]}")
+
+
 # What is copied if the first row of the screen is selected.
 COPIED = """((root, row) => {
   const copy = new ClipboardEvent("copy", { clipboardData: new DataTransfer(), bubbles: true, cancelable: true });
@@ -306,6 +325,7 @@ def clients_are_led_where_a_session_is(_, data):
 def a_repaint_that_changes_nothing_is_not_sent(_, data):
     """A worker that wasn't asked for some seconds sends one when it is asked again. The updates after it lead on."""
     followed, shown = Followed(None, "x"), played(data)[0]
+    followed.is_known = True  # no store says that the session is of a VT220
     frame = {b"by": b"one", b"step": b"0", b"repaint": shown.repaint()}
     followed.play(frame)
     number = followed.picture.number

@@ -2,6 +2,7 @@
 import __main__
 import contextlib
 import fcntl
+import glob
 import os
 import pathlib
 import pty
@@ -35,6 +36,11 @@ ENVIRONMENT |= {"KEEP_DIR": str(FOLDER), "LC_ALL": "C", "SHELL": "/bin/sh", "HOM
 # Keepers and clients wait for each other as long as a test does. Where their own limit is tested, the test gives them a short one.
 ENVIRONMENT |= {"KEEP_LINGER": "86400", "KEEP_PATIENCE": str(PATIENCE)}
 SHORT = {"KEEP_PATIENCE": "1"}
+# What the sanitizers find in the programs of this test is in files whose names begin so. They don't look for leaks, as in apps/keep/tests/run.
+SANITIZERS = {"ASAN_OPTIONS": f"exitcode=99:detect_leaks=0:log_path={ROOM}/asan", "UBSAN_OPTIONS": f"exitcode=99:log_path={ROOM}/ubsan"}
+ENVIRONMENT |= {name: re.sub("(?<=log_path=)[^:]*", rf"\g<0>.{ROOM.name}", os.environ.get(name, usual)) for name, usual in SANITIZERS.items()}
+FINDINGS = re.findall("log_path=([^:]*)", ":".join(ENVIRONMENT[name] for name in SANITIZERS))
+found = ""
 
 
 def check(is_so, what):
@@ -139,12 +145,14 @@ def resident(pid):
     return int(pathlib.Path(f"/proc/{pid}/statm").read_text().split()[1]) * os.sysconf("SC_PAGESIZE")
 
 
-def new(name, *command, **settings):
-    return check(keep("new", name, *command, env=ENVIRONMENT | settings).returncode == 0, f"new {name}")
+def new(name, *command, size=None, **settings):
+    """Begins a session, of this size if one is given: as 120x40, columns and rows."""
+    options = [f"--size={size}"] if size else []
+    return check(keep("new", *options, name, *command, env=ENVIRONMENT | settings).returncode == 0, f"new {name}")
 
 
-def shell(name, script, **settings):
-    return new(name, "sh", "-c", script, **settings)
+def shell(name, script, **more):
+    return new(name, "sh", "-c", script, **more)
 
 
 def end(name):
@@ -199,10 +207,11 @@ class Outer:
         wait(is_there, "a client runs")
         return int(found[0])
 
-    def part(self, rows, columns, shown):
-        """Which row and column of the session is the first one shown, and where the hint is that says so: its row and column."""
-        for at in (0, min(rows, 24) - 1):
-            found = re.search(r"\[(\d+)-(\d+)/24 (\d+)-(\d+)/(\d+)\]$", shown[at].ljust(columns))
+    def part(self, rows, across, shown, height):
+        """Which row and column of a session of this height is the first one shown, and where the hint is that says so: its row and column. It ends
+        at the last column that is shown."""
+        for at in (0, min(rows, height) - 1):
+            found = re.search(rf"\[(\d+)-(\d+)/{height} (\d+)-(\d+)/(\d+)\]$", shown[at].ljust(across))
             if found:
                 return int(found[1]) - 1, int(found[3]) - 1, at, found.start()
         return 0, 0, None, None
@@ -211,13 +220,14 @@ class Outer:
         """Whether the window shows the session's screen, or the part of it that its hint names, and nothing else."""
         rows, columns = int(self.tells("pane_height")), int(self.tells("pane_width"))
         shown = self.shown() + [""] * rows
-        top, left, hint, start = self.part(rows, columns, shown)
+        height, width = int(row(name)["rows"]), int(row(name)["columns"])
+        top, left, hint, start = self.part(rows, min(columns, width), shown, height)
         wanted = [line[left : left + columns].rstrip() for line in lines(name)[top : top + rows]]
         wanted += [""] * (rows - len(wanted))
         if hint is not None:
             wanted[hint] = wanted[hint][:start].rstrip()
             shown[hint] = shown[hint][:start].rstrip()
-        elif rows < 24 or columns < 80:
+        elif rows < height or columns < width:
             return self.tells("alternate_on") == "1" and (rows < 2 or columns < 20)
         return self.tells("alternate_on") == "1" and shown[:rows] == wanted
 
@@ -261,6 +271,14 @@ def waiting(file):
     return struct.unpack("i", fcntl.ioctl(file, termios.FIONREAD, bytes(4)))[0]
 
 
+def exactly(peer, count):
+    """Reads so many bytes, or fewer if the socket ends. (MSG_WAITALL has no effect on a socket with a limit of time.)"""
+    got = b""
+    while len(got) < count and (more := peer.recv(count - len(got))):
+        got += more
+    return got
+
+
 class Raw:
     """A client that speaks to the socket itself. It asks with a letter, or sends `first` as it is."""
 
@@ -275,11 +293,7 @@ class Raw:
             self.hello = self.frame()
 
     def exactly(self, count):
-        """Reads so many bytes, or fewer if the socket ends. (MSG_WAITALL has no effect on a socket with a limit of time.)"""
-        got = b""
-        while len(got) < count and (more := self.socket.recv(count - len(got))):
-            got += more
-        return got
+        return exactly(self.socket, count)
 
     def frame(self):
         with contextlib.suppress(ConnectionResetError):
@@ -295,6 +309,10 @@ class Raw:
     def upgrade(self, program):
         """Passes a program for the keeper, which is an open file."""
         socket.send_fds(self.socket, [frame(b"U")], [program])
+
+    def window(self, columns, rows):
+        """Tells its window, which has a client attached that knows sizes."""
+        self.socket.sendall(frame(b"W", struct.pack("=HH", rows, columns)))
 
     def seen(self):
         with contextlib.suppress(OSError):
@@ -337,6 +355,9 @@ class Terminal:
     def shows(self, what):
         return until(lambda: what in self.read())
 
+    def resize(self, columns, rows):
+        fcntl.ioctl(self.master, termios.TIOCSWINSZ, struct.pack("HHHH", rows, columns, 0, 0))
+
     def type(self, keys):
         os.write(self.master, keys)
 
@@ -351,12 +372,20 @@ class Terminal:
         os.close(self.master)
 
 
+def findings():
+    """What the sanitizers have found, with the lines of the sources."""
+    files = [file for begin in FINDINGS for file in sorted(glob.glob(f"{glob.escape(begin)}.*"))]
+    return "".join(pathlib.Path(file).read_text(errors="replace") for file in files)
+
+
 def sweep():
-    """Ends all that the tests left, also sessions that the list leaves out, since their end was shown."""
+    """Ends all that the tests left, also sessions that the list leaves out, since their end was shown. Keeps what the sanitizers found."""
+    global found
     for each in SOCKETS.glob("*"):
         with contextlib.suppress(Exception):
             keep("kill", each.name)
     wait(lambda: not any(programs_of_tests()), "no keeper is left")
+    found = findings()
     shutil.rmtree(ROOM, ignore_errors=True)
 
 
@@ -369,7 +398,10 @@ def programs_of_tests():
 
 
 def report(title):
-    """What failed, once more at the end, the last line, and the exit status."""
+    """What the sanitizers found, what failed, once more at the end, the last line, and the exit status."""
+    if found:
+        check(False, "the sanitizers found something:")
+        print(found, file=sys.stderr)
     for what in faults:
         print(f"failed: {what}", file=sys.stderr)
     print(f"{title}: {passed} passed, {failed} failed")

@@ -17,13 +17,14 @@ function made(tag, name, ...inside) {
   return element;
 }
 
-function newSession(id) {
-  const name = made("span", "name"), how = made("span", "how"), small = made("span", "small");
+// Its facts come with the first news of a session, and its size never changes.
+function newSession(id, { screen }) {
+  const [columns, rows] = screen.split("x").map(Number), name = made("span", "name"), how = made("span", "how"), small = made("span", "small");
   small.setAttribute("aria-hidden", "true");
   const button = made("button", "", name, how, small), item = made("li", "", button);
   button.type = "button";
   button.addEventListener("click", () => choose(id));
-  const session = { id, name, how, button, item, terminal: new vt220.Terminal(core), small: new vt220.Screen(core, small), facts: {} };
+  const session = { id, name, how, button, item, terminal: new vt220.Terminal(core, { rows, columns }), small: new vt220.Screen(core, small), facts: {} };
   sessions.set(id, session);
   return session;
 }
@@ -36,7 +37,7 @@ function forget(id) {
 }
 
 function take(news) {
-  const session = sessions.get(news.session) || newSession(news.session);
+  const session = sessions.get(news.session) || newSession(news.session, news.facts);
   if (news.facts) learn(session, news.facts);
   if (news.bytes) play(session, Uint8Array.from(atob(news.bytes), (byte) => byte.charCodeAt(0)));
   if (news.facts && session.id === chosen) describe(session);

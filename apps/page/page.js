@@ -63,6 +63,13 @@ async function compare(players) {
   $("difference").hidden = false;
 }
 
+/** Lets the page be as wide as the screen needs, by the size at which a recording begins. A template for that size does it before. */
+function fit({ options: { rows, columns } }) {
+  const { style } = document.documentElement;
+  style.setProperty("--rows", rows);
+  style.setProperty("--columns", columns);
+}
+
 /** Begins the page. Its state is that of its players. */
 async function begin() {
   const views = players.map(ready);
@@ -70,6 +77,7 @@ async function begin() {
   if (parent !== window) embed(players[0]);
   share(players);
   const opened = await Promise.all(views);
+  if (opened.length === 1 && opened[0] !== null) fit(opened[0]);
   document.documentElement.classList.toggle("bare", players.every((player) => player.hasAttribute("no-controls")));
   document.documentElement.dataset.state = opened.includes(null) ? "failed" : "ready";
   if (players.length === 2 && !opened.includes(null)) await compare(players);

@@ -6,7 +6,7 @@
 #include "play.h"
 #include <string.h>
 
-enum { WANTED_LIMIT = 1024 };
+enum { WANTED_LIMIT = 1024, ROW_TEXT_MOST = 3 * VT220_MOST_COLUMNS + 1 /* the most bytes of the text of a row */ };
 
 static struct {
     struct reel reel;
@@ -14,14 +14,8 @@ static struct {
     vt220_scratch scratch;
     char wanted[WANTED_LIMIT]; /* the text, as the screen shows it */
     size_t wanted_len;
-    bool has[VT220_ROWS]; /* whether each row has it */
+    bool has[VT220_MOST_ROWS]; /* whether each row has it */
 } it;
-
-static bool is_open(void) {
-    if (it.reel.terminal.is_open) return true;
-    reel_open(&it.reel);
-    return vt220_open(&it.seen) == VT220_OK && vt220_scratch_open(&it.scratch) == VT220_OK;
-}
 
 /* Sets what is looked for. In UTF-8 that is what is shown for each character, and a space after one of two cells. No row's text ends in such
  * a space. */
@@ -37,34 +31,38 @@ static void set_wanted(const char *text, uint32_t language) {
     }
 }
 
-/* Reads the rows that changed, or all. */
-static void look(bool is_anew) {
-    vt220_row_marks marks;
-    uint8_t text[VT220_ROW_TEXT_LIMIT];
+/* Reads the rows that changed, or all. Returns false if allocation fails. */
+static bool look(bool is_anew) {
+    bool changed[VT220_MOST_COLUMNS];
+    uint8_t text[ROW_TEXT_MOST];
     size_t len;
     const vt220 *now = &it.reel.terminal;
-    bool reads_all = is_anew || vt220_width(&it.seen) != vt220_width(now);
-    for (size_t row = 1; row <= VT220_ROWS; row++) {
-        vt220_row_changes(&it.seen, now, row, &marks);
-        if (!reads_all && memchr(marks.changed, true, sizeof marks.changed) == NULL) continue;
+    size_t rows = vt220_rows(now), width = vt220_width(now);
+    bool reads_all = is_anew || vt220_width(&it.seen) != width;
+    if (vt220_scratch_fit(&it.scratch, now) != VT220_OK) return false;
+    for (size_t row = 1; row <= rows; row++) {
+        bool is_known = !reads_all && vt220_changes_of(&it.seen, now, row, changed, sizeof changed) == VT220_OK;
+        if (is_known && memchr(changed, true, width) == NULL) continue;
         vt220_row_text(now, &it.scratch, row, text, sizeof text, &len);
         it.has[row - 1] = memmem(text, len, it.wanted, it.wanted_len) != NULL;
     }
-    vt220_copy(&it.seen, now);
+    memset(it.has + rows, false, sizeof it.has - rows);
+    return reel_copy(&it.seen, VT220_BYTES, &it.reel);
+}
+
+/* Plays up to so many chunks. Returns whether the text is on the screen then. */
+static bool is_there_after(size_t count, bool is_anew) {
+    return reel_seek(&it.reel, count) && look(is_anew) && memchr(it.has, true, sizeof it.has) != NULL;
 }
 
 size_t find(const struct recording *recording, const char *text, size_t first, size_t end, bool is_last) {
     size_t found = NOWHERE;
-    if (!is_open()) return NOWHERE;
+    if (!vt220_is_open(&it.reel.terminal) && !reel_open(&it.reel)) return NOWHERE;
     set_wanted(text, recording->language);
     if (it.wanted_len == 0) return NOWHERE;
-    reel_seek(&it.reel, first > 0 ? recording->chunks[first - 1].end : 0);
-    look(true);
-    bool was_there = memchr(it.has, true, sizeof it.has) != NULL;
+    bool was_there = is_there_after(first, true);
     for (size_t i = first; i < end && (found == NOWHERE || is_last); i++) {
-        reel_seek(&it.reel, recording->chunks[i].end);
-        look(false);
-        bool is_there = memchr(it.has, true, sizeof it.has) != NULL;
+        bool is_there = is_there_after(i + 1, false);
         if (is_there && !was_there) found = i;
         was_there = is_there;
     }

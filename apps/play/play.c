@@ -28,6 +28,7 @@ static const char usage[] =
     "  --exit                  ends at the end of the recording, and doesn't wait for q\n"
     "  --encoding=dec|utf-8    how the program's bytes are read; otherwise the recording decides\n"
     "  --terminal=vt220|xterm  what the program wrote for; otherwise the recording decides\n"
+    "  --size=120x40           the screen's columns and rows; otherwise the recording decides, and its changes are followed\n"
     "  -h, --help              prints this help\n"
     "  --version               prints the version\n"
     "Keys: space plays and stops; Left and Right go 5 seconds, . and , a step, 0 to 9 tenths, Home and End to the ends,\n"
@@ -51,6 +52,8 @@ static struct {
     bool is_small;      /* the terminal is too small, and says so */
     bool is_behind;     /* there may be something new to draw */
     vt220_scratch scratch;
+    uint8_t *drawing;   /* with capacity for one of so many bytes */
+    size_t limit;
     size_t rows, cols;  /* of the terminal */
     uint64_t now;       /* the time in the recording */
     long long clock;    /* when that was so */
@@ -67,7 +70,8 @@ static struct {
     char held[VT220_TYPED_LIMIT]; /* the beginning of a key whose end hasn't come */
     size_t held_len;
     long long held_at;
-    bool is_over;       /* a key ended it, or the terminal has closed */
+    bool is_over;       /* a key ended it, the terminal has closed, or allocation failed */
+    bool lacks_memory;
     int status;
 } it;
 
@@ -87,11 +91,22 @@ static long long clock_now(void) {
     return time.tv_sec * 1000000LL + time.tv_nsec / 1000;
 }
 
+/* Ends it, since allocation failed. */
+static void give_up(void) {
+    it.is_over = it.lacks_memory = true;
+    it.status = 1;
+}
+
 /* --- time --- */
 
 static void show_now(void) {
-    reel_seek(&it.reel, position_at(&it.of, it.now));
+    if (!reel_seek(&it.reel, chunks_at(&it.of, it.now))) give_up();
     it.is_behind = true;
+}
+
+/* Returns whether the terminal has a row below the recording's screen. */
+static bool has_line(void) {
+    return it.rows > vt220_rows(&it.reel.terminal);
 }
 
 static void go(uint64_t time) {
@@ -130,7 +145,7 @@ static long long due(void) {
     size_t next = chunks_at(&it.of, it.now);
     uint64_t last = next > 0 ? it.of.chunks[next - 1].micros : 0, end = next < it.of.count ? it.of.chunks[next].micros : it.now;
     if (it.pause < end - last) end = last + it.pause > it.now ? last + it.pause + 1 : it.now;
-    if (it.rows > VT220_ROWS && end > (it.now / SECOND + 1) * SECOND) end = (it.now / SECOND + 1) * SECOND; /* the line shows seconds */
+    if (has_line() && end > (it.now / SECOND + 1) * SECOND) end = (it.now / SECOND + 1) * SECOND; /* the line shows seconds */
     double wait = (double)(end - it.now) / it.speed + 1;
     long long frame = it.drawn_at + FRAME - clock_now();
     if (wait < (double)frame) wait = (double)frame;
@@ -288,7 +303,7 @@ static int write_time(char *to, size_t size, uint64_t micros) {
     return snprintf(to, size, "%llu:%02llu:%02llu", seconds / 3600, seconds / 60 % 60, seconds % 60);
 }
 
-/* Writes what is to be on the line below the screen. On a terminal of 24 rows it covers the last one, so it is only there if it is needed. */
+/* Writes what is to be on the line below the screen. On a terminal of no more rows it covers the last one, so it is only there if it is needed. */
 static void write_line(char *line, size_t size) {
     char now[32], all[32];
     write_time(now, sizeof now, it.now);
@@ -297,7 +312,7 @@ static void write_line(char *line, size_t size) {
     const char *does = it.plays ? "plays" : it.now < duration_of(&it.of) ? "stopped" : "at the end:";
     if (it.asks) snprintf(line, size, "/%s", it.wanted);
     else if (it.said[0] != 0) snprintf(line, size, "%s", it.said);
-    else if (it.rows > VT220_ROWS) snprintf(line, size, "%s %s / %s, speed %g", does, now, all, it.speed);
+    else if (has_line()) snprintf(line, size, "%s %s / %s, speed %g", does, now, all, it.speed);
     size_t len = strlen(line), most = it.cols < size ? it.cols : size - 1;
     if (len >= most) len = most - 1;
     while (len > 0 && ((uint8_t)line[len] & 0xC0) == 0x80) len--;
@@ -306,7 +321,7 @@ static void write_line(char *line, size_t size) {
 
 static void draw_line(void) {
     char line[LINE], place[32];
-    size_t row = it.rows > VT220_ROWS ? VT220_ROWS + 1 : VT220_ROWS;
+    size_t row = vt220_rows(&it.reel.terminal) + has_line();
     write_line(line, sizeof line);
     if (strcmp(line, it.line) == 0) return;
     strcpy(it.line, line);
@@ -316,15 +331,30 @@ static void draw_line(void) {
     outer_say("\0338");
 }
 
+/* Makes room for drawings of a terminal of this size. Returns false if allocation fails. */
+static bool make_room(const vt220 *t) {
+    size_t limit = vt220_limit(t, VT220_OF_DRAW);
+    if (vt220_scratch_fit(&it.scratch, t) != VT220_OK) return false;
+    if (limit <= it.limit) return true;
+    uint8_t *more = realloc(it.drawing, limit);
+    if (more == NULL) return false;
+    it.drawing = more;
+    it.limit = limit;
+    return outer_reserve(limit + 2 * LINE);
+}
+
 /* Draws a terminal of which the outer one may show another part already. */
 static void draw_screen(void) {
-    static uint8_t drawing[VT220_DRAW_LIMIT];
     const vt220 *t = &it.reel.terminal;
     size_t len;
-    bool is_erased = !it.is_drawn || vt220_width(&it.drawn) != vt220_width(t);
-    vt220_draw(it.is_drawn ? &it.drawn : NULL, t, &it.scratch, drawing, sizeof drawing, &len);
-    outer_put(drawing, len);
-    vt220_copy(&it.drawn, t);
+    if (!make_room(t)) {
+        give_up();
+        return;
+    }
+    bool is_erased = !it.is_drawn || vt220_width(&it.drawn) != vt220_width(t) || vt220_rows(&it.drawn) != vt220_rows(t);
+    vt220_draw(it.is_drawn ? &it.drawn : NULL, t, &it.scratch, it.drawing, it.limit, &len);
+    outer_put(it.drawing, len);
+    if (!reel_copy(&it.drawn, VT220_BYTES, &it.reel)) give_up();
     if (is_erased) it.line[0] = 0;
     it.is_drawn = true;
     it.is_small = false;
@@ -332,25 +362,27 @@ static void draw_screen(void) {
 
 static void draw_refusal(void) {
     char words[LINE];
-    int len = snprintf(words, sizeof words, "24 rows and %zu columns are needed", vt220_width(&it.reel.terminal));
-    if (it.is_small) return;
-    words[(size_t)len < it.cols ? (size_t)len : it.cols - 1] = 0;
+    const vt220 *t = &it.reel.terminal;
+    size_t len = (size_t)snprintf(words, sizeof words, "%zu rows and %zu columns are needed", vt220_rows(t), vt220_width(t));
+    words[len < it.cols ? len : it.cols - 1] = 0;
+    if (it.is_small && strcmp(words, it.line) == 0) return;
     outer_say("\033[0m\033[1;1H\033[J\033[?25h");
     outer_say(words);
+    strcpy(it.line, words);
     it.is_small = true;
     it.is_drawn = false;
 }
 
 static bool fits(void) {
-    return it.rows >= VT220_ROWS && it.cols >= vt220_width(&it.reel.terminal);
+    return it.rows >= vt220_rows(&it.reel.terminal) && it.cols >= vt220_width(&it.reel.terminal);
 }
 
 static void draw(void) {
     uint64_t bells = vt220_bells(&it.reel.terminal);
     char line[LINE];
     write_line(line, sizeof line);
-    if (it.rows == VT220_ROWS && it.line[0] != 0 && line[0] == 0) it.is_drawn = false; /* the last row was covered */
-    if (bells != it.bells) outer_say("\a");
+    if (!has_line() && it.line[0] != 0 && line[0] == 0) it.is_drawn = false; /* the last row was covered */
+    if (bells > it.bells) outer_say("\a");
     it.bells = bells;
     it.is_behind = false;
     it.drawn_at = clock_now();
@@ -366,10 +398,7 @@ static void draw(void) {
 /* --- the loop --- */
 
 static void take_terminal(void) {
-    if (!outer_take(VT220_DRAW_LIMIT + 2 * LINE, OUTER_LEAVING)) {
-        it.is_over = true;
-        it.status = 1;
-    }
+    if (!outer_take(it.limit + 2 * LINE, OUTER_LEAVING)) give_up();
     it.is_drawn = it.is_small = false;
     it.line[0] = 0;
     it.is_behind = true;
@@ -411,16 +440,17 @@ static void play(uint64_t from) {
     sigset_t open_mask;
     outer_hold_signals(&open_mask);
     outer_size(&it.rows, &it.cols);
-    if (!fits()) {
-        fail(1, "this terminal has %zu rows and %zu columns, and %d rows and %zu columns are needed", it.rows, it.cols, VT220_ROWS,
-             vt220_width(&it.reel.terminal));
-    }
     go(from);
+    if (!fits()) {
+        fail(1, "this terminal has %zu rows and %zu columns, and %zu rows and %zu columns are needed", it.rows, it.cols,
+             vt220_rows(&it.reel.terminal), vt220_width(&it.reel.terminal));
+    }
     take_terminal();
     it.clock = clock_now();
     it.plays = !it.is_over;
     while (!it.is_over) turn(&open_mask);
     outer_release(OUTER_LEAVING, LEAVING_PATIENCE);
+    if (it.lacks_memory) fail(1, "out of memory");
 }
 
 /* --- the command line --- */
@@ -445,6 +475,14 @@ static double speed_of(const char *text) {
     return speed;
 }
 
+/* Returns the size that an option gives, which has no rows if the recording decides. */
+static struct size size_given(const char *given) {
+    struct size size = {0, 0};
+    if (strcmp(given, "auto") == 0 || size_of(given, &size)) return size;
+    fail(2, "--size is columns and rows, as 120x40: 80 to %d columns and 2 to %d rows, or auto, not '%.100s'", VT220_MOST_COLUMNS,
+         VT220_MOST_ROWS, given);
+}
+
 static void print_version(void) {
     printf("vt220-play %d.%d.%d\n", VT220_VERSION / 10000, VT220_VERSION / 100 % 100, VT220_VERSION % 100);
 }
@@ -452,7 +490,7 @@ static void print_version(void) {
 static void read_options(int argc, char **argv, struct options *options) {
     static const struct option names[] = {{"help", 0, NULL, 'h'},  {"version", 0, NULL, 'V'}, {"timing", 1, NULL, 't'}, {"speed", 1, NULL, 's'},
                                           {"from", 1, NULL, 'f'},  {"until", 1, NULL, 'u'},   {"pause", 1, NULL, 'p'},  {"exit", 0, NULL, 'x'},
-                                          {"encoding", 1, NULL, 'E'}, {"terminal", 1, NULL, 'T'}, {0}};
+                                          {"encoding", 1, NULL, 'E'}, {"terminal", 1, NULL, 'T'}, {"size", 1, NULL, 'S'}, {0}};
     opterr = 0;
     for (int letter; (letter = getopt_long(argc, argv, "h", names, NULL)) >= 0;) {
         switch (letter) {
@@ -467,6 +505,7 @@ static void read_options(int argc, char **argv, struct options *options) {
             break;
         case 'x': it.exits = true; break;
         case 'E': options->asked.encoding = choice("encoding", optarg, "dec", "utf-8"); break;
+        case 'S': options->asked.size = size_given(optarg); break;
         case 'T': options->asked.terminal = choice("terminal", optarg, "vt220", "xterm"); break;
         default: fail(2, "unknown option '%s'; vt220-play --help lists them", argv[optind - 1]);
         }
@@ -481,17 +520,16 @@ static void read_options(int argc, char **argv, struct options *options) {
 
 int main(int argc, char **argv) {
     struct options options = {0};
-    struct moment from = {0, 0};
+    struct moment from = {0, 0, 0};
     it.speed = 1;
     it.pause = UINT64_MAX;
     read_options(argc, argv, &options);
     if (!isatty(STDOUT_FILENO) || !outer_open()) fail(2, "it needs a terminal");
     recording_read(&it.of, &options.asked);
     if (options.from != NULL) from = moment_of(&it.of, "from", options.from);
-    if (options.until != NULL) recording_cut(&it.of, moment_of(&it.of, "until", options.until).position);
+    if (options.until != NULL) recording_cut(&it.of, moment_of(&it.of, "until", options.until));
     reel_begin(&it.of);
-    reel_open(&it.reel);
-    if (vt220_open(&it.drawn) != VT220_OK || vt220_scratch_open(&it.scratch) != VT220_OK) fail(1, "out of memory");
+    if (!reel_open(&it.reel)) fail(1, "out of memory");
     play(from.micros);
     if (outer_told.to_go != 0) {
         sigset_t only;

@@ -12,6 +12,7 @@
 #include <unistd.h>
 
 enum { WIDE = 132, NARROW = 80 };
+enum { LEAST_ROWS = 2, MOST_CHANGES = 1000 /* of the size that are carried out */, WINDOW_DIGITS = 9, OPTION_DIGITS = 3 };
 enum { PART = 65536, BEGINNING = 1024 };
 enum { PACE = 50000, PACE_BYTES = 48 }; /* a line of 9600 baud carries 960 bytes a second: a chunk every 50 ms */
 enum { SECOND = 1000000, DECIMALS = 6, SECONDS_DIGITS = 9, NUMBER_DIGITS = 15 };
@@ -73,22 +74,85 @@ static recording_extent read_all_events(struct recording *it, const struct file 
     return extent;
 }
 
+/* --- sizes --- */
+
+/* Reads a number of so many digits at most. */
+static bool number(const char **at, int digits, uint64_t *value) {
+    const char *begun = *at;
+    for (*value = 0; **at >= '0' && **at <= '9' && *at - begun < digits; (*at)++) *value = *value * 10 + (uint64_t)(**at - '0');
+    return *at > begun;
+}
+
+static bool is_size(const struct size *size) {
+    return size->rows >= LEAST_ROWS && size->rows <= VT220_MOST_ROWS && size->columns >= NARROW && size->columns <= VT220_MOST_COLUMNS;
+}
+
+/* Reads two numbers with a text between them, and returns whether that is the whole text. */
+static bool two_numbers(const char *text, const char *between, int digits, uint32_t *first, uint32_t *second) {
+    uint64_t one, two;
+    if (!number(&text, digits, &one) || strncmp(text, between, strlen(between)) != 0) return false;
+    text += strlen(between);
+    if (!number(&text, digits, &two) || *text != 0) return false;
+    *first = (uint32_t)one;
+    *second = (uint32_t)two;
+    return true;
+}
+
+bool size_of(const char *text, struct size *size) {
+    return two_numbers(text, "x", OPTION_DIGITS, &size->columns, &size->rows) && is_size(size);
+}
+
+/* Reads the size to which a window changes: COLUMNSxROWS by asciinema, ROWS=.. COLS=.. by script. Returns false if the text is none. */
+static bool window_of(const uint8_t *bytes, size_t len, struct size *size) {
+    char text[64] = "";
+    if (len >= sizeof text || memchr(bytes, 0, len) != NULL) return false;
+    memcpy(text, bytes, len);
+    if (strncmp(text, "ROWS=", 5) == 0) return two_numbers(text + 5, " COLS=", WINDOW_DIGITS, &size->rows, &size->columns);
+    return two_numbers(text, "x", WINDOW_DIGITS, &size->columns, &size->rows);
+}
+
+/* Returns the size that is asked for, or that of the first line if a screen may have it. Otherwise, and for a VT220's wide screen, it is that of
+ * a VT220's narrow one. */
+static struct size size_for(const recording_head *head, const struct asked *asked) {
+    const struct size vt220 = {VT220_ROWS, NARROW}, named = {head->rows, head->columns}, size = asked->size.rows > 0 ? asked->size : named;
+    return !is_size(&size) || (size.rows == VT220_ROWS && size.columns == WIDE) ? vt220 : size;
+}
+
+/* Returns whether the screen is a VT220's wide one. */
+static bool is_wide(const struct recording *it, const recording_head *head, const struct asked *asked) {
+    bool is_vt220 = it->size.rows == VT220_ROWS && it->size.columns == NARROW;
+    return is_vt220 && (asked->size.rows > 0 ? asked->size.columns : head->columns) == WIDE;
+}
+
 /* --- what is played --- */
 
-/* Moves the bytes of output together, and makes a chunk of each output. A time that is earlier than the one before it is that one. */
-static void keep_output(struct recording *it) {
-    size_t from = 0, to = 0;
+/* Adds a change of the size, if it is one of the first to a size that a screen may have. Returns whether it is. `seen` counts the changes. */
+static bool keep_change(struct recording *it, size_t event, const uint8_t *bytes, size_t *seen) {
+    struct change change = {.event = event, .chunk = it->count};
+    if (!window_of(bytes, it->events[event].length, &change.size)) return false;
+    if (++*seen > MOST_CHANGES || !is_size(&change.size)) return false;
+    it->changes[it->changes_count++] = change;
+    return true;
+}
+
+/* Moves the bytes of output together. Makes a chunk of each output, and of each change of the size that is carried out. A time that is earlier
+ * than the one before it is that one. Returns how many changes aren't carried out. */
+static size_t keep_output(struct recording *it, bool is_resized) {
+    size_t from = 0, to = 0, seen = 0;
     uint64_t time = 0;
     it->chunks = allocated(it->events_count * sizeof *it->chunks);
+    it->changes = allocated(MOST_CHANGES * sizeof *it->changes);
     for (size_t i = 0; i < it->events_count; i++) {
         const recording_event *event = &it->events[i];
-        if (event->kind == RECORDING_OUTPUT && event->length > 0) {
-            memmove(it->bytes + to, it->bytes + from, event->length);
-            if (event->micros > time) time = event->micros;
-            it->chunks[it->count++] = (struct chunk){time, to += event->length};
-        }
+        bool is_output = event->kind == RECORDING_OUTPUT && event->length > 0;
+        bool is_change = is_resized && event->kind == RECORDING_SIZE && keep_change(it, i, it->bytes + from, &seen);
+        if (is_output) memmove(it->bytes + to, it->bytes + from, event->length);
+        if (is_output) to += event->length;
+        if (event->micros > time && (is_output || is_change)) time = event->micros;
+        if (is_output || is_change) it->chunks[it->count++] = (struct chunk){time, to};
         from += event->length;
     }
+    return seen - it->changes_count;
 }
 
 /* Makes chunks with times of bytes that have none. */
@@ -110,22 +174,28 @@ static uint32_t language_of(const recording_head *head, const struct asked *aske
     return asked->encoding == ENCODING_UTF8 || head->format == RECORDING_ASCIICAST ? VT220_UTF8 : VT220_BYTES;
 }
 
-/* Prints a line on what is played in another way than it was recorded. */
-static void note(const char *name, const recording_head *head, const recording_extent *extent, bool is_timed) {
-    char notes[3][128] = {"", "", ""};
-    uint32_t width = head->columns == WIDE ? WIDE : NARROW;
-    bool is_sized = head->columns > 0 && head->rows > 0 && (head->columns != width || head->rows != VT220_ROWS);
-    if (is_sized) snprintf(notes[0], sizeof notes[0], "; recorded at %ux%u, played on %ux%d", head->columns, head->rows, width, VT220_ROWS);
-    if (!is_timed) snprintf(notes[1], sizeof notes[1], "; it has no times, and is played as over a line of 9600 baud");
+/* Writes a note on the size at which it is played, if that isn't the one of its first line. */
+static void write_size_note(char *to, size_t len, const recording_head *head, struct size played) {
+    bool is_same = head->columns == played.columns && head->rows == played.rows;
+    if (head->columns > 0 && head->rows > 0 && !is_same) {
+        snprintf(to, len, "; recorded at %ux%u, played on %ux%u", head->columns, head->rows, played.columns, played.rows);
+    }
+}
+
+/* Prints a line on what is played in another way than it was recorded. `left` is how many changes of the size aren't carried out. */
+static void note(const char *name, const struct recording *it, const recording_head *head, const recording_extent *extent, size_t left) {
+    char notes[4][128] = {"", "", "", ""}, line[sizeof notes];
+    struct size played = {it->size.rows, *it->front != 0 ? WIDE : it->size.columns};
+    write_size_note(notes[0], sizeof notes[0], head, played);
+    if (left == 1) snprintf(notes[1], sizeof notes[1], "; a change of its size isn't carried out");
+    if (left > 1) snprintf(notes[1], sizeof notes[1], "; %zu changes of its size aren't carried out", left);
+    if (!it->is_timed) snprintf(notes[2], sizeof notes[2], "; it has no times, and is played as over a line of 9600 baud");
     if (extent->broken_part != 0) {
-        snprintf(notes[2], sizeof notes[2], "; %s breaks its format at byte %llu, and what follows isn't played",
+        snprintf(notes[3], sizeof notes[3], "; %s breaks its format at byte %llu, and what follows isn't played",
                  extent->broken_part == 2 ? "its timing file" : "it", (unsigned long long)extent->broken_at);
     }
-    if (notes[0][0] != 0 || notes[1][0] != 0 || notes[2][0] != 0) {
-        char line[sizeof notes];
-        snprintf(line, sizeof line, "%s%s%s", notes[0], notes[1], notes[2]);
-        fprintf(stderr, "vt220-play: %s: %s\n", name, line + 2);
-    }
+    snprintf(line, sizeof line, "%s%s%s%s", notes[0], notes[1], notes[2], notes[3]);
+    if (line[0] != 0) fprintf(stderr, "vt220-play: %s: %s\n", name, line + 2);
 }
 
 void recording_read(struct recording *it, const struct asked *asked) {
@@ -142,20 +212,17 @@ void recording_read(struct recording *it, const struct asked *asked) {
     free(timing.bytes);
     it->is_timed = is_timed || head.format == RECORDING_TTYREC || head.format == RECORDING_ASCIICAST;
     it->language = language_of(&head, asked);
-    it->front = head.columns != WIDE ? "" : it->language == VT220_XTERM ? "\033[?40h\033[?3h\033[?40l" : "\033[?3h";
-    keep_output(it);
-    if (it->count == 0) fail(1, "%s: it has no output to play", asked->file);
+    it->size = size_for(&head, asked);
+    it->front = !is_wide(it, &head, asked) ? "" : it->language == VT220_XTERM ? "\033[?40h\033[?3h\033[?40l" : "\033[?3h";
+    size_t left = keep_output(it, it->is_timed && asked->size.rows == 0);
+    if (it->count == it->changes_count) fail(1, "%s: it has no output to play", asked->file);
     if (!it->is_timed) set_pace(it);
-    note(asked->file, &head, &extent, it->is_timed);
+    note(asked->file, it, &head, &extent, left);
 }
 
-void recording_cut(struct recording *it, size_t position) {
-    for (size_t i = 0; i < it->count; i++) {
-        if (it->chunks[i].end < position) continue;
-        it->chunks[i].end = position;
-        it->count = i + 1;
-    }
-    if (position == 0) it->count = 0;
+void recording_cut(struct recording *it, struct moment moment) {
+    it->count = moment.count;
+    if (it->count > 0 && it->chunks[it->count - 1].end > moment.position) it->chunks[it->count - 1].end = moment.position;
 }
 
 /* --- times and positions --- */
@@ -179,20 +246,16 @@ size_t chunks_before(const struct recording *it, uint64_t micros) {
     return count_of(it, micros, false);
 }
 
-size_t position_at(const struct recording *it, uint64_t micros) {
-    size_t count = chunks_at(it, micros);
-    return count > 0 ? it->chunks[count - 1].end : 0;
-}
-
 uint64_t duration_of(const struct recording *it) {
     return it->count > 0 ? it->chunks[it->count - 1].micros : 0;
 }
 
-/* Returns when all bytes up to a position have come. */
-static uint64_t time_at(const struct recording *it, size_t position) {
+/* Returns the moment at which all bytes up to a position have come. */
+static struct moment moment_at(const struct recording *it, uint64_t position) {
     size_t i = 0;
     while (i < it->count && it->chunks[i].end < position) i++;
-    return position == 0 ? 0 : i < it->count ? it->chunks[i].micros : duration_of(it);
+    if (position == 0) return (struct moment){0, 0, 0};
+    return i < it->count ? (struct moment){it->chunks[i].micros, i + 1, position} : (struct moment){duration_of(it), it->count, SIZE_MAX};
 }
 
 uint64_t marker_next_to(const struct recording *it, uint64_t micros, bool is_after) {
@@ -206,13 +269,6 @@ uint64_t marker_next_to(const struct recording *it, uint64_t micros, bool is_aft
 }
 
 /* --- moments --- */
-
-/* Reads a number of so many digits at most. */
-static bool number(const char **at, int digits, uint64_t *value) {
-    const char *begun = *at;
-    for (*value = 0; **at >= '0' && **at <= '9' && *at - begun < digits; (*at)++) *value = *value * 10 + (uint64_t)(**at - '0');
-    return *at > begun;
-}
 
 static bool decimals(const char **at, uint64_t *micros) {
     const char *begun = ++*at;
@@ -246,12 +302,16 @@ static bool numbered(const char *text, const char *word, uint64_t *value) {
 
 /* Returns the moment of an event, or of a marker, by its number from 1 on. */
 static struct moment moment_of_event(const struct recording *it, const char *option, const char *text, uint64_t wanted, bool is_marker) {
-    size_t position = 0;
+    size_t position = 0, count = 0, changes = 0;
     for (size_t i = 0; i < it->events_count; i++) {
         const recording_event *event = &it->events[i];
-        if (event->kind == RECORDING_OUTPUT) position += event->length;
+        bool is_output = event->kind == RECORDING_OUTPUT && event->length > 0;
+        bool is_change = changes < it->changes_count && it->changes[changes].event == i;
+        if (is_output) position += event->length;
+        count += is_output || is_change;
+        changes += is_change;
         if (!is_marker || event->kind == RECORDING_MARKER) wanted--;
-        if (wanted == 0) return (struct moment){it->is_timed ? event->micros : time_at(it, position), position};
+        if (wanted == 0) return it->is_timed ? (struct moment){event->micros, count, position} : moment_at(it, position);
     }
     fail(1, "--%s %s: the recording doesn't have so many", option, text);
 }
@@ -261,9 +321,9 @@ struct moment moment_of(const struct recording *it, const char *option, const ch
     const char *end = text;
     if (numbered(text, "event:", &value)) return moment_of_event(it, option, text, value, false);
     if (numbered(text, "marker:", &value)) return moment_of_event(it, option, text, value, true);
-    if (time_of(text, &value)) return (struct moment){value, position_at(it, value)};
+    if (time_of(text, &value)) return (struct moment){value, chunks_at(it, value), SIZE_MAX};
     if (!number(&end, NUMBER_DIGITS, &value) || strcmp(end, "b") != 0) {
         fail(2, "--%s %s: use seconds, as 12.5 or 12:31, bytes, as 4096b, event:N or marker:N", option, text);
     }
-    return (struct moment){time_at(it, value), value};
+    return moment_at(it, value);
 }

@@ -1,61 +1,83 @@
-/* The terminal at each position of a recording: that of the bytes before it. So it doesn't depend on how a seek got there. A seek plays from
- * the last checkpoint, which is a terminal, or goes on from where it is. */
+/* The terminal after each chunk of a recording: that of all bytes and changes of the size up to there. So it doesn't depend on how a seek got
+ * there. A seek plays from the last checkpoint, which is a terminal, or goes on from where it is. */
 #include "play.h"
 #include <string.h>
 
 enum { POINTS = 128, LEAST = 65536 /* the fewest bytes from one checkpoint to the next */ };
 
 static struct {
-    const uint8_t *bytes;
-    uint32_t language;
-    size_t every; /* how many bytes there are from one checkpoint to the next */
+    const struct recording *of;
+    size_t every; /* the fewest bytes from one checkpoint to the next */
     struct reel points[POINTS + 1];
     size_t count;
 } kept;
 
-static void play(struct reel *reel, const void *bytes, size_t len) {
-    vt220_feed(&reel->terminal, bytes, len, NULL, 0, NULL);
+/* Returns how many bytes so many chunks have. */
+static size_t bytes_of(size_t count) {
+    return count > 0 ? kept.of->chunks[count - 1].end : 0;
+}
+
+/* Opens a terminal of the size after so many changes. Returns false if allocation fails. */
+static bool open_after(vt220 *t, uint32_t language, size_t changes) {
+    struct size size = changes > 0 ? kept.of->changes[changes - 1].size : kept.of->size;
+    if (vt220_open_as(t, language, size.rows, size.columns) != VT220_OK) return false;
+    return changes == 0 || vt220_resize(t, size.rows, size.columns) == VT220_OK;
+}
+
+/* A terminal of another size is opened anew: one that was resized can't get a VT220's size back. */
+bool reel_copy(vt220 *to, uint32_t language, const struct reel *from) {
+    if (vt220_copy(to, &from->terminal) == VT220_OK) return true;
+    vt220_close(to);
+    return open_after(to, language, from->changes) && vt220_copy(to, &from->terminal) == VT220_OK;
+}
+
+/* Brings a reel to where another one is. Returns false if allocation fails. */
+static bool restore(struct reel *reel, const struct reel *from) {
+    reel->count = from->count;
+    reel->changes = from->changes;
+    return reel_copy(&reel->terminal, kept.of->language, from);
 }
 
 /* Makes a checkpoint, if there is memory for it. */
 static void keep(const struct reel *reel) {
-    struct reel *point = &kept.points[kept.count];
-    if (kept.count > POINTS || vt220_open_as(&point->terminal, kept.language) != VT220_OK) return;
-    vt220_copy(&point->terminal, &reel->terminal);
-    point->at = reel->at;
-    kept.count++;
+    if (kept.count <= POINTS && restore(&kept.points[kept.count], reel)) kept.count++;
 }
 
 void reel_begin(const struct recording *recording) {
-    size_t len = recording->count > 0 ? recording->chunks[recording->count - 1].end : 0;
-    struct reel first = {VT220_INIT, 0};
-    kept.bytes = recording->bytes;
-    kept.language = recording->language;
-    kept.every = len / POINTS + LEAST;
-    if (vt220_open_as(&first.terminal, kept.language) != VT220_OK) fail(1, "out of memory");
-    play(&first, recording->front, strlen(recording->front));
+    struct reel first = {.terminal = VT220_INIT};
+    kept.of = recording;
+    kept.every = bytes_of(recording->count) / POINTS + LEAST;
+    if (!open_after(&first.terminal, recording->language, 0)) fail(1, "out of memory");
+    vt220_feed(&first.terminal, (const uint8_t *)recording->front, strlen(recording->front), NULL, 0, NULL);
     keep(&first);
     vt220_close(&first.terminal);
     if (kept.count == 0) fail(1, "out of memory");
 }
 
-void reel_open(struct reel *reel) {
-    if (vt220_open_as(&reel->terminal, kept.language) != VT220_OK) fail(1, "out of memory");
-    vt220_copy(&reel->terminal, &kept.points[0].terminal);
-    reel->at = 0;
+bool reel_open(struct reel *reel) {
+    return restore(reel, &kept.points[0]);
 }
 
-void reel_seek(struct reel *reel, size_t position) {
+/* Plays the next chunk. Returns false if allocation fails. */
+static bool play(struct reel *reel) {
+    const struct change *change = reel->changes < kept.of->changes_count ? &kept.of->changes[reel->changes] : NULL;
+    size_t from = bytes_of(reel->count), end = bytes_of(reel->count + 1);
+    vt220_feed(&reel->terminal, kept.of->bytes + from, end - from, NULL, 0, NULL);
+    if (change != NULL && change->chunk == reel->count) {
+        if (vt220_resize(&reel->terminal, change->size.rows, change->size.columns) != VT220_OK) return false;
+        reel->changes++;
+    }
+    reel->count++;
+    return true;
+}
+
+bool reel_seek(struct reel *reel, size_t count) {
     const struct reel *from = &kept.points[kept.count - 1];
-    while (from->at > position) from--;
-    if (position < reel->at || from->at > reel->at) {
-        vt220_copy(&reel->terminal, &from->terminal);
-        reel->at = from->at;
+    while (from->count > count) from--;
+    bool is_fine = (count >= reel->count && from->count <= reel->count) || restore(reel, from);
+    while (is_fine && reel->count < count) {
+        is_fine = play(reel);
+        if (is_fine && bytes_of(reel->count) >= bytes_of(kept.points[kept.count - 1].count) + kept.every) keep(reel);
     }
-    while (reel->at < position) {
-        size_t due = kept.points[kept.count - 1].at + kept.every, next = reel->at < due && due < position ? due : position;
-        play(reel, kept.bytes + reel->at, next - reel->at);
-        reel->at = next;
-        if (next >= due) keep(reel);
-    }
+    return is_fine;
 }

@@ -10,7 +10,8 @@ _vt220_play() {
     --speed | --from | --until | --pause) COMPREPLY=(); return ;;
     --encoding) words='dec utf-8 auto' ;;
     --terminal) words='vt220 xterm auto' ;;
-    *) if [[ $word == -* && $before != --timing ]]; then words='--timing= --speed= --from= --until= --pause= --exit --encoding= --terminal= -h --help --version'; fi ;;
+    --size) words=auto ;;
+    *) if [[ $word == -* && $before != --timing ]]; then words='--timing= --speed= --from= --until= --pause= --exit --encoding= --terminal= --size= -h --help --version'; fi ;;
   esac
   if [ -n "$words" ]; then
     mapfile -t COMPREPLY < <(compgen -P "$start" -W "$words" -- "$word")

@@ -38,16 +38,16 @@ export const MARKUP = `
 `;
 
 export const STYLE = `
-:host { display: block; container-type: inline-size; color-scheme: light dark; --ink: var(--vt220-ink, #1a1a1a); --ground: var(--vt220-ground, #ffffff); --line: var(--vt220-line, #767676); --accent: var(--vt220-accent, #0b57d0);
+:host { --columns: 80; --rows: 24; display: block; container-type: inline-size; color-scheme: light dark; --ink: var(--vt220-ink, #1a1a1a); --ground: var(--vt220-ground, #ffffff); --line: var(--vt220-line, #767676); --accent: var(--vt220-accent, #0b57d0);
   --spot: var(--vt220-spot, #b06000); color: var(--ink); font: 15px/1.45 system-ui, "DejaVu Sans", sans-serif; }
 @media (prefers-color-scheme: dark) { :host { --ink: var(--vt220-ink, #e4e4e4); --ground: var(--vt220-ground, #16181b); --line: var(--vt220-line, #8a8f98); --accent: var(--vt220-accent, #8ab4f8); --spot: var(--vt220-spot, #ffc04d); } }
 :host([hidden]) { display: none; }
 * { box-sizing: border-box; }
 #stage { position: relative; }
 /* The text fills the width, but it is never smaller than the least size: then the screen scrolls. */
-#screen { --columns: 80; --wide: calc(100cqw / (var(--columns) * .602 + 1.4)); --high: calc(100cqh / (24 * 1.17 + 1.2)); --size: var(--wide); --glass: var(--vt220-background, #10140f); --glow: var(--vt220-foreground, #b8e0b0); --bright: var(--vt220-bright, #f0fff0); background: var(--glass); color: var(--glow); padding: .6em; border-radius: 6px;
+#screen { --wide: calc(100cqw / (var(--columns) * .602 + 1.4)); --high: calc(100cqh / (var(--rows) * 1.17 + 1.2)); --size: var(--wide); --glass: var(--vt220-background, #10140f); --glow: var(--vt220-foreground, #b8e0b0); --bright: var(--vt220-bright, #f0fff0); background: var(--glass); color: var(--glow); padding: .6em; border-radius: 6px;
   overflow: auto hidden; outline-offset: 3px; font: max(var(--vt220-least, 12px), var(--size) * var(--scale, 1)) / 1.17 var(--vt220-font, "DejaVu Sans Mono", Menlo, Consolas, "Liberation Mono", monospace);
-  font-variant-ligatures: none; cursor: text; scrollbar-color: var(--glow) var(--glass); min-height: calc(24 * 1.17em + 1.2em); }
+  font-variant-ligatures: none; cursor: text; scrollbar-color: var(--glow) var(--glass); min-height: calc(var(--rows) * 1.17em + 1.2em); }
 #screen.reversed { --glass: var(--vt220-foreground, #b8e0b0); --glow: var(--vt220-background, #10140f); --bright: #000000; }
 #screen div { white-space: pre; height: 1.17em; width: max-content; min-width: 100%; }
 #screen .b { color: var(--bright); font-weight: bold; }
@@ -102,9 +102,9 @@ option { color: #1a1a1a; background: #ffffff; }
 /* With the attribute fit the element has the height of its place, and its screen what the controls leave of that. */
 :host(:is([fit=height], [fit=both])) { display: flex; flex-direction: column; height: 100%; min-height: 0; }
 :host(:is([fit=height], [fit=both])) #stage { flex: 1 1 0; min-height: 0; container-type: size; }
-:host([fit=height]) #screen { --size: calc((100cqh - 1rem) / (24 * 1.17 + 1.2)); } /* without what a scroll bar may take */
+:host([fit=height]) #screen { --size: calc((100cqh - 1rem) / (var(--rows) * 1.17 + 1.2)); } /* without what a scroll bar may take */
 :host([fit=both]) #screen { --size: min(var(--wide), var(--high)); }
-:host(:fullscreen) { overflow: auto; padding: 1rem max(1rem, (100vw - (100vh - 12rem) * 1.75) / 2); background: var(--ground); container-type: normal; }
+:host(:fullscreen) { overflow: auto; padding: 1rem max(1rem, (100vw - (100vh - 12rem) * 1.75 * var(--columns) / 80 * 24 / var(--rows)) / 2); background: var(--ground); container-type: normal; }
 :host(:fullscreen) #stage { container-type: inline-size; }
 :host(:fullscreen) :is(details, #notes) { display: none; }
 details, #notes { margin: .5rem 0 0; }

@@ -1,7 +1,7 @@
 // packed.js: a recording as vt220-page writes it: JSON with the list of chunks and the bytes, both by gzip in base64. The bytes come last. In a page only
 // their beginning is in it, and the rest is in an element that it names, after the script of the page.
 import { fileOf, incoming } from "./incoming.js";
-import { LF, arranged, at9600Baud, preceded, valueIn } from "./reading.js";
+import { LF, arranged, at9600Baud, carriedOut, preceded, resized, valueIn } from "./reading.js";
 
 // Characters of base64 that are unpacked at once: first a few, and then more. Each is a multiple of four.
 const FIRST = 1 << 16, MOST = 1 << 20;
@@ -90,14 +90,20 @@ function listed(list) {
   return { times, ends };
 }
 
+/** Returns how bytes of a program are played, of which nothing was read, as arranged() does. */
+function plain(changes, { size }) {
+  const [columns, rows] = size ?? [];
+  return { options: size ? { rows, columns } : {}, front: new Uint8Array(0), changes: size ? [] : carriedOut(changes).made, notes: [] };
+}
+
 /**
  * Returns a promise of a recording whose bytes are all zero so far, of how it is played, and of the call that fills it. This tells `arrived` how
  * many bytes have come. `asked` is that of arranged().
  */
-export async function opened({ bytes: packed, chunks, length, read, asked: wanted, options, notes }, asked) {
-  const how = read ? arranged(read, { ...wanted, ...asked }) : { options: {}, front: new Uint8Array(0), notes: [] };
+export async function opened({ bytes: packed, chunks, length, read, asked: wanted, changes = [], options, notes }, asked) {
+  const how = read ? arranged(read, { ...wanted, ...asked }) : plain(changes, asked);
   const { times, ends } = chunks === null ? at9600Baud(length) : listed(await unpacked(chunks));
-  const recording = preceded(how.front, { bytes: new Uint8Array(ends[ends.length - 1] ?? 0), times, ends }), { bytes } = recording;
+  const recording = preceded(how.front, resized({ bytes: new Uint8Array(ends[ends.length - 1] ?? 0), times, ends }, how.changes)), { bytes } = recording;
   const fill = async (arrived) => {
     const reader = unpacking(typeof packed === "string" ? pieces(packed) : packed).getReader();
     for (let at = how.front.length; ; ) {

@@ -16,6 +16,8 @@ export interface Options {
   controls: boolean;
   encoding: Encoding;
   terminal: TerminalName;
+  rows: number;
+  columns: number;
   markers: [time: number, label: string][];
   /** What was typed: the time and the text of each input. */
   inputs: [time: number, data: string][];
@@ -62,6 +64,12 @@ export declare class Vt220Player extends HTMLElement {
   pauseOnMarkers: boolean | null;
   encoding: Encoding | null;
   terminal: TerminalName | null;
+  /**
+   * `rows`, `cols`: the size of the screen. Without both it is that of the recording, which then follows the changes of its window, and of a live
+   * one a VT220's.
+   */
+  rows: number | null;
+  cols: number | null;
   /** `links`: follows #t=SECONDS and #q=TEXT of the page's address, and has a button that copies such a link. */
   links: boolean | null;
   /** `fit`: what the size of the text is taken from: the width of the element (otherwise), its height, or the smaller of both. */
@@ -83,8 +91,10 @@ export declare class Vt220Player extends HTMLElement {
   getDuration(): number | null;
   /** Plays bytes on a player with the attribute `live`. Throws Vt220Error if it isn't ready. */
   feed(bytes: Uint8Array): void;
-  /** Shows the state of a terminal of the shared core on a player with the attribute `live`. */
+  /** Shows the state of a terminal of the shared core, which has any size, on a player with the attribute `live`. */
   show(terminal: Terminal): void;
+  /** Changes the size of a player with the attribute `live`, as `resize` of a Terminal. Throws Vt220Error. */
+  resize(rows: number, columns: number): void;
 }
 
 declare global {

@@ -11,17 +11,17 @@ import { View, seconds } from "./view.js";
 import { Vt220Error, load } from "./vt220.js";
 
 // How a recording plays, if neither it nor an attribute says so.
-const DEFAULTS = { start: 0, poster: null, speed: 1, pause: 1, autoplay: false, loop: false, stops: false, controls: true, encoding: "dec", terminal: "vt220", markers: [],
-  inputs: [], keystrokes: false, audio: null };
+const DEFAULTS = { start: 0, poster: null, speed: 1, pause: 1, autoplay: false, loop: false, stops: false, controls: true, encoding: "dec", terminal: "vt220", rows: 24, columns: 80,
+  markers: [], inputs: [], keystrokes: false, audio: null };
 const FLAG = { read: () => true, write: (value) => (value ? "" : null) };
 const TIME = { read: seconds, write: String }, NUMBER = { read: Number, write: String }, TEXT = { read: String, write: String };
 const LOOP = { read: (text) => text === "" || Number(text), write: (value) => (value === true ? "" : value === false ? null : String(value)) };
 const MARKERS = { read: (text) => JSON.parse(text).map((marker) => (Array.isArray(marker) ? marker : [marker, ""])), write: JSON.stringify };
-// The attributes: the property and the option of each, and its form.
+// The attributes: the property and the option of each, and its form. The two of the size make no option by themselves.
 const ATTRIBUTES = {
   start: ["startAt", "start", TIME], poster: ["poster", "poster", TIME], speed: ["speed", "speed", NUMBER], "idle-limit": ["idleTimeLimit", "pause", NUMBER],
   autoplay: ["autoPlay", "autoplay", FLAG], loop: ["loop", "loop", LOOP], markers: ["markers", "markers", MARKERS], "pause-on-markers": ["pauseOnMarkers", "stops", FLAG],
-  encoding: ["encoding", "encoding", TEXT], terminal: ["terminal", "terminal", TEXT], links: ["links", "links", FLAG],
+  encoding: ["encoding", "encoding", TEXT], terminal: ["terminal", "terminal", TEXT], rows: ["rows", null, NUMBER], cols: ["cols", null, NUMBER], links: ["links", "links", FLAG],
   fit: ["fit", "fit", TEXT], keystrokes: ["keystrokes", "keystrokes", FLAG], "audio-url": ["audioUrl", "audio", TEXT],
 };
 // What is read and shown of a larger file before the rest has come, in bytes.
@@ -185,27 +185,34 @@ export class Vt220Player extends Base {
   #options(recorded) {
     const options = { links: false, isLive: false, ...DEFAULTS, ...recorded };
     for (const [attribute, [, option, form]] of Object.entries(ATTRIBUTES)) {
-      if (this.hasAttribute(attribute)) options[option] = form.read(this.getAttribute(attribute));
+      if (option !== null && this.hasAttribute(attribute)) options[option] = form.read(this.getAttribute(attribute));
     }
     if (!options.controls) this.toggleAttribute("no-controls", true);
     return options;
   }
 
-  /** Returns the terminal and the encoding that attributes ask for. */
+  /** Returns the terminal, the encoding and the size that attributes ask for. A number that isn't there is a VT220's. */
   #asked() {
-    const asked = ["terminal", "encoding"].filter((name) => this.hasAttribute(name));
-    return Object.fromEntries(asked.map((name) => [name, this.getAttribute(name)]));
+    const { rows, cols } = this, asked = ["terminal", "encoding"].filter((name) => this.hasAttribute(name));
+    const size = rows === null && cols === null ? {} : { size: [cols ?? DEFAULTS.columns, rows ?? DEFAULTS.rows] };
+    return { ...Object.fromEntries(asked.map((name) => [name, this.getAttribute(name)])), ...size };
+  }
+
+  /** Returns the size that attributes ask for, as options. */
+  #size() {
+    const { size: [columns, rows] = [] } = this.#asked();
+    return rows === undefined ? {} : { rows, columns };
   }
 
   async #load(wanted, core, because, isOver) {
     because("The recording can't be fetched.");
     const { packed, recording, file, timing } = await source(wanted, this.timing);
     because(file ? "The recording can't be read." : "The recording is damaged.");
-    const made = packed ? await opened(packed, this.#asked()) : file ? await this.#read(file, timing, core, because, isOver) : { recording };
+    const made = packed ? await opened(packed, this.#asked()) : file ? await this.#read(file, timing, core, because, isOver) : { recording, options: this.#size() };
     if (isOver()) return;
     const options = this.#options(made.options), notes = made.notes ?? [];
-    const { encoding, terminal } = options, line = new Timeline(core, made.recording, { encoding, terminal });
-    const searcher = new Searcher(core, line, made.recording, { encoding, terminal });
+    const { encoding, terminal, rows, columns } = options, line = new Timeline(core, made.recording, { encoding, terminal, rows, columns });
+    const searcher = new Searcher(core, line, made.recording, { encoding, terminal, rows, columns });
     this.#parts.push(searcher, line);
     if (made.fill) await this.#fill(made.fill, line, () => this.#begin(core, line, searcher, options, notes), options, isOver);
     else if (this.#view === null) this.#begin(core, line, searcher, options, notes);
@@ -234,7 +241,7 @@ export class Vt220Player extends Base {
 
   /** Shows the beginning of a recording, and plays it, until the whole is there. If it lacks the first frame, it does nothing. */
   #preview(recording, options, core) {
-    const { encoding, terminal, poster, start, links } = options, line = new Timeline(core, recording, { encoding, terminal });
+    const { encoding, terminal, rows, columns, poster, start, links } = options, line = new Timeline(core, recording, { encoding, terminal, rows, columns });
     if (Math.max(poster ?? start, start) >= line.duration || (links && location.hash !== "")) return line.close();
     this.#parts.push(line);
     this.#begin(core, line, null, options, []);
@@ -280,7 +287,7 @@ export class Vt220Player extends Base {
 
   /** Shows a terminal that plays what comes from an address, or what feed() gets. */
   #follow(address, core, isOver) {
-    const options = this.#options({ isLive: true }), live = new Live(core, options);
+    const options = this.#options({ isLive: true, ...this.#size() }), live = new Live(core, options);
     this.#show(core, live, null, options);
     this.#parts.push(live);
     if (address === "") return this.tell("ready", 0);
@@ -291,7 +298,8 @@ export class Vt220Player extends Base {
       if (!isReady) this.tell("ready", 0);
       isReady = true;
     };
-    this.#parts.push({ close: connected(new URL(address, document.baseURI).href, came, () => this.tell("offline", 0)) });
+    const acts = { came, resized: ({ rows, columns }) => isOver() || this.resize(rows, columns), lost: () => this.tell("offline", 0) };
+    this.#parts.push({ close: connected(new URL(address, document.baseURI).href, acts) });
   }
 
   /** Returns what is inside of a live player that is ready. */
@@ -310,7 +318,14 @@ export class Vt220Player extends Base {
   /** Shows the state of a terminal of the shared core on a live player. */
   show(terminal) {
     const view = this.#live();
-    view.line.terminal.copyFrom(terminal);
+    view.line.show(terminal);
+    view.draw();
+  }
+
+  /** Changes the size of a live player. */
+  resize(rows, columns) {
+    const view = this.#live();
+    view.line.terminal.resize(rows, columns);
     view.draw();
   }
 

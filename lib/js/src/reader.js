@@ -7,8 +7,11 @@ const FOUND = 10; // numbers: the heading, the extent and two addresses
 const EVENT = 6; // words: the time, the length, both of 64 bits, the kind, and a reserved one
 const HIGH = 2 ** 32;
 
-/** The kinds of events, by their numbers. */
-export const OUTPUT = 0, INPUT = 1, MARKER = 2;
+/** The kinds of events, by their numbers. Each has a line of its own, by which lib/js/bundle.py finds what a module exports. */
+export const OUTPUT = 0;
+export const INPUT = 1;
+export const MARKER = 2;
+export const SIZE_CHANGE = 3;
 
 /** Copies a file to the memory of an instance, and returns its address. */
 function given(calls, bytes) {

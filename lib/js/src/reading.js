@@ -1,11 +1,13 @@
 // reading.js: how a recording by asciinema, ttyrec or script, or the bytes of a program are played. A page of vt220-page has what was read of its
 // recording. Otherwise the reader reads the file.
-import { INPUT, MARKER, OUTPUT } from "./reader.js";
+import { INPUT, MARKER, OUTPUT, SIZE_CHANGE } from "./reader.js";
+import { MOST_COLUMNS, MOST_ROWS, isSize } from "./vt220.js";
 
 /** LF, which ends a line. */
 export const LF = 0x0a;
 const CHUNK = 48, PACE = 0.05; // a line of 9600 baud carries 960 bytes a second: a chunk every 50 ms
-const WIDE = 132, SIZES = [80, WIDE], HEIGHT = 24;
+const WIDE = 132, WIDTHS = [80, WIDE], HEIGHT = 24; // of a VT220's screen
+const MOST_CHANGES = 1000; // of the size that are carried out
 const TO_WIDE = { vt220: "\x1b[?3h", xterm: "\x1b[?40h\x1b[?3h\x1b[?40l" };
 
 const utf8 = { from: (text) => new TextEncoder().encode(text), to: (bytes) => new TextDecoder().decode(bytes) };
@@ -55,14 +57,50 @@ function outputOf({ events: { times, lengths, kinds }, text }) {
   return made;
 }
 
-/** Returns the times and the texts of the events of a kind. */
-function textsOf({ events: { times, lengths, kinds }, text }, wanted) {
+/** Returns the events of a kind: the time of each, its text, and how many bytes of output come before it. */
+function eventsOf({ events: { times, lengths, kinds }, text }, wanted) {
   const made = [];
-  let at = 0;
+  let at = 0, place = 0;
   kinds.forEach((kind, i) => {
-    if (kind === wanted) made.push([times[i], utf8.to(text.subarray(at, at + lengths[i]))]);
+    if (kind === wanted) made.push([times[i], utf8.to(text.subarray(at, at + lengths[i])), place]);
+    if (kind === OUTPUT) place += lengths[i];
     at += lengths[i];
   });
+  return made;
+}
+
+/** Returns the times and the texts of the events of a kind. */
+function textsOf(read, wanted) {
+  return eventsOf(read, wanted).map(([time, text]) => [time, text]);
+}
+
+/** Returns the size to which a window changes, by the text of such an event, or null. (asciinema: COLUMNSxROWS; script: ROWS=.. COLS=..) */
+export function windowIn(text) {
+  const [, columns, rows] = /^(\d{1,9})x(\d{1,9})$/.exec(text) ?? [], [, high, wide] = /^ROWS=(\d{1,9}) COLS=(\d{1,9})$/.exec(text) ?? [];
+  return rows || high ? { rows: Number(rows ?? high), columns: Number(columns ?? wide) } : null;
+}
+
+/** Returns the changes of the size that are carried out, each with its time and its place, and how many aren't. */
+export function carriedOut(events) {
+  const changes = events.map(([time, text, place]) => ({ time, place, size: windowIn(text) })).filter(({ size }) => size !== null);
+  const made = changes.slice(0, MOST_CHANGES).filter(({ size: { rows, columns } }) => isSize(rows, columns));
+  return { made, left: changes.length - made.length };
+}
+
+/** Returns a recording with changes of the size, each of which is a chunk without bytes. */
+export function resized({ bytes, times, ends }, changes) {
+  const made = { bytes, times: new Float64Array(times.length + changes.length), ends: new Float64Array(ends.length + changes.length), sizes: [] };
+  let count = 0, last = 0, at = 0;
+  const push = (time, end) => {
+    made.times[count] = last = Math.max(last, time);
+    made.ends[count++] = end;
+  };
+  for (const { time, place, size } of changes) {
+    for (; at < ends.length && ends[at] <= place; at++) push(times[at], ends[at]);
+    made.sizes.push({ chunk: count, ...size });
+    push(time, place);
+  }
+  for (; at < ends.length; at++) push(times[at], ends[at]);
   return made;
 }
 
@@ -72,13 +110,22 @@ function language({ terminal: named, isCast }, { terminal: asked, encoding }) {
   return { terminal, encoding: terminal === "xterm" || isCast ? "utf-8" : encoding ?? "dec" };
 }
 
+/** Returns the size that is asked for, otherwise that of the first line, as [columns, rows]. It is null if that isn't one of a screen. */
+function sizeOf({ size }, asked) {
+  if (asked.size) return asked.size;
+  return size && isSize(size[1], size[0]) ? size : null;
+}
+
+const isVt220 = ([columns, rows]) => rows === HEIGHT && WIDTHS.includes(columns);
+
 /** Puts bytes before a recording. */
-export function preceded(front, { bytes, times, ends }) {
-  if (front.length === 0) return { bytes, times, ends };
+export function preceded(front, { bytes, times, ends, sizes = [] }) {
+  if (front.length === 0) return { bytes, times, ends, sizes };
   const all = new Uint8Array(front.length + bytes.length);
   all.set(front);
   all.set(bytes, front.length);
-  const made = { bytes: all, times: new Float64Array(times.length + 1), ends: new Float64Array(ends.length + 1) };
+  const later = sizes.map((change) => ({ ...change, chunk: change.chunk + 1 }));
+  const made = { bytes: all, times: new Float64Array(times.length + 1), ends: new Float64Array(ends.length + 1), sizes: later };
   made.times.set(times, 1);
   made.ends.set(ends, 1);
   made.ends.forEach((end, i) => (made.ends[i] = end + front.length));
@@ -102,9 +149,10 @@ export function noteOnBytes(bytes, encoding) {
 }
 
 /** Returns what a VT220 can't show of a recording, a sentence each. */
-function notesOn({ size, terminal: named, isTimed, broken }, terminal) {
-  const [columns, rows] = size ?? [SIZES[0], HEIGHT], notes = [];
-  if (!SIZES.includes(columns) || rows !== HEIGHT) notes.push(`It was recorded in a window of ${columns} columns and ${rows} rows. A VT220 has 80 or 132 columns and 24 rows, so lines may be in other places.`);
+function notesOn({ size, terminal: named, isTimed, broken }, terminal, isOfItsSize, left) {
+  const [columns, rows] = size ?? [WIDTHS[0], HEIGHT], notes = [], least = `A screen has ${WIDTHS[0]} to ${MOST_COLUMNS} columns and 2 to ${MOST_ROWS} rows`;
+  if (size && !isOfItsSize) notes.push(`It was recorded in a window of ${columns} columns and ${rows} rows. ${isSize(rows, columns) ? "It is played at another size" : least}, so lines may be in other places.`);
+  if (left > 0) notes.push(`Its window changed its size ${left === 1 ? "once" : `${left} times`} to one at which it isn't played. ${least}, and at most ${MOST_CHANGES} changes are carried out.`);
   if (named === "xterm" && terminal === "vt220") notes.push("It was recorded for an xterm. A VT220 ignores what it doesn't know of it, such as colours.");
   if (terminal === "xterm") notes.push("Colours aren't shown.");
   if (!isTimed) notes.push("It has no times, and is played as over a line of 9600 baud.");
@@ -113,16 +161,22 @@ function notesOn({ size, terminal: named, isTimed, broken }, terminal) {
 }
 
 /**
- * Returns how a recording is played: options, the bytes before its own, and notes. `read` has whether it is by asciinema (`isCast`), whether it
- * has times (`isTimed`), the terminal and the size that its first line names, the place at which it breaks its format, and the longest pause that
- * it wants. `asked` has the terminal, the encoding and the longest pause that are asked for, if any.
+ * Returns how a recording is played: options, the bytes before its own, the changes of its size, and notes. `read` has whether it is by asciinema
+ * (`isCast`), whether it has times (`isTimed`), the terminal and the size that its first line names, the changes of its window's size (the time of
+ * each, its text and its place in the bytes), the place at which it breaks its format, and the longest pause that it wants. `asked` has the
+ * terminal, the encoding, the size and the longest pause that are asked for, if any. With a size that is asked for, no change is carried out.
  */
 export function arranged(read, asked) {
-  const chosen = language(read, asked), pause = asked.pause ?? read.pause;
+  const chosen = language(read, asked), pause = asked.pause ?? read.pause, size = sizeOf(read, asked);
+  const { made, left } = asked.size ? { made: [], left: 0 } : carriedOut(read.changes ?? []);
+  const [columns, rows] = size ?? [], isPlain = size === null || isVt220(size);
+  // A VT220's screen alone is made 132 columns wide.
+  const isWide = (size ?? read.size)?.[0] === WIDE && isPlain;
   return {
-    options: { ...chosen, ...(typeof pause === "number" && pause >= 0 && { pause }) },
-    front: utf8.from(read.size?.[0] === WIDE ? TO_WIDE[chosen.terminal] : ""),
-    notes: notesOn(read, chosen.terminal),
+    options: { ...chosen, ...(!isPlain && { rows, columns }), ...(typeof pause === "number" && pause >= 0 && { pause }) },
+    front: utf8.from(isWide ? TO_WIDE[chosen.terminal] : ""),
+    changes: made,
+    notes: notesOn(read, chosen.terminal, String(read.size) === String(size), left),
   };
 }
 
@@ -141,8 +195,9 @@ export async function played(reader, file, timing, asked) {
   const header = objectIn(file), read = await reader.read(file, timing), isCast = read.format === "asciicast";
   if (read.format === "compressed") throw new TypeError("it is compressed: decompress it first");
   if (!isCast && Number.isInteger(header?.version)) throw new TypeError(`it is by asciinema, of version ${header.version}, which isn't known`);
-  const isTimed = isCast || read.format === "ttyrec" || timing !== null, how = arranged({ ...read, isCast, isTimed, pause: header?.idle_time_limit }, asked);
+  const isTimed = isCast || read.format === "ttyrec" || timing !== null, changes = isTimed ? eventsOf(read, SIZE_CHANGE) : [];
+  const how = arranged({ ...read, isCast, isTimed, changes, pause: header?.idle_time_limit }, asked);
   const markers = textsOf(read, MARKER), inputs = textsOf(read, INPUT), output = outputOf(read);
   const timed = isTimed ? output : { bytes: output.bytes, ...at9600Baud(output.bytes.length) };
-  return { recording: preceded(how.front, timed), options: { ...how.options, markers, inputs }, notes: how.notes };
+  return { recording: preceded(how.front, resized(timed, how.changes)), options: { ...how.options, markers, inputs }, notes: how.notes };
 }

@@ -1,6 +1,6 @@
-// screen.js: the screen as 24 elements with text, of which only those that changed are written again.
+// screen.js: the screen as an element with text for each row, of which only those that changed are written again.
 import { covered, pattern } from "./finding.js";
-import { ROWS, Terminal } from "./vt220.js";
+import { Terminal, inStateOf } from "./vt220.js";
 
 // Characters that many fonts lack. They are drawn: a mirrored question mark, the scan lines of special graphics, and the letters of control
 // characters. A scan line has its number.
@@ -59,15 +59,17 @@ function copy(event) {
 const NONE = new Set();
 
 export class Screen {
-  constructor(core, place) {
-    this.place = place;
+  /** Shows the rows in `place`. The element `sized` gets the custom properties `--rows` and `--columns`. */
+  constructor(core, place, sized = place) {
+    Object.assign(this, { place, sized });
     this.drawn = new Terminal(core);
-    this.rows = Array.from({ length: ROWS }, () => place.appendChild(document.createElement("div")));
+    this.rows = [];
     this.wanted = null;
     /** The columns of what is found in each row, from 0. */
-    this.hits = new Array(ROWS).fill(NONE);
+    this.hits = [];
     this.cursorRow = 0;
     this.isStale = true;
+    this.fit(this.drawn);
     place.oncopy = copy;
   }
 
@@ -88,16 +90,28 @@ export class Screen {
     this.rows.forEach((row, i) => row.classList.toggle("d", numbers.includes(i + 1)));
   }
 
+  /** Has as many rows as a terminal. All are drawn again if that is another number. */
+  fit({ rows, width }) {
+    this.sized.style.setProperty("--rows", rows);
+    this.sized.style.setProperty("--columns", width);
+    if (rows === this.rows.length) return;
+    while (this.rows.length < rows) this.rows.push(this.place.appendChild(document.createElement("div")));
+    for (const row of this.rows.splice(rows)) row.remove();
+    this.hits = new Array(rows).fill(NONE);
+    this.cursorRow = 0;
+    this.isStale = true;
+  }
+
   draw(terminal) {
+    this.fit(terminal);
     const cursor = terminal.cursor, { dectcem, decscnm } = terminal.modes;
     const changed = new Set(this.isStale ? this.rows.keys() : this.drawn.changedRows(terminal).map((row) => row - 1));
     changed.add(cursor.row - 1);
     if (this.cursorRow > 0) changed.add(this.cursorRow - 1);
     for (const row of this.findAgain(terminal)) changed.add(row);
     for (const row of changed) this.drawRow(terminal, row, dectcem && cursor.row === row + 1 ? cursor.column : 0);
-    this.place.style.setProperty("--columns", terminal.width);
     this.place.classList.toggle("reversed", decscnm);
-    this.drawn.copyFrom(terminal);
+    this.drawn = inStateOf(terminal, this.drawn);
     this.cursorRow = cursor.row;
     this.isStale = false;
   }

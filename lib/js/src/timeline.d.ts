@@ -1,4 +1,12 @@
-import type { Core, Encoding, Terminal, TerminalName } from "./vt220.js";
+import type { Core, Options, Terminal } from "./vt220.js";
+
+/** A change of the size of the screen, after the bytes of a chunk. That chunk may have none. */
+export interface SizeChange {
+  /** The number of the chunk, counted from 0. */
+  chunk: number;
+  rows: number;
+  columns: number;
+}
 
 /** A recording: what came at each time. */
 export interface Recording {
@@ -8,6 +16,8 @@ export interface Recording {
   times: ArrayLike<number>;
   /** The position at which each chunk ends. The last one is the number of bytes. */
   ends: ArrayLike<number>;
+  /** The changes of the size, in their order. */
+  sizes?: readonly SizeChange[];
 }
 
 /** A span of time in which a text was on the screen, as seen after each chunk. */
@@ -34,18 +44,18 @@ export interface Difference {
 }
 
 /**
- * The terminal at each moment of a recording. A position is a number of bytes; the state there is that of the bytes before it, whichever
- * way a seek got there.
+ * The terminal at each moment of a recording. A position is a number of bytes; the state there is that of the bytes before it, and of the changes
+ * of the size that fewer bytes come before, whichever way a seek got there. At a time all changes have been carried out that come up to then.
  */
 export declare class Timeline {
   /**
-   * `every` is how many bytes lie between two checkpoints. `encoding` and `terminal` are those of the recording, as a Terminal takes them.
-   * Throws TypeError or RangeError if the recording isn't one. With the terminal "xterm" each checkpoint takes 56 KB of the core's memory.
+   * `every` is how many bytes lie between two checkpoints. The other options are those of a Terminal: of the recording, and its first size.
+   * Throws TypeError or RangeError if the recording isn't one, and what a Terminal throws.
    */
-  constructor(core: Core, recording: Recording, options?: { every?: number; encoding?: Encoding; terminal?: TerminalName });
-  /** Closes the terminal, and the checkpoints. */
+  constructor(core: Core, recording: Recording, options?: Options & { every?: number });
+  /** Closes the terminal. */
   close(): void;
-  /** The terminal at the position. Only look at it: seek() feeds it. */
+  /** The terminal at the position. Only look at it: seek() feeds it. After a seek to before a change of the size it may be another one. */
   readonly terminal: Terminal;
   readonly position: number;
   /** The number of bytes. */

@@ -1,8 +1,8 @@
 // timeline.js: the terminal at each moment of a recording. A position is a number of bytes, and the state there is that of the bytes
-// before it. So it doesn't depend on how a seek got there: from the beginning, or from a checkpoint. This is a repaint and the pending bytes
-// of UTF-8.
+// before it, and of the changes of the size that fewer bytes come before. So it doesn't depend on how a seek got there: from the beginning, or from
+// a checkpoint. This is a repaint and the pending bytes of UTF-8.
 import { hits, joinedRows, pattern, placeOf } from "./finding.js";
-import { ROWS, Terminal } from "./vt220.js";
+import { Terminal, inStateOf, isSize } from "./vt220.js";
 
 /** How many bytes lie between two checkpoints. A seek plays at most about as many. */
 const EVERY = 65536;
@@ -18,7 +18,7 @@ function firstIndex(count, holds) {
   return low;
 }
 
-function checked({ bytes, times, ends }) {
+function checked({ bytes, times, ends, sizes = [] }) {
   if (!(bytes instanceof Uint8Array)) throw new TypeError("the bytes of a recording are a Uint8Array");
   if (times.length !== ends.length) throw new RangeError("a recording has a time and an end for each chunk");
   for (let i = 0; i < times.length; i++) {
@@ -26,6 +26,10 @@ function checked({ bytes, times, ends }) {
     if (!(ends[i] >= (i > 0 ? ends[i - 1] : 0))) throw new RangeError(`the end of chunk ${i} is before its beginning`);
   }
   if ((ends[ends.length - 1] ?? 0) !== bytes.length) throw new RangeError("the last chunk doesn't end with the bytes");
+  sizes.forEach(({ chunk, rows, columns }, i) => {
+    if (!(chunk >= (i > 0 ? sizes[i - 1].chunk : 0) && chunk < ends.length)) throw new RangeError(`change ${i} of the size comes with no chunk, or before another one`);
+    if (!isSize(rows, columns)) throw new RangeError(`change ${i} of the size is to one that no screen has`);
+  });
 }
 
 export class Timeline {
@@ -33,17 +37,24 @@ export class Timeline {
   #bytes;
   #times;
   #ends;
+  #sizes; // each with its place: the number of bytes before it
   #every;
+  #options;
+  #first; // the rows and columns of the beginning
   #checkpoints;
+  #changes = 0; // of the size that were carried out
 
-  constructor(core, recording, { every = EVERY, encoding, terminal } = {}) {
+  constructor(core, recording, { every = EVERY, ...options } = {}) {
     checked(recording);
     this.#core = core;
     this.#bytes = recording.bytes;
     this.#times = new Float64Array(recording.times);
     this.#ends = new Float64Array(recording.ends);
+    this.#sizes = (recording.sizes ?? []).map((change) => ({ ...change, place: this.#ends[change.chunk] }));
     this.#every = Math.max(1, every);
-    this.terminal = new Terminal(core, { encoding, terminal });
+    this.#options = options;
+    this.terminal = new Terminal(core, options);
+    this.#first = [this.terminal.rows, this.terminal.width].join();
     this.position = 0;
     this.available = recording.bytes.length;
     this.#checkpoints = [this.#checkpoint()];
@@ -96,19 +107,43 @@ export class Timeline {
   #checkpoint() {
     const { position, terminal } = this;
     const repaint = terminal.repaint();
-    return { position, repaint, pending: terminal.pending };
+    return { position, changes: this.#changes, repaint, pending: terminal.pending };
+  }
+
+  /** Gives the terminal the size after so many changes. One that was resized can't get a VT220's size back, so another one takes its place. */
+  #fit(changes) {
+    if (changes === this.#changes) return;
+    if (changes > 0) {
+      const { rows, columns } = this.#sizes[changes - 1];
+      this.terminal.resize(rows, columns);
+    } else {
+      const { terminal } = this;
+      this.terminal = new Terminal(this.#core, this.#options);
+      terminal.close();
+    }
+    this.#changes = changes;
   }
 
   /** Brings the terminal to a checkpoint. */
-  #restore({ position, repaint, pending }) {
+  #restore({ position, changes, repaint, pending }) {
+    this.#fit(changes);
     this.terminal.reset();
     this.terminal.feed(repaint);
     this.terminal.feed(pending);
     this.position = position;
   }
 
-  /** Plays up to a position. Sets a checkpoint at the first place between sequences that is far enough from the last one. */
-  #play(to) {
+  /** Plays up to a position, and carries out so many changes of the size on the way. */
+  #play(to, changes) {
+    while (this.#changes < changes) {
+      this.#feed(this.#sizes[this.#changes].place);
+      this.#fit(this.#changes + 1);
+    }
+    this.#feed(to);
+  }
+
+  /** Plays bytes up to a position. Sets a checkpoint at the first place between sequences that is far enough from the last one. */
+  #feed(to) {
     while (this.position < to) {
       const due = this.#checkpoints[this.#checkpoints.length - 1].position + this.#every;
       const next = Math.min(to, Math.max(due, this.position + 1));
@@ -118,22 +153,31 @@ export class Timeline {
     }
   }
 
-  seek(position) {
-    const to = Math.max(0, Math.min(Math.trunc(position) || 0, this.available));
-    const from = this.#checkpoints[firstIndex(this.#checkpoints.length, (i) => this.#checkpoints[i].position > to) - 1];
-    if (to < this.position || from.position > this.position) this.#restore(from);
-    this.#play(to);
+  /** Brings the terminal to a position, after so many changes of the size, and returns it. */
+  #go(to, changes) {
+    const isAfter = ({ position, changes: earlier }) => position > to || earlier > changes;
+    const from = this.#checkpoints[firstIndex(this.#checkpoints.length, (i) => isAfter(this.#checkpoints[i])) - 1];
+    if (to < this.position || changes < this.#changes || from.position > this.position) this.#restore(from);
+    this.#play(to, changes);
     return this.terminal;
   }
 
-  seekTime(time) {
-    return this.seek(this.positionAt(time));
+  seek(position) {
+    const to = Math.max(0, Math.min(Math.trunc(position) || 0, this.available));
+    return this.#go(to, firstIndex(this.#sizes.length, (i) => this.#sizes[i].place >= to));
   }
 
-  /** Returns the number of bytes with which both recordings begin. */
+  seekTime(time) {
+    const to = this.positionAt(time), count = this.chunksAt(time);
+    return to > this.available ? this.seek(to) : this.#go(to, firstIndex(this.#sizes.length, (i) => this.#sizes[i].chunk >= count));
+  }
+
+  /** Returns the number of bytes with which both recordings begin, up to the first change of the size that only one has. */
   #common(other) {
-    const a = this.#bytes, b = other.#bytes, end = Math.min(a.length, b.length);
-    let at = 0;
+    const a = this.#bytes, b = other.#bytes, one = this.#sizes, two = other.#sizes, facts = ["place", "rows", "columns"];
+    let at = 0, i = 0;
+    while (i < one.length && i < two.length && facts.every((name) => one[i][name] === two[i][name])) i++;
+    const end = Math.min(a.length, b.length, one[i]?.place ?? Infinity, two[i]?.place ?? Infinity);
     while (at < end && a[at] === b[at]) at++;
     return at;
   }
@@ -144,22 +188,25 @@ export class Timeline {
   }
 
   firstDifference(other) {
-    const end = Math.max(this.length, other.length);
-    // All before the first byte that differs leads to equal states.
-    for (let at = this.#common(other); ; at = Math.min(this.#endAfter(at), other.#endAfter(at))) {
-      if (at > end) return null;
+    const end = Math.max(this.length, other.length), isOfOneSize = this.#first === other.#first;
+    // All before the first byte or change that differs leads to equal states.
+    for (let at = isOfOneSize ? this.#common(other) : 0; at <= end; at = Math.min(this.#endAfter(at), other.#endAfter(at))) {
       const rows = this.seek(at).changedRows(other.seek(at));
       if (rows.length > 0) return { position: at, rows, time: this.timeOf(at), otherTime: other.timeOf(at) };
     }
+    const rows = this.seekTime(Infinity).changedRows(other.seekTime(Infinity));
+    return rows.length > 0 ? { position: end, rows, time: this.duration, otherTime: other.duration } : null;
   }
 
   search(text, { limit = Infinity, ...how } = {}) {
-    const { encoding, terminal } = this.terminal, wanted = wantedBy(this.#core, text, encoding, how), spans = [];
+    const wanted = wantedBy(this.#core, text, this.terminal.encoding, how), spans = [];
     if (wanted === null) return spans;
-    const screens = new Screens(this.#core, { encoding, terminal });
-    let open = null, at = 0;
+    const screens = new Screens(this.#core, this.#options);
+    let open = null, at = 0, change = 0;
     for (let chunk = 0; chunk < this.#ends.length && spans.length < limit; chunk++) {
-      screens.feed(this.#bytes.subarray(at, this.#ends[chunk]));
+      const changes = change;
+      while (this.#sizes[change]?.chunk === chunk) change++;
+      screens.play(this.#bytes.subarray(at, this.#ends[chunk]), this.#sizes.slice(changes, change));
       at = this.#ends[chunk];
       const place = screens.first(wanted);
       if (place !== null) open ??= { time: this.#times[chunk], position: at, ...place };
@@ -186,19 +233,22 @@ class Screens {
   constructor(core, options) {
     this.terminal = new Terminal(core, options);
     this.seen = new Terminal(core);
-    this.rows = new Array(ROWS).fill("");
+    this.rows = new Array(this.terminal.rows).fill("");
     // A row's text has no spaces at its end, and the second cell of a character is one.
     this.end = this.terminal.encoding === "utf-8" ? " " : "";
     this.isStale = true;
     this.place = null;
   }
 
-  feed(bytes) {
+  /** Plays a chunk, and then changes of the size. */
+  play(bytes, sizes) {
     this.terminal.feed(bytes);
+    for (const { rows, columns } of sizes) this.terminal.resize(rows, columns);
     const changed = this.seen.changedRows(this.terminal);
     if (changed.length === 0) return;
+    this.rows.length = this.terminal.rows;
     for (const row of changed) this.rows[row - 1] = this.terminal.rowText(row);
-    this.seen.copyFrom(this.terminal);
+    this.seen = inStateOf(this.terminal, this.seen);
     this.isStale = true;
   }
 

@@ -63,7 +63,7 @@ export class View {
     this.abort = new AbortController();
     /** Is called after each draw. */
     this.drawn = () => {};
-    this.screen = new Screen(core, this.$("screen"));
+    this.screen = new Screen(core, this.$("screen"), host);
     // Whether the focus was last moved by a pointer, what was selected then, and whether the last click on the screen plays or pauses.
     Object.assign(this, { isPointed: false, hadSelection: false, isClick: false });
     const find = (text, how) => this.searcher.search(text, how);

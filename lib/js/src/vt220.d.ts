@@ -1,10 +1,13 @@
-/** The number of rows of the screen. */
+/** The number of rows of a VT220's screen. */
 export declare const ROWS: 24;
-/** The most columns of the screen. */
+/** The most columns of a VT220's screen. */
 export declare const COLUMNS: 132;
+/** The most rows of a screen of any size, and the most columns. */
+export declare const MOST_ROWS: 255;
+export declare const MOST_COLUMNS: 255;
 
 /** What a call could not do. `BROKEN`: an earlier call ended in a fault of WebAssembly, and the core can't be used any more. */
-export type Code = "MEMORY" | "CLOSED" | "PARTIAL" | "NO_ROW" | "NO_KEY" | "NO_CHARACTER" | "LANGUAGE" | "BROKEN";
+export type Code = "MEMORY" | "CLOSED" | "PARTIAL" | "NO_ROW" | "NO_KEY" | "NO_CHARACTER" | "LANGUAGE" | "SIZE" | "BROKEN";
 
 /** Reports a call that changed nothing. */
 export declare class Vt220Error extends Error {
@@ -21,7 +24,7 @@ export interface Core {
    * but a C1 control sends itself, and with the terminal "xterm" a key sends what it does on an xterm, where a name may have modifiers, as
    * "C-Left". Throws NO_KEY or NO_CHARACTER.
    */
-  key(key: string, modes?: Partial<Modes>, options?: { encoding?: Encoding; terminal?: TerminalName }): Uint8Array;
+  key(key: string, modes?: Partial<Modes>, options?: Pick<Options, "encoding" | "terminal">): Uint8Array;
   /** Returns how many bytes the first key has of what was typed on a modern terminal, and 0 if its end is missing. */
   keyLength(typed: Uint8Array): number;
   /**
@@ -35,6 +38,16 @@ export interface Core {
 export type Encoding = "dec" | "utf-8";
 /** The terminal that a host writes for: a VT220, or what programs send under TERM=xterm or xterm-256color. */
 export type TerminalName = "vt220" | "xterm";
+
+/** How a terminal is opened. */
+export interface Options {
+  /** What the host sends: without it the VT220's own bytes. With the terminal "xterm" it is always UTF-8. */
+  encoding?: Encoding;
+  terminal?: TerminalName;
+  /** The size: without it a VT220's, 24 rows of 80 columns, which DECCOLM makes 132. Any other one has 2 to 255 rows of 80 to 255 columns. */
+  rows?: number;
+  columns?: number;
+}
 
 /** A Response of fetch, as far as load() needs it. */
 export interface Fetched {
@@ -129,8 +142,8 @@ export type Held = "nothing" | "escape" | "control" | "string";
  * more. A closed terminal throws CLOSED, except from close() and isOpen. On an error nothing has changed.
  */
 export declare class Terminal {
-  /** Without an encoding the host sends the VT220's own bytes. With the terminal "xterm" it always sends UTF-8. */
-  constructor(core: Core, options?: { encoding?: Encoding; terminal?: TerminalName });
+  /** Throws SIZE if no screen has this size. On a terminal of another size than a VT220's, DECCOLM leaves the width. */
+  constructor(core: Core, options?: Options);
   readonly encoding: Encoding;
   readonly terminal: TerminalName;
   /** Whether the alternate page is shown. A VT220 has none. The page that isn't shown is no part of sameState and update. */
@@ -158,11 +171,19 @@ export declare class Terminal {
   reset(): void;
   /**
    * Brings this terminal into the state of `from`, also inside a sequence. If its encoding is UTF-8, `pending` is copied, too. A terminal of
-   * TERM=xterm also gets both pages. Throws LANGUAGE if it is one and `from` isn't.
+   * TERM=xterm also gets both pages. Throws LANGUAGE if it is one and `from` isn't, and SIZE if the two have different sizes.
    */
   copyFrom(from: Terminal): void;
+  /** Returns a new terminal of this encoding, terminal and size in the state of this one, also inside a sequence. Its `bells` counts from 0. */
+  copy(): Terminal;
+  /**
+   * Changes the size, as xterm does if its window changes, also inside a sequence. If the cursor would be below the last row, so many rows leave
+   * at the top that it is in the last one: read them before, with rowText. The rows and columns that both screens have stay, and the others are
+   * blank. DECCOLM leaves the width then, also that of 24 by 80. Throws SIZE if no screen has this size.
+   */
+  resize(rows: number, columns: number): void;
 
-  /** Returns the screen as 24 lines, each without the spaces at its end, and LF. */
+  /** Returns the screen as a line for each row, each without the spaces at its end, and LF. */
   text(): string;
   /** Returns the line of a row, without its LF. Throws NO_ROW. */
   rowText(row: number): string;
@@ -171,27 +192,28 @@ export declare class Terminal {
   /** Returns the screen as an SVG document. */
   picture(): string;
   /**
-   * Returns bytes that leave any terminal of the same encoding and terminal exactly as this one is. What is pending of UTF-8 is left out. With
+   * Returns bytes that leave any terminal of the same encoding, terminal and size exactly as this one is. What is pending of UTF-8 is left out. With
    * the terminal "vt220" they leave a VT220 in this state, with the page that is shown. Throws PARTIAL inside a sequence, and LANGUAGE if
    * they are for an xterm and this terminal is a VT220.
    */
   repaint(terminal?: TerminalName): Uint8Array;
   /**
    * Returns bytes that lead from this state to that of `to`, and brings this terminal there. They are empty exactly if the two are
-   * equal. Throws PARTIAL if one of the two is inside a sequence, and LANGUAGE if this terminal is of TERM=xterm.
+   * equal. Throws PARTIAL if one of the two is inside a sequence, LANGUAGE if this terminal is of TERM=xterm, and SIZE if the two have
+   * different sizes.
    */
   update(to: Terminal): Uint8Array;
   /**
    * Returns bytes that make a terminal of today, such as xterm, show this screen, given that it shows that of `shown`. null stands for
    * anything else. The bytes are characters in UTF-8 and CUP, ED, SGR and DECTCEM, and there are none if both show the same. That terminal
-   * has at least 24 rows, and the columns of this one. Afterwards it shows this terminal, so keep a copy (`copyFrom`).
+   * has at least the rows and the columns of this one. Afterwards it shows this terminal, so keep a copy (`copyFrom`).
    */
   draw(shown?: Terminal | null): Uint8Array;
   /** Returns whether two terminals are in the same state, hidden parts included. */
   sameState(other: Terminal): boolean;
-  /** Returns the rows of `to` to be drawn again if the screen of this terminal is shown: all of them if the widths differ. */
+  /** Returns the rows of `to` to be drawn again if the screen of this terminal is shown: all of them if the sizes or the widths differ. */
   changedRows(to: Terminal): number[];
-  /** Returns for each cell of a row of `to` whether this terminal has another cell there, or none. Throws NO_ROW. */
+  /** Returns for each cell of a row of `to` whether this terminal has another cell there, or none. Throws NO_ROW, and SIZE if the two have different sizes. */
   rowChanges(to: Terminal, row: number): boolean[];
 
   /** Returns the cells of a row. Throws NO_ROW. */
@@ -203,9 +225,11 @@ export declare class Terminal {
   readonly brush: Attributes;
   readonly sets: Sets;
   readonly saved: Saved;
-  /** The columns of the tab stops, of the columns 1 to 132. */
+  /** The columns of the tab stops: of a VT220 of the columns 1 to 132, whatever the width. */
   readonly stops: number[];
-  readonly width: 80 | 132;
+  readonly rows: number;
+  /** The number of columns, of a VT220 80 or 132. */
+  readonly width: number;
   /** How often BEL was carried out since the terminal was made. */
   readonly bells: number;
   /** Whether the terminal is between sequences. */

@@ -3,9 +3,12 @@
 
 export const ROWS = 24;
 export const COLUMNS = 132;
+export const MOST_ROWS = 255;
+export const MOST_COLUMNS = 255;
 
-const CODES = ["OK", "MEMORY", "IN_USE", "CLOSED", "PARTIAL", "ROOM", "UNSUPPORTED", "NO_ROW", "NO_KEY", "NO_CHARACTER", "LANGUAGE"];
-const MEMORY = 1, CLOSED = 3, NO_ROW = 7, XTERM = 2;
+const CODES = ["OK", "MEMORY", "IN_USE", "CLOSED", "PARTIAL", "ROOM", "UNSUPPORTED", "NO_ROW", "NO_KEY", "NO_CHARACTER", "LANGUAGE", "SIZE"];
+const MEMORY = 1, CLOSED = 3, NO_ROW = 7, SIZE = 11, XTERM = 2;
+const LEAST_ROWS = 2, NARROW = 80; // the fewest rows and columns of a screen
 const HELD = ["nothing", "escape", "control", "string"];
 const CURSOR = ["row", "column", "wrap"];
 const MARGINS = ["top", "bottom"];
@@ -33,6 +36,18 @@ function languageOf({ encoding = "dec", terminal = "vt220" } = {}) {
   if (!ENCODINGS.includes(encoding)) throw new TypeError(`an encoding is one of ${ENCODINGS.join(", ")}`);
   if (!TERMINALS.includes(terminal)) throw new TypeError(`a terminal is one of ${TERMINALS.join(", ")}`);
   return 2 * TERMINALS.indexOf(terminal) || ENCODINGS.indexOf(encoding);
+}
+
+/** Returns whether a screen may have so many rows and columns. */
+export function isSize(rows, columns) {
+  const isOf = (value, least, most) => Number.isInteger(value) && least <= value && value <= most;
+  return isOf(rows, LEAST_ROWS, MOST_ROWS) && isOf(columns, NARROW, MOST_COLUMNS);
+}
+
+/** Throws SIZE if no screen has so many rows and columns. */
+function checkSize(rows, columns) {
+  if (isSize(rows, columns)) return;
+  throw new Vt220Error(CODES[SIZE], `a screen has ${LEAST_ROWS} to ${MOST_ROWS} rows of ${NARROW} to ${MOST_COLUMNS} columns, not ${rows} of ${columns}`);
 }
 
 /** Compiles the module: bytes, a module, or a response. */
@@ -153,8 +168,8 @@ class Core {
   }
 
   /** Opens the handle of a terminal, and returns its address. A terminal that is left is closed. */
-  open(terminal, language) {
-    const at = this.calls.open(language);
+  open(terminal, language, rows, columns) {
+    const at = this.calls.open(language, rows, columns);
     if (at === 0) this.expect(MEMORY);
     this.#left.register(terminal, at, terminal);
     return at;
@@ -191,11 +206,13 @@ export class Terminal {
   #at;
   #language; // its number
 
-  constructor(core, options) {
+  constructor(core, options = {}) {
     if (!(core instanceof Core)) throw new TypeError("a terminal needs the core that load() returns");
+    const { rows = ROWS, columns = NARROW } = options;
     this.#language = languageOf(options);
+    checkSize(rows, columns);
     this.#core = core;
-    this.#at = core.open(this, this.#language);
+    this.#at = core.open(this, this.#language, rows, columns);
   }
 
   get encoding() {
@@ -264,8 +281,9 @@ export class Terminal {
     return this.#core.out();
   }
 
+  /** Returns a number of a row as the module takes it, which knows how many there are. */
   #row(row) {
-    if (!Number.isInteger(row) || row < 1 || row > ROWS) this.#core.expect(NO_ROW);
+    if (!Number.isInteger(row) || row < 1 || row > MOST_ROWS) this.#core.expect(NO_ROW);
     return row;
   }
 
@@ -304,6 +322,27 @@ export class Terminal {
     this.#core.expect(this.#core.calls.copy(this.#handle, other));
   }
 
+  copy() {
+    const { encoding, terminal, rows, width } = this, copied = new Terminal(this.#core, { encoding, terminal });
+    try {
+      // A VT220's screen may be 132 columns wide, and one that was resized to 24 by 80 isn't a VT220's.
+      if (this.#core.calls.copy(copied.#at, this.#at) === SIZE) {
+        copied.resize(rows, width);
+        copied.copyFrom(this);
+      }
+    } catch (error) {
+      copied.close();
+      throw error;
+    }
+    return copied;
+  }
+
+  resize(rows, columns) {
+    const handle = this.#handle;
+    checkSize(rows, columns);
+    this.#core.expect(this.#core.calls.resize(handle, rows, columns));
+  }
+
   reset() {
     this.#core.expect(this.#core.calls.reset(this.#handle));
   }
@@ -326,9 +365,8 @@ export class Terminal {
   }
 
   changedRows(to) {
-    const rows = this.#core.calls.changed_rows(this.#handle, this.#other(to)), numbers = [];
-    for (let row = 1; row <= ROWS; row++) if ((rows >> (row - 1)) & 1) numbers.push(row);
-    return numbers;
+    const count = this.#core.calls.changed_rows(this.#handle, this.#other(to));
+    return Array.from(this.#core.words("part", count));
   }
 
   rowChanges(to, row) {
@@ -338,6 +376,7 @@ export class Terminal {
 
   cells(row) {
     const core = this.#core, count = core.calls.row(this.#handle, this.#row(row)), at = core.calls.cells();
+    if (count === 0) core.expect(NO_ROW);
     const glyphs = core.words("cells", (count * CELL) / 4), bytes = core.bytes, cells = new Array(count);
     for (let i = 0; i < count; i++) {
       const flags = at + i * CELL + 4;
@@ -385,8 +424,12 @@ export class Terminal {
   }
 
   get stops() {
-    this.#core.calls.stops(this.#handle);
-    return Array.from(this.#core.words("part", COLUMNS), (stop, i) => (stop ? i + 1 : 0)).filter(Boolean);
+    const count = this.#core.calls.stops(this.#handle);
+    return Array.from(this.#core.words("part", count));
+  }
+
+  get rows() {
+    return this.#core.calls.rows(this.#handle);
   }
 
   get width() {
@@ -404,6 +447,19 @@ export class Terminal {
   get held() {
     return HELD[this.#core.calls.held_kind(this.#handle)];
   }
+}
+
+/** Returns a terminal in the state of another one: `kept` if that can have it, otherwise a copy, and `kept` is closed. */
+export function inStateOf(terminal, kept) {
+  try {
+    kept.copyFrom(terminal);
+    return kept;
+  } catch (error) {
+    if (!["SIZE", "LANGUAGE"].includes(error.code)) throw error;
+  }
+  const copied = terminal.copy();
+  kept.close();
+  return copied;
 }
 
 // `using t = new Terminal(core)` closes the terminal at the end of its block, in engines that have it.

@@ -16,8 +16,9 @@ function thrown(call) {
 const OPEN = [
   ["feed", [bytes("x")]], ["feedLog", [bytes("x")]], ["reset", []], ["text", []], ["rowText", [1]], ["show", []], ["picture", []], ["repaint", []],
   ["cells", [1]], ["copyFrom", ["other"]], ["update", ["other"]], ["draw", ["other"]], ["draw", []], ["sameState", ["other"]], ["changedRows", ["other"]], ["rowChanges", ["other", 1]],
+  ["copy", []], ["resize", [24, 80]],
 ];
-const PROPERTIES = ["cursor", "margins", "modes", "brush", "sets", "saved", "stops", "width", "bells", "isBetween", "held", "pending", "alternate"];
+const PROPERTIES = ["cursor", "margins", "modes", "brush", "sets", "saved", "stops", "rows", "width", "bells", "isBetween", "held", "pending", "alternate"];
 
 function values({ Terminal }, core, check) {
   const t = new Terminal(core);
@@ -90,13 +91,16 @@ function drawings({ Terminal }, core, check) {
   for (const each of [t, fresh, session]) each.close();
 }
 
-function errors({ Terminal, Vt220Error, ROWS, COLUMNS }, core, other, check) {
+/** The sizes that no screen has, as rows and columns. */
+const NO_SIZES = [[1, 80], [256, 80], [24, 79], [24, 256], [0, 0], [24.5, 80], [24, NaN], ["24", 80], [24, null], [24, 2 ** 32 + 80], [2 ** 32 + 24, 80]];
+
+function errors({ Terminal, Vt220Error, ROWS, COLUMNS, MOST_ROWS, MOST_COLUMNS }, core, other, check) {
   const t = new Terminal(core), closed = new Terminal(core);
   for (const row of [0, -1, 25, 1.5, NaN, "3", undefined, 2 ** 32 + 1])
     for (const call of ["rowText", "cells"]) check(`${call} of row ${row}`, thrown(() => t[call](row)) === "NO_ROW");
   check("a message", (() => { try { t.cells(25); } catch (error) { return error instanceof Vt220Error && error instanceof Error && error.message === "there is no such row"; } })());
-  const texts = Array.from({ length: 12 }, (_, status) => core.statusText(status));
-  check("a text for each status", new Set(texts).size === 12 && texts[0] === "success" && texts[11] === "unknown status");
+  const texts = Array.from({ length: 13 }, (_, status) => core.statusText(status));
+  check("a text for each status", new Set(texts).size === 13 && texts[0] === "success" && texts[12] === "unknown status");
   for (const data of ["text", [1, 2], null, new Uint16Array(2)]) check(`fed ${data}`, thrown(() => t.feed(data)) === "TypeError");
   check("another core", thrown(() => t.copyFrom(new Terminal(other))) === "TypeError" && thrown(() => t.update({})) === "TypeError");
   check("no core", thrown(() => new Terminal()) === "TypeError" && thrown(() => new Terminal({})) === "TypeError");
@@ -109,7 +113,14 @@ function errors({ Terminal, Vt220Error, ROWS, COLUMNS }, core, other, check) {
     if (given.includes("other")) check(`closed: the argument of ${call}`, thrown(() => t[call](...given.map((word) => (word === "other" ? closed : word)))) === "CLOSED");
   }
   for (const name of PROPERTIES) check(`closed: ${name}`, thrown(() => closed[name]) === "CLOSED");
-  check("constants", ROWS === 24 && COLUMNS === 132 && core.version >= 300);
+  for (const [rows, columns] of NO_SIZES) {
+    const said = `a screen has 2 to 255 rows of 80 to 255 columns, not ${rows} of ${columns}`;
+    for (const call of [() => new Terminal(core, { rows, columns }), () => t.resize(rows, columns)]) {
+      check(`the size of ${rows} rows and ${columns} columns`, thrown(call) === "SIZE" && (() => { try { call(); } catch (error) { return error.message === said; } })());
+    }
+  }
+  check("no size changes nothing", t.rows === 24 && t.width === 80);
+  check("constants", ROWS === 24 && COLUMNS === 132 && MOST_ROWS === 255 && MOST_COLUMNS === 255 && core.version >= 300);
   if (Symbol.dispose) closed[Symbol.dispose]();
   t.close();
 }
@@ -144,7 +155,7 @@ const CLOSED = [
   ["text", ["t"], 3], ["show", ["t"], 3], ["picture", ["t"], 3], ["repaint", ["t", 0], 3], ["repaint", ["x", 2], 3], ["repaint", ["open", 2], 10], ["repaint", ["open", 4], 10], ["row_text", ["t", 1], 3], ["reset", ["t"], 3], ["update", ["t", "open"], 3],
   ["draw", [0, "t"], 3], ["draw", ["t", "open"], 3], ["draw", ["open", "t"], 3], ["draw", ["open", "open"], 0], ["draw", [0, "pages"], 0],
   ["update", ["open", "t"], 3], ["copy", ["t", "open"], 3], ["copy", ["open", "t"], 3], ["row_changes", ["t", "open", 1], 3], ["row_changes", ["open", "t", 1], 3],
-  ["changed_rows", ["t", "open"], 2 ** 24 - 1], ["changed_rows", ["t", "t"], 0], ["width", ["t"], 0], ["row", ["t", 1], 0], ["bells", ["t"], 0], ["is_between", ["t"], 0],
+  ["changed_rows", ["t", "open"], 24], ["changed_rows", ["open", "t"], 0], ["changed_rows", ["t", "t"], 0], ["width", ["t"], 0], ["rows", ["t"], 0], ["stops", ["t"], 0], ["resize", ["t", 24, 80], 3], ["resize", ["t", 25, 80], 3], ["row", ["t", 1], 0], ["bells", ["t"], 0], ["is_between", ["t"], 0],
   ["held_kind", ["t"], 0], ["same_state", ["t", "open"], 0], ["same_state", ["open", "t"], 0], ["same_state", ["t", "t"], 0], ["feed", ["t", 0, 1], 0], ["feed_log", ["t", 0, 1], 0],
   ["feed", ["x", 0, 1], 0], ["feed_log", ["x", 0, 1], 0], ["copy", ["x", "pages"], 3], ["copy", ["pages", "x"], 3], ["copy", ["pages", "open"], 10],
   ["copy", ["pages", "pages"], 0], ["copy", ["open", "open"], 0], ["update", ["pages", "open"], 10], ["row_text", ["open", 0], 7], ["row_text", ["open", 25], 7], ["row", ["open", 0], 0],
@@ -155,8 +166,9 @@ const PARTS = ["cursor", "margins", "modes", "brush", "sets", "saved", "stops", 
 /** Tests the exports with closed handles, and before the scratch buffer is opened. */
 async function handles(wasm, check) {
   const { exports } = await WebAssembly.instantiate(await WebAssembly.compile(wasm));
-  const [t, x, open, pages] = [0, 2, 0, 2].map((language) => exports.open(language)), at = { t, x, open, pages };
-  check("no such language", exports.open(4) === 0);
+  const [t, x, open, pages] = [0, 2, 0, 2].map((language) => exports.open(language, 24, 80)), at = { t, x, open, pages };
+  check("no such language", exports.open(4, 24, 80) === 0);
+  for (const [rows, columns] of [[1, 80], [256, 80], [24, 79], [24, 256]]) check("no such size", exports.open(0, rows, columns) === 0);
   for (const name of ["text", "show", "picture", "repaint", "row_text", "update", "draw", "feed_log"])
     for (const one of name === "update" ? [open] : [open, pages])
       check(`before the start: ${name}`, exports[name](one, name === "update" || name === "draw" ? t : 1, 1, 2) === (name.startsWith("feed") ? 0 : 3) && exports.written() === 0);
@@ -165,7 +177,7 @@ async function handles(wasm, check) {
   exports.close(t);
   exports.close(x);
   for (const [name, words, wanted] of CLOSED) check(`the export ${name} of ${words}`, exports[name](...words.map((word) => at[word] ?? word)) === wanted);
-  const part = () => json(Array.from(new Uint32Array(exports.memory.buffer, exports.part(), 132)));
+  const part = () => json(Array.from(new Uint32Array(exports.memory.buffer, exports.part(), 255)));
   exports.stops(open);
   const before = part();
   for (const name of PARTS) exports[name](t);
@@ -176,7 +188,7 @@ async function handles(wasm, check) {
 function sizes({ Terminal }, core, check) {
   const t = new Terminal(core), shown = new Terminal(core), plain = new Terminal(core);
   t.feed(bytes("\x1b[?3h\x1b[3;7Htext\x1b(0\x1b[1mlqk\x1b[5;20r\x1b7"));
-  const size = (out) => core.calls.test_sizes(5120, 204800, out);
+  const size = (out) => core.calls.test_sizes(5120, 400000, out);
   for (const [call, ...words] of [[() => t.text()], [() => t.show()], [() => t.picture()], [() => t.repaint()], [() => t.rowText(3)], [(from) => from.update(t)], [() => t.draw()], [(from) => t.draw(from)], [() => core.key("F20", {})]]) {
     const from = new Terminal(core), whole = json(call(from)), needed = core.calls.written();
     for (const out of [0, 1, needed - 1]) {
@@ -185,11 +197,73 @@ function sizes({ Terminal }, core, check) {
     }
     size(needed);
     check(`a buffer of ${needed} bytes`, json(call(shown)) === whole);
-    size(659968);
+    size(2 ** 32 - 1);
     shown.copyFrom(plain);
     from.close();
   }
   for (const each of [t, shown, plain]) each.close();
+}
+
+/** Returns what a text with SGR sequences shows. */
+const unattributed = (shown) => shown.replace(/\x1b\[[\d;]*m/g, "").replace(/ +$/gm, "");
+
+/** Tests calls at a size: a full screen is read, and rebuilt by what is written of it. */
+function atSize({ Terminal }, core, options, check) {
+  const { rows, columns, terminal } = options, what = `${rows} rows, ${columns} columns, ${terminal}`, t = new Terminal(core, options), to = new Terminal(core, options);
+  const cells = Array.from({ length: rows * columns }, (_, i) => `\x1b[${1 + Math.floor(i / columns)};${1 + (i % columns)}H\x1b[0;${i % 2 ? "1;4;5;7" : "7"}m${String.fromCharCode(33 + (i % 90))}`);
+  t.feed(bytes(cells.join("")));
+  const lines = Array.from({ length: rows }, (_, row) => Array.from({ length: columns }, (_, i) => String.fromCharCode(33 + ((row * columns + i) % 90))).join(""));
+  check(`${what}: the size`, t.rows === rows && t.width === columns && t.text() === lines.join("\n") + "\n" && unattributed(t.show()) === t.text());
+  check(`${what}: the last row`, t.rowText(rows) === lines[rows - 1] && t.cells(rows).length === columns && t.cells(rows)[columns - 1].glyph === lines[rows - 1].at(-1));
+  for (const call of ["rowText", "cells"]) check(`${what}: ${call} of a row that isn't there`, thrown(() => t[call](rows + 1)) === "NO_ROW");
+  check(`${what}: marks`, to.rowChanges(t, rows).length === columns && to.changedRows(t).length === rows && t.picture().endsWith("</svg>\n") && thrown(() => to.rowChanges(t, rows + 1)) === "NO_ROW");
+  to.feed(bytes("\x1b[?7lother\x1b[5;7r\x1b[3g"));
+  to.feed(t.repaint());
+  check(`${what}: the repaint`, to.sameState(t) && t.draw(to).length === 0);
+  to.feed(bytes("\x1b[H\x1b[2J"));
+  if (terminal === "vt220") check(`${what}: the update`, to.update(t).length > rows * columns && to.sameState(t));
+  const { lines: logged } = t.feedLog(bytes(`\x1b[${rows};1H` + "\r\n".repeat(rows + 600)));
+  check(`${what}: the log`, json(logged.slice(0, rows)) === json(lines) && logged.length === rows + 600);
+  check(`${what}: a copy`, t.copy().sameState(t) && t.copy().terminal === terminal);
+  for (const each of [t, to]) each.close();
+}
+
+/** Tests a change of the size, and calls on two sizes. */
+function resizes({ Terminal }, core, check) {
+  const t = new Terminal(core), other = new Terminal(core), session = new Terminal(core, { terminal: "xterm" });
+  t.feed(bytes("\x07first\x1b[24;1Hlast"));
+  t.resize(10, 100);
+  check("a resize", t.rows === 10 && t.width === 100 && t.rowText(10) === "last" && t.rowText(1) === "" && t.bells === 1 && json(t.margins) === json({ top: 1, bottom: 10 }));
+  check("marks of two sizes", other.changedRows(t).length === 10 && t.changedRows(other).length === 24 && thrown(() => t.rowChanges(other, 1)) === "SIZE");
+  for (const call of [() => t.copyFrom(other), () => t.update(other), () => other.update(t)]) check("two sizes are refused", thrown(call) === "SIZE" && t.rowText(10) === "last");
+  check("a drawing on another size", text(t.draw(other)) === text(t.draw()) && text(other.draw(t)) === text(other.draw()));
+  t.resize(24, 80);
+  check("a size of a VT220 that isn't one", t.width === 80 && thrown(() => other.copyFrom(t)) === "SIZE" && t.copy().sameState(t));
+  t.feed(bytes("\x1b[?3h"));
+  other.feed(bytes("\x1b[?3h"));
+  check("DECCOLM", t.width === 80 && other.width === 132 && other.copy().sameState(other));
+  session.feed(bytes("main\x1b[?1049h\x1b[Hother\x1b[38;5\xe2"));
+  session.resize(30, 120);
+  const copied = session.copy();
+  for (const each of [session, copied]) {
+    each.feed(bytes("m\x1b[30;120Hx\x1b[?1049l"));
+    check("a resize of pages, inside of a sequence", each.text().startsWith("main\n") && each.rows === 30 && each.width === 120 && !each.alternate);
+  }
+  for (const each of [t, other, session, copied]) each.close();
+}
+
+/** Tests all sizes at their ends, and that sizes that come and go take no more memory. */
+function sizesOfScreens(vt220, core, check) {
+  for (const terminal of ["vt220", "xterm"]) for (const [rows, columns] of [[2, 80], [24, 80], [24, 132], [40, 120], [255, 255]]) atSize(vt220, core, { rows, columns, terminal }, check);
+  resizes(vt220, core, check);
+  const t = new vt220.Terminal(core), turn = () => {
+    for (const [rows, columns] of [[60, 200], [24, 80], [80, 90], [61, 201], [30, 100]]) t.resize(rows, columns);
+    return core.bytes.length;
+  };
+  const size = turn();
+  for (let i = 0; i < 20; i++) turn();
+  check("the memory of sizes that come and go", turn() === size);
+  t.close();
 }
 
 /** Returns a number as an unsigned LEB128. */
@@ -229,6 +303,30 @@ async function exhausted(vt220, wasm, check) {
     }
   }
   check("a terminal of which one part has no memory is closed", left > 0);
+}
+
+/** Returns how many terminals can be opened until the memory of a core ends. They are closed again. */
+function capacity({ Terminal }, core) {
+  const made = [];
+  while (thrown(() => made.push(new Terminal(core))) === null);
+  made.forEach((terminal) => terminal.close());
+  return made.length;
+}
+
+/** Tests resizes until the memory is enough for one. Before, nothing has changed, and what was taken has been given back. */
+async function unresized(vt220, wasm, check) {
+  const faults = [];
+  for (let more = 14; more < 60; more++) {
+    const core = await vt220.load(limited(wasm, more)), t = new vt220.Terminal(core, { terminal: "xterm" }), count = capacity(vt220, core);
+    t.feed(bytes("kept\x1b[5"));
+    faults.push(thrown(() => t.resize(40, 120)));
+    const isKept = t.rows === 24 && t.width === 80 && t.text().startsWith("kept\n") && t.held === "control" && capacity(vt220, core) === count;
+    const isResized = t.rows === 40 && t.width === 120 && t.text().startsWith("kept\n") && t.held === "control";
+    check(`a resize with ${more} pages: ${faults.at(-1)}`, faults.at(-1) === null ? isResized : faults.at(-1) === "MEMORY" && isKept);
+    t.close();
+    check(`what is left of a resize with ${more} pages`, capacity(vt220, core) > count);
+  }
+  check("resizes with little memory", faults[0] === "MEMORY" && faults.at(-1) === null);
 }
 
 /** Tests that twice as many terminals need few more growths of the memory, each of which makes a new buffer. */
@@ -292,8 +390,10 @@ export async function calls(vt220, wasm, check) {
   memory(vt220, core, check);
   growths(vt220, await vt220.load(wasm), check);
   sizes(vt220, core, check);
+  sizesOfScreens(vt220, await vt220.load(wasm), check);
   await handles(wasm, check);
   await exhausted(vt220, wasm, check);
+  await unresized(vt220, wasm, check);
   await modules(vt220, wasm, check);
   await faults(vt220, wasm, check);
 }

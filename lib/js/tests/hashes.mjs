@@ -55,8 +55,8 @@ function typed(core, input, modes) {
 
 /** Sets the sizes of the buffers for replies and lines: for each eighth input, little more than the least that a call needs. */
 function resize(core, i) {
-  const [reports, lines] = i % 8 === 0 ? [10 + (i % 13), 19056 + (i % 97)] : [5120, 204800];
-  core.calls.test_sizes(reports, lines, 659968);
+  const [reports, lines] = i % 8 === 0 ? [10 + (i % 13), 19056 + (i % 97)] : [5120, 400000];
+  core.calls.test_sizes(reports, lines, 2 ** 32 - 1);
 }
 
 /** Yields the hash of each input. */

@@ -34,7 +34,7 @@ keys(core, await readFile(new URL("../../rows/keys.txt", import.meta.url), "utf8
 keysOfAnXterm(core, await readFile(new URL("../../rows/xterm-keys.txt", import.meta.url), "utf8"), check);
 await calls(vt220, wasm, check);
 timelines(vt220, core, check);
-tables(vt220, core, await readFile(new URL("../../rows/vectors.txt", import.meta.url), "utf8"), check);
+tables(vt220, core, ...(await Promise.all(["vectors", "sizes"].map((name) => readFile(new URL(`../../rows/${name}.txt`, import.meta.url), "utf8")))), check);
 
 const script = `import { load, Terminal } from ${JSON.stringify(pathToFileURL(`${place}/src/node.js`).href)};
 import { parentPort } from "node:worker_threads";

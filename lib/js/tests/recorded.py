@@ -6,13 +6,18 @@ import struct
 HERE = pathlib.Path(__file__).resolve().parent
 RECORDINGS = HERE / "recordings"
 XTERM = {"terminal": "xterm"}
+# The window of most recordings that are made here, as columns and rows, and a terminal of that size.
+WINDOW = (100, 30)
+SIZED = {"columns": WINDOW[0], "rows": WINDOW[1]}
+NARROW = (80, 24)
 # What is played first of a recording that names 132 columns.
 WIDENING = (0, b"\x1b[?3h")
 
 
-def cast(made, version):
+def cast(made, version, window=WINDOW):
     """Returns a recording by asciinema of chunks, each of whole characters in UTF-8."""
-    size = {"width": 100, "height": 30, "env": {"TERM": "xterm-256color"}} if version == 2 else {"term": {"cols": 100, "rows": 30, "type": "xterm-256color"}}
+    columns, rows = window
+    size = {"width": columns, "height": rows, "env": {"TERM": "xterm-256color"}} if version == 2 else {"term": {"cols": columns, "rows": rows, "type": "xterm-256color"}}
     lines, last = [json.dumps({"version": version, **size})], 0
     for micros, data in made:
         lines.append(json.dumps([(micros - last if version == 3 else micros) / 1e6, "o", data.decode()]))
@@ -25,9 +30,9 @@ def waits(made):
     return [(micros - last, data) for (micros, data), (last, _) in zip(made, [(0, b""), *made])]
 
 
-def scripted(made):
+def scripted(made, window=WINDOW):
     """Returns a recording by script of chunks."""
-    return b'Script started on 2026-01-01 00:00:00+00:00 [TERM="xterm" TTY="/dev/pts/0" COLUMNS="100" LINES="30"]\n' + b"".join(data for _, data in made) + b"\nScript done on 2026-01-01 00:00:09+00:00\n"
+    return b'Script started on 2026-01-01 00:00:00+00:00 [TERM="xterm" TTY="/dev/pts/0" COLUMNS="%d" LINES="%d"]\n' % window + b"".join(data for _, data in made) + b"\nScript done on 2026-01-01 00:00:09+00:00\n"
 
 
 def by_asciinema(name):
@@ -66,8 +71,8 @@ def version_1(made):
 def recordings():
     """Returns the recordings by other programs: the name, the words of the tool, the bytes, the chunks, and the terminal's options."""
     first, wide = by_asciinema("asciinema.cast"), {"script": [], "script-both": [WIDENING]}
-    rows = [("asciinema", "asciinema.cast", [], first, XTERM), ("asciinema-wide", "asciinema-wide.cast", [], by_asciinema("asciinema-wide.cast"), XTERM),
+    rows = [("asciinema", "asciinema.cast", [], first, XTERM), ("asciinema-wide", "asciinema-wide.cast", [], by_asciinema("asciinema-wide.cast"), {**XTERM, **SIZED}),
             ("ttyrec", "ttyrec.ttyrec", [], by_ttyrec("ttyrec.ttyrec"), {}), ("termrec", "termrec.ttyrec", [], by_ttyrec("termrec.ttyrec"), {}),
             *((name, f"{name}.typescript", ["--timing", RECORDINGS / f"{name}.timing"], wide[name] + by_script(name), {}) for name in wide)]
     made = [(name, words, (RECORDINGS / file).read_bytes(), chunks, options) for name, file, words, chunks, options in rows]
-    return made + [("asciinema", [], version_1(first), first, XTERM), ("asciinema", [], cast(first, 3), first, XTERM)]
+    return made + [("asciinema", [], version_1(first), first, XTERM), ("asciinema", [], cast(first, 3, NARROW), first, XTERM)]

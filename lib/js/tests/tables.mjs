@@ -1,10 +1,12 @@
-// Each vector of lib/rows/vectors.txt, whole, byte by byte and in chunks of five, and from a checkpoint at each byte. UTF-8 and TERM=xterm.
+// Each vector of lib/rows/vectors.txt, whole, byte by byte and in chunks of five, and from a checkpoint at each byte. UTF-8 and TERM=xterm. Each row of
+// lib/rows/sizes.txt, in the same ways.
 const bytes = (hex) => Uint8Array.from(hex.match(/[0-9A-F]{2}/g) ?? [], (digits) => parseInt(digits, 16));
 const hex = (data) => Array.from(data, (byte) => byte.toString(16).toUpperCase().padStart(2, "0")).join(" ");
 const ascii = (text) => Uint8Array.from(text, (c) => c.charCodeAt(0));
 const equal = (a, b) => a.length === b.length && a.every((byte, i) => byte === b[i]);
 
 /** The fewest vectors of each encoding and terminal. */
+const LEAST_OF_SIZES = 30;
 const LEAST = { "dec vt220": 150, "utf-8 vt220": 50, "utf-8 xterm": 100 };
 const AT_POWER_UP = { text: "", cursor: "1;1", wrap: "0", brush: "", alternate: "0", paste: "0", bells: "0", pending: "", reports: "", lines: "" };
 const ESCAPES = { e: "\x1b", n: "\n", r: "\r", "\\": "\\", H: "\x1b(B\x1b*<\x1b+0\x0f", P: '\x1b[0m\x1b[0"q', S: "\x1b(B\x1b)B\x1b*<\x1b+<\x0f\x1b}" };
@@ -100,11 +102,15 @@ function leads(Terminal, core, input, repaint, check) {
   for (const each of [terminal, painted, shown, told]) each.close();
 }
 
+/** Returns what the fields of a row name, and what is as at power-up. */
+function due(fields) {
+  const { differs: _, repaint, ...changed } = Object.fromEntries(fields.map((one) => [one.slice(0, one.indexOf("=")), one.slice(one.indexOf("=") + 1)]));
+  return { repaint, wanted: { ...AT_POWER_UP, ...Object.fromEntries(Object.entries(changed).map(([one, spelling]) => [one, value(one, spelling)])) } };
+}
+
 /** Checks a vector: whole and in chunks, with the log and without one, and from a checkpoint at each byte. */
 function row({ Terminal }, core, [name, encoding, terminal, field, ...fields], check) {
-  const options = { encoding, terminal }, of = `${encoding}, ${terminal}`, input = spelled(field);
-  const { differs: _, repaint, ...changed } = Object.fromEntries(fields.map((one) => [one.slice(0, one.indexOf("=")), one.slice(one.indexOf("=") + 1)]));
-  const wanted = { ...AT_POWER_UP, ...Object.fromEntries(Object.entries(changed).map(([one, spelling]) => [one, value(one, spelling)])) };
+  const options = { encoding, terminal }, of = `${encoding}, ${terminal}`, input = spelled(field), { repaint, wanted } = due(fields);
   if (encoding === "dec") leads(Terminal, core, input, repaint && spelled(repaint), (what, isSo) => check(`${name}: ${what}`, isSo));
   for (const size of [input.length, 1, 5]) {
     for (const log of [false, true]) {
@@ -115,8 +121,48 @@ function row({ Terminal }, core, [name, encoding, terminal, field, ...fields], c
   for (let at = 0; at < input.length; at++) check(`${of}, ${name}: a checkpoint at ${at}`, resumes(core, Terminal, options, input, at));
 }
 
+/** Returns the fields of each row of a file. */
+const rowsOf = (file) => file.split("\n").filter((line) => line !== "" && !line.startsWith("#")).map((line) => line.split("\t"));
+
+/** Returns a size that is spelled COLUMNSxROWS. */
+function sized(text) {
+  const [columns, rows] = text.split("x").map(Number);
+  return { rows, columns };
+}
+
+/** Checks a row of a size: its inputs whole and byte by byte, and the change of the size on a terminal and on its copy. */
+function sizedRow({ Terminal }, core, [name, encoding, terminal, first, field, second, later, ...fields], check) {
+  const { wanted } = due(fields), { rows, columns } = sized(second === "-" ? first : second);
+  for (const size of [1000, 1]) {
+    const screen = new Terminal(core, { encoding, terminal, ...sized(first) }), replies = [], lines = [];
+    const play = (input) => {
+      for (let at = 0; at < input.length; at += size) {
+        const logged = screen.feedLog(input.subarray(at, at + size));
+        replies.push(...logged.replies);
+        lines.push(...logged.lines.map((line) => line + "\n"));
+      }
+    };
+    play(spelled(field));
+    const copied = screen.copy();
+    if (second !== "-") for (const each of [screen, copied]) each.resize(rows, columns);
+    play(spelled(later));
+    copied.feed(spelled(later));
+    const found = { ...read(screen), reports: hex(replies), lines: lines.join("") };
+    for (const one of Object.keys(wanted)) check(`${name}: ${one} is ${JSON.stringify(found[one])}, and not ${JSON.stringify(wanted[one])}`, found[one] === wanted[one]);
+    check(`${name}: the size`, screen.rows === rows && screen.width >= columns && screen.text().split("\n").length === rows + 1);
+    check(`${name}: a copy`, same(screen, copied));
+    for (const each of [screen, copied]) each.close();
+  }
+}
+
+function sizes(vt220, core, file, check) {
+  const all = rowsOf(file);
+  for (const fields of all) sizedRow(vt220, core, fields, check);
+  check("the rows of sizes", all.length > LEAST_OF_SIZES);
+}
+
 function rows(vt220, core, file, check) {
-  const all = file.split("\n").filter((line) => line !== "" && !line.startsWith("#")).map((line) => line.split("\t"));
+  const all = rowsOf(file);
   for (const fields of all) row(vt220, core, fields, check);
   for (const [of, least] of Object.entries(LEAST)) check(`the vectors of ${of}`, all.filter((fields) => fields.slice(1, 3).join(" ") === of).length >= least);
 }
@@ -219,8 +265,9 @@ function pagesInTime(vt220, core, check) {
   }
 }
 
-export function tables(vt220, core, file, check) {
+export function tables(vt220, core, file, ofSizes, check) {
   rows(vt220, core, file, check);
+  sizes(vt220, core, ofSizes, check);
   encodings(vt220, core, check);
   terminals(vt220, core, check);
   timelines(vt220, core, check);

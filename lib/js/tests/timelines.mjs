@@ -130,6 +130,8 @@ function availability({ Timeline }, core, check) {
 function refusals({ Timeline }, core, check) {
   const data = bytes("abc");
   const refused = [[{ bytes: "abc", times: [0], ends: [3] }, "TypeError"], [{ bytes: data, times: [0], ends: [2] }, "RangeError"], [{ bytes: data, times: [1, 0], ends: [1, 3] }, "RangeError"],
+    ...[{ chunk: 1, rows: 24, columns: 80 }, { chunk: -1, rows: 24, columns: 80 }, { chunk: 0, rows: 1, columns: 80 }, { rows: 24, columns: 80 }].map((size) => [{ bytes: data, times: [0], ends: [3], sizes: [size] }, "RangeError"]),
+    [{ bytes: data, times: [0, 1], ends: [1, 3], sizes: [{ chunk: 1, rows: 24, columns: 80 }, { chunk: 0, rows: 24, columns: 80 }] }, "RangeError"],
     [{ bytes: data, times: [0, 1], ends: [3, 2] }, "RangeError"], [{ bytes: data, times: [0], ends: [1, 3] }, "RangeError"], [{ bytes: data, times: [NaN], ends: [3] }, "RangeError"], [{ bytes: data, times: [], ends: [] }, "RangeError"]];
   refused.forEach(([made, name], i) => {
     let got = null;
@@ -140,12 +142,85 @@ function refusals({ Timeline }, core, check) {
   check("a recording of nothing", none.duration === 0 && none.seekTime(5).width === 80 && none.search("x").length === 0);
 }
 
+/** Returns a recording whose screen changes its size after some chunks, of which some have no bytes. */
+function resizing() {
+  const next = numbers(11), made = recording(), times = [], ends = [], sizes = [];
+  const push = (time, end) => {
+    times.push(time);
+    ends.push(end);
+  };
+  const change = () => sizes.push({ chunk: times.length - 1, rows: 2 + next(60), columns: 80 + next(80) });
+  push(0, 0);
+  change();
+  made.times.forEach((time, i) => {
+    push(time, made.ends[i]);
+    if (next(40) === 0) change();
+    if (next(60) > 0) return;
+    push(time, made.ends[i]);
+    change();
+    if (next(3) === 0) change();
+  });
+  push(times.at(-1) + 1, made.bytes.length);
+  change();
+  return { ...made, times, ends, sizes };
+}
+
+/** Returns a terminal that got the bytes of so many chunks, with the changes of the size after each. */
+function played({ Terminal }, core, { bytes, ends, sizes }, chunks) {
+  const t = new Terminal(core);
+  for (let chunk = 0, at = 0; chunk < chunks; at = ends[chunk++]) {
+    t.feed(bytes.subarray(at, ends[chunk]));
+    for (const size of sizes.filter((each) => each.chunk === chunk)) t.resize(size.rows, size.columns);
+  }
+  return t;
+}
+
+/** Returns the text of a row of a terminal from a column on, with the rows after it. */
+const textFrom = (t, { row, column }) => t.text().split("\n").slice(row - 1).map((each) => (each.length === t.width ? each : each + "\n")).join("").slice(column - 1);
+
+/** Seeks and searches in a recording whose screen changes its size. */
+function sizes(vt220, core, check) {
+  const made = resizing(), next = numbers(13), { length: chunks } = made.ends;
+  for (const every of [1000, 65536]) {
+    const line = new vt220.Timeline(core, made, { every });
+    for (const chunk of [0, chunks, ...Array.from({ length: 60 }, () => next(chunks + 1)), 0]) {
+      const time = chunk === 0 ? -1 : made.times[chunk - 1], count = line.chunksAt(time), t = played(vt220, core, made, count);
+      check(`the size and the state at ${time}`, line.seekTime(time).sameState(t) && line.terminal.rows === t.rows && line.terminal.width === t.width);
+      t.close();
+    }
+    const first = made.sizes.find(({ chunk }) => made.ends[chunk] > 0), place = made.ends[first.chunk];
+    check("a position has the changes of the bytes before it", line.seek(place).rows !== first.rows && line.seek(place + 1).rows === first.rows && line.seek(0).rows === 24);
+    line.close();
+  }
+  const line = new vt220.Timeline(core, made), found = line.search("word7 ");
+  check(`the spans at sizes: ${found.length}`, found.length > 3 && found.every((span) => textFrom(line.seekTime(span.time), span).toLowerCase().startsWith("word7 ") || made.times.filter((time) => time === span.time).length > 1));
+  const shown = Array.from({ length: chunks }, (_, i) => i + 1).filter((count) => count % 97 === 0).every((count) => {
+    const time = made.times[count - 1], t = line.seekTime(time), is = textFrom(t, { row: 1, column: 1 }).includes("word7 ");
+    return is === found.some((span) => span.time <= time && time < span.until);
+  });
+  check("the times of the spans at sizes", shown);
+  line.close();
+}
+
+/** The first difference of recordings whose sizes differ. */
+function sizeDifferences({ Timeline }, core, check) {
+  const one = spoken("one\r\n", "two"), of = (sizes, options) => new Timeline(core, { ...one, sizes }, options), plain = of([]);
+  const changed = plain.firstDifference(of([{ chunk: 0, rows: 30, columns: 90 }]));
+  check(`a change of the size: ${JSON.stringify(changed)}`, changed.time === 2 && changed.position === 8 && changed.rows.length === 30);
+  check("a change at the end", plain.firstDifference(of([{ chunk: 1, rows: 10, columns: 80 }])).time === 2);
+  check("another first size", plain.firstDifference(of([], { rows: 30, columns: 90 })).position === 0);
+  const sizes = [{ chunk: 0, rows: 30, columns: 90 }];
+  check("the same changes", of(sizes).firstDifference(of(sizes)) === null);
+}
+
 export function timelines(vt220, core, check) {
   const made = recording();
   seeks(vt220, core, made, check);
   searches(vt220, core, made, check);
   patterns(vt220, core, check);
   differences(vt220, core, check);
+  sizes(vt220, core, check);
+  sizeDifferences(vt220, core, check);
   availability(vt220, core, check);
   refusals(vt220, core, check);
 }

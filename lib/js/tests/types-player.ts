@@ -10,6 +10,9 @@ export async function use(bytes: Uint8Array): Promise<number | null> {
   Object.assign(player, { fit: "both", keystrokes: true, audioUrl: "x.opus" });
   Vt220Player.reader = fetch("reader.wasm");
   player.markers = [1, [2, "two"]];
+  Object.assign(player, { rows: 40, cols: null });
+  player.rows = 30;
+  player.resize(30, 100);
   Vt220Player.wasm = fetch("vt220.wasm");
   await player.loaded;
   await player.seek({ marker: "next" });

@@ -6,6 +6,7 @@ pub mod detection;
 pub mod format;
 pub mod heading;
 pub mod laws;
+pub mod places;
 pub mod reached;
 pub mod reading;
 pub mod seconds;

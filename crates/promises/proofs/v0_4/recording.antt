@@ -12,6 +12,7 @@ pub mod Reached
 pub mod Moment
 pub mod Characters
 pub mod Gathered
+pub mod Places
 pub mod Changes
 pub mod Reading
 pub mod Detection

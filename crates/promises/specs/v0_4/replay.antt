@@ -16,3 +16,4 @@ pub mod Steps
 pub mod Animated
 pub mod Search
 pub mod LogSearch
+pub mod Index

@@ -2,10 +2,12 @@ pub mod Attributes
 pub mod Pages
 pub mod Play
 pub mod Front
+pub mod Sides
 pub mod Columns
 pub mod Repeating
 pub mod Tabs
 pub mod Scroll
+pub mod Bounded
 pub mod Log
 pub mod Limits
 pub mod Terminals

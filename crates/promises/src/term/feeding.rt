@@ -42,6 +42,21 @@ pub fn sized_terminal_feed_reserved(
     sized_terminal.feed_reserved(piece, out)
 }
 
+/// Promises what `sized_terminal.feed_unobserved` promises.
+pub fn sized_terminal_feed_unobserved(
+    sized_terminal: &mut SizedTerminal,
+    piece: &[u8],
+    out: &mut Vec<u8>,
+)
+    requires { vec_len out.old + 10 * length piece.now ≤ vec_capacity out.old }
+    ensures state { sized_terminal.new ≡ (play sized_terminal.old piece.now).state }
+    ensures reports { out.new.items ≡ out.old.items ++ (play sized_terminal.old piece.now).reports }
+    ensures bounded { vec_len out.new ≤ vec_len out.old + 10 * length piece.now }
+    ensures capacity { vec_capacity out.old ≤ vec_capacity out.new }
+{
+    sized_terminal.feed_unobserved(piece, out)
+}
+
 /// Promises what `sized_terminal.feed_observed` promises.
 pub fn sized_terminal_feed_observed<O: Observer>(
     sized_terminal: &mut SizedTerminal,

@@ -1,7 +1,8 @@
 //! The calls of vt_trace/src/observer.
+ghost use Rattle.promises.specs.v0_4.term.Happenings.{happenings};
 ghost use Rattle.promises.specs.v0_4.term.Observing.{happenings_of};
 ghost use Rattle.promises.specs.v0_4.trace.Observed.{traced_told, tracer_told};
-ghost use Rattle.std.specs.Prelude.{length, take, vec_capacity, vec_len, ◌*◌, ◌++◌, ◌+◌, ◌<◌, ◌^◌, ◌≡◌, ◌≤◌};
+ghost use Rattle.std.specs.Prelude.{[], length, take, vec_capacity, vec_len, ◌*◌, ◌++◌, ◌+◌, ◌<◌, ◌^◌, ◌∷◌, ◌≡◌, ◌≤◌};
 ghost use Rattle.vt_term.specs.Observing.{Feeds};
 
 use vt_term::{Profile, SizedTerminal};
@@ -36,4 +37,22 @@ pub fn trace_as<P: Profile, N: Naming>(
     ensures capacity { vec_capacity out.old ≤ vec_capacity out.new }
 {
     vt_trace::trace_as::<P, N>(terminal, profile, names, tracer, piece, reports, out)
+}
+
+/// Promises what `vt_trace::trace_byte::<N>` promises.
+pub fn trace_byte<N: Naming>(
+    terminal: &SizedTerminal,
+    names: &N,
+    tracer: &mut Tracer,
+    byte: u8,
+    out: &mut Vec<u8>,
+)
+    requires place { tracer.old.place + 1 < 2 ^ 64 }
+    requires room { vec_len out.old + TRACE_LIMIT ≤ vec_capacity out.old }
+    ensures lines { out.new.items ≡ out.old.items ++ traced_told N.names tracer.old (happenings terminal.now (byte ∷ [])) }
+    ensures tracer { tracer.new ≡ tracer_told tracer.old (happenings terminal.now (byte ∷ [])) }
+    ensures bounded { vec_len out.new ≤ vec_len out.old + TRACE_LIMIT }
+    ensures capacity { vec_capacity out.old ≤ vec_capacity out.new }
+{
+    vt_trace::trace_byte::<N>(terminal, names, tracer, byte, out)
 }

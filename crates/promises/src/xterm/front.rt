@@ -2,12 +2,13 @@
 ghost use Rattle.promises.specs.v0_4.term.Pages.{with_page};
 ghost use Rattle.promises.specs.v0_4.term.State.{display_at_power_up, display_of, power_up, state_of};
 ghost use Rattle.promises.specs.v0_4.xterm.Play.{front_at_power_up, front_of};
-ghost use Rattle.std.specs.Prelude.{IfOk, length, ◌≡◌, ◌≤◌};
+ghost use Rattle.promises.specs.v0_4.xterm.Sides.{bounds};
+ghost use Rattle.std.specs.Prelude.{IfOk, is_some, length, ◌≡◌, ◌≤◌};
 ghost use Rattle.vt_screen.specs.Sizes.{IsSize};
 
 use std::alloc::{AllocError, Global};
 use vt_term::{Size, SizedTerminal, Terminal};
-use vt_xterm::{Front, SizedFront};
+use vt_xterm::{Front, Sides, SizedFront};
 
 /// Promises what `SizedFront::new` promises.
 pub fn sized_front_new(alloc: Global, size: Size) -> Result<SizedFront, AllocError>
@@ -15,6 +16,14 @@ pub fn sized_front_new(alloc: Global, size: Size) -> Result<SizedFront, AllocErr
     ensures { IfOk result (λ front. front ≡ front_of size) }
 {
     SizedFront::new(alloc, size)
+}
+
+/// Promises what `sized_front.size` promises.
+pub fn sized_front_size(sized_front: &SizedFront) -> Size
+    ensures size { result ≡ sized_front.now.pages.other.grid.size }
+    ensures sound { IsSize sized_front.now.pages.other.grid.size }
+{
+    sized_front.size()
 }
 
 /// Promises what `sized_front.copy_from` promises.
@@ -62,6 +71,20 @@ pub fn sized_front_resizes(sized_front: &SizedFront) -> bool
     ensures { result ≡ sized_front.now.pages.resizes }
 {
     sized_front.resizes()
+}
+
+/// Promises what `sized_front.sides` promises.
+pub fn sized_front_sides(sized_front: &SizedFront) -> Option<Sides>
+    ensures { result ≡ sized_front.now.pages.sides }
+{
+    sized_front.sides()
+}
+
+/// Promises what `sized_front.is_bounded` promises.
+pub fn sized_front_is_bounded(sized_front: &SizedFront, width: usize) -> bool
+    ensures { result ≡ is_some (bounds width sized_front.now.pages.sides) }
+{
+    sized_front.is_bounded(width)
 }
 
 /// Promises what `Front::new` promises.
@@ -112,4 +135,11 @@ pub fn front_resizes(front: &Front) -> bool
     ensures { result ≡ front.now.pages.resizes }
 {
     front.resizes()
+}
+
+/// Promises what `front.sides` promises.
+pub fn front_sides(front: &Front) -> Option<Sides>
+    ensures { result ≡ front.now.pages.sides }
+{
+    front.sides()
 }

@@ -2,6 +2,7 @@
 ghost use Rattle.promises.specs.v0_4.paint.Repaint.{IsReached};
 ghost use Rattle.promises.specs.v0_4.screen.Sizes.{vt220_size};
 ghost use Rattle.promises.specs.v0_4.term.Sound.{IsSound};
+ghost use Rattle.promises.specs.v0_4.xterm.Play.{IsSoundWhole};
 ghost use Rattle.promises.specs.v0_4.xterm_paint.Repaint.{IsPart, IsReachedWhole, IsRebuilt, IsRebuiltAt};
 ghost use Rattle.promises.specs.v0_4.xterm_paint.Repaint.{xterm_paint_limit, xterm_repaint};
 ghost use Rattle.std.specs.Prelude.{[], length, List, ℕ, ◌++◌, ◌↔◌, ◌≡◌, ◌≤◌};
@@ -9,8 +10,8 @@ ghost use Rattle.std.specs.Str.{IsAscii};
 ghost use Rattle.vt_screen.specs.declared.size.Size.{Size};
 ghost use Rattle.vt_syntax.specs.declared.held.Held.TheVariants.{Nothing};
 ghost use Rattle.vt_term.specs.Sound.{IsSoundAt};
-ghost use Rattle.vt_xterm.specs.Play.{IsSoundWhole, Whole};
-ghost use Rattle.vt_xterm_paint.specs.Repaint.{IsSoundWholeAt, Rebuilds};
+ghost use Rattle.vt_xterm.specs.Play.{IsSoundWholeAt, Whole};
+ghost use Rattle.vt_xterm_paint.specs.Repaint.{Rebuilds};
 
 use vt_xterm_paint::XTERM_PAINT_LIMIT;
 

@@ -1,5 +1,6 @@
 //! The calls of vt_xterm_paint/src/paint.
 ghost use Rattle.promises.specs.v0_4.xterm.Play.{behind};
+ghost use Rattle.promises.specs.v0_4.xterm.Sides.{FitsSides};
 ghost use Rattle.promises.specs.v0_4.xterm_paint.Repaint.{IsRebuiltAt, showing_other, xterm_paint_limit};
 ghost use Rattle.promises.specs.v0_4.xterm_paint.Repaint.{xterm_repaint};
 ghost use Rattle.std.specs.Prelude.{[], IsErrOf, OnErr, OnOk, vec_capacity, vec_len, ◌++◌, ◌+◌, ◌<◌, ◌↔◌, ◌≡◌, ◌≢◌};
@@ -20,7 +21,8 @@ pub fn repaint_xterm(
     requires size { front.now.pages.other.grid.size ≡ t.now.display.grid.size }
     requires scratch { scratch.old.display.grid.size ≡ t.now.display.grid.size }
     ensures items { OnOk result (out.new.items ≡ out.old.items ++ xterm_repaint (behind t.now front.now)) }
-    ensures rebuilds { OnOk result (IsRebuiltAt t.now.display.grid.size (behind t.now front.now)) }
+    ensures rebuilds { OnOk result (FitsSides t.now.display front.now.pages.sides
+        → IsRebuiltAt t.now.display.grid.size (behind t.now front.now)) }
     ensures partial { IsErrOf result PaintError.Partial ↔ ((t.now.held ≢ Nothing) ⊎ (front.now.pending ≢ [])) }
     ensures memory { IsErrOf result PaintError.Memory
         → vec_capacity out.old < vec_len out.old + xterm_paint_limit t.now.display.grid.size }
@@ -45,7 +47,8 @@ pub fn repaint_xterm_reserved(
     requires scratch { scratch.old.display.grid.size ≡ t.now.display.grid.size }
     requires room { vec_len out.old + xterm_paint_limit t.now.display.grid.size ≤ vec_capacity out.old }
     ensures items { out.new.items ≡ out.old.items ++ xterm_repaint (behind t.now front.now) }
-    ensures rebuilds { IsRebuiltAt t.now.display.grid.size (behind t.now front.now) }
+    ensures rebuilds { FitsSides t.now.display front.now.pages.sides
+        → IsRebuiltAt t.now.display.grid.size (behind t.now front.now) }
     ensures scratch { scratch.new ≡ showing_other front.now.pages }
     ensures bounded { vec_len out.new ≤ vec_len out.old + xterm_paint_limit t.now.display.grid.size }
     ensures capacity { vec_capacity out.old ≤ vec_capacity out.new }

@@ -1,5 +1,6 @@
 //! The calls of vt_xterm_paint/src/views.
 ghost use Rattle.promises.specs.v0_4.xterm.Play.{behind};
+ghost use Rattle.promises.specs.v0_4.xterm.Sides.{FitsSides};
 ghost use Rattle.promises.specs.v0_4.xterm_paint.Repaint.{IsRebuilt, showing_other, xterm_repaint};
 ghost use Rattle.std.specs.Prelude.{[], IsErrOf, OnErr, OnOk, vec_capacity, vec_len, ◌++◌, ◌+◌, ◌<◌, ◌↔◌, ◌≡◌, ◌≢◌};
 ghost use Rattle.std.specs.Prelude.{◌≤◌, ◌⊎◌};
@@ -18,7 +19,7 @@ pub fn repaint_xterm(
     out: &mut Vec<u8>,
 ) -> Result<(), PaintError>
     ensures items { OnOk result (out.new.items ≡ out.old.items ++ xterm_repaint (behind t.now front.now)) }
-    ensures rebuilds { OnOk result (IsRebuilt (behind t.now front.now)) }
+    ensures rebuilds { OnOk result (FitsSides t.now.display front.now.pages.sides → IsRebuilt (behind t.now front.now)) }
     ensures partial { IsErrOf result PaintError.Partial ↔ ((t.now.held ≢ Nothing) ⊎ (front.now.pending ≢ [])) }
     ensures memory { IsErrOf result PaintError.Memory → vec_capacity out.old < vec_len out.old + XTERM_PAINT_LIMIT }
     ensures scratch { OnOk result (scratch.new ≡ showing_other front.now.pages) }
@@ -40,7 +41,7 @@ pub fn repaint_xterm_reserved(
     requires between { t.now.held ≡ Nothing }
     requires room { vec_len out.old + XTERM_PAINT_LIMIT ≤ vec_capacity out.old }
     ensures items { out.new.items ≡ out.old.items ++ xterm_repaint (behind t.now front.now) }
-    ensures rebuilds { IsRebuilt (behind t.now front.now) }
+    ensures rebuilds { FitsSides t.now.display front.now.pages.sides → IsRebuilt (behind t.now front.now) }
     ensures scratch { scratch.new ≡ showing_other front.now.pages }
     ensures bounded { vec_len out.new ≤ vec_len out.old + XTERM_PAINT_LIMIT }
     ensures capacity { vec_capacity out.old ≤ vec_capacity out.new }

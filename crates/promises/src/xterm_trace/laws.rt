@@ -3,7 +3,7 @@ ghost use Rattle.promises.specs.v0_4.trace.Utf8.{trace_utf8, tracer_utf8};
 ghost use Rattle.promises.specs.v0_4.utf8.Decoding.{characters, pending_after};
 ghost use Rattle.promises.specs.v0_4.xterm.Play.{play_xterm};
 ghost use Rattle.promises.specs.v0_4.xterm_trace.Trace.{PlaysVt220s, trace_xterm, tracer_xterm};
-ghost use Rattle.std.specs.Prelude.{[], List, ℕ, ◌++◌, ◌≡◌};
+ghost use Rattle.std.specs.Prelude.{[], List, None, ℕ, ◌++◌, ◌≡◌};
 ghost use Rattle.vt_trace.specs.declared.tracing.Tracer.{Tracer};
 ghost use Rattle.vt_xterm.specs.Play.{Whole};
 
@@ -21,9 +21,9 @@ pub fn cuts()
 
 /// Promises what `vt_xterm_trace::laws::transparent` promises.
 pub fn transparent()
-    ensures lines { (w : Whole) (t : Tracer) (pending bytes : List ℕ) → PlaysVt220s w (characters pending bytes)
+    ensures lines { (w : Whole) (t : Tracer) (pending bytes : List ℕ) → w.pages.sides ≡ None → PlaysVt220s w (characters pending bytes)
         → trace_xterm w t pending bytes ≡ trace_utf8 w.state t pending bytes }
-    ensures tracer { (w : Whole) (t : Tracer) (pending bytes : List ℕ) → PlaysVt220s w (characters pending bytes)
+    ensures tracer { (w : Whole) (t : Tracer) (pending bytes : List ℕ) → w.pages.sides ≡ None → PlaysVt220s w (characters pending bytes)
         → tracer_xterm w t pending bytes ≡ tracer_utf8 w.state t pending bytes }
 {
     vt_xterm_trace::laws::transparent()

@@ -61,6 +61,12 @@ with_events-same = refl
 pub with_search-same : frozen.with_search ≡ today.with_search
 with_search-same = refl
 
+pub every_option-same : frozen.every_option ≡ today.every_option
+every_option-same = refl
+
+pub with_index-same : frozen.with_index ≡ today.with_index
+with_index-same = refl
+
 pub as_program-same : frozen.as_program ≡ today.as_program
 as_program-same = refl
 
@@ -92,6 +98,9 @@ is_true-same = refl
 
 pub is_set-same : frozen.is_set ≡ today.is_set
 is_set-same = refl
+
+pub is_whole-same : frozen.is_whole ≡ today.is_whole
+is_whole-same = refl
 
 pub is_plain-same : frozen.is_plain ≡ today.is_plain
 is_plain-same = refl

@@ -30,6 +30,9 @@ AreOptions-read matches piece limit file ρ = record {
 pub word_looks-same : frozen.word_looks ≡ today.word_looks
 word_looks-same = refl
 
+pub every_of-same : frozen.every_of ≡ today.every_of
+every_of-same = refl
+
 pub IsFound-made : (found : Option (Text × List Row)) (r : Request) → frozen.IsFound' found r → today.IsFound found r
 IsFound-made found r ρ = record {
   matches = ρ.matches;
@@ -39,6 +42,8 @@ IsFound-made found r ρ = record {
   timing = ρ.timing;
   title = ρ.title;
   pattern = ρ.pattern;
+  every = ρ.every;
+  index = ρ.index;
   log = ρ.log;
   full = ρ.full;
   partial = ρ.partial;
@@ -54,6 +59,8 @@ IsFound-read found r ρ = record {
   timing = ρ.timing;
   title = ρ.title;
   pattern = ρ.pattern;
+  every = ρ.every;
+  index = ρ.index;
   log = ρ.log;
   full = ρ.full;
   partial = ρ.partial;

@@ -1,14 +1,11 @@
 -- 0.4: vt_laws/specs/Characters is today's.
 use Rattle.promises.proofs.v0_4.syntax.Held.{events_from-same, held_from-same}
 use Rattle.promises.specs.v0_4.laws.Characters as frozen
-use Rattle.std.proofs.Common.{refl, ◌≡◌}
+use Rattle.std.proofs.Common.{◌≡◌}
 use Rattle.std.specs.Prelude.{[], if◌then◌else◌, List, nat_lt, ℕ, ◌++◌, ◌∷◌}
 use Rattle.vt_laws.specs.Characters as today
-use Rattle.vt_laws.specs.Characters.{held_beyond}
 use Rattle.vt_syntax.specs.declared.held.Held.{Held}
-
-pub held_beyond-same : frozen.held_beyond ≡ today.held_beyond
-held_beyond-same = refl
+use Rattle.vt_xterm.specs.Bounded.{held_beyond}
 
 pub events_of_characters-at : (x0 : Held) (x1 : List ℕ) → frozen.events_of_characters x0 x1 ≡ today.events_of_characters x0 x1
 events_of_characters-at h [] = λ ι. []

@@ -12,12 +12,13 @@ use Rattle.vt_glyph.specs.Tables.{space}
 use Rattle.vt_paint.specs.Controls.{clear_all_tabs, cursor_position, margins_to, mode_rows, private_mode, save_cursor}
 use Rattle.vt_paint.specs.Controls.{set_tab, shift_to, spelling_sets_events}
 use Rattle.vt_paint.specs.Items as today
-use Rattle.vt_paint.specs.Items.{is_wide, mode_item, position_item, row_item, width_events}
+use Rattle.vt_paint.specs.Items.{is_wide, mode_item, row_item, width_events}
 use Rattle.vt_paint.specs.Same.{same_saved}
 use Rattle.vt_screen.specs.Cells.{brush_of}
 use Rattle.vt_screen.specs.Same.{same_bool, when}
 use Rattle.vt_syntax.specs.declared.event.Event.TheVariants.{Print}
-use Rattle.vt_term.specs.State.{bottom_row, has_stop_at, saved_at_power_up, saved_sets}
+use Rattle.vt_term.specs.Answers.{line_of_cursor}
+use Rattle.vt_term.specs.State.{bottom_row, has_stop_at, last_column, saved_at_power_up, saved_sets}
 
 pub stop_events-same : frozen.stop_events ≡ today.stop_events
 unfolding frozen.stop_events today.stop_events
@@ -73,9 +74,6 @@ pub origin_item-same : frozen.origin_item ≡ today.origin_item
 unfolding frozen.origin_item today.origin_item
 origin_item-same = λ ι known on. mode_item known false (private_mode 6) on
 
-pub position_item-same : frozen.position_item ≡ today.position_item
-position_item-same = refl
-
 pub wrap_item-same : frozen.wrap_item ≡ today.wrap_item
 unfolding frozen.wrap_item today.wrap_item
 wrap_item-same = λ ι g cursor.
@@ -97,14 +95,20 @@ shift_item-at (Some slot) = λ ι. shift_to slot ∷ []
 pub shift_item-same : frozen.shift_item ≡ today.shift_item
 shift_item-same = λ ι x0. shift_item-at x0 ι
 
-pub last_items-same : frozen.last_items ≡ today.last_items
-unfolding frozen.last_items today.last_items
-last_items-same = λ ι known s.
-    (margins_item-same ι) (bottom_row s) s.margins
-    ++ ((origin_item-same ι) known s.modes.decom
-    ++ (position_item s
-    ++ ((wrap_item-same ι) s.grid s.cursor
+pub first_items-same : frozen.first_items ≡ today.first_items
+unfolding frozen.first_items today.first_items
+first_items-same = λ ι s wrap.
+    (stops_item-same ι) s.grid.size (last_column s) s.stops
+    ++ ((saved_item-same ι) s.saved
+    ++ ((cells_item-same ι) s.grid wrap ++ (margins_item-same ι) (bottom_row s) s.margins))
+
+pub placed_items-same : frozen.placed_items ≡ today.placed_items
+unfolding frozen.placed_items today.placed_items
+placed_items-same = λ ι known s col wrap.
+    (origin_item-same ι) known s.modes.decom
+    ++ (cursor_position (line_of_cursor s) col
+    ∷ ((wrap_item-same ι) s.grid (record s.cursor { wrap = wrap })
     ++ ((brush_events-same ι) s.brush
     ++ ((sets_events-same ι) s.sets
     ++ ((modes_item-same ι) known s.modes
-    ++ (shift_item-same ι) s.sets.pending))))))
+    ++ (shift_item-same ι) s.sets.pending)))))

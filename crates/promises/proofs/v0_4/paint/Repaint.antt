@@ -1,5 +1,5 @@
 -- 0.4: vt_paint/specs/Repaint is today's.
-use Rattle.promises.proofs.v0_4.paint.Items.{cells_item-same, last_items-same, saved_item-same, stops_item-same}
+use Rattle.promises.proofs.v0_4.paint.Items.{first_items-same, placed_items-same}
 use Rattle.promises.proofs.v0_4.term.Play.{play-same}
 use Rattle.promises.proofs.v0_4.term.State.{state_of-same}
 use Rattle.promises.specs.v0_4.paint.Repaint as frozen
@@ -10,15 +10,11 @@ use Rattle.vt_paint.specs.Repaint as today
 use Rattle.vt_screen.specs.Sizes.{vt220_size}
 use Rattle.vt_syntax.specs.Spelling.{spell_events}
 use Rattle.vt_term.specs.Sound.{IsSoundAt}
-use Rattle.vt_term.specs.State.{last_column, State}
+use Rattle.vt_term.specs.State.{State}
 
 pub made_events-same : frozen.made_events ≡ today.made_events
 unfolding frozen.made_events today.made_events
-made_events-same = λ ι s.
-    (stops_item-same ι) s.grid.size (last_column s) s.stops
-    ++ ((saved_item-same ι) s.saved
-    ++ ((cells_item-same ι) s.grid s.cursor.wrap
-    ++ (last_items-same ι) true s))
+made_events-same = λ ι s. (first_items-same ι) s s.cursor.wrap ++ (placed_items-same ι) true s s.cursor.col s.cursor.wrap
 
 pub paint-same : frozen.paint ≡ today.paint
 unfolding frozen.paint today.paint

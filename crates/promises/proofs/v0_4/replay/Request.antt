@@ -3,7 +3,7 @@ use Rattle.promises.proofs.v0_4.recording.Changes.{changes_in-same}
 use Rattle.promises.proofs.v0_4.recording.Detection.{detected-same}
 use Rattle.promises.proofs.v0_4.replay.Animated.{IsAnimation-same}
 use Rattle.promises.proofs.v0_4.replay.Host.{host_of-same}
-use Rattle.promises.proofs.v0_4.replay.Search.{IsSearched-same}
+use Rattle.promises.proofs.v0_4.replay.Index.{IsIndexed-same}
 use Rattle.promises.proofs.v0_4.replay.Words.{WordTable-same}
 use Rattle.promises.specs.v0_4.replay.Request as frozen
 use Rattle.std.proofs.Common.{refl, ◌≡◌}
@@ -12,7 +12,7 @@ use Rattle.std.specs.Prelude.{◌+◌, ◌-◌, ◌^◌, ◌∷◌, ◌≡◌}
 use Rattle.vt_cli.specs.Source.{size_of}
 use Rattle.vt_cli.specs.declared.asked.Request.{Request}
 use Rattle.vt_cli.specs.declared.what.What.TheVariants.{Picture}
-use Rattle.vt_cli.specs.declared.what.Word.TheVariants.{Animation, Events, Replay, Search}
+use Rattle.vt_cli.specs.declared.what.Word.TheVariants.{Animation, Events, Index, Replay, Search}
 use Rattle.vt_cli.specs.declared.what.Word.{Word}
 use Rattle.vt_device.specs.Runs.{Flags}
 use Rattle.vt_device.specs.declared.fault.Break.{Break}
@@ -27,7 +27,7 @@ use Rattle.vt_replay.specs.Playing.{language_of}
 use Rattle.vt_replay.specs.Request as today
 use Rattle.vt_replay.specs.Request.{keeps_size, most_changes, resize_then}
 use Rattle.vt_replay.specs.Request.{shown_format}
-use Rattle.vt_replay.specs.Search.{text_of}
+use Rattle.vt_replay.specs.Search.{IsSearched, text_of}
 use Rattle.vt_replay.specs.declared.host.Host.{Host}
 use Rattle.vt_replay.specs.declared.requests.Outcome.{Outcome}
 use Rattle.vt_replay.specs.declared.resized.Resize.{Resize}
@@ -92,8 +92,10 @@ IsTakenBy-at (Animation looks) r format host timing bytes content broken replace
     (IsAnimation-same ι) looks (title_of r.title) (opening (Replay Picture) host) host.size (language_of host.terminal host.encoding) format host.encoding r.until
     timing bytes content broken replaced
 IsTakenBy-at Search r format host timing bytes content broken replaced = λ ι.
-    (IsSearched-same ι) host.size r.log (text_of r.pattern) (opening (Replay Picture) host) (language_of host.terminal host.encoding) format host.encoding r.until
-    timing bytes content broken replaced
+    IsSearched host.size r.log (text_of r.pattern) (opening (Replay Picture) host) (language_of host.terminal host.encoding) format host.encoding r.from
+    r.until timing bytes content broken replaced
+IsTakenBy-at Index r format host timing bytes content broken replaced = λ ι.
+    (IsIndexed-same ι) format host r.every (opening (Replay Picture) host) timing bytes content broken replaced
 IsTakenBy-at word r format host timing bytes content broken replaced = λ ι.
     IsTakenBetween format host.encoding r.from r.until timing bytes content broken replaced
 

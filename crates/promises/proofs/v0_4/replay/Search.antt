@@ -1,5 +1,6 @@
 -- 0.4: vt_replay/specs/Search is today's.
 use Rattle.promises.proofs.v0_4.recording.Gathered.{events_of-same}
+use Rattle.promises.proofs.v0_4.recording.Reached.{passed-same}
 use Rattle.promises.proofs.v0_4.replay.LogSearch.{log_found_at-same}
 use Rattle.promises.proofs.v0_4.replay.Playing.{played_at-same}
 use Rattle.promises.proofs.v0_4.screen.Grid.{row_of-same}
@@ -9,11 +10,20 @@ use Rattle.promises.proofs.v0_4.utf8.Similar.{shown-same}
 use Rattle.promises.specs.v0_4.replay.Search as frozen
 use Rattle.std.proofs.Common.{refl, ◌≡◌}
 use Rattle.std.specs.List.{range_with_len}
-use Rattle.std.specs.Prelude.{[], cond, encode_utf8_all, flat_map, if◌then◌else◌, nat_lt, None, ◌++◌, ◌==◌, ◌∷◌}
+use Rattle.std.specs.Prelude.{[], Bool, cond, drop, encode_utf8_all, false, flat_map, if◌then◌else◌, length, List}
+use Rattle.std.specs.Prelude.{max, nat_lt, None, Option, Some, take, ℕ, ◌++◌, ◌+◌, ◌==◌, ◌∷◌, ◌≡◌}
 use Rattle.std.specs.Str.{chars}
+use Rattle.vt_device.specs.declared.fault.Break.{Break}
+use Rattle.vt_recording.specs.Reached.{has_characters, IsAmong, nothing_passed}
+use Rattle.vt_recording.specs.declared.format.Encoding.{Encoding}
+use Rattle.vt_recording.specs.declared.format.Format.{Format}
+use Rattle.vt_recording.specs.declared.format.Moment.TheVariants as moment
+use Rattle.vt_recording.specs.declared.format.Moment.{Moment}
 use Rattle.vt_replay.specs.Search as today
-use Rattle.vt_replay.specs.Search.{first_place, in_cells, is_utf8, line_end, spans}
-use Rattle.vt_replay.specs.Steps.{IsStepped}
+use Rattle.vt_replay.specs.Search.{first_place, in_cells, is_before, is_utf8, line_end, spans, steps_left}
+use Rattle.vt_replay.specs.Steps.{IsStepped, Step}
+use Rattle.vt_replay.specs.declared.language.Language.{Language}
+use Rattle.vt_screen.specs.declared.size.Size.{Size}
 use Rattle.vt_term.specs.Text.{glyphs_of}
 
 pub text_of-same : frozen.text_of ≡ today.text_of
@@ -59,6 +69,59 @@ searched-same = λ ι size language log text opening content steps.
     let found = (spans_at-same ι) size language ((wanted-same ι) language text) opening content steps in
     if log then found ++ (log_found_at-same ι) size language (is_utf8 language) ((wanted-same ι) language text) opening content steps else found
 
-pub IsSearched-same : frozen.IsSearched ≡ today.IsSearched
-IsSearched-same = λ ι size log text opening language format encoding until timing bytes lines broken replaced.
-    IsStepped (λ content steps. (searched-same ι) size language log text opening content steps) format encoding until timing bytes lines broken replaced
+pub is_before-same : frozen.is_before ≡ today.is_before
+is_before-same = refl
+
+pub split_at-at : (make : (before content : List ℕ) → List Step → List ℕ) (x1 : Moment) (clock : ℕ) (before : List ℕ) (content : List ℕ) (x5 : List Step) → frozen.split_at make x1 clock before content x5 ≡ today.split_at make x1 clock before content x5
+unfolding frozen.split_at today.split_at
+split_at-at make from clock before content [] = λ ι. make before content []
+split_at-at make from clock before content (s ∷ steps) = λ ι.
+    let text = take s.length content in
+    cond (is_before from (max clock s.micros) (length before + length text))
+    ((split_at-at make from (max clock s.micros) (before ++ text) (drop s.length content) steps ι))
+    (make before content (s ∷ steps))
+
+pub split_at-same : frozen.split_at ≡ today.split_at
+split_at-same = λ ι make x1 clock before content x5. split_at-at make x1 clock before content x5 ι
+
+pub steps_left-same : frozen.steps_left ≡ today.steps_left
+steps_left-same = refl
+
+pub searched_after-same : frozen.searched_after ≡ today.searched_after
+searched_after-same = λ ι from size language log text opening content steps.
+    (split_at-same ι) (λ before content steps. (searched-same ι) size language log text (opening ++ before) content (steps_left content steps)) from 0 [] content steps
+
+pub searched_from-at : (x0 : Option Moment) (x1 : Size) (x2 : Language) (log : Bool) (text : List ℕ) (opening : List ℕ) (content : List ℕ) (x7 : List Step) → frozen.searched_from x0 x1 x2 log text opening content x7 ≡ today.searched_from x0 x1 x2 log text opening content x7
+searched_from-at None size language log text opening content steps = λ ι. (searched-same ι) size language log text opening content steps
+searched_from-at (Some from) size language log text opening content steps = λ ι. (searched_after-same ι) from size language log text opening content steps
+
+pub searched_from-same : frozen.searched_from ≡ today.searched_from
+searched_from-same = λ ι x0 x1 x2 log text opening content x7. searched_from-at x0 x1 x2 log text opening content x7 ι
+
+pub BeginsBy-at : (x0 : Option Moment) (x1 : Format) (x2 : Encoding) (timing : Option (List ℕ)) (bytes : List ℕ) (begin : Option Moment) → frozen.BeginsBy x0 x1 x2 timing bytes begin ≡ today.BeginsBy x0 x1 x2 timing bytes begin
+BeginsBy-at None format encoding timing bytes begin = λ ι. begin ≡ None
+BeginsBy-at (Some (moment.Bytes n)) format encoding timing bytes begin = λ ι. begin ≡ Some (moment.Bytes n)
+BeginsBy-at (Some (moment.Micros n)) format encoding timing bytes begin = λ ι. begin ≡ Some (moment.Micros n)
+BeginsBy-at (Some (moment.Event n)) format encoding timing bytes begin = λ ι.
+    IsAmong format timing bytes (λ events. begin
+    ≡ Some (moment.Bytes ((passed-same ι) false (has_characters format encoding) (moment.Event n) nothing_passed events).content))
+BeginsBy-at (Some (moment.Marker n)) format encoding timing bytes begin = λ ι.
+    IsAmong format timing bytes (λ events. begin
+    ≡ Some (moment.Bytes ((passed-same ι) false (has_characters format encoding) (moment.Marker n) nothing_passed events).content))
+
+pub BeginsBy-same : frozen.BeginsBy ≡ today.BeginsBy
+BeginsBy-same = λ ι x0 x1 x2 timing bytes begin. BeginsBy-at x0 x1 x2 timing bytes begin ι
+
+pub IsSearched-made : (size : Size) (log : Bool) (text opening : List ℕ) (language : Language) (format : Format) (encoding : Encoding) (from until : Option Moment) (timing : Option (List ℕ)) (bytes lines : List ℕ) (broken : Option Break) (replaced : ℕ) → frozen.IsSearched' size log text opening language format encoding from until timing bytes lines broken replaced → today.IsSearched size log text opening language format encoding from until timing bytes lines broken replaced
+IsSearched-made size log text opening language format encoding from until timing bytes lines broken replaced ρ = record {
+  begin = ρ.begin;
+  begins = coe 0 1 (ι. (BeginsBy-same ι) from format encoding timing bytes ρ.begin) ρ.begins;
+  stepped = coe 0 1 (ι. IsStepped (λ content steps. (searched_from-same ι) ρ.begin size language log text opening content steps) format encoding until timing bytes lines broken replaced) ρ.stepped;
+}
+
+pub IsSearched-read : (size : Size) (log : Bool) (text opening : List ℕ) (language : Language) (format : Format) (encoding : Encoding) (from until : Option Moment) (timing : Option (List ℕ)) (bytes lines : List ℕ) (broken : Option Break) (replaced : ℕ) → today.IsSearched size log text opening language format encoding from until timing bytes lines broken replaced → frozen.IsSearched' size log text opening language format encoding from until timing bytes lines broken replaced
+IsSearched-read size log text opening language format encoding from until timing bytes lines broken replaced ρ = record {
+  begin = ρ.begin;
+  begins = coe 1 0 (ι. (BeginsBy-same ι) from format encoding timing bytes ρ.begin) ρ.begins;
+  stepped = coe 1 0 (ι. IsStepped (λ content steps. (searched_from-same ι) ρ.begin size language log text opening content steps) format encoding until timing bytes lines broken replaced) ρ.stepped;
+}

@@ -16,7 +16,7 @@ use Rattle.promises.proofs.v0_4.xterm_trace.Trace.{trace_xterm-same, tracer_xter
 use Rattle.promises.specs.v0_4.replay.Words as frozen
 use Rattle.std.proofs.Common.{◌≡◌}
 use Rattle.std.specs.Prelude.{[], List, Result, ℕ}
-use Rattle.vt_cli.specs.declared.what.Word.TheVariants.{Animation, Content, Events, Log, Pages, Replay, Search}
+use Rattle.vt_cli.specs.declared.what.Word.TheVariants.{Animation, Content, Events, Index, Log, Pages, Replay, Search}
 use Rattle.vt_cli.specs.declared.what.Word.TheVariants.{Summary, Trace}
 use Rattle.vt_cli.specs.declared.what.Word.{Word}
 use Rattle.vt_device.specs.Output.{all, always, nothing, OutputTable}
@@ -93,6 +93,7 @@ due_of-at Summary size resizes terminal encoding = λ ι.
 due_of-at Events size resizes terminal encoding = λ ι. (of_decoded-same ι) Dec all nothing
 due_of-at Content size resizes terminal encoding = λ ι. (of_decoded-same ι) encoding all nothing
 due_of-at Search size resizes terminal encoding = λ ι. (of_decoded-same ι) Dec all nothing
+due_of-at Index size resizes terminal encoding = λ ι. (of_decoded-same ι) Dec all nothing
 
 pub due_of-same : frozen.due_of ≡ today.due_of
 due_of-same = λ ι x0 x1 x2 x3 x4. due_of-at x0 x1 x2 x3 x4 ι

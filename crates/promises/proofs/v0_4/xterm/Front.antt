@@ -1,36 +1,38 @@
 -- 0.4: vt_xterm/specs/Front is today's.
 use Rattle.promises.proofs.v0_4.glyph.LookUp.{look_up-same}
 use Rattle.promises.proofs.v0_4.term.Functions.{effect-same}
+use Rattle.promises.proofs.v0_4.term.Resets.{screen_alignment-same}
 use Rattle.promises.proofs.v0_4.xterm.Attributes.{select_attributes-same}
-use Rattle.promises.proofs.v0_4.xterm.Pages.{change_page_modes-same, reset_to_initial_state-same}
+use Rattle.promises.proofs.v0_4.xterm.Bounded.{bounded_effect-same}
+use Rattle.promises.proofs.v0_4.xterm.Pages.{bounds_of-same, change_page_modes-same, reset_to_initial_state-same}
+use Rattle.promises.proofs.v0_4.xterm.Pages.{restore_screens-same}
 use Rattle.promises.proofs.v0_4.xterm.Repeating.{repeat-same}
 use Rattle.promises.proofs.v0_4.xterm.Scroll.{rows_down-same, rows_down_by-same, rows_up-same}
 use Rattle.promises.proofs.v0_4.xterm.Tabs.{cursor_backward_tabulation-same, cursor_forward_tabulation-same}
 use Rattle.promises.specs.v0_4.xterm.Front as frozen
 use Rattle.std.proofs.Common.{refl, ◌≡◌}
-use Rattle.std.specs.Prelude.{[], codes, false, None, Option, Some, true, unwrap_or, ℕ, ◌∷◌}
+use Rattle.std.specs.Prelude.{[], codes, false, if◌then◌else◌, None, Option, Some, true, unwrap_or, ℕ, ◌∷◌}
 use Rattle.vt_syntax.specs.declared.event.Event.TheVariants.{Control, Escape, Print, Sequence}
 use Rattle.vt_syntax.specs.declared.event.Event.{Event}
 use Rattle.vt_term.specs.Functions.{byte}
 use Rattle.vt_term.specs.Moving.{cursor_forward}
 use Rattle.vt_term.specs.Parameters.{count}
+use Rattle.vt_xterm.specs.Bounded.{is_bare}
 use Rattle.vt_xterm.specs.Columns.{cursor_character_absolute, cursor_next_line, cursor_preceding_line}
 use Rattle.vt_xterm.specs.Columns.{line_position_absolute, line_position_forward}
 use Rattle.vt_xterm.specs.Front as today
-use Rattle.vt_xterm.specs.Front.{intermediate_functions, restore_if_bare, save_if_bare}
-use Rattle.vt_xterm.specs.Pages.{on_display}
+use Rattle.vt_xterm.specs.Front.{intermediate_functions, save_or_set_sides}
+use Rattle.vt_xterm.specs.Pages.{on_display, Screens, with_full_sides}
+use Rattle.vt_xterm.specs.declared.sides.Sides.{Sides}
 
 pub FunctionTable-same : frozen.FunctionTable ≡ today.FunctionTable
 FunctionTable-same = refl
 
-pub is_bare-same : frozen.is_bare ≡ today.is_bare
-is_bare-same = refl
-
-pub save_if_bare-same : frozen.save_if_bare ≡ today.save_if_bare
-save_if_bare-same = refl
+pub save_or_set_sides-same : frozen.save_or_set_sides ≡ today.save_or_set_sides
+save_or_set_sides-same = refl
 
 pub restore_if_bare-same : frozen.restore_if_bare ≡ today.restore_if_bare
-restore_if_bare-same = refl
+restore_if_bare-same = λ ι params s. if is_bare params then (restore_screens-same ι) s else s
 
 pub plain_functions-same : frozen.plain_functions ≡ today.plain_functions
 plain_functions-same = λ ι.
@@ -48,8 +50,8 @@ plain_functions-same = λ ι.
     ∷ (byte (codes "d"), λ params. on_display (line_position_absolute (count params)))
     ∷ (byte (codes "e"), λ params. on_display (line_position_forward (count params)))
     ∷ (byte (codes "m"), λ params. on_display ((select_attributes-same ι) params))
-    ∷ (byte (codes "s"), λ params. on_display (save_if_bare params))
-    ∷ (byte (codes "u"), λ params. on_display (restore_if_bare params))
+    ∷ (byte (codes "s"), λ params s. save_or_set_sides params s.pages.sides s)
+    ∷ (byte (codes "u"), (restore_if_bare-same ι))
     ∷ []
 
 pub private_functions-same : frozen.private_functions ≡ today.private_functions
@@ -63,6 +65,9 @@ exclamation_functions-same = refl
 
 pub set_level_wrapping-same : frozen.set_level_wrapping ≡ today.set_level_wrapping
 set_level_wrapping-same = refl
+
+pub set_level_without_sides-same : frozen.set_level_without_sides ≡ today.set_level_without_sides
+set_level_without_sides-same = refl
 
 pub quote_functions-same : frozen.quote_functions ≡ today.quote_functions
 quote_functions-same = refl
@@ -88,24 +93,44 @@ unfolding frozen.function_in today.function_in
 function_in-same = λ ι table event last params. unwrap_or ((look_up-same ι) table last) (λ params. on_display ((effect-same ι) event)) params
 
 pub plain_escapes-same : frozen.plain_escapes ≡ today.plain_escapes
-plain_escapes-same = λ ι. (byte (codes "c"), λ params. (reset_to_initial_state-same ι)) ∷ []
+plain_escapes-same = λ ι.
+    (byte (codes "8"), λ params. (restore_screens-same ι)) ∷ (byte (codes "c"), λ params. (reset_to_initial_state-same ι)) ∷ []
 
-pub xterm_effect-at : (x0 : Event) → frozen.xterm_effect x0 ≡ today.xterm_effect x0
-xterm_effect-at (Print b) = λ ι. on_display ((effect-same ι) (Print b))
-xterm_effect-at (Control b) = λ ι. on_display ((effect-same ι) (Control b))
-xterm_effect-at (Escape None last) = λ ι. (function_in-same ι) (plain_escapes-same ι) (Escape None last) last []
-xterm_effect-at (Escape (Some inter) last) = λ ι. on_display ((effect-same ι) (Escape (Some inter) last))
-xterm_effect-at (Sequence marker params inter last) = λ ι.
+pub alignments-same : frozen.alignments ≡ today.alignments
+alignments-same = λ ι. (byte (codes "8"), λ params s. with_full_sides (on_display (screen_alignment-same ι) s)) ∷ []
+
+pub escapes_with-same : frozen.escapes_with ≡ today.escapes_with
+escapes_with-same = λ ι inter. (table_after-same ι) ((byte (codes "#"), (alignments-same ι)) ∷ []) inter
+
+pub screen_effect-at : (x0 : Event) → frozen.screen_effect x0 ≡ today.screen_effect x0
+screen_effect-at (Print b) = λ ι. on_display ((effect-same ι) (Print b))
+screen_effect-at (Control b) = λ ι. on_display ((effect-same ι) (Control b))
+screen_effect-at (Escape None last) = λ ι. (function_in-same ι) (plain_escapes-same ι) (Escape None last) last []
+screen_effect-at (Escape (Some inter) last) = λ ι. (function_in-same ι) ((escapes_with-same ι) inter) (Escape (Some inter) last) last []
+screen_effect-at (Sequence marker params inter last) = λ ι.
     (function_in-same ι) ((functions_of-same ι) marker inter) (Sequence marker params inter last) last params.items
 
+pub screen_effect-same : frozen.screen_effect ≡ today.screen_effect
+screen_effect-same = λ ι x0. screen_effect-at x0 ι
+
+pub effect_between-at : (x0 : Event) (x1 : Option Sides) (x2 : Screens) → frozen.effect_between x0 x1 x2 ≡ today.effect_between x0 x1 x2
+effect_between-at event None s = λ ι. (screen_effect-same ι) event s
+effect_between-at event (Some m) s = λ ι. (bounded_effect-same ι) (screen_effect-same ι) event m s
+
+pub effect_between-same : frozen.effect_between ≡ today.effect_between
+effect_between-same = λ ι x0 x1 x2. effect_between-at x0 x1 x2 ι
+
 pub xterm_effect-same : frozen.xterm_effect ≡ today.xterm_effect
-xterm_effect-same = λ ι x0. xterm_effect-at x0 ι
+xterm_effect-same = λ ι event s. (effect_between-same ι) event ((bounds_of-same ι) s) s
 
 pub is_page_mode-same : frozen.is_page_mode ≡ today.is_page_mode
 is_page_mode-same = refl
 
 pub is_paste_mode-same : frozen.is_paste_mode ≡ today.is_paste_mode
 is_paste_mode-same = refl
+
+pub sets_sides-same : frozen.sets_sides ≡ today.sets_sides
+sets_sides-same = refl
 
 pub sets_mode-same : frozen.sets_mode ≡ today.sets_mode
 sets_mode-same = refl
@@ -118,6 +143,9 @@ is_page_function-same = refl
 
 pub is_paste_function-same : frozen.is_paste_function ≡ today.is_paste_function
 is_paste_function-same = refl
+
+pub is_side_function-same : frozen.is_side_function ≡ today.is_side_function
+is_side_function-same = refl
 
 pub alternate_page-same : frozen.alternate_page ≡ today.alternate_page
 alternate_page-same = refl

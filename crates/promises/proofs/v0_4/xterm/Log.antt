@@ -4,6 +4,7 @@ use Rattle.promises.proofs.v0_4.screen.Grid.{row_of-same}
 use Rattle.promises.proofs.v0_4.term.Scrolling.{line_off-same}
 use Rattle.promises.proofs.v0_4.utf8.Translation.{glyph_off-same}
 use Rattle.promises.proofs.v0_4.xterm.Front.{xterm_effect-same}
+use Rattle.promises.proofs.v0_4.xterm.Pages.{bounds_of-same}
 use Rattle.promises.specs.v0_4.xterm.Log as frozen
 use Rattle.std.proofs.Common.{◌≡◌}
 use Rattle.std.specs.List.{range_with_len}
@@ -16,6 +17,7 @@ use Rattle.vt_term.specs.Parameters.{count}
 use Rattle.vt_term.specs.State.{Display}
 use Rattle.vt_xterm.specs.Log as today
 use Rattle.vt_xterm.specs.Pages.{Screens}
+use Rattle.vt_xterm.specs.declared.sides.Sides.{Sides}
 
 pub first_rows-same : frozen.first_rows ≡ today.first_rows
 unfolding frozen.first_rows today.first_rows
@@ -49,8 +51,15 @@ page_line_off-at (Sequence marker params inter last) s = λ ι. (function_off-sa
 pub page_line_off-same : frozen.page_line_off ≡ today.page_line_off
 page_line_off-same = λ ι x0 x1. page_line_off-at x0 x1 ι
 
+pub line_off_between-at : (x0 : Event) (x1 : Option Sides) (x2 : Display) → frozen.line_off_between x0 x1 x2 ≡ today.line_off_between x0 x1 x2
+line_off_between-at event None s = λ ι. (page_line_off-same ι) event s
+line_off_between-at event (Some m) s = λ ι. []
+
+pub line_off_between-same : frozen.line_off_between ≡ today.line_off_between
+line_off_between-same = λ ι x0 x1 x2. line_off_between-at x0 x1 x2 ι
+
 pub xterm_line_off-same : frozen.xterm_line_off ≡ today.xterm_line_off
-xterm_line_off-same = λ ι event s. if s.pages.alternate then [] else (page_line_off-same ι) event s.display
+xterm_line_off-same = λ ι event s. if s.pages.alternate then [] else (line_off_between-same ι) event ((bounds_of-same ι) s) s.display
 
 pub xterm_lines_off-at : (x0 : List Event) (x1 : Screens) → frozen.xterm_lines_off x0 x1 ≡ today.xterm_lines_off x0 x1
 xterm_lines_off-at [] s = λ ι. []

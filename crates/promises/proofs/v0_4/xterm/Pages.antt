@@ -4,14 +4,16 @@ use Rattle.promises.proofs.v0_4.term.Editing.{erase_in_display-same}
 use Rattle.promises.proofs.v0_4.term.Modes.{column_mode-same, private_modes-same, with_mode-same}
 use Rattle.promises.proofs.v0_4.term.Pages.{blank_page-same, blanked-same, fitted-same}
 use Rattle.promises.proofs.v0_4.term.State.{display_of-same}
+use Rattle.promises.proofs.v0_4.xterm.Sides.{bounds-same}
 use Rattle.promises.specs.v0_4.xterm.Pages as frozen
 use Rattle.std.proofs.Common.{refl, ◌≡◌}
-use Rattle.std.specs.Prelude.{[], false, fold, if◌then◌else◌, true, unwrap_or, ◌∷◌}
+use Rattle.std.specs.Prelude.{[], false, fold, if◌then◌else◌, is_some, None, true, unwrap_or, ◌∷◌}
 use Rattle.vt_term.specs.Pages.{page_of, with_page}
-use Rattle.vt_term.specs.Saving.{restore_cursor, save_cursor}
+use Rattle.vt_term.specs.Saving.{save_cursor}
+use Rattle.vt_term.specs.State.{last_column}
 use Rattle.vt_xterm.specs.Pages as today
-use Rattle.vt_xterm.specs.Pages.{allow_column_mode, bracket_pastes, is_window_wide, on_display}
-use Rattle.vt_xterm.specs.Pages.{save_or_restore}
+use Rattle.vt_xterm.specs.Pages.{restored, side_mode, sided_origin_mode, unwrapped, with_full_sides}
+use Rattle.vt_xterm.specs.Pages.{allow_column_mode, autowrap_mode_between, bracket_pastes, is_window_wide, on_display}
 
 pub PagesState-made : frozen.PagesState' → today.PagesState
 PagesState-made ρ = record {
@@ -19,6 +21,7 @@ PagesState-made ρ = record {
   alternate = ρ.alternate;
   resizes = ρ.resizes;
   brackets = ρ.brackets;
+  sides = ρ.sides;
 }
 
 pub PagesState-read : today.PagesState → frozen.PagesState'
@@ -27,10 +30,11 @@ PagesState-read ρ = record {
   alternate = ρ.alternate;
   resizes = ρ.resizes;
   brackets = ρ.brackets;
+  sides = ρ.sides;
 }
 
 pub pages_of-same : frozen.pages_of ≡ today.pages_of
-pages_of-same = λ ι size. record { other = (blank_page-same ι) size; alternate = false; resizes = false; brackets = false }
+pages_of-same = λ ι size. record { other = (blank_page-same ι) size; alternate = false; resizes = false; brackets = false; sides = None }
 
 pub Screens-made : frozen.Screens' → today.Screens
 Screens-made ρ = record {
@@ -46,6 +50,51 @@ Screens-read ρ = record {
 
 pub on_display-same : frozen.on_display ≡ today.on_display
 on_display-same = refl
+
+pub sided-same : frozen.sided ≡ today.sided
+sided-same = refl
+
+pub with_sides-same : frozen.with_sides ≡ today.with_sides
+with_sides-same = refl
+
+pub change_sides-same : frozen.change_sides ≡ today.change_sides
+change_sides-same = refl
+
+pub with_full_sides-same : frozen.with_full_sides ≡ today.with_full_sides
+with_full_sides-same = refl
+
+pub bounds_of-same : frozen.bounds_of ≡ today.bounds_of
+bounds_of-same = λ ι s. (bounds-same ι) (last_column s.display) s.pages.sides
+
+pub is_bounded-same : frozen.is_bounded ≡ today.is_bounded
+is_bounded-same = λ ι s. is_some ((bounds_of-same ι) s)
+
+pub unwrapped-same : frozen.unwrapped ≡ today.unwrapped
+unwrapped-same = refl
+
+pub restored-same : frozen.restored ≡ today.restored
+restored-same = refl
+
+pub restore_screens-same : frozen.restore_screens ≡ today.restore_screens
+restore_screens-same = λ ι s. unwrapped (on_display (restored ((bounds_of-same ι) s)) s)
+
+pub sides_set-same : frozen.sides_set ≡ today.sides_set
+sides_set-same = refl
+
+pub side_mode-same : frozen.side_mode ≡ today.side_mode
+side_mode-same = refl
+
+pub sided_origin_mode-same : frozen.sided_origin_mode ≡ today.sided_origin_mode
+sided_origin_mode-same = refl
+
+pub origin_mode_between-same : frozen.origin_mode_between ≡ today.origin_mode_between
+origin_mode_between-same = λ ι on s. unwrapped (sided_origin_mode on ((bounds_of-same ι) s) s)
+
+pub autowrap_mode_between-same : frozen.autowrap_mode_between ≡ today.autowrap_mode_between
+autowrap_mode_between-same = refl
+
+pub set_sides-same : frozen.set_sides ≡ today.set_sides
+set_sides-same = refl
 
 pub exchanged-same : frozen.exchanged ≡ today.exchanged
 exchanged-same = λ ι alternate s. record {
@@ -66,12 +115,12 @@ show_or_clear-same = λ ι alternate s.
     if alternate then (show_page-same ι) true s else (if s.pages.alternate then (with_blank-same ι) ((show_page-same ι) false s) else s)
 
 pub save_or_restore-same : frozen.save_or_restore ≡ today.save_or_restore
-save_or_restore-same = refl
+save_or_restore-same = λ ι save s. if save then on_display save_cursor s else (restore_screens-same ι) s
 
 pub show_and_save-same : frozen.show_and_save ≡ today.show_and_save
 show_and_save-same = λ ι alternate s.
-    if alternate then on_display ((erase_in_display-same ι) false 2) ((show_page-same ι) true (on_display save_cursor s))
-    else on_display restore_cursor ((show_page-same ι) false s)
+    if alternate then unwrapped (on_display ((erase_in_display-same ι) false 2) ((show_page-same ι) true (on_display save_cursor s)))
+    else (restore_screens-same ι) ((show_page-same ι) false s)
 
 pub allow_column_mode-same : frozen.allow_column_mode ≡ today.allow_column_mode
 allow_column_mode-same = refl
@@ -80,15 +129,18 @@ pub bracket_pastes-same : frozen.bracket_pastes ≡ today.bracket_pastes
 bracket_pastes-same = refl
 
 pub allowed_column_mode-same : frozen.allowed_column_mode ≡ today.allowed_column_mode
-allowed_column_mode-same = λ ι wide s. if s.pages.resizes then on_display ((column_mode-same ι) wide) s else s
+allowed_column_mode-same = λ ι wide s. if s.pages.resizes then with_full_sides (on_display ((column_mode-same ι) wide) s) else s
 
 pub page_modes-same : frozen.page_modes ≡ today.page_modes
 page_modes-same = λ ι.
     (3, (allowed_column_mode-same ι))
+    ∷ (6, (origin_mode_between-same ι))
+    ∷ (7, autowrap_mode_between)
     ∷ (40, allow_column_mode)
     ∷ (47, (show_page-same ι))
+    ∷ (69, side_mode)
     ∷ (1047, (show_or_clear-same ι))
-    ∷ (1048, save_or_restore)
+    ∷ (1048, (save_or_restore-same ι))
     ∷ (1049, (show_and_save-same ι))
     ∷ (2004, bracket_pastes)
     ∷ []

@@ -7,17 +7,21 @@ use Rattle.promises.proofs.v0_4.term.Scrolling.{scrolled_off-same}
 use Rattle.promises.proofs.v0_4.term.Text.{line_text-same}
 use Rattle.promises.proofs.v0_4.utf8.Decoding.{characters-same, pending_after-same}
 use Rattle.promises.proofs.v0_4.utf8.Translation.{translation-same}
+use Rattle.promises.proofs.v0_4.xterm.Bounded.{writing_beyond-same}
 use Rattle.promises.proofs.v0_4.xterm.Front.{xterm_effect-same}
 use Rattle.promises.proofs.v0_4.xterm.Log.{xterm_lines_off-same}
-use Rattle.promises.proofs.v0_4.xterm.Pages.{pages_of-same}
+use Rattle.promises.proofs.v0_4.xterm.Pages.{bounds_of-same, pages_of-same}
 use Rattle.promises.specs.v0_4.xterm.Play as frozen
 use Rattle.std.proofs.Common.{refl, ◌≡◌}
-use Rattle.std.specs.Prelude.{[], flat_map, if◌then◌else◌, List, nat_lt, ℕ, ◌∷◌}
+use Rattle.std.specs.Prelude.{[], flat_map, if◌then◌else◌, List, nat_lt, None, Option, Some, ℕ, ◌∷◌}
 use Rattle.vt_screen.specs.Sizes.{vt220_size}
+use Rattle.vt_screen.specs.declared.size.Size.{Size}
 use Rattle.vt_term.specs.Machines.{screens_after}
+use Rattle.vt_xterm.specs.Bounded.{beyond_in, held_beyond}
 use Rattle.vt_xterm.specs.Pages.{shown_by}
 use Rattle.vt_xterm.specs.Play as today
 use Rattle.vt_xterm.specs.Play.{both, nothing_played, screens_of, Whole}
+use Rattle.vt_xterm.specs.declared.sides.Sides.{Sides}
 
 pub Whole-made : frozen.Whole' → today.Whole
 Whole-made ρ = record {
@@ -31,17 +35,22 @@ Whole-read ρ = record {
   pages = ρ.pages;
 }
 
-pub IsSoundWhole-made : (w : Whole) → frozen.IsSoundWhole' w → today.IsSoundWhole w
-IsSoundWhole-made w ρ = record {
+pub IsSoundWholeAt-made : (size : Size) (w : Whole) → frozen.IsSoundWholeAt' size w → today.IsSoundWholeAt size w
+IsSoundWholeAt-made size w ρ = record {
   state = ρ.state;
   other = ρ.other;
+  sides = ρ.sides;
 }
 
-pub IsSoundWhole-read : (w : Whole) → today.IsSoundWhole w → frozen.IsSoundWhole' w
-IsSoundWhole-read w ρ = record {
+pub IsSoundWholeAt-read : (size : Size) (w : Whole) → today.IsSoundWholeAt size w → frozen.IsSoundWholeAt' size w
+IsSoundWholeAt-read size w ρ = record {
   state = ρ.state;
   other = ρ.other;
+  sides = ρ.sides;
 }
+
+pub IsSoundWhole-same : frozen.IsSoundWhole ≡ today.IsSoundWhole
+IsSoundWhole-same = refl
 
 pub WholePlayed-made : frozen.WholePlayed' → today.WholePlayed
 WholePlayed-made ρ = record {
@@ -78,6 +87,9 @@ front_of-same = λ ι size. record { pending = []; pages = (pages_of-same ι) si
 pub front_at_power_up-same : frozen.front_at_power_up ≡ today.front_at_power_up
 front_at_power_up-same = λ ι. (front_of-same ι) vt220_size
 
+pub whole_of-same : frozen.whole_of ≡ today.whole_of
+whole_of-same = refl
+
 pub behind-same : frozen.behind ≡ today.behind
 behind-same = refl
 
@@ -101,14 +113,36 @@ play_bytes-same = λ ι w bytes. record {
   lines = (xterm_lines_off-same ι) ((events_from-same ι) w.state.held bytes) (screens_of w);
 }
 
+pub play_translation-same : frozen.play_translation ≡ today.play_translation
+play_translation-same = λ ι w c. record {
+  whole = record w { state = ((play-same ι) w.state ((translation-same ι) w.state c)).state };
+  reports = ((play-same ι) w.state ((translation-same ι) w.state c)).reports;
+  lines = if w.pages.alternate then [] else (scrolled_off-same ι) w.state ((translation-same ι) w.state c);
+}
+
+pub screens_beyond-same : frozen.screens_beyond ≡ today.screens_beyond
+screens_beyond-same = λ ι m c w. beyond_in w.state.held ((writing_beyond-same ι) c m) (screens_of w)
+
+pub play_between-same : frozen.play_between ≡ today.play_between
+play_between-same = λ ι m c w. record {
+  whole = record {
+    state = shown_by ((screens_beyond-same ι) m c w) (held_beyond w.state.held);
+    pages = ((screens_beyond-same ι) m c w).pages;
+  };
+  reports = [];
+  lines = [];
+}
+
+pub play_beyond-at : (x0 : Whole) (x1 : Option Sides) (x2 : ℕ) → frozen.play_beyond x0 x1 x2 ≡ today.play_beyond x0 x1 x2
+play_beyond-at w None c = λ ι. (play_translation-same ι) w c
+play_beyond-at w (Some m) c = λ ι. (play_between-same ι) m c w
+
+pub play_beyond-same : frozen.play_beyond ≡ today.play_beyond
+play_beyond-same = λ ι x0 x1 x2. play_beyond-at x0 x1 x2 ι
+
 pub play_character-same : frozen.play_character ≡ today.play_character
 unfolding frozen.play_character today.play_character
-play_character-same = λ ι w c.
-    if nat_lt c 0x80 then (play_bytes-same ι) w (c ∷ []) else record {
-      whole = record w { state = ((play-same ι) w.state ((translation-same ι) w.state c)).state };
-      reports = ((play-same ι) w.state ((translation-same ι) w.state c)).reports;
-      lines = if w.pages.alternate then [] else (scrolled_off-same ι) w.state ((translation-same ι) w.state c);
-    }
+play_character-same = λ ι w c. if nat_lt c 0x80 then (play_bytes-same ι) w (c ∷ []) else (play_beyond-same ι) w ((bounds_of-same ι) (screens_of w)) c
 
 pub both-same : frozen.both ≡ today.both
 both-same = refl

@@ -1,13 +1,20 @@
 -- 0.4: vt_xterm/specs/Resizing is today's.
 use Rattle.promises.proofs.v0_4.term.Resizing.{log_on-same, page_on-same, state_on-same}
 use Rattle.promises.specs.v0_4.xterm.Resizing as frozen
-use Rattle.std.proofs.Common.{◌≡◌}
+use Rattle.std.proofs.Common.{refl, ◌≡◌}
 use Rattle.std.specs.Prelude.{[], if◌then◌else◌}
 use Rattle.vt_term.specs.Resizing.{count_off}
 use Rattle.vt_xterm.specs.Resizing as today
+use Rattle.vt_xterm.specs.Resizing.{sides_on}
+
+pub sides_on-same : frozen.sides_on ≡ today.sides_on
+sides_on-same = refl
 
 pub pages_on-same : frozen.pages_on ≡ today.pages_on
-pages_on-same = λ ι size s pages. record pages { other = (page_on-same ι) size (count_off size s) pages.other }
+pages_on-same = λ ι size s pages. record pages {
+  other = (page_on-same ι) size (count_off size s) pages.other;
+  sides = sides_on size s pages.sides;
+}
 
 pub front_on-same : frozen.front_on ≡ today.front_on
 front_on-same = λ ι size s front. record front { pages = (pages_on-same ι) size s front.pages }

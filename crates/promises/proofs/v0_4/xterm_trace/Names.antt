@@ -14,9 +14,9 @@ use Rattle.vt_syntax.specs.declared.event.Event.TheVariants.{Control, Escape, Pr
 use Rattle.vt_syntax.specs.declared.event.Event.{Event}
 use Rattle.vt_term.specs.Functions.{byte, numbers_of}
 use Rattle.vt_term.specs.Rendition.{rendition_changes}
-use Rattle.vt_xterm.specs.Front.{is_bare}
+use Rattle.vt_xterm.specs.Bounded.{is_bare}
 use Rattle.vt_xterm_trace.specs.Names as today
-use Rattle.vt_xterm_trace.specs.Names.{always, is_one, name_with, own_names, taking}
+use Rattle.vt_xterm_trace.specs.Names.{always, is_one, name_with, naming, own_names, saves_or_sets, taking}
 
 pub Named-made : frozen.Named' → today.Named
 Named-made ρ = record {
@@ -38,6 +38,12 @@ always-same = refl
 
 pub taking-same : frozen.taking ≡ today.taking
 taking-same = refl
+
+pub naming-same : frozen.naming ≡ today.naming
+naming-same = refl
+
+pub saves_or_sets-same : frozen.saves_or_sets ≡ today.saves_or_sets
+saves_or_sets-same = refl
 
 pub is_one-same : frozen.is_one ≡ today.is_one
 is_one-same = refl
@@ -64,7 +70,7 @@ plain_names-same = λ ι.
     ∷ (byte (codes "d"), always (codes "VPA"))
     ∷ (byte (codes "e"), always (codes "VPR"))
     ∷ (byte (codes "m"), taking (has_attribute-same ι) (codes "SGR"))
-    ∷ (byte (codes "s"), taking is_bare (codes "SCP"))
+    ∷ (byte (codes "s"), naming saves_or_sets)
     ∷ (byte (codes "u"), taking is_bare (codes "RCP"))
     ∷ []
 

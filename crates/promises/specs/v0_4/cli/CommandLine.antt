@@ -18,7 +18,7 @@ use Rattle.vt_cli.specs.declared.asked.Refused.{Refused}
 use Rattle.vt_cli.specs.declared.asked.Settings.{Settings}
 use Rattle.vt_cli.specs.declared.what.What.TheVariants as what
 use Rattle.vt_cli.specs.declared.what.What.{What}
-use Rattle.vt_cli.specs.declared.what.Word.TheVariants.{Animation, Content, Events, Log, Pages, Replay, Search}
+use Rattle.vt_cli.specs.declared.what.Word.TheVariants.{Animation, Content, Events, Index, Log, Pages, Replay, Search}
 use Rattle.vt_cli.specs.declared.what.Word.TheVariants.{Summary, Trace}
 use Rattle.vt_cli.specs.declared.what.Word.{Word}
 
@@ -60,6 +60,7 @@ word_name Summary = codes "summary"
 word_name Events = codes "events"
 word_name Content = codes "content"
 word_name Search = codes "search"
+word_name Index = codes "index"
 
 -- an option with a text
 abbrev pub text_option : Text → Rule
@@ -78,7 +79,7 @@ abbrev pub arguments : List Rule
 arguments =
     piece_option ∷ limit_option ∷ file_argument
     ∷ text_option (codes "format") ∷ text_option (codes "timing") ∷ text_option (codes "from") ∷ text_option (codes "until")
-    ∷ text_option (codes "encoding") ∷ text_option (codes "terminal") ∷ text_option (codes "columns")
+    ∷ text_option (codes "index") ∷ text_option (codes "encoding") ∷ text_option (codes "terminal") ∷ text_option (codes "columns")
     ∷ text_option (codes "size") ∷ flag_option (codes "animate") ∷ text_option (codes "theme") ∷ text_option (codes "cursor") ∷ text_option (codes "title")
     ∷ flag_option (codes "full") ∷ flag_option (codes "partial") ∷ flag_option (codes "quiet") ∷ []
 
@@ -95,31 +96,39 @@ with_name a name = with_subcommand a (subcommand name).top
 abbrev pub with_word : App → Word → App
 with_word a word = with_name a (word_name word)
 
--- with the subcommands for what the terminal holds and answers
+-- an app with the subcommands for what the terminal holds and answers
 abbrev pub with_replays : App → App
 with_replays a =
     with_word (with_word (with_word (with_word a (Replay what.Text)) (Replay what.Reports)) (Replay what.Repaint))
     (Replay what.Status)
 
--- with those for the eye, and for the text of a session
+-- an app with the subcommands for the eye, and for the text of a session
 abbrev pub with_lines : App → App
 with_lines a = with_word (with_word (with_word (with_word a (Replay what.Show)) (Replay what.Picture)) Log) Pages
 
--- with those for what the host sent
+-- an app with the subcommands for what the host sent
 abbrev pub with_events : App → App
 with_events a = with_word (with_word (with_word (with_word a Trace) Summary) Events) Content
 
--- with that for a text, which comes before the file
+-- an app with the subcommand for a text, which comes before the file
 abbrev pub with_search : App → App
 with_search a = with_subcommand a (subcommand_with (word_name Search) (required_argument (codes "pattern") ∷ flag_option (codes "log") ∷ arguments)).top
+
+-- the bytes between two checkpoints of an index
+abbrev pub every_option : Rule
+every_option = number_option (codes "every") 1 1099511627776 (codes "262144")
+
+-- an app with the subcommand for an index
+abbrev pub with_index : App → App
+with_index a = with_subcommand a (subcommand_with (word_name Index) (every_option ∷ arguments)).top
 
 -- a subcommand is required, and it has a version
 abbrev pub as_program : App → App
 as_program a = on_top (λ s. record s { subcommand_required = true; has_version = true }) a
 
--- the program's command, with the thirteen subcommands
+-- the program's command, with the fourteen subcommands
 abbrev pub vt220 : App
-vt220 = as_program (with_search (with_events (with_lines (with_replays (new_app (codes "vt220"))))))
+vt220 = as_program (with_index (with_search (with_events (with_lines (with_replays (new_app (codes "vt220")))))))
 
 -- the faults that clap finds in the words, the first of which is the program's name
 abbrev pub faults_in : List (String Global) → Kinds
@@ -129,7 +138,7 @@ faults_in words = fault_of vt220 (map (λ w. string_bytes w) words)
 abbrev pub found_in : List (String Global) → Option (Text × List Row)
 found_in words = subcommand_of vt220 (map (λ w. string_bytes w) words)
 
--- n is the number that the option has among a subcommand's matches, its default where it wasn't used
+-- n is the number that the option has among a subcommand's matches, its default if it wasn't used
 pub record IsNumberOf' (option : Text) (matches : List Row) (n : ℕ) : Type 0 where
   pub text : Text
   pub matched : first_of option matches ≡ Some text
@@ -143,17 +152,23 @@ is_true (Some text) = bytes_eq text (codes "true")
 abbrev pub is_set : (option : Text) → List Row → Bool
 is_set option matches = is_true (first_of option matches)
 
+-- no option says how a recording was written, or which part of it is wanted
+abbrev pub is_whole : List Row → Bool
+is_whole matches =
+    not (is_some (first_of (codes "format") matches)) && (not (is_some (first_of (codes "timing") matches))
+    && (not (is_some (first_of (codes "from") matches)) && (not (is_some (first_of (codes "until") matches))
+    && not (is_some (first_of (codes "index") matches)))))
+
 -- no option of a recording was used
 abbrev pub is_plain : List Row → Bool
 is_plain matches =
-    not (is_some (first_of (codes "format") matches)) && (not (is_some (first_of (codes "timing") matches))
-    && (not (is_some (first_of (codes "from") matches)) && (not (is_some (first_of (codes "until") matches))
+    is_whole matches
     && (not (is_some (first_of (codes "encoding") matches)) && (not (is_some (first_of (codes "terminal") matches))
     && (not (is_some (first_of (codes "columns") matches)) && (not (is_some (first_of (codes "size") matches))
     && (not (is_set (codes "animate") matches)
     && (not (is_some (first_of (codes "theme") matches)) && (not (is_some (first_of (codes "cursor") matches))
     && (not (is_some (first_of (codes "title") matches)) && (not (is_set (codes "full") matches)
-    && (not (is_set (codes "partial") matches) && not (is_set (codes "quiet") matches))))))))))))))
+    && (not (is_set (codes "partial") matches) && not (is_set (codes "quiet") matches)))))))))))
 
 -- s is what the subcommand that clap found, and its matches, ask for: a replay of bytes that no recorder wrote
 pub record AreSettings' (found : Option (Text × List Row)) (s : Settings) : Type 0 where
@@ -172,7 +187,7 @@ status_for DisplayHelp = 0
 status_for DisplayVersion = 0
 status_for _ = 2
 
--- memory was wanted: status 1, and no text
+-- allocation failed: status 1, and no text
 pub record IsMemory' (r : Refused) : Type 0 where
   pub status : r.status ≡ 1
   pub text : string_bytes r.text ≡ []
@@ -183,7 +198,7 @@ pub record IsFault' (faults : Kinds) (r : Refused) : Type 0 where
   pub found : IsAmong fault faults
   pub status : r.status ≡ status_for fault
 
--- no settings are what clap found
+-- what clap found makes no settings
 abbrev pub HasNoSettings : Option (Text × List Row) → Type 0
 HasNoSettings found = (s : Settings) → AreSettings found s → ⊥
 
@@ -194,6 +209,6 @@ pub record IsStray' (faults : Kinds) (found : Option (Text × List Row)) (r : Re
   pub status : r.status ≡ 2
   pub text : string_bytes r.text ≡ codes "vt220: bad command line" ++ 0x0A ∷ []
 
--- why words are refused, by the faults and the subcommand that clap finds in them
+-- the refusal of words, by the faults and the subcommand that clap finds in them
 abbrev pub IsRefusal : Kinds → Option (Text × List Row) → Refused → Type 0
 IsRefusal faults found r = IsMemory r ⊎ (IsFault faults r ⊎ IsStray faults found r)

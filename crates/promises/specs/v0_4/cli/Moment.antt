@@ -18,12 +18,12 @@ sixtieth digits = option_and_then (λ n. cond (nat_lt n 60) (Some n) None) (numb
 abbrev pub with_sixtieth : Option ℕ → List ℕ → Option ℕ
 with_sixtieth greater digits = option_and_then (λ g. option_map (λ n. 60 * g + n) (sixtieth digits)) greater
 
--- after the first colon, by the place of the second: `2` or `2:3`
+-- the text after the first colon, by the place of the second: `2` or `2:3`
 abbrev pub after_colon : Option ℕ → Option ℕ → List ℕ → Option ℕ
 after_colon greater None text = with_sixtieth greater text
 after_colon greater (Some at) text = with_sixtieth (with_sixtieth greater (take at text)) (drop (at + 1) text)
 
--- by the place of the first colon: `1`, `1:2` or `1:2:3`, of which the first has up to nine digits
+-- seconds, by the place of the first colon: `1`, `1:2` or `1:2:3`, of which the first has up to nine digits
 abbrev pub seconds_at : Option ℕ → List ℕ → Option ℕ
 seconds_at None text = number 9 text
 seconds_at (Some at) text =
@@ -43,7 +43,8 @@ micros_at (Some at) text =
 abbrev pub micros : List ℕ → Option ℕ
 micros text = micros_at (place 0x2E text) text
 
--- by the place of the first `b`: it ends a number of bytes, of up to 15 digits; everything else is seconds
+-- a time or a number of bytes, by the place of the first `b`. It ends a number of bytes, of up to 15 digits; everything
+-- else is seconds
 abbrev pub moment_at : Option ℕ → List ℕ → Option Moment
 moment_at None text = option_map (λ n. Micros n) (micros text)
 moment_at (Some at) text =

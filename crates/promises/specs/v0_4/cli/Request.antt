@@ -1,8 +1,10 @@
 -- 0.4: vt_cli/specs/Request.
 use Rattle.clap.specs.Words.{first_of, Kinds, Row, Text}
 use Rattle.promises.specs.v0_4.cli.CommandLine.{faults_in, found_in, is_set, word_name}
+use Rattle.promises.specs.v0_4.recording.Seconds.{number}
 use Rattle.std.specs.Option.{option_map}
-use Rattle.std.specs.Prelude.{[], codes, List, None, Ok, Option, Some, string_bytes, ℕ, ◌++◌, ◌∷◌, ◌≡◌, ◌≤◌, ◌⊎◌}
+use Rattle.std.specs.Prelude.{[], codes, List, None, Ok, Option, Some, string_bytes, unwrap_or, ℕ, ◌++◌, ◌∷◌, ◌≡◌}
+use Rattle.std.specs.Prelude.{◌≤◌, ◌⊎◌}
 use Rattle.std.specs.declared.alloc.Global.{Global}
 use Rattle.std.specs.declared.string.String.{String}
 use Rattle.vt_cli.specs.CommandLine.{IsFault, IsMemory, IsNumberOf}
@@ -27,6 +29,11 @@ abbrev pub word_looks : Word → Option Looks
 word_looks (Animation looks) = Some looks
 word_looks word = None
 
+-- the bytes between two checkpoints of an index: 256 KiB if there is no number
+abbrev pub every_of : Option Text → ℕ
+every_of None = 262144
+every_of (Some text) = unwrap_or (number 13 text) 262144
+
 -- r is what the subcommand that clap found, and its matches, ask for
 pub record IsFound' (found : Option (Text × List Row)) (r : Request) : Type 0 where
   pub matches : List Row
@@ -36,6 +43,8 @@ pub record IsFound' (found : Option (Text × List Row)) (r : Request) : Type 0 w
   pub timing : option_map (λ f. string_bytes f) r.timing ≡ first_of (codes "timing") matches
   pub title : option_map (λ t. string_bytes t) r.title ≡ first_of (codes "title") matches
   pub pattern : option_map (λ t. string_bytes t) r.pattern ≡ first_of (codes "pattern") matches
+  pub every : r.every ≡ every_of (first_of (codes "every") matches)
+  pub index : option_map (λ f. string_bytes f) r.index ≡ first_of (codes "index") matches
   pub log : r.log ≡ is_set (codes "log") matches
   pub full : r.full ≡ is_set (codes "full") matches
   pub partial : r.partial ≡ is_set (codes "partial") matches
@@ -46,7 +55,7 @@ pub record IsRequest' (words : List (String Global)) (r : Request) : Type 0 wher
   pub no_fault : faults_in words ≡ []
   pub found : IsFound (found_in words) r
 
--- no request is what clap found
+-- what clap found makes no request
 abbrev pub HasNoRequest : Option (Text × List Row) → Type 0
 HasNoRequest found = (r : Request) → IsFound found r → ⊥
 
@@ -57,7 +66,7 @@ pub record IsStrayRequest' (faults : Kinds) (found : Option (Text × List Row)) 
   pub status : r.status ≡ 2
   pub text : string_bytes r.text ≡ codes "vt220: bad command line" ++ 0x0A ∷ []
 
--- why there is no request, by the faults and the subcommand that clap finds
+-- the refusal, by the faults and the subcommand that clap finds
 abbrev pub IsRequestRefusal : Kinds → Option (Text × List Row) → Refused → Type 0
 IsRequestRefusal faults found r = IsMemory r ⊎ (IsFault faults r ⊎ (IsMisfit faults found r ⊎ IsStrayRequest faults found r))
 

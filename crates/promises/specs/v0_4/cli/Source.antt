@@ -14,7 +14,7 @@ abbrev pub takes_timing : Option Format → Bool
 takes_timing (Some f) = format.takes_timing f
 takes_timing None = false
 
--- the recording has times. Where its beginning decides, it may have some
+-- the recording has times. If its beginning decides on the format, it may have some
 abbrev pub has_times : Option Format → (timed : Bool) → Bool
 has_times (Some f) timed = format.has_times f timed
 has_times None timed = true
@@ -26,9 +26,10 @@ has_moment format timed (Bytes n) = true
 has_moment format timed (Event n) = true
 has_moment format timed (Marker n) = true
 
--- the command of this name takes a part of a recording that begins in the middle. For a screen all that comes before counts
+-- the command of this name takes a part of a recording that begins in the middle. For a screen all that comes before counts: a search plays
+-- that, too
 abbrev pub takes_start : Text → Bool
-takes_start command = bytes_eq command (codes "events") || bytes_eq command (codes "content")
+takes_start command = bytes_eq command (codes "events") || (bytes_eq command (codes "content") || bytes_eq command (codes "search"))
 
 -- the size of so many rows of so many columns, if a screen may have it. Its narrow and its wide screen are of one width
 abbrev pub size_of : (columns rows : ℕ) → Option Size
@@ -45,7 +46,7 @@ has_one_size command =
 abbrev pub may_move : Text → Bool
 may_move command = bytes_eq command (codes "picture")
 
--- a picture that moves has a step for each time, and so has a search
+-- the command needs the times of a recording: it writes a picture that moves, or searches
 abbrev pub is_timed : (command : Text) → Option Looks → Bool
 is_timed command looks = is_some looks || bytes_eq command (codes "search")
 

@@ -24,7 +24,7 @@ has_front Write = false
 has_front TooLong = false
 has_front (Broken place) = nat_lt 0 place.at
 
--- the status, by whether it is enough what came before that
+-- the status, by whether what came before the recording broke its format is enough
 abbrev pub status_with : (partial : Bool) → Fault → ℕ
 status_with partial fault = cond (partial && has_front fault) 0 (status_of fault)
 

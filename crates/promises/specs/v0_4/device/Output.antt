@@ -18,8 +18,8 @@ nothing bytes = []
 abbrev pub always : List ℕ → Bool
 always bytes = true
 
--- a write failed before the end: w has all that is written of the chunks before the last one, which has at most so many
--- bytes, and not all that is written of the last one
+-- a write failed before the end. w has all that is written of the chunks before the last one, and not all that is
+-- written of the last one. This has at most so many bytes
 pub record IsCutBefore' (written : List ℕ → List ℕ) (piece : ℕ) (b w : List ℕ) : Type 0 where
   pub before : List ℕ
   pub last : List ℕ
@@ -40,7 +40,7 @@ IsCutOutput written ending there piece b w f =
     (AreFlags f false false true × IsCutBefore written piece b w)
     ⊎ (AreFlags f false true true × (there b ≡ true) × IsCutAtEnd written ending b w)
 
--- what each answer of an output says, b being the bytes read and w the bytes written
+-- what each result of an output states, b being the bytes read and w the bytes written
 abbrev pub OutputTable : (written ending : List ℕ → List ℕ) → (there : List ℕ → Bool) → Result (Unit {0}) Fault → (piece : ℕ) → (b w : List ℕ) → Flags → (limit : ℕ) → Type 0
 OutputTable written ending there (Ok u) piece b w f limit = AreFlags f false true false × (length b ≤ limit)
     × (there b ≡ true) × (w ≡ written b ++ ending b)
@@ -66,7 +66,8 @@ pub record IsWritten' (Translates : Translation) (written : List ℕ → List �
   pub all : w ≡ written x
   pub holds : P x
 
--- as `IsCutBefore`: of the chunks before the last one the terminal's bytes are x, and of all of them y more
+-- `IsCutBefore` of a host's bytes: the terminal's bytes of the chunks before the last one are x, and those of all
+-- chunks are y more
 pub record IsStopped' (Translates : Translation) (written : List ℕ → List ℕ) (piece : ℕ) (b w : List ℕ) : Type 0 where
   pub before : List ℕ
   pub last : List ℕ
@@ -80,7 +81,7 @@ pub record IsStopped' (Translates : Translation) (written : List ℕ → List �
   pub begins : w ≡ written x ++ more
   pub part : IsProperBeginning w (written (x ++ y))
 
--- as `IsCutAtEnd`
+-- `IsCutAtEnd` of a host's bytes
 pub record IsStoppedAtEnd' (Translates : Translation) (written ending : List ℕ → List ℕ) (there : List ℕ → Bool) (b w : List ℕ) : Type 0 where
   pub x : List ℕ
   pub translates : Translates b x
@@ -92,7 +93,7 @@ IsStoppedOutput Translates written ending there piece b w f =
     (AreFlags f false false true × IsStopped Translates written piece b w)
     ⊎ (AreFlags f false true true × IsStoppedAtEnd Translates written ending there b w)
 
--- what each answer says of a host's bytes, of which the terminal's bytes are given to the output
+-- what each result states of a host's bytes, of which the terminal's bytes are given to the output
 abbrev pub TranslatedTable : Translation → (written ending : List ℕ → List ℕ) → (there : List ℕ → Bool) → Result (Unit {0}) Fault → (piece : ℕ) → (b w : List ℕ) → Flags → (limit : ℕ) → Type 0
 TranslatedTable Translates written ending there (Ok u) piece b w f limit = AreFlags f false true false × (length b ≤ limit)
     × IsWritten Translates (λ x. written x ++ ending x) b w (λ x. there x ≡ true)

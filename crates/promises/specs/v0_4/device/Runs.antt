@@ -15,13 +15,13 @@ pub record AreFlags' (f : Flags) (read_fails ends write_fails : Bool) : Type 0 w
   pub reader_ended : f.reader_ended ≡ ends
   pub writer_failed : f.writer_failed ≡ write_fails
 
--- some bytes were taken from the reader, for which a fact holds
+-- the reader gave some bytes b, for which the fact P holds
 pub record Takes' (left left_after : Option (List ℕ)) (P : List ℕ → Type 0) : Type 0 where
   pub b : List ℕ
   pub taken : Consumes left left_after b
   pub holds : P b
 
--- some bytes were taken from the reader, and some by the writer, for which a fact holds
+-- the reader gave some bytes b, and the writer took some bytes w, for which the fact P holds
 pub record Moves' (left left_after held held_after : Option (List ℕ)) (P : List ℕ → List ℕ → Type 0) : Type 0 where
   pub b : List ℕ
   pub w : List ℕ

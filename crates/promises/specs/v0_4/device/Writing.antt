@@ -9,13 +9,13 @@ pub record IsProperBeginning' (w due : List ℕ) : Type 0 where
   pub whole : due ≡ w ++ more
   pub missing : 0 < length more
 
--- some bytes were taken by the writer, for which a fact holds
+-- the writer took some bytes w, for which the fact P holds
 pub record Gives' (held held_after : Option (List ℕ)) (P : List ℕ → Type 0) : Type 0 where
   pub w : List ℕ
   pub given : Appends held held_after w
   pub holds : P w
 
--- all of the chunk and no failure, or a proper beginning and a failure
+-- the writer took all of the chunk and didn't fail, or took a proper beginning of it and failed
 abbrev pub WriteTable : Bool → Bool → List ℕ → List ℕ → Type 0
 WriteTable true failed piece w = (failed ≡ false) × (w ≡ piece)
 WriteTable false failed piece w = (failed ≡ true) × IsProperBeginning w piece

@@ -36,7 +36,7 @@ restored g left right sets = record sets { g = g; left = left; right = right }
 abbrev pub set_at : GraphicSets → ℕ → Set
 set_at sets slot = slice_index_or sets.g slot Ascii
 
--- 20 has a glyph, and of both halves the codes 21 to 7E: so A0 and FF have none
+-- the byte has no glyph, as A0 and FF: 20 has one, and so have the codes 21 to 7E of both halves
 abbrev pub has_no_glyph : ℕ → Bool
 has_no_glyph b = not (b == 0x20) && (nat_lt (b % 0x80) 0x21 || nat_lt 0x7E (b % 0x80))
 

@@ -16,7 +16,7 @@ pub record SpellingLaws' : Type 0 where
       → glyph_read (shifted_for (spelling_of n) sets) (code_of (spelling_of n)) ≡ Some n
   pub leaves : (sets : GraphicSets) (n : ℕ) → AreSpellingSets sets → IsGlyph n
       → after_read (shifted_for (spelling_of n) sets) (code_of (spelling_of n)) ≡ sets
-  -- its code is from 20 to 7E
+  -- the code of each glyph's spelling is from 20 to 7E
   pub code : (n : ℕ) → IsGlyph n → (0x20 ≤ code_of (spelling_of n)) × (code_of (spelling_of n) ≤ 0x7E)
   -- no two glyphs have one spelling
   pub distinct : (m n : ℕ) → IsGlyph m → IsGlyph n → spelling_of m ≡ spelling_of n → m ≡ n
@@ -30,8 +30,8 @@ pub record GlyphLaws' : Type 0 where
   pub read : (sets : GraphicSets) (b : ℕ) → IfSome (glyph_read sets b) IsGlyph
   pub in_use : (table : InUseTable) (b : ℕ) → HasGlyph b → IsGlyph (glyph_in_use table b)
 
--- if no single shift is pending, a byte that has a glyph in either half is read through the sets in GL and GR, and
--- leaves the sets
+-- a byte with a glyph in either half is read through the sets in GL and GR, and leaves them, if no single shift is
+-- pending
 pub record InUseLaws' : Type 0 where
   pub glyph : (sets : GraphicSets) (b : ℕ) → sets.pending ≡ None → HasGlyph b
       → glyph_read sets b ≡ Some (glyph_in_use (in_use sets) b)

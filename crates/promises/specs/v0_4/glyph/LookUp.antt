@@ -7,7 +7,7 @@ abbrev pub look_up : {A : Type 0} → List (ℕ × A) → ℕ → Option A
 look_up [] key = None
 look_up (row ∷ rows) key = if key == row.0 then Some row.1 else look_up rows key
 
--- a number as the table has it, or else itself
+-- the entry of a number, or the number itself if it has none
 abbrev pub replaced : List (ℕ × ℕ) → ℕ → ℕ
 replaced rows n = unwrap_or (look_up rows n) n
 

@@ -10,7 +10,7 @@ use Rattle.vt_laws.specs.Parts.{Other, Part, Skipped}
 use Rattle.vt_term.specs.State.{State}
 use Rattle.vt_trace.specs.declared.tracing.Tracer.{Tracer}
 
--- the line of what is no event, by its place, its kind and its first bytes; everything else
+-- a part: the line of what is no event, by its place, its kind and its first bytes, or everything else
 pub data Part' : Type 0 where
   Skipped' : ℕ → ℕ → List ℕ → Part'
   Other' : List ℕ → Part'
@@ -23,29 +23,29 @@ abbrev pub part_kind : Part → List ℕ
 part_kind (Skipped place kind first) = kind ∷ []
 part_kind (Other bytes) = []
 
--- a text before it ends
+-- the line of what is no event, after the end of a text
 abbrev pub skipped_part : Bool → (place kind : ℕ) → List ℕ → List Part
 skipped_part in_text place kind first = Other (text_end in_text) ∷ Skipped place kind first ∷ []
 
 abbrev pub open_part : Tracer → List Part
 open_part t = skipped_part t.in_text t.begin (open_kind t.code) t.first.items
 
--- of the item that a byte cuts off or ends
+-- the parts of the item that a byte cuts off or ends
 abbrev pub skipped_by : Tracer → (cut ended : Bool) → (place kind : ℕ) → List ℕ → List Part
 skipped_by t cut ended place kind first =
     if cut then open_part t else (if ended then skipped_part t.in_text place kind first else [])
 
--- of a byte: what is no event comes before its events
+-- the parts of a byte: what is no event comes before the byte's events
 abbrev pub byte_parts : State → Tracer → ℕ → List Part
 byte_parts s t b =
     skipped_by t (cuts_off s.held b) (ends_silent s.held b) (item_place t s.held b) (ended_kind t.code s.held b) (item_first t s.held b)
     ++ Other (written_all name_on (goes_on t s.held b) (place_of t.place (item_place t s.held b) b) (events_from s.held (b ∷ [])) s.display) ∷ []
 
--- at the end of bytes
+-- the parts at the end of bytes
 abbrev pub end_parts : Tracer → List Part
 end_parts t = if length t.first.items == 0 then Other (text_end t.in_text) ∷ [] else open_part t
 
--- of bytes and of their end
+-- the parts of bytes and of their end
 abbrev pub parts : State → Tracer → List ℕ → List Part
 parts s t [] = end_parts t
 parts s t (b ∷ bytes) = byte_parts s t b ++ parts (play s (b ∷ [])).state (tracer_after s t b) bytes

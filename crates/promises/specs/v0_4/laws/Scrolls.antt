@@ -17,7 +17,7 @@ scroll_up_event params = Sequence None params None (byte (codes "S"))
 abbrev pub repeat_event : ArrayVec ℕ → Event
 repeat_event params = Sequence None params None (byte (codes "b"))
 
--- SU and REP
+-- the event is SU or REP
 abbrev pub is_scrolling : Event → Bool
 is_scrolling (Print b) = false
 is_scrolling (Control b) = false
@@ -27,11 +27,11 @@ is_scrolling (Sequence None params (Some inter) last) = false
 is_scrolling (Sequence (Some marker) params None last) = false
 is_scrolling (Sequence (Some marker) params (Some inter) last) = false
 
--- the lines that a glyph scrolls off which is written so many times, each in the state before it
+-- the lines that a glyph scrolls off if it is written so many times, each in the state before it
 abbrev pub times_off : ℕ → (glyph : ℕ) → Display → List (List Cell)
 times_off zero glyph s = []
 times_off (suc n) glyph s = times_off n glyph s ++ glyph_off (times n (write_glyph glyph) s)
 
--- those of REP
+-- the lines that REP scrolls off
 abbrev pub repeat_off : ℕ → Display → List (List Cell)
 repeat_off n s = if column_before s == 0 then [] else times_off (min n (room s)) (glyph_before s) s

@@ -14,7 +14,7 @@ use Rattle.vt_screen.specs.declared.cell.Cell.{Cell}
 use Rattle.vt_screen.specs.declared.size.Size.{Size}
 use Rattle.vt_term.specs.State.{Display, State}
 
--- the same glyph, attributes and protection
+-- two cells have the same glyph, attributes and protection
 abbrev pub same_cell : Cell → Cell → Bool
 same_cell a b = a.glyph == b.glyph && same_brush (brush_of a) (brush_of b)
 
@@ -22,15 +22,15 @@ same_cell a b = a.glyph == b.glyph && same_brush (brush_of a) (brush_of b)
 abbrev pub differs_at : Grid → Grid → ℕ → ℕ → Bool
 differs_at a b r c = not (same_cell (cell_at a r c) (cell_at b r c))
 
--- at how many of n places of a row they differ, starting at a column
+-- the number of places at which two screens differ, among n places of a row from a column on
 abbrev pub differing_from : Grid → Grid → ℕ → ℕ → ℕ → ℕ
 differing_from a b r c n = sum_by (λ c. if differs_at a b r c then 1 else 0) (range_with_len c n)
 
--- at how many places of n rows
+-- the number of places at which two screens differ, in n rows from a row on
 abbrev pub differing_rows : Grid → Grid → ℕ → ℕ → ℕ
 differing_rows a b r n = sum_by (λ r. differing_from a b r 1 b.width) (range_with_len r n)
 
--- at how many places of a screen of this size
+-- the number of places at which two screens of this size differ
 unfoldable pub differing_at : Size → Grid → Grid → ℕ
 differing_at size a b = differing_rows a b 1 size.rows
 
@@ -38,12 +38,12 @@ differing_at size a b = differing_rows a b 1 size.rows
 abbrev pub is_marked : List (List Bool) → ℕ → ℕ → Bool
 is_marked marks r c = slice_index_or (slice_index_or marks (r - 1) []) (c - 1) false
 
--- of the places of a screen of this size exactly those are marked at which two screens differ
+-- exactly the places of a screen of this size are marked at which two screens differ
 abbrev pub AreMarkedAt : Size → List (List Bool) → Grid → Grid → Type 0
 AreMarkedAt size marks a b =
     (r c : ℕ) → 1 ≤ r → r ≤ size.rows → 1 ≤ c → c ≤ b.width → is_marked marks r c ≡ differs_at a b r c
 
--- of each row of a screen of this size the number is told at how many places two screens differ
+-- the count of each row of a screen of this size is that of the places at which two screens differ
 abbrev pub AreCountedAt : Size → List ℕ → Grid → Grid → Type 0
 AreCountedAt size counts a b =
     (r : ℕ) → 1 ≤ r → r ≤ size.rows → slice_index_or counts (r - 1) 0 ≡ differing_from a b r 1 b.width
@@ -54,7 +54,7 @@ pub record AreChangesAt' (size : Size) (marks : List (List Bool)) (s t : Display
   pub stops : s.stops ≡ t.stops
   pub marked : AreMarkedAt size marks s.grid t.grid
 
--- to what was there before, bytes are appended that lead from one state to the other, and ask for no report
+-- `after` is what was there before, and then bytes that lead from one state to the other, and ask for no report
 pub record Changes' (s t : State) (before after : List ℕ) : Type 0 where
   pub sent : List ℕ
   pub appended : after ≡ before ++ sent

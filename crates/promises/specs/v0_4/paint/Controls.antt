@@ -18,7 +18,7 @@ use Rattle.vt_syntax.specs.declared.event.Event.TheVariants.{Control, Escape, Pr
 use Rattle.vt_syntax.specs.declared.event.Event.{Event}
 use Rattle.vt_term.specs.declared.state.Modes.{Modes}
 
--- of values alone
+-- a control sequence of values alone
 abbrev pub sequence_of : List ℕ → ℕ → Event
 sequence_of values last = Sequence None (record { items = values }) None last
 
@@ -40,7 +40,7 @@ cursor_position line col = sequence_of (line ∷ col ∷ []) (byte (codes "H"))
 abbrev pub margins_to : ℕ → ℕ → Event
 margins_to top bottom = sequence_of (top ∷ bottom ∷ []) (byte (codes "r"))
 
--- TBC: all stops go
+-- TBC of all stops
 abbrev pub clear_all_tabs : Event
 clear_all_tabs = sequence_of (3 ∷ []) (byte (codes "g"))
 
@@ -131,7 +131,7 @@ spelling_sets_events =
     designation (codes "(") Ascii ∷ designation (codes "*") Supplemental ∷ designation (codes "+") Special
     ∷ left_event 0 ∷ []
 
--- A mode by what sets or resets it and by its value.
+-- A mode: the event that sets or resets it, and its value.
 abbrev pub ModeRow : Type 0
 ModeRow = (Bool → Event) × (Modes → Bool)
 
@@ -145,7 +145,7 @@ mode_rows =
     ++ (map (mode_row private_mode) (filter (λ (value : ℕ × (Modes → Bool)). not (value.0 == 6)) private_values)
     ++ (keypad, λ m. m.keypad_application) ∷ (report_form, λ m. m.reports_8bit) ∷ [])
 
--- what sets or resets a mode: one of the table, then DECCOLM and DECOM
+-- the event that sets or resets a mode, by its index: the rows of the table, then DECCOLM and DECOM
 abbrev pub mode_event : ℕ → Bool → Event
 mode_event index =
     slice_index_or (map (λ (row : ModeRow). row.0) mode_rows ++ private_mode 3 ∷ private_mode 6 ∷ []) index

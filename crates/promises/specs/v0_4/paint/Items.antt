@@ -9,8 +9,8 @@ use Rattle.promises.specs.v0_4.screen.Cells.{brush_of}
 use Rattle.promises.specs.v0_4.screen.Grid.{cell_at}
 use Rattle.promises.specs.v0_4.screen.Same.{same_bool, when}
 use Rattle.promises.specs.v0_4.term.Answers.{line_of_cursor}
-use Rattle.promises.specs.v0_4.term.State.{bottom_row, has_stop_at, modes_at_power_up, saved_at_power_up, saved_sets}
-use Rattle.promises.specs.v0_4.term.State.{stops_of}
+use Rattle.promises.specs.v0_4.term.State.{bottom_row, has_stop_at, last_column, modes_at_power_up, saved_at_power_up}
+use Rattle.promises.specs.v0_4.term.State.{saved_sets, stops_of}
 use Rattle.std.specs.Cmp.Lexicographic.{pointwise}
 use Rattle.std.specs.List.{flat_map, range_with_len}
 use Rattle.std.specs.Prelude.{[], Bool, false, if◌then◌else◌, List, None, not, Option, Some, true, ℕ, ◌&&◌, ◌++◌}
@@ -81,10 +81,7 @@ mode_item known at_power_up event on = if known && same_bool at_power_up on then
 unfoldable pub origin_item : Bool → Bool → List Event
 origin_item known on = mode_item known false (private_mode 6) on
 
--- 7. The cursor. The wrap flag is set by writing the cell under it once more.
-abbrev pub position_item : Display → List Event
-position_item s = cursor_position (line_of_cursor s) s.cursor.col ∷ []
-
+-- 7. The cursor. A pending wrap is made by writing the cell under it once more.
 unfoldable pub wrap_item : Grid → Cursor → List Event
 wrap_item g cursor =
     when cursor.wrap (brush_events (brush_of (cell_at g cursor.row cursor.col))
@@ -102,14 +99,20 @@ unfoldable pub shift_item : Option ℕ → List Event
 shift_item None = []
 shift_item (Some slot) = shift_to slot ∷ []
 
--- 5 to 11, when the width, the stops, the saved record and the cells are made
-unfoldable pub last_items : Bool → Display → List Event
-last_items known s =
-    margins_item (bottom_row s) s.margins
-    ++ (origin_item known s.modes.decom
-    ++ (position_item s
-    ++ (wrap_item s.grid s.cursor
+-- the items 2 to 5, by whether a wrap is pending
+unfoldable pub first_items : Display → Bool → List Event
+first_items s wrap =
+    stops_item s.grid.size (last_column s) s.stops
+    ++ (saved_item s.saved
+    ++ (cells_item s.grid wrap ++ margins_item (bottom_row s) s.margins))
+
+-- the items 6 to 11, by the column that CUP names, and whether a wrap is pending
+unfoldable pub placed_items : Bool → Display → ℕ → Bool → List Event
+placed_items known s col wrap =
+    origin_item known s.modes.decom
+    ++ (cursor_position (line_of_cursor s) col
+    ∷ (wrap_item s.grid (record s.cursor { wrap = wrap })
     ++ (brush_events s.brush
     ++ (sets_events s.sets
     ++ (modes_item known s.modes
-    ++ shift_item s.sets.pending))))))
+    ++ shift_item s.sets.pending)))))

@@ -18,7 +18,7 @@ byte_named table name =
 abbrev pub control_named : List ℕ → Event
 control_named name = Control (byte_named controls name)
 
--- of values alone
+-- the control sequence with this name, of values alone
 abbrev pub sequence_named : List ℕ → List ℕ → Event
 sequence_named values name = sequence_of values (byte_named plain_sequences name)
 
@@ -26,7 +26,7 @@ sequence_named values name = sequence_of values (byte_named plain_sequences name
 abbrev pub unless_one : ℕ → List ℕ
 unless_one n = if n == 1 then [] else n ∷ []
 
--- DECSCA of 0, which is left out
+-- DECSCA with the parameter 0, which is left out
 abbrev pub no_protection : Event
 no_protection = Sequence None (record { items = [] }) (Some 0x22) (byte_named quote_sequences (codes "DECSCA"))
 

@@ -1,10 +1,10 @@
 -- 0.4: vt_paint/specs/Repaint.
 use Rattle.promises.specs.v0_4.paint.Controls.{reset_to_initial_state}
-use Rattle.promises.specs.v0_4.paint.Items.{cells_item, last_items, saved_item, stops_item}
+use Rattle.promises.specs.v0_4.paint.Items.{first_items, placed_items}
 use Rattle.promises.specs.v0_4.screen.Sizes.{vt220_size}
 use Rattle.promises.specs.v0_4.syntax.Spelling.{spell_events}
 use Rattle.promises.specs.v0_4.term.Play.{play}
-use Rattle.promises.specs.v0_4.term.State.{last_column, state_of}
+use Rattle.promises.specs.v0_4.term.State.{state_of}
 use Rattle.std.specs.Prelude.{[], All, List, true, ℕ, ◌++◌, ◌∷◌, ◌≡◌, ◌≤◌}
 use Rattle.vt_screen.specs.declared.size.Size.{Size}
 use Rattle.vt_syntax.specs.declared.event.Event.{Event}
@@ -13,11 +13,7 @@ use Rattle.vt_term.specs.State.{Display, State}
 
 -- the items in order: from power-up they lead to a display
 unfoldable pub made_events : Display → List Event
-made_events s =
-    stops_item s.grid.size (last_column s) s.stops
-    ++ (saved_item s.saved
-    ++ (cells_item s.grid s.cursor.wrap
-    ++ last_items true s))
+made_events s = first_items s s.cursor.wrap ++ placed_items true s s.cursor.col s.cursor.wrap
 
 -- a repaint: RIS, and the items, in 7-bit form
 unfoldable pub paint : State → List ℕ

@@ -11,7 +11,7 @@ use Rattle.vt_term.specs.declared.state.Saved.{Saved}
 abbrev pub is_blank : Cell → Bool
 is_blank cell = cell.glyph == blank.glyph && same_brush (brush_of cell) (brush_of blank)
 
--- a set is told by its final byte
+-- two sets are equal if their final bytes are
 abbrev pub same_set : Set → Set → Bool
 same_set a b = final_of a == final_of b
 

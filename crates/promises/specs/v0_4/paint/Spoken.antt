@@ -84,6 +84,6 @@ pub record AreElements' (bytes : List ℕ) : Type 0 where
   pub are_spoken : list_all is_spoken elements ≡ true
   pub are_bytes : bytes ≡ flat_map element_bytes elements
 
--- there are such elements
+-- the bytes are such elements, in at least one way
 abbrev pub Speaks : List ℕ → Type 0
 Speaks bytes = ∥ AreElements bytes ∥₁

@@ -153,7 +153,7 @@ row_drawn shape duration frame s row =
     ++ when (not (row_is_blank s row)) (row_use duration (number_on_screen frame s row) row)
     ++ marked shape row (cursor_column shape row s)
 
--- the first rows
+-- the first rows of a whole screen
 unfoldable pub rows_drawn : CursorShape → (duration frame count : ℕ) → Display → List ℕ
 rows_drawn shape duration frame count s = flat_map (λ r. row_drawn shape duration frame s r) (range_with_len 1 count)
 
@@ -161,8 +161,8 @@ rows_drawn shape duration frame count s = flat_map (λ r. row_drawn shape durati
 abbrev pub narrow_screens : Size → ℕ
 narrow_screens size = div_ceil size.wide size.narrow
 
--- the paper under a whole screen, and a blank row. The paper covers the picture also where a wide screen is drawn as wide as
--- a narrow one
+-- the paper under a whole screen, and a blank row. The paper covers the picture also if a wide screen is drawn as wide
+-- as a narrow one
 unfoldable pub whole_paper : (duration frame : ℕ) → (reversed : Bool) → Size → (width : ℕ) → List ℕ
 whole_paper duration frame reversed size width =
     codes "<rect" ++ paper reversed ++ codes " x='-" ++ decimal (10 * narrow_screens size)
@@ -179,14 +179,14 @@ same_row shape before s row =
     same_looks (row_of before.grid row) (row_of s.grid row)
     && cursor_column shape row before == cursor_column shape row s
 
--- the first row of the screen before that looks like a row
+-- the first row of the former screen that looks like a row
 abbrev pub seen_at : Display → Display → (row : ℕ) → ℕ
 seen_at before s row = first_like (row_of s.grid row) before.grid before.grid.size.rows 1
 
 abbrev pub is_seen : Display → Display → (row : ℕ) → Bool
 is_seen before s row = nat_le (seen_at before s row) before.grid.size.rows
 
--- the number of a row of a frame: that of a row of the screen before that looks like it, and otherwise a new one
+-- the number of a row of a frame: that of a row of the former screen that looks like it, and otherwise a new one
 abbrev pub number_after : (frame : ℕ) → (numbers : List ℕ) → Display → Display → (row : ℕ) → ℕ
 number_after frame numbers before s row =
     if is_seen before s row then slice_index_or numbers (seen_at before s row - 1) 0
@@ -201,7 +201,7 @@ row_changed shape duration frame numbers before s row =
     ++ row_use duration (number_after frame numbers before s row) row
     ++ marked shape row (cursor_column shape row s))
 
--- the first rows
+-- the first rows over what they were before
 unfoldable pub rows_changed : CursorShape → (duration frame count : ℕ) → (numbers : List ℕ) → Display → Display → List ℕ
 rows_changed shape duration frame count numbers before s =
     flat_map (λ r. row_changed shape duration frame numbers before s r) (range_with_len 1 count)
@@ -239,7 +239,7 @@ ratio upper lower =
     when (not (upper / lower == 0)) (decimal (upper / lower))
     ++ when (not (upper % lower == 0)) (codes "." ++ fraction (100000 * (upper % lower) / lower))
 
--- how many times the other width of a size is one of them
+-- the ratio of the other width of a size to this one
 abbrev pub stretch : Size → (width : ℕ) → List ℕ
 stretch size width = if width == size.narrow then ratio size.wide size.narrow else ratio size.narrow size.wide
 
@@ -271,9 +271,9 @@ title_byte b =
     if b == 0x3E then codes "&gt;" else (
     if nat_lt b 0x20 then 0x20 ∷ [] else b ∷ [])))
 
--- what hides a frame until its time, again and again, unless the reader wants no motion, and the colours of the theme in
--- place of the light and the dark one. The times and the colours are properties, so an HTML page may hold several
--- pictures. No selector reaches from the group of all into a row that is used, so the row has its class, too
+-- the style, which hides a frame until its time, again and again, unless the reader wants no motion. It has the theme's
+-- colours instead of the light and the dark ones. The times and the colours are properties, so an HTML page may hold
+-- several pictures. No selector reaches from the group of all into a row that is used, so the row has its class, too
 unfoldable pub moving_style : List ℕ
 moving_style =
     codes "<style>@media (prefers-reduced-motion:no-preference){.vt220-f{animation:vt220-f infinite;" ++ line_feed
@@ -326,6 +326,6 @@ animation_end = group_end ++ codes "</svg>" ++ line_feed
 abbrev pub cells_shown : Display → (row : ℕ) → List ℕ
 cells_shown s row = row_paper (is_reversed s) s.grid.width ++ spans (is_reversed s) 1 true (trimmed (row_of s.grid row))
 
--- the same with the cursor
+-- what is shown of a row with the cursor
 abbrev pub row_shown : CursorShape → Display → (row : ℕ) → List ℕ
 row_shown shape s row = cells_shown s row ++ marked shape row (cursor_column shape row s)

@@ -16,7 +16,7 @@ use Rattle.vt_screen.specs.declared.cell.Rendition.{Rendition}
 use Rattle.vt_screen.specs.declared.size.Size.{Size}
 use Rattle.vt_term.specs.State.{State}
 
--- on a reverse screen the attribute `reverse` is inverted
+-- the attributes that are shown: on a reverse screen `reverse` is inverted
 abbrev pub shown_rendition : (reversed : Bool) → Rendition → Rendition
 shown_rendition reversed look = record {
   bold = look.bold;
@@ -76,12 +76,12 @@ place_bytes row col old new pen =
     when (not (same_look old new))
     (go pen row col ++ (change pen.look new.rendition ++ encode_utf8 new.glyph))
 
--- after the last column no place is the pen's
+-- the pen after a place; after the last column it is at no place
 abbrev pub place_pen : ℕ → ℕ → Cell → Cell → Pen → Pen
 place_pen row col old new pen =
     if same_look old new then pen else record { row = row; col = col + 1; look = new.rendition }
 
--- the places of a row, starting at a column
+-- the bytes of the places of a row, starting at a column
 abbrev pub row_bytes : ℕ → ℕ → List Cell → List Cell → Pen → List ℕ
 row_bytes row col (old ∷ olds) (new ∷ news) pen =
     place_bytes row col old new pen ++ row_bytes row (col + 1) olds news (place_pen row col old new pen)
@@ -91,7 +91,7 @@ abbrev pub row_pen : ℕ → ℕ → List Cell → List Cell → Pen → Pen
 row_pen row col (old ∷ olds) (new ∷ news) pen = row_pen row (col + 1) olds news (place_pen row col old new pen)
 row_pen row col _ _ pen = pen
 
--- the first rows
+-- the pen after the first rows
 unfoldable pub rows_pen : (ℕ → List Cell) → (ℕ → List Cell) → ℕ → Pen → Pen
 rows_pen olds news zero pen = pen
 rows_pen olds news (suc n) pen = row_pen (suc n) 1 (olds (suc n)) (news (suc n)) (rows_pen olds news n pen)
@@ -101,17 +101,17 @@ rows_bytes olds news zero pen = []
 rows_bytes olds news (suc n) pen =
     rows_bytes olds news n pen ++ row_bytes (suc n) 1 (olds (suc n)) (news (suc n)) (rows_pen olds news n pen)
 
--- at the end the cursor's place, no attributes, and the cursor shown or hidden if it isn't already
+-- the bytes at the end: the cursor's place, no attributes, and the cursor shown or hidden if it isn't already
 abbrev pub end_bytes : Pen → (was_shown : Bool) → Shown → List ℕ
 end_bytes pen was_shown new =
     go pen new.row new.col ++ (change pen.look plain
     ++ when (not (same_bool was_shown new.has_cursor)) (spell_event (private_mode 25 new.has_cursor)))
 
--- at first the pen is at the cursor, without attributes
+-- the pen at first: at the cursor, without attributes
 abbrev pub first_pen : Shown → Pen
 first_pen old = record { row = old.row; col = old.col; look = plain }
 
--- from one screen of this size to another one
+-- the bytes from one screen of this size to another one
 unfoldable pub changes_at : Size → Shown → Shown → List ℕ
 changes_at size old new =
     rows_bytes old.cells new.cells size.rows (first_pen old)
@@ -123,11 +123,11 @@ erase =
     rendition_sequence plain ++ (spell_event (cursor_position 1 1)
     ++ (spell_event (sequence_named [] (codes "ED")) ++ spell_event (private_mode 25 true)))
 
--- of a state of this size, from any screen
+-- the drawing of a state of this size, on any screen
 unfoldable pub draw_at : Size → State → List ℕ
 draw_at size s = erase ++ changes_at size (erased s) (shown s)
 
--- of two states of this size, from the screen of the first. A screen of another width is erased
+-- the drawing of the second of two states of this size, on the screen of the first. A screen of another width is erased
 unfoldable pub draw_from_at : Size → State → State → List ℕ
 draw_from_at size a b =
     if a.display.grid.width == b.display.grid.width then changes_at size (shown a) (shown b) else draw_at size b

@@ -13,7 +13,7 @@ is_empty (cell ∷ cells) = false
 abbrev pub is_blank : Cell → Bool
 is_blank cell = cell.glyph == space && same_rendition cell.rendition plain
 
--- the same glyph and the same attributes, protected or not
+-- two cells have the same glyph and the same attributes, protected or not
 abbrev pub same_look : Cell → Cell → Bool
 same_look a b = a.glyph == b.glyph && same_rendition a.rendition b.rendition
 

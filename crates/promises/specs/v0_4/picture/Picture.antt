@@ -62,12 +62,12 @@ paper reversed = fill reversed
 abbrev pub goes_on : Rendition → Cell → Bool
 goes_on look cell = not (is_blank cell) && same_rendition look cell.rendition
 
--- how many of these cells go on with it
+-- how many of these cells go on with a run of these attributes
 abbrev pub run_length : Rendition → List Cell → ℕ
 run_length look [] = 0
 run_length look (cell ∷ cells) = if goes_on look cell then suc (run_length look cells) else 0
 
--- whether the first of them does
+-- whether the first of these cells goes on with a run of these attributes
 abbrev pub is_followed : Rendition → List Cell → Bool
 is_followed look [] = false
 is_followed look (cell ∷ cells) = goes_on look cell
@@ -91,8 +91,8 @@ run_start reversed look row col count =
 abbrev pub run_end : List ℕ
 run_end = codes "</text>" ++ line_feed
 
--- a cell that isn't blank: it starts a run if the cell to its left has other attributes or is blank, and ends one if
--- the cell to its right has or is
+-- a cell that isn't blank. It starts a run if the cell to its left has other attributes or is blank. It ends one if the
+-- cell to its right has other attributes or is blank
 unfoldable pub shown_cell : (reversed : Bool) → ℕ → ℕ → Cell → Cell → List Cell → List ℕ
 shown_cell reversed row col left cell rest =
     when (not (goes_on cell.rendition left))
@@ -111,11 +111,11 @@ cells_picture reversed row col left [] = []
 cells_picture reversed row col left (cell ∷ rest) =
     cell_picture reversed row col left cell rest ++ cells_picture reversed row (col + 1) cell rest
 
--- left of column 1 counts as blank
+-- the cells of a row; left of column 1 counts as blank
 abbrev pub row_picture : (reversed : Bool) → ℕ → List Cell → List ℕ
 row_picture reversed row cells = cells_picture reversed row 1 blank cells
 
--- the first rows
+-- the cells of the first rows
 unfoldable pub rows_picture : (reversed : Bool) → ℕ → Grid → List ℕ
 rows_picture reversed count g = flat_map (λ r. row_picture reversed r (row_of g r)) (range_with_len 1 count)
 
@@ -123,11 +123,11 @@ rows_picture reversed count g = flat_map (λ r. row_picture reversed r (row_of g
 abbrev pub alternative_line : List Cell → List ℕ
 alternative_line cells = flat_map (λ cell. escaped cell.glyph) (trimmed cells) ++ line_feed
 
--- the text alternative: that of the first rows
+-- the text alternative: the text of the first rows
 unfoldable pub alternative : ℕ → Grid → List ℕ
 alternative count g = flat_map (λ r. alternative_line (row_of g r)) (range_with_len 1 count)
 
--- its start, up to the title. Around the cells is a margin as wide as a column
+-- the start of the document, up to the title. Around the cells is a margin as wide as a column
 unfoldable pub document_start : (rows columns : ℕ) → List ℕ
 document_start rows columns =
     codes "<svg xmlns='http://www.w3.org/2000/svg' viewBox='-10 -10 " ++ decimal (width_of (columns + 2))

@@ -59,12 +59,12 @@ abbrev pub all_after : List Sent → Window → Window
 all_after [] w = w
 all_after (sent ∷ more) w = all_after more (after sent w)
 
--- the same glyph with the same attributes
+-- two cells have the same glyph with the same attributes
 pub record Looks' (a b : Cell) : Type 0 where
   pub glyph : a.glyph ≡ b.glyph
   pub rendition : a.rendition ≡ b.rendition
 
--- each place of a screen of this size, the cursor, and no attributes
+-- the window shows each place of a screen of this size, and its cursor; the pen has no attributes
 pub record ShowsAt' (size : Size) (w : Window) (s : Shown) : Type 0 where
   pub places : (r k : ℕ) → 1 ≤ r → r ≤ size.rows → k < length (s.cells r)
       → Looks (w.place r (k + 1)) (slice_index_or (s.cells r) k blank)

@@ -25,7 +25,7 @@ without_mark bytes = cond (begins_with (0xEF ∷ 0xBB ∷ 0xBF ∷ []) bytes) (d
 abbrev pub json_text : List ℕ → List ℕ
 json_text bytes = trimmed (without_mark bytes)
 
--- how many bytes come before it
+-- how many bytes come before this text
 abbrev pub start_of : List ℕ → ℕ
 start_of bytes = length bytes - length (json_text bytes)
 

@@ -21,12 +21,12 @@ abbrev pub window_of : (columns rows : List ℕ) → Option Window
 window_of columns rows =
     option_and_then (λ c. option_map (λ r. record { columns = c; rows = r }) (number 9 rows)) (number 9 columns)
 
--- by the place of the `x`: COLUMNSxROWS
+-- the size in COLUMNSxROWS, by the place of the `x`
 abbrev pub window_by : Option ℕ → List ℕ → Option Window
 window_by None text = None
 window_by (Some at) text = window_of (take at text) (drop (at + 1) text)
 
--- what follows ROWS=, by the place of its space: the rows, and the columns after COLS=
+-- the size in what follows ROWS=, by the place of its space: the rows, and the columns after COLS=
 abbrev pub window_after : Option ℕ → List ℕ → Option Window
 window_after None text = None
 window_after (Some at) text = option_and_then (λ columns. window_of columns (take at text)) (stripped (codes " COLS=") (drop at text))
@@ -69,7 +69,7 @@ change_to content (Some w) = record { place = content; window = w } ∷ []
 abbrev pub change_of : Option Moment → Passed → Event → List Change
 change_of until p e = cond (is_size e.kind && in_time (micros_of until) e.micros) (change_to p.content (window_in e.text)) []
 
--- in the order of the events. Their places are those in the content up to the moment
+-- the changes among events, in their order. Their places are those in the content up to the moment
 unfoldable pub changes_in : (characters : Bool) → (until : Option Moment) → Passed → List Event → List Change
 changes_in characters until p [] = []
 changes_in characters until p (e ∷ events) =

@@ -21,11 +21,11 @@ byte_of c =
 abbrev pub bytes_of : List ℕ → List ℕ
 bytes_of characters = map (λ c. unwrap_or (byte_of c) 0x1A) characters
 
--- how many have none
+-- how many characters have no byte
 abbrev pub replaced_in : List ℕ → ℕ
 replaced_in characters = length (filter (λ c. not (is_some (byte_of c))) characters)
 
--- these bytes, and so many characters that have none
+-- the characters have these bytes, and so many of them have none
 pub record AreConverted' (characters bytes : List ℕ) (replaced : ℕ) : Type 0 where
   pub bytes_are : bytes ≡ bytes_of characters
   pub replaced_are : replaced ≡ replaced_in characters

@@ -21,12 +21,12 @@ is_version _ = false
 abbrev pub begins_version : List ℕ → Bool
 begins_version text = is_version (option_and_then (after (codes ":")) (after (codes "\"version\"") text))
 
--- anywhere in the text
+-- the member is anywhere in the text
 unfoldable pub has_version : List ℕ → Bool
 has_version [] = false
 has_version (byte ∷ text) = begins_version (byte ∷ text) || has_version text
 
--- on the line of the first member
+-- the member is on the line of the first member of an object
 abbrev pub is_object : Option (List ℕ) → Bool
 is_object (Some members) = has_version (front_line members)
 is_object None = false
@@ -48,7 +48,7 @@ is_ttyrec bytes =
 abbrev pub is_bzip2 : List ℕ → Bool
 is_bzip2 bytes = begins_with (codes "BZh") bytes && begins_with (codes "1AY&SY") (drop 4 bytes)
 
--- the first of these that fits. Whatever fits none is raw
+-- the first of these formats that fits. If none fits, the bytes are raw
 abbrev pub detected : List ℕ → Detected
 detected bytes =
     cond (begins_with first_words bytes) (Recording Script)

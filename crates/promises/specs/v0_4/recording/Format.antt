@@ -18,7 +18,7 @@ abbrev pub takes_timing : Format → Bool
 takes_timing Script = true
 takes_timing format = false
 
--- it has times: script(1) writes them in a timing file
+-- the recording has times: script(1) writes them in a timing file
 abbrev pub has_times : Format → (timed : Bool) → Bool
 has_times Raw timed = false
 has_times Script timed = timed

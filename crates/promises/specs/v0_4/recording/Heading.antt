@@ -67,7 +67,7 @@ abbrev pub by_version : Option ℕ → Json → Heading
 by_version None header = nothing
 by_version (Some version) header = cond (nat_eq version 3) (by_term header) (by_env header)
 
--- that of version 1 has the members of version 2
+-- the header of version 1 has the members of version 2
 abbrev pub in_header : Json → Heading
 in_header header = cond (names_one header) (by_env header) (by_version (version_of header) header)
 

@@ -11,7 +11,7 @@ micros_of (Some (Event n)) = None
 micros_of (Some (Marker n)) = None
 micros_of None = None
 
--- the first so many, if the moment is a number of bytes
+-- so many of the first ones, if the moment is a number of bytes
 abbrev pub cut : Option Moment → List ℕ → List ℕ
 cut (Some (Micros n)) xs = xs
 cut (Some (Bytes n)) xs = take n xs

@@ -70,7 +70,7 @@ is_reached (moment.Bytes n) p micros kind = nat_le n p.content
 is_reached (moment.Event n) p micros kind = nat_le n (p.events + 1)
 is_reached (moment.Marker n) p micros kind = is_marker kind && nat_le n (p.markers + 1)
 
--- what passes before the first event at the moment, or with that event. If there is none, all events do
+-- what passes before the first event at the moment, or with that event. If there is no such event, all events pass
 unfoldable pub passed : (through characters : Bool) → Moment → Passed → List Event → Passed
 passed through characters m p [] = p
 passed through characters m p (e ∷ events) =

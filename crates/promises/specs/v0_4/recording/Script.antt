@@ -5,11 +5,11 @@ use Rattle.std.specs.Prelude.{[], Bool, codes, cond, drop, false, length, List, 
 use Rattle.std.specs.Prelude.{true, ℕ, ◌&&◌, ◌+◌, ◌<◌, ◌||◌, ◌∷◌, ◌≡◌, ◌≤◌}
 use Rattle.vt_recording.specs.Script.{EndsAt}
 
--- so the first line begins
+-- the beginning of the first line
 abbrev pub first_words : List ℕ
 first_words = codes "Script started on "
 
--- so the last line begins, after the LF before it
+-- the LF before the last line, and the beginning of that line
 abbrev pub last_words : List ℕ
 last_words = 0x0A ∷ codes "Script done on "
 
@@ -30,7 +30,7 @@ abbrev pub is_last_place : Option ℕ → ℕ → Bool
 is_last_place (Some at) length = nat_eq (at + 1) length
 is_last_place None length = false
 
--- what follows the line
+-- what follows the line that ends at an LF
 abbrev pub behind_line : Option ℕ → List ℕ → List ℕ
 behind_line (Some at) bytes = drop (at + 1) bytes
 behind_line None bytes = []

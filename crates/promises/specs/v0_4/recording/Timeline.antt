@@ -173,7 +173,7 @@ pub record IsTimed' (body text : List ℕ) (from : ℕ) (timeline : Timeline) : 
   pub ends : EndsAt body end
   pub timeline_is : timeline ≡ timed (take end body) (from + end) (lines_of text)
 
--- by the place of the LF of the first line
+-- a recording with its timing file, by the place of the LF of the first line
 abbrev pub IsTimedBy : Option ℕ → (bytes text : List ℕ) → Timeline → Type 0
 IsTimedBy None bytes text timeline = timeline ≡ ends_at (in_recording (Some 0))
 IsTimedBy (Some line) bytes text timeline = IsTimed (drop (line + 1) bytes) text (line + 1) timeline

@@ -84,7 +84,7 @@ break_in false None session place stop at = Some (record { part = part.Timing; a
 break_in false (Some s) session place stop at =
     cond (nat_le (place + s.2) (length session)) None (Some (record { part = part.Recording; at = stop }))
 
--- the time stops at 2^64 - 1
+-- the time after so many microseconds, which stops at 2^64 - 1
 abbrev pub later : (clock micros : ℕ) → ℕ
 later clock micros = min (clock + micros) (2 ^ 64 - 1)
 
@@ -139,7 +139,7 @@ pub record IsReplayed' (until : Option Moment) (body timing : List ℕ) (from : 
       ≡ cut until (replay (take end body) (from + end) (micros_of until) (lines_of timing)).content
   pub breaks : broken ≡ (replay (take end body) (from + end) (micros_of until) (lines_of timing)).broken
 
--- by the place of the LF of the first line
+-- what was taken, by the place of the LF of the first line
 abbrev pub IsTimedAfter : Option ℕ → (until : Option Moment) → (bytes timing content : List ℕ)
     → (broken : Option Break) → Type 0
 IsTimedAfter None until bytes timing content broken =

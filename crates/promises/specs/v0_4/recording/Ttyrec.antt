@@ -14,7 +14,7 @@ number_at at bytes =
 abbrev pub time_of : List ℕ → ℕ
 time_of header = 1000000 * number_at 0 header + number_at 4 header
 
--- how many bytes it has
+-- how many bytes a frame has
 abbrev pub size_of : List ℕ → ℕ
 size_of header = number_at 8 header
 

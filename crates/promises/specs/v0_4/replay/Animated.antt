@@ -22,11 +22,11 @@ use Rattle.vt_replay.specs.declared.language.Language.{Language}
 use Rattle.vt_screen.specs.declared.size.Size.{Size}
 use Rattle.vt_term.specs.State.{Display}
 
--- those of the screen at the beginning
+-- the numbers of the rows of the screen at the beginning
 unfoldable pub first_numbers : Display → List ℕ
 first_numbers s = map (λ i. number_on_screen 0 s (i + 1)) (range_with_len 0 s.grid.size.rows)
 
--- those after a frame
+-- the numbers of the rows after a frame
 unfoldable pub numbers_then : (frame : ℕ) → (numbers : List ℕ) → Display → Display → List ℕ
 numbers_then frame numbers before s =
     map (λ i. if same_paper before s then number_after frame numbers before s (i + 1) else number_on_screen frame s (i + 1))
@@ -44,8 +44,8 @@ numbers_after number numbers bytes before s = cond (is_empty bytes) numbers (num
 abbrev pub next_number : ℕ → ℕ
 next_number number = min (number + 1) (2 ^ 32 - 1)
 
--- a frame for each event, on a terminal that shows a display after more bytes. No frame comes before an earlier one, also if the
--- recorder's clock was set back
+-- a frame for each event, on a terminal that shows a display after more bytes. The times of the frames never decrease,
+-- also if the recorder's clock was set back
 unfoldable pub frames : (shows : List ℕ → Display) → CursorShape → (duration columns number clock : ℕ) → (numbers : List ℕ) → List Event → List ℕ
 frames shows shape duration columns number clock numbers [] = []
 frames shows shape duration columns number clock numbers (e ∷ events) =
@@ -57,7 +57,7 @@ frames shows shape duration columns number clock numbers (e ∷ events) =
 abbrev pub last_time : List Step → ℕ
 last_time steps = fold (λ clock (s : Step). max clock s.micros) 0 steps
 
--- it begins again a second after the last frame
+-- the microseconds after which a picture begins again: a second after the last frame
 abbrev pub duration_of : List Step → ℕ
 duration_of steps = min (last_time steps + 1000000) (2 ^ 64 - 1)
 
@@ -79,7 +79,7 @@ animation shows looks title opening content steps =
 abbrev pub shown_after : Size → Language → List ℕ → Display
 shown_after size language bytes = (played_at size language bytes).state.display
 
--- the picture of a recording up to a moment, and where that breaks its format
+-- the picture of a recording up to a moment, and where the recording breaks its format
 abbrev pub IsAnimation : Looks → (title opening : List ℕ) → Size → Language → Format → Encoding → (until : Option Moment) → (timing : Option (List ℕ))
     → (bytes picture : List ℕ) → (broken : Option Break) → (replaced : ℕ) → Type 0
 IsAnimation looks title opening size language format encoding until timing bytes picture broken replaced =

@@ -15,7 +15,7 @@ use Rattle.vt_syntax.specs.declared.held.Held.{Held}
 use Rattle.vt_term.specs.Play.{Played}
 use Rattle.vt_term.specs.State.{State}
 
--- what of reports goes out while the input is read
+-- the reports that are written while the input is read: all, or none
 abbrev pub sent : What → List ℕ → List ℕ
 sent Reports reports = reports
 sent _ reports = []
@@ -29,11 +29,11 @@ due_at_end Status s reported = status s reported
 due_at_end Show s reported = show s
 due_at_end Picture s reported = picture s
 
--- what goes out for bytes while they are read
+-- what is written for bytes while they are read
 abbrev pub sent_by : (played : List ℕ → Played) → What → List ℕ → List ℕ
 sent_by played what bytes = sent what (played bytes).reports
 
--- what goes out for bytes at their end
+-- what is written for bytes at their end
 abbrev pub end_by : (played : List ℕ → Played) → What → List ℕ → List ℕ
 end_by played what bytes = due_at_end what (played bytes).state (length (played bytes).reports)
 
@@ -47,11 +47,11 @@ abbrev pub is_there : What → State → Bool
 is_there Repaint s = is_nothing s.held
 is_there _ s = true
 
--- what goes out for bytes at their end is there
+-- what is written for bytes at their end is there
 abbrev pub there_by : (played : List ℕ → Played) → What → List ℕ → Bool
 there_by played what bytes = is_there what (played bytes).state
 
--- what each answer of a replay says of a host's bytes, by what bytes leave and report
+-- what each result of a replay states of a host's bytes, by what bytes leave and report
 abbrev pub PlayedTable : (played : List ℕ → Played) → What → Result (Unit {0}) Fault → (piece : ℕ) → (b w : List ℕ) → Flags → (limit : ℕ) → Type 0
 PlayedTable played what result piece b w f limit =
     OutputTable (sent_by played what) (end_by played what) (there_by played what) result piece b w f limit

@@ -45,7 +45,8 @@ time_column false micros = codes "-"
 abbrev pub text_column : (full : Bool) → EventKind → (text : List ℕ) → List ℕ
 text_column full kind text = cond (is_output kind && not full) [] (0x09 ∷ shown text)
 
--- the time, what it is, the place in the content, the number of bytes and the bytes, with TAB between them, and LF
+-- the line of an event: its time, its kind, its place, the number of its bytes and the bytes, with TAB between them,
+-- and LF
 abbrev pub event_line : (timed full : Bool) → (place : ℕ) → Event → List ℕ
 event_line timed full place e =
     time_column timed e.micros
@@ -56,7 +57,7 @@ terminal_line None = []
 terminal_line (Some Vt220) = codes "terminal" ++ 0x09 ∷ (codes "vt220" ++ 0x0A ∷ [])
 terminal_line (Some Xterm) = codes "terminal" ++ 0x09 ∷ (codes "xterm" ++ 0x0A ∷ [])
 
--- the columns and the rows
+-- the line of the size: the columns and the rows
 abbrev pub window_line : (columns rows : Option ℕ) → List ℕ
 window_line None rows = []
 window_line (Some columns) None = []
@@ -70,7 +71,7 @@ abbrev pub part_name : Part → List ℕ
 part_name Recording = codes "recording"
 part_name Timing = codes "timing"
 
--- the file that breaks its format, and the place there
+-- the line of a break: the file that breaks its format, and the place there
 abbrev pub break_line : (full : Bool) → Option Break → List ℕ
 break_line full None = []
 break_line false (Some place) = []
@@ -88,7 +89,7 @@ is_listed (Some (moment.Bytes n)) place micros = nat_lt place n
 is_listed (Some (moment.Event n)) place micros = true
 is_listed (Some (moment.Marker n)) place micros = true
 
--- how many events come before the first line, and up to an event or a marker
+-- the number of events before the first line, and the number up to the last one, if an event or a marker ends the table
 abbrev pub first_in : Format → (from : Option Moment) → List Event → ℕ
 first_in format None events = 0
 first_in format (Some m) events = (passed false (has_characters format Utf8) m nothing_passed events).events
@@ -122,7 +123,7 @@ table timed full until first last i place [] = []
 table timed full until first last i place (e ∷ events) =
     listed timed full until (is_asked first last i) place e ++ table timed full until first last (i + 1) (place_then until place e) events
 
--- the table of a recording between two moments, and where that breaks its format
+-- the table of a recording between two moments, and where the recording breaks its format
 pub record IsTable' (format : Format) (timed full : Bool) (from until : Option Moment) (timing : Option (List ℕ)) (bytes table_is : List ℕ)
     (broken : Option Break) : Type 0 where
   pub timeline : Timeline

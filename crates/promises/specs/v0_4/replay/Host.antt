@@ -6,7 +6,7 @@ use Rattle.promises.specs.v0_4.screen.Sizes.{vt220_size}
 use Rattle.std.specs.Prelude.{[], Bool, codes, cond, false, List, nat_eq, None, Option, Some, true, unwrap_or, ℕ}
 use Rattle.std.specs.Prelude.{◌&&◌, ◌++◌, ◌||◌, ◌∷◌}
 use Rattle.vt_cli.specs.declared.asked.Request.{Request}
-use Rattle.vt_cli.specs.declared.what.Word.TheVariants.{Animation, Content, Events, Log, Pages, Replay, Search}
+use Rattle.vt_cli.specs.declared.what.Word.TheVariants.{Animation, Content, Events, Index, Log, Pages, Replay, Search}
 use Rattle.vt_cli.specs.declared.what.Word.TheVariants.{Summary, Trace}
 use Rattle.vt_cli.specs.declared.what.Word.{Word}
 use Rattle.vt_recording.specs.declared.format.Encoding.TheVariants.{Dec, Utf8}
@@ -37,7 +37,8 @@ wide_for (Some wide) columns = wide
 wide_for None (Some columns) = nat_eq columns 132
 wide_for None None = false
 
--- whether the terminal that the recording names decides: events and content are what the host sent, for whatever terminal that is
+-- the terminal that a recording names, if it decides on what the word plays. Events and content are what the host sent,
+-- for whatever terminal that is
 abbrev pub named_for : Word → (named : Option TerminalType) → Option TerminalType
 named_for (Replay what) named = named
 named_for (Animation looks) named = named
@@ -48,6 +49,7 @@ named_for Summary named = named
 named_for Events named = None
 named_for Content named = None
 named_for Search named = named
+named_for Index named = named
 
 -- the word plays a screen of any size
 abbrev pub takes_size : Word → Bool
@@ -58,6 +60,7 @@ takes_size Pages = true
 takes_size Trace = true
 takes_size Summary = true
 takes_size Search = true
+takes_size Index = true
 takes_size word = false
 
 -- a VT220's screen: 24 rows of 80 or 132 columns
@@ -93,11 +96,12 @@ abbrev pub host_for : Request → Format → Heading → Host
 host_for r format heading =
     host_by (terminal_for r.terminal r.encoding (named_for r.word heading.terminal)) r format heading.columns heading.rows
 
--- for what the host of a recording sent
+-- the terminal, the encoding, the width and the size for which the host of a recording sent
 abbrev pub host_of : Request → Format → (bytes : List ℕ) → Host
 host_of r format bytes = host_for r format (heading_of format bytes)
 
--- the host of bytes that no recorder wrote: no line names anything
+-- the terminal, the encoding, the width and the size for which a host sends, if no recorder wrote the bytes: no line
+-- names anything
 abbrev pub plain_host : Request → Host
 plain_host r = host_for r format.Raw (record { terminal = None; columns = None; rows = None })
 
@@ -106,7 +110,7 @@ abbrev pub widening : TerminalType → List ℕ
 widening Vt220 = 0x1B ∷ codes "[?3h"
 widening Xterm = 0x1B ∷ codes "[?40h" ++ 0x1B ∷ codes "[?3h" ++ 0x1B ∷ codes "[?40l"
 
--- content for an xterm makes the VT220 so wide that is sent it. Otherwise it is what the host sent
+-- content for an xterm widens the VT220 that is sent it. Otherwise content is what the host sent
 abbrev pub widening_shown : TerminalType → List ℕ
 widening_shown Vt220 = []
 widening_shown Xterm = widening Xterm
@@ -123,3 +127,4 @@ opening Summary host = []
 opening Events host = []
 opening Content host = cond host.wide (widening_shown host.terminal) []
 opening Search host = []
+opening Index host = []

@@ -18,7 +18,7 @@ lines_at size Dec bytes = log (state_of size) bytes
 lines_at size Utf8 bytes = log (state_of size) (translated (state_of size) [] bytes)
 lines_at size Xterm bytes = xterm_log (behind (state_of size) (front_of size)) [] bytes
 
--- the text of the screen
+-- the text of a screen of a size, in each language of the host
 abbrev pub screen_at : Size → Language → List ℕ → List ℕ
 screen_at size language bytes = text (played_at size language bytes).state
 
@@ -28,7 +28,7 @@ lines_in language bytes = lines_at vt220_size language bytes
 abbrev pub screen_in : Language → List ℕ → List ℕ
 screen_in language bytes = screen_at vt220_size language bytes
 
--- if the host's bytes are the terminal's
+-- the lines that scroll off, if the host's bytes are the terminal's
 abbrev pub lines : List ℕ → List ℕ
 lines bytes = log power_up bytes
 

@@ -38,7 +38,8 @@ found_there clock number (Some column) = found_line clock number column
 abbrev pub next_number : ℕ → ℕ
 next_number number = min (number + 1) (2 ^ 64 - 1)
 
--- LF ends a line. `begun` is what the line has before a byte: what is found at the byte, what the line has then, and its number
+-- what is found at a byte, what the line has after it, and the number of the line then. `begun` is what the line has
+-- before the byte; LF ends the line
 abbrev pub found_by : (find : List ℕ → Option ℕ) → (clock number : ℕ) → (begun : List ℕ) → (b : ℕ) → List ℕ
 found_by find clock number begun b = if b == 0x0A then found_there clock number (find begun) else []
 
@@ -48,7 +49,7 @@ begun_then begun b = if b == 0x0A then [] else begun ++ b ∷ []
 abbrev pub number_then : (number b : ℕ) → ℕ
 number_then number b = if b == 0x0A then next_number number else number
 
--- of bytes of the log, of which the first line has this number
+-- what is found in bytes of the log, of which the first line has this number
 unfoldable pub found_in_lines : (find : List ℕ → Option ℕ) → (clock number : ℕ) → (begun bytes : List ℕ) → List ℕ
 found_in_lines find clock number begun [] = []
 found_in_lines find clock number begun (b ∷ bytes) =
@@ -63,14 +64,15 @@ number_after number (b ∷ bytes) = number_after (number_then number b) bytes
 abbrev pub scrolled_after : (log : List ℕ → List ℕ) → (before bytes : List ℕ) → List ℕ
 scrolled_after log before bytes = drop (length (log before)) (log (before ++ bytes))
 
--- the lines that scroll off with each event. No event comes before an earlier one, as for the spans
+-- what is found in the lines that scroll off with each event. The times never decrease, as those of the spans
 unfoldable pub log_found : (find : List ℕ → Option ℕ) → (log : List ℕ → List ℕ) → (clock number : ℕ) → List Event → List ℕ
 log_found find log clock number [] = []
 log_found find log clock number (e ∷ events) =
     found_in_lines find (max clock e.micros) number [] (log e.text)
     ++ log_found find (λ bytes. scrolled_after log e.text bytes) (max clock e.micros) (number_after number (log e.text)) events
 
--- of steps, which have the bytes of a content, on a terminal of a size. The lines of the opening that comes before it aren't counted
+-- what is found in the log of steps, which have the bytes of a content, on a terminal of a size. The lines of the
+-- opening before it aren't counted
 abbrev pub log_found_at : Size → Language → (utf8 : Bool) → (wanted opening content : List ℕ) → List Step → List ℕ
 log_found_at size language utf8 wanted opening content steps =
     log_found (λ line. column_in wanted (log_line utf8 line)) (λ bytes. scrolled_after (lines_at size language) opening bytes) 0 1 (events_of steps content)

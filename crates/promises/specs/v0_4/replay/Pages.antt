@@ -15,18 +15,18 @@ use Rattle.vt_syntax.specs.declared.event.Event.TheVariants.{Control, Escape, Pr
 use Rattle.vt_syntax.specs.declared.event.Event.{Event}
 use Rattle.vt_term.specs.State.{Display, State}
 
--- ED erases every cell: 2; 0 from the first cell; 1 from the last
+-- ED erases every cell: with 2, with 0 from the first cell, and with 1 from the last
 abbrev pub erases_all : ℕ → Display → Bool
 erases_all p s =
     p == 2 || (p == 0 && s.cursor.row == 1 && s.cursor.col == 1)
     || (p == 1 && s.cursor.row == s.grid.size.rows && s.cursor.col == last_column s)
 
--- IL and DL move every line off: from row 1, between full margins, by as many lines or more
+-- IL and DL move every line off: from row 1, between full margins, by as many lines as the screen has or more
 abbrev pub moves_all : List ℕ → Display → Bool
 moves_all params s =
     s.cursor.row == 1 && s.margins.top == 1 && s.margins.bottom == s.grid.size.rows && nat_le s.grid.size.rows (count params)
 
--- by the marker and the intermediate: ED, IL and DL, and DECCOLM set or reset
+-- a control sequence blanks the screen, by its marker and its intermediate: ED, IL or DL, or DECCOLM set or reset
 abbrev pub blanks_by : Option ℕ → Option ℕ → List ℕ → ℕ → Display → Bool
 blanks_by None None params last s =
     (last == byte (codes "J") && erases_all (first params) s)
@@ -36,7 +36,7 @@ blanks_by (Some marker) None params last s =
 blanks_by None (Some inter) params last s = false
 blanks_by (Some marker) (Some inter) params last s = false
 
--- RIS
+-- the escape sequence is RIS
 abbrev pub is_reset : Option ℕ → ℕ → Bool
 is_reset None last = last == byte (codes "c")
 is_reset (Some inter) last = false
@@ -48,11 +48,12 @@ blanks_screen (Control b) s = false
 blanks_screen (Escape inter last) s = is_reset inter last
 blanks_screen (Sequence marker params inter last) s = blanks_by marker inter params.items last s
 
--- a blank cell at each place
+-- the grid has a blank cell at each position
 abbrev pub IsBlank : Grid → Type 0
 IsBlank g = (r c : ℕ) → 1 ≤ r → r ≤ g.size.rows → 1 ≤ c → c ≤ g.width → cell_at g r c ≡ blank
 
--- the lines as they are, unless all are empty: each has its LF, so these are as many bytes as there are rows
+-- the lines of the screen, or nothing if all are empty: each has its LF, so they are then as many bytes as there are
+-- rows
 abbrev pub page : Display → List ℕ
 page s = if length (grid_text s.grid) == s.grid.size.rows then [] else grid_text s.grid
 

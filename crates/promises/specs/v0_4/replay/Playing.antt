@@ -38,7 +38,7 @@ played_at size Dec bytes = play (state_of size) bytes
 played_at size Utf8 bytes = play_utf8 (state_of size) [] bytes
 played_at size Xterm bytes = on_terminal (session_at size bytes)
 
--- of a VT220's size
+-- what all the bytes of a host leave and report, from power-up of a VT220
 abbrev pub played_as : Language → List ℕ → Played
 played_as language bytes = played_at vt220_size language bytes
 
@@ -48,26 +48,26 @@ pub record Due' : Type 0 where
   pub ending : List ℕ → List ℕ
   pub there : List ℕ → Bool
 
--- by what the bytes leave and report
+-- what is due of a replay, by what the bytes leave and report
 abbrev pub due_by : (played : List ℕ → Played) → What → Due
 due_by played what = record { written = sent_by played what; ending = end_by played what; there = there_by played what }
 
--- under TERM=xterm a repaint is of the whole session, everything else of the terminal
+-- what is due of a repaint: under TERM=xterm it is of the whole session, otherwise of the terminal
 abbrev pub repainted : Size → Language → Due
 repainted size Xterm = record { written = nothing; ending = session_repaint size; there = session_is_there size }
 repainted size language = due_by (played_at size language) Repaint
 
--- on a screen of a size
+-- what is due of a replay on a screen of a size
 abbrev pub replayed_at : Size → Language → What → Due
 replayed_at size language Repaint = repainted size language
 replayed_at size language what = due_by (played_at size language) what
 
--- what each answer of a replay on a screen of a size says of a host's bytes in a language
+-- what each result of a replay on a screen of a size states of a host's bytes in a language
 abbrev pub SizedReplayTable : Size → Language → What → Result (Unit {0}) Fault → (piece : ℕ) → (b w : List ℕ) → Flags → (limit : ℕ) → Type 0
 SizedReplayTable size language what result piece b w f limit =
     let due = replayed_at size language what in
     OutputTable due.written due.ending due.there result piece b w f limit
 
--- and on a VT220's
+-- what each result of a replay on a VT220's screen states of a host's bytes in a language
 abbrev pub ReplayTable : Language → What → Result (Unit {0}) Fault → (piece : ℕ) → (b w : List ℕ) → Flags → (limit : ℕ) → Type 0
 ReplayTable language what result piece b w f limit = SizedReplayTable vt220_size language what result piece b w f limit

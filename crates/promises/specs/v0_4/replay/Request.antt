@@ -8,14 +8,15 @@ use Rattle.promises.specs.v0_4.recording.Reading.{ReadTable}
 use Rattle.promises.specs.v0_4.replay.Animated.{IsAnimation, title_of}
 use Rattle.promises.specs.v0_4.replay.EventTable.{IsTableTaken}
 use Rattle.promises.specs.v0_4.replay.Host.{host_of, opening, plain_host}
+use Rattle.promises.specs.v0_4.replay.Index.{IsIndexed}
 use Rattle.promises.specs.v0_4.replay.Playing.{language_of}
-use Rattle.promises.specs.v0_4.replay.Search.{IsSearched, text_of}
+use Rattle.promises.specs.v0_4.replay.Search.{text_of}
 use Rattle.promises.specs.v0_4.replay.Words.{WordTable}
 use Rattle.std.specs.Prelude.{[], Bool, Err, false, is_some, length, List, min, None, not, Ok, Option, Result, Some}
 use Rattle.std.specs.Prelude.{take, true, ℕ, ◌&&◌, ◌++◌, ◌+◌, ◌-◌, ◌^◌, ◌||◌, ◌∷◌, ◌≡◌, ◌≤◌, ◌⊎◌}
 use Rattle.vt_cli.specs.declared.asked.Request.{Request}
 use Rattle.vt_cli.specs.declared.what.What.TheVariants.{Picture}
-use Rattle.vt_cli.specs.declared.what.Word.TheVariants.{Animation, Content, Events, Log, Pages, Replay, Search}
+use Rattle.vt_cli.specs.declared.what.Word.TheVariants.{Animation, Content, Events, Index, Log, Pages, Replay, Search}
 use Rattle.vt_cli.specs.declared.what.Word.TheVariants.{Summary, Trace}
 use Rattle.vt_cli.specs.declared.what.Word.{Word}
 use Rattle.vt_device.specs.Runs.{Flags}
@@ -31,6 +32,7 @@ use Rattle.vt_recording.specs.declared.format.Format.{Format}
 use Rattle.vt_recording.specs.declared.format.Moment.TheVariants.{Micros}
 use Rattle.vt_recording.specs.declared.format.Moment.{Moment}
 use Rattle.vt_replay.specs.Request.{IsPlayed, IsPrepared, IsStreamed, IsTakenApart, IsUnread}
+use Rattle.vt_replay.specs.Search.{IsSearched}
 use Rattle.vt_replay.specs.declared.host.Host.{Host}
 use Rattle.vt_replay.specs.declared.requests.Outcome.{Outcome}
 use Rattle.vt_replay.specs.declared.resized.Resize.{Resize}
@@ -47,7 +49,7 @@ abbrev pub is_streamed : Format → Option Moment → (wide : Option Bool) → (
 is_streamed format.Raw None wide whole = not (asks_wide wide) && not whole
 is_streamed format until wide whole = false
 
--- the word writes what is made of a whole recording: the table of its events, a picture that moves, or the spans of a search
+-- the word writes what is made of a whole recording: the table of its events, a picture that moves, the spans of a search, or an index
 abbrev pub takes_whole : Word → Bool
 takes_whole (Replay what) = false
 takes_whole (Animation looks) = true
@@ -58,6 +60,7 @@ takes_whole Summary = false
 takes_whole Events = true
 takes_whole Content = false
 takes_whole Search = true
+takes_whole Index = true
 
 -- the word needs the whole input: it writes what is made of it, or begins in the middle
 abbrev pub needs_whole : Request → Bool
@@ -88,7 +91,7 @@ pub record IsPlayed' (o : Outcome) (r : Request) (host : Host) (resizes : List R
   pub ended : o.ended ≡ ended_of broken played
   pub replaces : o.replaced ≡ replaced
 
--- what is taken out of a recording for a word: the table of its events, a picture that moves, the spans of a search, or its content
+-- what is taken out of a recording for a word: the table of its events, a picture that moves, the spans of a search, an index, or its content
 abbrev pub IsTakenBy : Word → Request → Format → Host → (timing : Option (List ℕ)) → (bytes content : List ℕ)
     → (broken : Option Break) → (replaced : ℕ) → Type 0
 IsTakenBy Events r format host timing bytes content broken replaced =
@@ -97,12 +100,14 @@ IsTakenBy (Animation looks) r format host timing bytes content broken replaced =
     IsAnimation looks (title_of r.title) (opening (Replay Picture) host) host.size (language_of host.terminal host.encoding) format host.encoding r.until
     timing bytes content broken replaced
 IsTakenBy Search r format host timing bytes content broken replaced =
-    IsSearched host.size r.log (text_of r.pattern) (opening (Replay Picture) host) (language_of host.terminal host.encoding) format host.encoding r.until
-    timing bytes content broken replaced
+    IsSearched host.size r.log (text_of r.pattern) (opening (Replay Picture) host) (language_of host.terminal host.encoding) format host.encoding r.from
+    r.until timing bytes content broken replaced
+IsTakenBy Index r format host timing bytes content broken replaced =
+    IsIndexed format host r.every (opening (Replay Picture) host) timing bytes content broken replaced
 IsTakenBy word r format host timing bytes content broken replaced =
     IsTakenBetween format host.encoding r.from r.until timing bytes content broken replaced
 
--- an impossible size isn't used, and the next change comes after the one before it
+-- the changes from one on: an impossible size isn't used, and the next change comes after the one before it
 abbrev pub resize_then : Option Size → (after : ℕ) → (skipped taken : List Resize) → List Resize
 resize_then None after skipped taken = skipped
 resize_then (Some size) after skipped taken = record { after = after; size = size } ∷ taken
@@ -178,7 +183,7 @@ abbrev pub OutcomeBy : (streamed : Bool) → Outcome → Request → Format → 
 OutcomeBy true o r format timing b w f = IsStreamed o r b w f
 OutcomeBy false o r format timing b w f = IsTakenApart o r format timing b w f ⊎ IsUnread o r b w f
 
--- what an outcome says of an input in a format, b being the bytes read and w the bytes written
+-- what an outcome states of an input in a format, b being the bytes read and w the bytes written
 abbrev pub OutcomeTable : Outcome → Request → Format → (timing : Option (List ℕ)) → (b w : List ℕ) → Flags → Type 0
 OutcomeTable o r format timing b w f = OutcomeBy (is_streamed format r.until r.wide (needs_whole r)) o r format timing b w f
 
@@ -187,7 +192,7 @@ abbrev pub shown_format : Detected → Format
 shown_format (Recording format) = format
 shown_format (Compressed compression) = format.Raw
 
--- by the format that was asked for, or else by the beginning
+-- the format that was asked for, otherwise the one that the beginning shows
 abbrev pub format_of : Option Format → (beginning : List ℕ) → Format
 format_of (Some format) beginning = format
 format_of None beginning = shown_format (detected beginning)

@@ -78,12 +78,12 @@ played_with size resizes Dec bytes = played_on plain_session (state_of size) res
 played_with size resizes Utf8 bytes = played_on utf8_session (utf8_begun size) resizes bytes
 played_with size resizes Xterm bytes = played_on xterm_session (xterm_begun size) resizes bytes
 
--- a repaint of the session under TERM=xterm is on the first size
+-- what is due of a repaint: under TERM=xterm it is of the session on a screen of the first size
 abbrev pub repainted_with : Size → List Resize → Language → Due
 repainted_with size resizes Xterm = repainted size Xterm
 repainted_with size resizes language = due_by (played_with size resizes language) Repaint
 
--- what is due of a replay
+-- what is due of a replay on a screen that changes its size
 abbrev pub replayed_with : Size → List Resize → Language → What → Due
 replayed_with size resizes language Repaint = repainted_with size resizes language
 replayed_with size resizes language what = due_by (played_with size resizes language) what

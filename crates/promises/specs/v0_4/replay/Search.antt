@@ -1,9 +1,11 @@
 -- 0.4: vt_replay/specs/Search.
 use Rattle.promises.specs.v0_4.glyph.Tables.{space}
 use Rattle.promises.specs.v0_4.recording.Gathered.{events_of}
+use Rattle.promises.specs.v0_4.recording.Reached.{has_characters, nothing_passed, passed}
 use Rattle.promises.specs.v0_4.replay.EventTable.{time_column}
 use Rattle.promises.specs.v0_4.replay.LogSearch.{log_found_at}
 use Rattle.promises.specs.v0_4.replay.Playing.{played_at}
+use Rattle.promises.specs.v0_4.replay.Session.{is_empty}
 use Rattle.promises.specs.v0_4.replay.Steps.{Step}
 use Rattle.promises.specs.v0_4.screen.Cells.{blank}
 use Rattle.promises.specs.v0_4.screen.Grid.{row_of}
@@ -11,15 +13,17 @@ use Rattle.promises.specs.v0_4.term.Text.{glyphs_of, trimmed}
 use Rattle.promises.specs.v0_4.utf8.Cells.{cells}
 use Rattle.promises.specs.v0_4.utf8.Similar.{shown}
 use Rattle.std.specs.List.{range_with_len}
-use Rattle.std.specs.Prelude.{[], Bool, codes, cond, encode_utf8_all, false, flat_map, if◌then◌else◌, length, List}
-use Rattle.std.specs.Prelude.{nat_lt, None, not, Option, slice_index_or, Some, string_bytes, true, ℕ, ◌++◌, ◌-◌, ◌==◌}
-use Rattle.std.specs.Prelude.{◌∷◌}
+use Rattle.std.specs.Prelude.{List, max, nat_le, nat_lt, None, not, Option, slice_index_or, Some, string_bytes, take}
+use Rattle.std.specs.Prelude.{[], Bool, codes, cond, drop, encode_utf8_all, false, flat_map, if◌then◌else◌, length}
+use Rattle.std.specs.Prelude.{true, ℕ, ◌++◌, ◌+◌, ◌-◌, ◌==◌, ◌∷◌, ◌≡◌}
 use Rattle.std.specs.Str.{chars}
 use Rattle.std.specs.declared.alloc.Global.{Global}
 use Rattle.std.specs.declared.string.String.{String}
 use Rattle.vt_device.specs.declared.fault.Break.{Break}
+use Rattle.vt_recording.specs.Reached.{IsAmong}
 use Rattle.vt_recording.specs.declared.format.Encoding.{Encoding}
 use Rattle.vt_recording.specs.declared.format.Format.{Format}
+use Rattle.vt_recording.specs.declared.format.Moment.TheVariants as moment
 use Rattle.vt_recording.specs.declared.format.Moment.{Moment}
 use Rattle.vt_replay.specs.Search.{first_place, spans}
 use Rattle.vt_replay.specs.Steps.{IsStepped}
@@ -42,7 +46,7 @@ in_cells true glyph = glyph ∷ space ∷ []
 abbrev pub shown_for : ℕ → List ℕ
 shown_for c = if nat_lt c 0x80 then c ∷ [] else (if cells c == 0 then [] else in_cells (nat_lt 1 (cells c)) (shown c))
 
--- a VT220's own characters are shown by themselves
+-- the host sends UTF-8: a VT220's own characters are shown by themselves
 abbrev pub is_utf8 : Language → Bool
 is_utf8 Dec = false
 is_utf8 Utf8 = true
@@ -56,11 +60,12 @@ wanted language text = cond (is_utf8 language) (encode_utf8_all (flat_map (λ c.
 abbrev pub goes_on : List Cell → Bool
 goes_on cells = not ((slice_index_or cells (length cells - 1) blank).glyph == space)
 
--- any other row ends with LF. In UTF-8 a space comes before: it may be the second cell of a character
+-- the end of the line of a row: nothing if the row goes on, otherwise LF. In UTF-8 a space comes before the LF: it may
+-- be the second cell of a character
 abbrev pub line_end : (utf8 : Bool) → List Cell → List ℕ
 line_end utf8 cells = if goes_on cells then [] else (if utf8 then space ∷ 0x0A ∷ [] else 0x0A ∷ [])
 
--- a row in UTF-8, without the spaces at its end
+-- the line of a row: the row in UTF-8, without the spaces at its end, and the end of the line
 abbrev pub line : (utf8 : Bool) → List Cell → List ℕ
 line utf8 cells = encode_utf8_all (trimmed (glyphs_of cells)) ++ line_end utf8 cells
 
@@ -71,12 +76,13 @@ line_of utf8 s row = line utf8 (row_of s.grid row)
 unfoldable pub lines : (utf8 : Bool) → Display → List ℕ
 lines utf8 s = flat_map (λ row. line_of utf8 s row) (range_with_len 1 s.grid.size.rows)
 
--- the time of the first event after which it isn't there, or `-` if it is there at the end
+-- the end of a span: the time of the first event after which the text isn't there, or `-` if it is there at the end
 abbrev pub until_column : Option ℕ → List ℕ
 until_column None = codes "-"
 until_column (Some clock) = time_column true clock
 
--- of steps, which have the bytes of a content, on a terminal of a size. The opening comes before it
+-- the lines of the spans of steps, which have the bytes of a content, on a terminal of a size. The opening comes before
+-- the content
 abbrev pub spans_at : Size → Language → (wanted opening content : List ℕ) → List Step → List ℕ
 spans_at size language wanted opening content steps =
     spans (λ bytes. first_place (is_utf8 language) wanted (played_at size language (opening ++ bytes)).state.display) 0 None (events_of steps content)
@@ -87,8 +93,52 @@ searched size language log text opening content steps =
     let found = spans_at size language (wanted language text) opening content steps in
     if log then found ++ log_found_at size language (is_utf8 language) (wanted language text) opening content steps else found
 
--- in a recording up to a moment, and where that breaks its format
-abbrev pub IsSearched : Size → (log : Bool) → (text opening : List ℕ) → Language → Format → Encoding → (until : Option Moment)
-    → (timing : Option (List ℕ)) → (bytes lines : List ℕ) → (broken : Option Break) → (replaced : ℕ) → Type 0
-IsSearched size log text opening language format encoding until timing bytes lines broken replaced =
-    IsStepped (λ content steps. searched size language log text opening content steps) format encoding until timing bytes lines broken replaced
+-- a step comes before a moment: its time, or the content up to its end, is before that. An event or a marker is a number of bytes here
+abbrev pub is_before : Moment → (clock end : ℕ) → Bool
+is_before (moment.Micros n) clock end = nat_lt clock n
+is_before (moment.Bytes n) clock end = nat_le end n
+is_before (moment.Event n) clock end = false
+is_before (moment.Marker n) clock end = false
+
+-- what is made of the content before the first step that doesn't come before a moment, of the content after that, and of the steps after
+-- that. `clock` and `before` are the time and the content so far
+unfoldable pub split_at : (make : (before content : List ℕ) → List Step → List ℕ) → Moment → (clock : ℕ) → (before content : List ℕ) → List Step
+    → List ℕ
+split_at make from clock before content [] = make before content []
+split_at make from clock before content (s ∷ steps) =
+    let text = take s.length content in
+    cond (is_before from (max clock s.micros) (length before + length text))
+    (split_at make from (max clock s.micros) (before ++ text) (drop s.length content) steps)
+    (make before content (s ∷ steps))
+
+-- steps that come after the end of the content show nothing new
+abbrev pub steps_left : (content : List ℕ) → List Step → List Step
+steps_left content steps = cond (is_empty content) [] steps
+
+-- what comes before the moment is played like an opening: it isn't searched, and its lines of the log aren't counted
+abbrev pub searched_after : Moment → Size → Language → (log : Bool) → (text opening content : List ℕ) → List Step → List ℕ
+searched_after from size language log text opening content steps =
+    split_at (λ before content steps. searched size language log text (opening ++ before) content (steps_left content steps)) from 0 [] content steps
+
+abbrev pub searched_from : Option Moment → Size → Language → (log : Bool) → (text opening content : List ℕ) → List Step → List ℕ
+searched_from None size language log text opening content steps = searched size language log text opening content steps
+searched_from (Some from) size language log text opening content steps = searched_after from size language log text opening content steps
+
+-- a moment as a time or a number of bytes: an event or a marker begins with its own bytes
+abbrev pub BeginsBy : Option Moment → Format → Encoding → (timing : Option (List ℕ)) → (bytes : List ℕ) → (begin : Option Moment) → Type 0
+BeginsBy None format encoding timing bytes begin = begin ≡ None
+BeginsBy (Some (moment.Bytes n)) format encoding timing bytes begin = begin ≡ Some (moment.Bytes n)
+BeginsBy (Some (moment.Micros n)) format encoding timing bytes begin = begin ≡ Some (moment.Micros n)
+BeginsBy (Some (moment.Event n)) format encoding timing bytes begin =
+    IsAmong format timing bytes (λ events. begin
+    ≡ Some (moment.Bytes (passed false (has_characters format encoding) (moment.Event n) nothing_passed events).content))
+BeginsBy (Some (moment.Marker n)) format encoding timing bytes begin =
+    IsAmong format timing bytes (λ events. begin
+    ≡ Some (moment.Bytes (passed false (has_characters format encoding) (moment.Marker n) nothing_passed events).content))
+
+-- in a recording from a moment on and up to another one, and where that breaks its format
+pub record IsSearched' (size : Size) (log : Bool) (text opening : List ℕ) (language : Language) (format : Format) (encoding : Encoding)
+    (from until : Option Moment) (timing : Option (List ℕ)) (bytes lines : List ℕ) (broken : Option Break) (replaced : ℕ) : Type 0 where
+  pub begin : Option Moment
+  pub begins : BeginsBy from format encoding timing bytes begin
+  pub stepped : IsStepped (λ content steps. searched_from begin size language log text opening content steps) format encoding until timing bytes lines broken replaced

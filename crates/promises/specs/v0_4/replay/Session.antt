@@ -16,14 +16,14 @@ abbrev pub is_empty : List ℕ → Bool
 is_empty [] = true
 is_empty (b ∷ bytes) = false
 
--- it is between sequences, and between characters
+-- a session is between sequences, and between characters
 abbrev pub is_between : Whole → (pending : List ℕ) → Bool
 is_between w pending = is_nothing w.state.held && is_empty pending
 
--- the repaint is of the whole session
+-- the repaint of the whole session
 abbrev pub session_repaint : Size → List ℕ → List ℕ
 session_repaint size bytes = xterm_repaint (session_at size bytes).whole
 
--- it is there between sequences and between characters only
+-- the repaint is there between sequences and between characters only
 abbrev pub session_is_there : Size → List ℕ → Bool
 session_is_there size bytes = is_between (session_at size bytes).whole (pending_after [] bytes)

@@ -12,7 +12,7 @@ use Rattle.vt_syntax.specs.declared.held.Held.TheVariants.{Nothing}
 use Rattle.vt_term.specs.State.{State}
 use Rattle.vt_update.specs.Leads.{Leads}
 
--- the same display, and no sequence has begun
+-- a state with the display of another one, in which no sequence has begun
 abbrev pub between : State → State
 between s = record s { held = Nothing }
 
@@ -20,8 +20,8 @@ between s = record s { held = Nothing }
 abbrev pub shown_after : List ℕ → State
 shown_after bytes = between (played_as Xterm bytes).state
 
--- of each chunk, which come after other bytes, there is an update: it leads a VT220 from what it shows before to what the host's
--- bytes leave after the chunk. A chunk has at most 65536 bytes
+-- for each of the chunks, which come after other bytes, there is an update. It leads a VT220 from what it shows before
+-- the chunk to what the host's bytes leave after it. A chunk has at most 65536 bytes
 abbrev pub ShowsAlong : (shown : State) → (before : List ℕ) → (chunks updates : List (List ℕ)) → Type 0
 ShowsAlong shown before [] [] = Unit {0}
 ShowsAlong shown before [] (update ∷ updates) = ⊥
@@ -30,8 +30,8 @@ ShowsAlong shown before (chunk ∷ chunks) (update ∷ updates) =
     (length chunk ≤ 65536) × Leads shown update (shown_after (before ++ chunk))
     × ShowsAlong (shown_after (before ++ chunk)) (before ++ chunk) chunks updates
 
--- a VT220 at power-up that is sent w is then in the state that the host's bytes leave, and makes no report. It is so after
--- each of some chunks of these, too
+-- a VT220 at power-up that is sent w is then in the state that the host's bytes leave, and makes no report. The same
+-- holds after each chunk of some division of these bytes
 pub record Shows' (bytes w : List ℕ) : Type 0 where
   pub leads : Leads power_up w (shown_after bytes)
   pub chunks : List (List ℕ)
@@ -40,6 +40,6 @@ pub record Shows' (bytes w : List ℕ) : Type 0 where
   pub updates_are : joined updates ≡ w
   pub along : ShowsAlong power_up [] chunks updates
 
--- what each answer says, b being the host's bytes and w those for the VT220
+-- what each result states, b being the host's bytes and w those for the VT220
 abbrev pub ShownTable : Result (Unit {0}) Fault → (piece : ℕ) → (b w : List ℕ) → Flags → (limit : ℕ) → Type 0
 ShownTable result piece b w f limit = TranslatedTable Shows all nothing always result piece b w f limit

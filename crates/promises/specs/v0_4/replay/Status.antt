@@ -10,7 +10,7 @@ line name value = name ++ codes " " ++ value ++ 0x0A ∷ []
 abbrev pub two_numbers : ℕ → ℕ → List ℕ
 two_numbers a b = decimal a ++ codes " " ++ decimal b
 
--- a spoilt control sequence is a control sequence too
+-- the kind of what is held. A spoilt control sequence is a control sequence, too
 abbrev pub kind_of_held : Held → List ℕ
 kind_of_held Nothing = codes "none"
 kind_of_held (Escape inters) = codes "escape"
@@ -18,7 +18,7 @@ kind_of_held (Control marker params full phase) = codes "control"
 kind_of_held Spoilt = codes "control"
 kind_of_held (Text osc) = codes "string"
 
--- the cursor by its absolute row, the wrap flag, the margins, the held part, and how many report bytes there were
+-- the status: the cursor by its absolute row, the wrap flag, the margins, the held part, and the number of report bytes
 unfoldable pub status : State → ℕ → List ℕ
 status s n =
     line (codes "cursor") (two_numbers s.display.cursor.row s.display.cursor.col)

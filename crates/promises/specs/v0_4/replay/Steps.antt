@@ -15,7 +15,8 @@ use Rattle.vt_recording.specs.declared.timeline.Event as mark
 abbrev pub Step : Type 0
 Step = mark.Event
 
--- what is made of a recording up to a moment, and where that breaks its format. Its events are those of its content
+-- what is made of a recording up to a moment, and where the recording breaks its format. Its events are those of its
+-- content
 pub record IsStepped' (make : (content : List ℕ) → List Step → List ℕ) (format : Format) (encoding : Encoding) (until : Option Moment)
     (timing : Option (List ℕ)) (bytes made : List ℕ) (broken : Option Break) (replaced : ℕ) : Type 0 where
   pub content : List ℕ

@@ -16,7 +16,7 @@ use Rattle.promises.specs.v0_4.xterm.Play.{behind, front_of}
 use Rattle.promises.specs.v0_4.xterm_trace.Names.{xterm_listing}
 use Rattle.promises.specs.v0_4.xterm_trace.Trace.{trace_xterm, tracer_xterm}
 use Rattle.std.specs.Prelude.{[], List, Result, ℕ}
-use Rattle.vt_cli.specs.declared.what.Word.TheVariants.{Animation, Content, Events, Log, Pages, Replay, Search}
+use Rattle.vt_cli.specs.declared.what.Word.TheVariants.{Animation, Content, Events, Index, Log, Pages, Replay, Search}
 use Rattle.vt_cli.specs.declared.what.Word.TheVariants.{Summary, Trace}
 use Rattle.vt_cli.specs.declared.what.Word.{Word}
 use Rattle.vt_device.specs.Runs.{Flags}
@@ -31,13 +31,14 @@ use Rattle.vt_replay.specs.declared.language.Language.{Language}
 use Rattle.vt_replay.specs.declared.resized.Resize.{Resize}
 use Rattle.vt_screen.specs.declared.size.Size.{Size}
 
--- on a screen of a size, of the host's bytes in each language
+-- the lines and pages of the host's bytes in each language, on a screen of a size
 abbrev pub pages_at : Size → Language → List ℕ → List ℕ
 pages_at size language.Dec bytes = pages (state_of size) bytes
 pages_at size language.Utf8 bytes = pages (state_of size) (translated (state_of size) [] bytes)
 pages_at size language.Xterm bytes = xterm_pages (behind (state_of size) (front_of size)) [] bytes
 
--- on a screen of a size, of the host's bytes in each language: the events have the host's own characters and places
+-- the trace of the host's bytes in each language, on a screen of a size: the events have the host's own characters and
+-- places
 abbrev pub trace_at : Size → Language → List ℕ → List ℕ
 trace_at size language.Dec bytes = trace (state_of size) tracer_at_start bytes
 trace_at size language.Utf8 bytes = trace_utf8 (state_of size) tracer_at_start [] bytes
@@ -49,13 +50,13 @@ trace_end_at size language.Dec bytes = end_lines (tracer_all (state_of size) tra
 trace_end_at size language.Utf8 bytes = end_lines (tracer_utf8 (state_of size) tracer_at_start [] bytes)
 trace_end_at size language.Xterm bytes = end_lines (tracer_xterm (behind (state_of size) (front_of size)) tracer_at_start [] bytes)
 
--- of the host's bytes in each language. Under TERM=xterm the events have its names
+-- the summary of the host's bytes in each language. Under TERM=xterm the events have its names
 abbrev pub summary_at : Size → Language → List ℕ → List ℕ
 summary_at size language.Dec bytes = summary_on size.rows bytes
 summary_at size language.Utf8 bytes = summary_utf8_on size.rows bytes
 summary_at size language.Xterm bytes = summary_utf8_by xterm_listing size.rows bytes
 
--- of the terminal's bytes for the host's
+-- what is due of the terminal's bytes for the host's
 abbrev pub of_decoded : Encoding → (written ending : List ℕ → List ℕ) → Due
 of_decoded encoding written ending = record {
   written = λ bytes. written (decoded encoding bytes);
@@ -63,7 +64,9 @@ of_decoded encoding written ending = record {
   there = always;
 }
 
--- a row a word, for a terminal of a size, whose screen changes its size, and in an encoding. A replay carries the changes out. A picture that moves, the table of events and the spans of a search are ready before they are written. What content writes under TERM=xterm is below
+-- what is due by each word, a row a word, for a terminal of a size, whose screen changes its size, and in an encoding.
+-- A replay carries the changes out. A picture that moves, the table of events, the spans of a search and an index are
+-- ready before they are written. What content writes under TERM=xterm is below
 abbrev pub due_of : Word → Size → List Resize → TerminalType → Encoding → Due
 due_of (Replay what) size resizes terminal encoding = replayed_with size resizes (language_of terminal encoding) what
 due_of (Animation looks) size resizes terminal encoding = of_decoded Dec all nothing
@@ -82,8 +85,9 @@ due_of Summary size resizes terminal encoding =
 due_of Events size resizes terminal encoding = of_decoded Dec all nothing
 due_of Content size resizes terminal encoding = of_decoded encoding all nothing
 due_of Search size resizes terminal encoding = of_decoded Dec all nothing
+due_of Index size resizes terminal encoding = of_decoded Dec all nothing
 
--- what each answer says, by the word. Under TERM=xterm content is what a VT220 is sent, so that it shows the same
+-- what each result states, by the word. Under TERM=xterm content is what a VT220 is sent, so that it shows the same
 abbrev pub WordTable : Result (Unit {0}) Fault → Word → Size → List Resize → TerminalType → Encoding → (piece : ℕ) → (b w : List ℕ) → Flags → (limit : ℕ) → Type 0
 WordTable result Content size resizes Xterm encoding piece b w f limit = ShownTable result piece b w f limit
 WordTable result word size resizes terminal encoding piece b w f limit =

@@ -9,7 +9,7 @@ use Rattle.vt_screen.specs.declared.cell.Cell.{Cell}
 abbrev pub changed : Grid → (ℕ → ℕ → Bool) → (ℕ → ℕ → Cell) → Grid
 changed g area formula = grid_of g.size g.width (λ r c. if area r c then formula r c else cell_at g r c)
 
--- these rows, in these columns: both ends included
+-- a place is in these rows and in these columns, both ends included
 abbrev pub rectangle : ℕ → ℕ → ℕ → ℕ → ℕ → ℕ → Bool
 rectangle top bottom left right r c = is_within top bottom r && is_within left right c
 
@@ -25,7 +25,7 @@ columns_up g top bottom left right n = changed g (rectangle top bottom left righ
 abbrev pub from_above : Grid → ℕ → ℕ → ℕ → ℕ → Cell
 from_above g top n r c = if nat_le (top + n) r then cell_at g (r - n) c else blank
 
--- they move down by n
+-- the rows move down by n, between the columns
 abbrev pub columns_down : Grid → ℕ → ℕ → ℕ → ℕ → ℕ → Grid
 columns_down g top bottom left right n = changed g (rectangle top bottom left right) (from_above g top n)
 

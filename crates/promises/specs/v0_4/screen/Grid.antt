@@ -55,7 +55,7 @@ pub record IsSoundGrid' (g : Grid) : Type 0 where
 abbrev pub AllCells : (Cell → Bool) → Grid → Type 0
 AllCells test g = All (λ cell. IsTrue (test cell)) g.cells
 
--- from a to b, both included
+-- a number is from a to b, both included
 abbrev pub is_within : ℕ → ℕ → ℕ → Bool
 is_within a b n = nat_le a n && nat_le n b
 
@@ -119,7 +119,8 @@ abbrev pub scroll_down : Grid → ℕ → ℕ → ℕ → Grid
 scroll_down g top bottom n = grid_of g.size g.width (λ r c.
     if is_within top bottom r then (if nat_le (top + n) r then cell_at g (r - n) c else blank) else cell_at g r c)
 
--- the width of a grid on a screen of another size: that of the wide form, if it had this one
+-- the width of a grid on a screen of another size: that of its wide form if the grid is wide, otherwise of the narrow
+-- one
 abbrev pub width_on : Size → Grid → ℕ
 width_on size g = width_of size (g.width == g.size.wide)
 

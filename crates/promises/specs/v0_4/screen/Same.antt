@@ -10,12 +10,12 @@ when test xs = if test then xs else []
 abbrev pub same_bool : Bool → Bool → Bool
 same_bool a b = if a then b else not b
 
--- the same attributes
+-- two renditions have the same attributes
 abbrev pub same_rendition : Rendition → Rendition → Bool
 same_rendition a b =
     same_bool a.bold b.bold
     && (same_bool a.underline b.underline && (same_bool a.blink b.blink && same_bool a.reverse b.reverse))
 
--- the same attributes and protection
+-- two brushes have the same attributes and protection
 abbrev pub same_brush : Brush → Brush → Bool
 same_brush a b = same_rendition a.rendition b.rendition && same_bool a.protected b.protected

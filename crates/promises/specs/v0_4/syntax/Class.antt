@@ -43,7 +43,7 @@ IsInAreas b = ((0x20 ≤ b) × (b ≤ 0x7E)) ⊎ ((0xA1 ≤ b) × (b ≤ 0xFE))
 abbrev pub IsOfLines : ℕ → Type 0
 IsOfLines b = ((0x08 ≤ b) × (b ≤ 0x0D)) ⊎ (((0x20 ≤ b) × (b ≤ 0x7F)) ⊎ (0xA0 ≤ b))
 
--- each byte of the list passes
+-- each byte of the list passes a test
 abbrev pub Each : (ℕ → Bool) → List ℕ → Type 0
 Each p [] = Unit {0}
 Each p (b ∷ bytes) = (p b ≡ true) × Each p bytes

@@ -23,7 +23,7 @@ pub record IsFront' (piece : List ℕ) (bytes : ℕ) (event : Event) : Type 0 wh
   pub last : events_from Nothing (take (bytes - 1) piece) ≡ []
   pub is_event : IsEvent event
 
--- what the first byte is (ECMA-35 6.2, ECMA-48 5.2); a control and a graphic byte are each an event
+-- what the first byte is (ECMA-35 6.2, ECMA-48 5.2). A control that opens nothing is an event by itself
 abbrev pub Begins : Front → List ℕ → Type 0
 Begins Escape piece = slice_index piece 0 ≡ 0x1B
 Begins Introducer piece = slice_index piece 0 ≡ 0x9B
@@ -43,7 +43,7 @@ IsFinal b = (0x40 ≤ b) × (b ≤ 0x7E)
 abbrev pub front_list : FrontValues → List ℕ
 front_list f = take f.count (f.first ∷ f.second ∷ f.third ∷ [])
 
--- a second value that isn't there is 0
+-- the first and the second value; one that isn't there is 0
 abbrev pub AreFirst : FrontValues → Type 0
 AreFirst f = (slice_index (front_list f) 0 ≡ f.first) × (slice_index (front_list f) 1 ≡ f.second)
 

@@ -16,7 +16,7 @@ use Rattle.vt_syntax.specs.declared.held.Inters.{Inters}
 use Rattle.vt_syntax.specs.declared.held.Phase.TheVariants.{Inter, Start, Values}
 use Rattle.vt_syntax.specs.declared.held.Phase.{Phase}
 
--- `Start` with nothing after the introducer, `Inter` with an intermediate, else `Values`
+-- `Start` if nothing follows the introducer, `Inter` after an intermediate, otherwise `Values`
 abbrev pub phase_by : List ℕ → Inters → Phase
 phase_by [] _ = Start
 phase_by (b ∷ bytes) (One i) = Inter i
@@ -25,7 +25,7 @@ phase_by (b ∷ bytes) _ = Values
 abbrev pub phase_of : List ℕ → Phase
 phase_of bytes = phase_by bytes (inters_of bytes)
 
--- of the bytes inside a control sequence, the quiet bytes taken out
+-- the held part after bytes inside a control sequence, from which the quiet bytes are taken out
 abbrev pub held_control : List ℕ → Held
 held_control bytes =
     if is_spoilt bytes then Spoilt
@@ -78,8 +78,9 @@ events_from held bytes = events_of (spell held ++ bytes)
 abbrev pub held_from : Held → List ℕ → Held
 held_from held bytes = held_after (spell held ++ bytes)
 
--- the byte is a final of the sequence that is held, which then has a function: 40..7E of a control sequence that isn't
--- spoilt, 30..7E of an escape sequence with at most one intermediate, and with none no letter that opens something
+-- the byte is the final byte of the held sequence, which then has a function: 40..7E of a control sequence that isn't
+-- spoilt. Of an escape sequence with at most one intermediate it is 30..7E; without one, letters that open something
+-- are none
 abbrev pub IsEnding : Held → ℕ → Type 0
 IsEnding (Control marker params full phase) last = (0x40 ≤ last) × (last ≤ 0x7E)
 IsEnding (Escape Zero) last = (0x30 ≤ last) × (last ≤ 0x7E) × (opens (last + 0x40) ≡ false)

@@ -8,8 +8,8 @@ use Rattle.vt_syntax.specs.Items.{SevenBit, Single}
 use Rattle.vt_syntax.specs.declared.held.Inters.TheVariants.{Many, One, Zero}
 use Rattle.vt_syntax.specs.declared.held.Inters.{Inters}
 
--- how a control sequence or string is opened: by the C1 control itself, or by its 7-bit form, which is ESC, here with
--- quiet bytes after it, and the byte that is 40 lower (ECMA-48 5.3)
+-- how a control sequence or string is opened: by the C1 control itself, or by its 7-bit form. This is ESC, any quiet
+-- bytes, and the byte that is 40 lower (ECMA-48 5.3)
 pub data Opening' : Type 0 where
   EightBit' : Opening'
   SevenBit' : List ℕ → Opening'
@@ -59,24 +59,25 @@ abbrev pub introduces : Inters → ℕ → Bool
 introduces Zero b = opens (b + 0x40)
 introduces _ b = false
 
--- CAN, SUB, ST (9C) and, of OSC alone, BEL (this profile)
+-- the bytes that end a string: CAN, SUB, ST (9C) and, of OSC alone, BEL (this profile)
 unfoldable pub ends_string : Bool → ℕ → Bool
 ends_string osc b = is_cancel b || b == 0x9C || osc && b == 0x07
 
 abbrev pub is_osc : ℕ → Bool
 is_osc code = code == 0x9D
 
--- the byte ends it, as its last byte: an escape sequence CAN, SUB or 30..7E, a control sequence CAN, SUB or 40..7E
+-- the byte ends the beginning, as its last byte: CAN, SUB or 30..7E an escape sequence, CAN, SUB or 40..7E a control
+-- sequence
 abbrev pub ends : Beginning → ℕ → Bool
 ends (OfEscape inside) b = is_cancel b || is_parameter b || is_final b && not (introduces (inters_of inside) b)
 ends (OfControl opening inside) b = is_cancel b || is_final b
 ends (OfString opening code content) b = ends_string (is_osc code) b
 
--- ESC, or a byte 80..FF (this profile)
+-- the bytes that cut a sequence off: ESC, and 80..FF (this profile)
 abbrev pub cuts_sequence : ℕ → Bool
 cuts_sequence b = b == 0x1B || nat_le 0x80 b
 
--- the byte cuts it off, and is no part of it; a string is cut by ESC alone
+-- the byte cuts the beginning off, and is no part of it; a string is cut by ESC alone
 abbrev pub cuts : Beginning → ℕ → Bool
 cuts (OfEscape inside) b = cuts_sequence b
 cuts (OfControl opening inside) b = cuts_sequence b
@@ -92,8 +93,8 @@ abbrev pub IsOpening : Opening → Type 0
 IsOpening EightBit = Unit {0}
 IsOpening (SevenBit quiets) = Each is_quiet quiets
 
--- after ESC quiet and intermediate bytes; after CSI quiet bytes and 20..3F, in any order; in a string every byte that
--- neither ends nor cuts it
+-- what may be inside: after ESC quiet and intermediate bytes; after CSI quiet bytes and 20..3F, in any order. In a
+-- string it is every byte that neither ends nor cuts it
 abbrev pub IsBeginning : Beginning → Type 0
 IsBeginning (OfEscape inside) = Each continues_escape inside
 IsBeginning (OfControl opening inside) = IsOpening opening × Each continues_control inside
@@ -104,7 +105,7 @@ abbrev pub IsRest : Option Beginning → Type 0
 IsRest None = Unit {0}
 IsRest (Some beginning) = IsBeginning beginning
 
--- whether it is an item if these bytes follow it
+-- whether the item is well formed if these bytes follow it
 abbrev pub IsItemBefore : List ℕ → Item → Type 0
 IsItemBefore after (Single b) = is_opener b ≡ false
 IsItemBefore after (Ended beginning last) = IsBeginning beginning × (ends beginning last ≡ true)

@@ -25,8 +25,8 @@ pub record SplitLaw' : Type 0 where
   pub held_part : (bytes : List ℕ) → IsHeldPart (held_after bytes)
   pub spelled_held : (held : Held) → IsHeldPart held → held_after (spell held) ≡ held
   pub spelled_events : (held : Held) → IsHeldPart held → events_of (spell held) ≡ []
-  -- whatever follows, a rest and the spelling of its held part have the same events after those of the rest, and leave
-  -- the same held part
+  -- a rest and the spelling of its held part have, after the events of the rest, the same events, whatever follows.
+  -- They leave the same held part
   pub same_events : (rest : Option Beginning) (more : List ℕ) → IsRest rest
       → events_of (rest_bytes rest ++ more) ≡ rest_reading rest ++ events_from (held_of rest) more
   pub same_held : (rest : Option Beginning) (more : List ℕ) → IsRest rest
@@ -45,10 +45,10 @@ pub record ControlLaw' : Type 0 where
   -- such a control is carried out once, at its byte, between sequences and inside one
   pub carried_out : (held : Held) (c : ℕ) → IsHeldPart held → c < 0x18 → ((osc : Bool) → held ≢ Text osc)
       → count_by (is_control c) (events_from held (c ∷ [])) ≡ 1
-  -- in a control string it isn't
+  -- such a control isn't carried out in a control string
   pub in_string : (osc : Bool) (c : ℕ) → IsHeldPart (Text osc) → c < 0x18
       → count_by (is_control c) (events_from (Text osc) (c ∷ [])) ≡ 0
-  -- and no other byte carries it out
+  -- no other byte carries such a control out
   pub by_no_other : (held : Held) (b c : ℕ) → IsHeldPart held → c < 0x18 → b ≢ c
       → count_by (is_control c) (events_from held (b ∷ [])) ≡ 0
 
@@ -61,12 +61,12 @@ pub record SpellingLaw' : Type 0 where
       → events_of (spell_event event ++ more) ≡ event ∷ events_of more
   pub event_held : (event : Event) (more : List ℕ) → IsEvent event
       → held_after (spell_event event ++ more) ≡ held_after more
-  -- so that spelled events read as those events,
+  -- spelled events read as those events, whatever follows, and leave nothing held
   pub events : (events : List Event) (more : List ℕ) → All IsEvent events
       → events_of (spell_events events ++ more) ≡ events ++ events_of more
   pub events_held : (events : List Event) (more : List ℕ) → All IsEvent events
       → held_after (spell_events events ++ more) ≡ held_after more
-  -- and alone, as just these
+  -- spelled events alone read as just those events
   pub all_events : (events : List Event) → All IsEvent events
       → events_of (spell_events events) ≡ events
   pub all_held : (events : List Event) → All IsEvent events

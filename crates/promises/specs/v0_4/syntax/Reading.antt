@@ -22,12 +22,12 @@ quiet_control b = if is_quiet b && not (b == 0x7F) then Control b ∷ [] else []
 abbrev pub controls : List ℕ → List Event
 controls bytes = flat_map quiet_control bytes
 
--- those in a 7-bit opening
+-- the controls in a 7-bit opening
 abbrev pub opening_controls : Opening → List Event
 opening_controls EightBit = []
 opening_controls (SevenBit quiets) = controls quiets
 
--- of a string only those inside its opening: no control of its content is carried out
+-- the controls in a beginning; of a string only those inside its opening, as no control of its content is carried out
 abbrev pub beginning_controls : Beginning → List Event
 beginning_controls (OfEscape inside) = controls inside
 beginning_controls (OfControl opening inside) = opening_controls opening ++ controls inside
@@ -87,31 +87,31 @@ unfoldable pub is_spoilt : List ℕ → Bool
 is_spoilt bytes =
     list_any (λ b. b == 0x3A) bytes || has_late_marker bytes || has_late_parameter bytes || is_many (inters_of bytes)
 
--- of CAN none, of SUB itself
+-- the function of CAN or SUB: CAN has none, and that of SUB is SUB itself
 abbrev pub cancel_function : ℕ → List Event
 cancel_function b = if b == 0x1A then Control 0x1A ∷ [] else []
 
--- of a single byte: CAN and DEL have none, 20..7E and A0..FF are graphic, the others are controls
+-- the function of a single byte: CAN and DEL have none, 20..7E and A0..FF are graphic, the others are controls
 abbrev pub single_function : ℕ → List Event
 single_function b =
     if b == 0x18 || b == 0x7F then [] else (
     if is_plain b || nat_le 0xA0 b then Print b ∷ [] else Control b ∷ [])
 
--- of an escape sequence: with no intermediate and a final 40..5F it is the 7-bit form of a C1 control; with two or more
--- intermediates it has none (this profile)
+-- the function of an escape sequence: with no intermediate and a final 40..5F it is the 7-bit form of a C1 control.
+-- With two or more intermediates there is none (this profile)
 abbrev pub escape_function : Inters → ℕ → List Event
 escape_function Zero last =
     if nat_le 0x40 last && nat_lt last 0x60 then Control (last + 0x40) ∷ [] else Escape None last ∷ []
 escape_function (One i) last = Escape (Some i) last ∷ []
 escape_function Many last = []
 
--- of a control sequence
+-- the function of a control sequence
 abbrev pub sequence_function : List ℕ → ℕ → List Event
 sequence_function bytes last =
     if is_spoilt bytes then []
     else Sequence (marker_of bytes) (params_of bytes) (inter_of (inters_of bytes)) last ∷ []
 
--- of a beginning with its last byte; of a string none, but of the SUB that ends it
+-- the function of a beginning with its last byte; a string has none, but for the SUB that ends it
 abbrev pub function : Beginning → ℕ → List Event
 function (OfEscape inside) last =
     if is_cancel last then cancel_function last else escape_function (inters_of inside) last
@@ -119,18 +119,18 @@ function (OfControl opening inside) last =
     if is_cancel last then cancel_function last else sequence_function (without_quiet inside) last
 function (OfString opening code content) last = cancel_function last
 
--- the controls inside, and then the function
+-- the events of an item: the controls inside, and then the function
 abbrev pub reading : Item → List Event
 reading (Single b) = single_function b
 reading (Ended beginning last) = beginning_controls beginning ++ function beginning last
 reading (Cut beginning) = beginning_controls beginning
 
--- of a rest the controls alone
+-- the events of a rest: the controls alone
 abbrev pub rest_reading : Option Beginning → List Event
 rest_reading None = []
 rest_reading (Some beginning) = beginning_controls beginning
 
--- of items and a rest
+-- the events of items and a rest
 abbrev pub parts_reading : Parts → List Event
 parts_reading parts = flat_map reading parts.items ++ rest_reading parts.rest
 

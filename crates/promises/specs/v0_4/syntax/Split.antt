@@ -12,7 +12,7 @@ use Rattle.vt_syntax.specs.Split.{Parts}
 abbrev pub bytes_of : List Item → Option Beginning → List ℕ
 bytes_of items rest = flat_map item_bytes items ++ rest_bytes rest
 
--- each is an item if the bytes of those after it follow
+-- each item is well formed if the bytes of those after it follow
 abbrev pub AreItems : List Item → Option Beginning → Type 0
 AreItems [] rest = IsRest rest
 AreItems (item ∷ items) rest = IsItemBefore (bytes_of items rest) item × AreItems items rest
@@ -27,11 +27,11 @@ pub record Parts' : Type 0 where
   pub items : List Item
   pub rest : Option Beginning
 
--- these items and no rest
+-- parts of these items and no rest
 abbrev pub items_alone : List Item → Parts
 items_alone items = record { items = items; rest = None }
 
--- no item and this rest
+-- parts of no item and this rest
 abbrev pub rest_alone : Beginning → Parts
 rest_alone beginning = record { items = []; rest = Some beginning }
 

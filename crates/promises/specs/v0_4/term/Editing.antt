@@ -47,12 +47,12 @@ erase_character n s =
 abbrev pub names_area : ℕ → Bool
 names_area p = nat_le p 2
 
--- of the row: 0 the cursor and what is right of it, 1 what is left of it and the cursor, 2 all
+-- the area in the cursor's row: 0 the cursor and what is right of it, 1 the cursor and what is left of it, 2 all
 abbrev pub line_area : ℕ → Cursor → ℕ → ℕ → Bool
 line_area p cursor r c =
     r == cursor.row && (p == 2 || (p == 0 && nat_le cursor.col c) || (p == 1 && nat_le c cursor.col))
 
--- of the screen: the same, and the rows below or above
+-- the area on the screen: that in the cursor's row, and for 0 the rows below, for 1 the rows above, for 2 both
 abbrev pub display_area : ℕ → Cursor → ℕ → ℕ → Bool
 display_area p cursor r c =
     p == 2 || (p == 0 && nat_lt cursor.row r) || (p == 1 && nat_lt r cursor.row) || line_area p cursor r c

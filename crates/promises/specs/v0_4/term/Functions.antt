@@ -37,13 +37,13 @@ byte letter = slice_index_or letter 0 0
 -- a control function. An event that asks for it with other values is ignored
 pub record Function' : Type 0 where
   pub name : List ℕ
-  -- of the values of a control sequence, on a screen of so many rows
+  -- whether the function takes these values of a control sequence, on a screen of so many rows
   pub takes : ℕ → List ℕ → Bool
   pub effect : List ℕ → Display → Display
-  -- by the first value, in the state before the event
+  -- the function's report, by the first value, in the state before the event
   pub report : ℕ → Display → List ℕ
 
--- by the byte that ends their sequences, or by the control
+-- control functions by the byte that ends their sequences, or by the control
 abbrev pub FunctionTable : Type 0
 FunctionTable = List (ℕ × Function)
 
@@ -87,7 +87,7 @@ of_pair test = taking (λ values. test (first values) (second values))
 abbrev pub of_margins : Function → Function
 of_margins f = record f { takes = λ rows values. are_margins rows (first values) (second values) }
 
--- an area is erased
+-- a function that erases an area, if the first value names one
 abbrev pub erasing : List ℕ → (ℕ → Display → Display) → Function
 erasing name effect = taking (λ values. names_area (first values)) (selected name effect)
 
@@ -112,7 +112,7 @@ modal name modes on = of_any (numbers_of modes) (changing name (change_modes mod
 abbrev pub no_function : Function
 no_function = record { name = []; takes = λ rows values. false; effect = λ values s. s; report = λ p. silent }
 
--- what the table has for the byte
+-- the function that the table has for the byte, if it has one
 abbrev pub function_in : FunctionTable → ℕ → Function
 function_in table b = unwrap_or (look_up table b) no_function
 
@@ -120,7 +120,7 @@ function_in table b = unwrap_or (look_up table b) no_function
 abbrev pub with_sets : (GraphicSets → GraphicSets) → Display → Display
 with_sets change s = record s { sets = change s.sets }
 
--- by the control
+-- the functions of controls, by the control
 abbrev pub controls : FunctionTable
 controls =
     (0x08, plain (codes "BS") backspace)
@@ -144,7 +144,7 @@ controls =
 unfoldable pub control : ℕ → Display → Display
 control b = (function_in controls b).effect []
 
--- without an intermediate, by the final byte
+-- escape sequences without an intermediate, by the final byte
 abbrev pub plain_escapes : FunctionTable
 plain_escapes =
     (byte (codes "7"), plain (codes "DECSC") save_cursor)
@@ -159,14 +159,14 @@ plain_escapes =
     ∷ (byte (codes "|"), plain (codes "LS3R") (with_sets (locked_right 3)))
     ∷ []
 
--- after a space
+-- escape sequences with a space as their intermediate
 abbrev pub space_escapes : FunctionTable
 space_escapes =
     (byte (codes "F"), plain (codes "S7C1T") (report_form false))
     ∷ (byte (codes "G"), plain (codes "S8C1T") (report_form true))
     ∷ []
 
--- after `#`
+-- escape sequences with the intermediate `#`
 abbrev pub number_sign_escapes : FunctionTable
 number_sign_escapes = (byte (codes "8"), plain (codes "DECALN") screen_alignment) ∷ []
 
@@ -193,7 +193,7 @@ designation slot name last = record {
   report = λ p. silent;
 }
 
--- by the intermediate, and then by the final byte
+-- escape sequences with an intermediate, by it and then by the final byte
 abbrev pub escape_tables : List (ℕ × (ℕ → Function))
 escape_tables =
     (byte (codes " "), function_in space_escapes)
@@ -213,7 +213,7 @@ plain_escape last = (function_in plain_escapes last).effect []
 unfoldable pub escape_with : ℕ → ℕ → Display → Display
 escape_with inter last = (escape_function inter last).effect []
 
--- without marker and intermediate, by the final byte
+-- control sequences without marker and intermediate, by the final byte
 abbrev pub plain_sequences : FunctionTable
 plain_sequences =
     (byte (codes "@"), counted (codes "ICH") insert_character)
@@ -238,7 +238,7 @@ plain_sequences =
     ∷ (byte (codes "r"), of_margins (paired (codes "DECSTBM") set_margins))
     ∷ []
 
--- after `?`
+-- control sequences with the marker `?`
 abbrev pub private_sequences : FunctionTable
 private_sequences =
     (byte (codes "J"), erasing (codes "DECSED") (erase_in_display true))
@@ -248,33 +248,33 @@ private_sequences =
     ∷ (byte (codes "n"), reporting (codes "DSR") private_reports)
     ∷ []
 
--- after `>`
+-- control sequences with the marker `>`
 abbrev pub greater_sequences : FunctionTable
 greater_sequences = (byte (codes "c"), reporting (codes "DA") secondary_reports) ∷ []
 
--- after `"`
+-- control sequences with the intermediate `"`
 abbrev pub quote_sequences : FunctionTable
 quote_sequences =
     (byte (codes "p"), of_pair is_level (paired (codes "DECSCL") set_conformance_level))
     ∷ (byte (codes "q"), of_first (0 ∷ 1 ∷ 2 ∷ []) (selected (codes "DECSCA") select_character_attribute))
     ∷ []
 
--- after `!`
+-- control sequences with the intermediate `!`
 abbrev pub exclamation_sequences : FunctionTable
 exclamation_sequences = (byte (codes "p"), plain (codes "DECSTR") soft_reset) ∷ []
 
 abbrev pub table_after : List (ℕ × FunctionTable) → ℕ → FunctionTable
 table_after tables b = unwrap_or (look_up tables b) []
 
--- by the marker
+-- the tables by the marker
 abbrev pub marker_tables : List (ℕ × FunctionTable)
 marker_tables = (byte (codes "?"), private_sequences) ∷ (byte (codes ">"), greater_sequences) ∷ []
 
--- by the intermediate
+-- the tables by the intermediate
 abbrev pub intermediate_tables : List (ℕ × FunctionTable)
 intermediate_tables = (0x22, quote_sequences) ∷ (byte (codes "!"), exclamation_sequences) ∷ []
 
--- by the marker and the intermediate; none has both
+-- the table by the marker and the intermediate; no sequence with both has a function
 unfoldable pub sequences_of : Option ℕ → Option ℕ → FunctionTable
 sequences_of None None = plain_sequences
 sequences_of (Some marker) None = table_after marker_tables marker

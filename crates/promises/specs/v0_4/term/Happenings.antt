@@ -28,12 +28,12 @@ happening s b = record {
   lines = scrolled_off s (b ∷ []);
 }
 
--- one for each byte, so the place of a byte is that of its happening
+-- the happenings of bytes: one for each byte, so the place of a byte is that of its happening
 abbrev pub happenings : State → List ℕ → List Happening
 happenings s [] = []
 happenings s (b ∷ bytes) = happening s b ∷ happenings (play s (b ∷ [])).state bytes
 
--- on a machine: the lines are those that a VT220 scrolls off the display at these events
+-- the happenings of bytes on a machine: the lines are those that a VT220 scrolls off the display at these events
 abbrev pub happenings_on : {S : Type 0} → Machine S → S → Held → List ℕ → List Happening
 happenings_on m s held [] = []
 happenings_on m s held (b ∷ bytes) = record {

@@ -6,7 +6,8 @@ use Rattle.vt_syntax.specs.declared.event.Event.{Event}
 use Rattle.vt_term.specs.Machines.{Machine}
 use Rattle.vt_term.specs.State.{Display}
 
--- over screens of a type: the display in them, and of each event the effect, and the report in the screens before it
+-- a machine over screens of a type: the display in them, the effect of each event, and its report in the screens before
+-- it
 pub record Machine' (S : Type 0) : Type 0 where
   pub display : S → Display
   pub effect : Event → S → S

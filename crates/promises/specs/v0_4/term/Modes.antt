@@ -66,7 +66,7 @@ private_modes =
 abbrev pub ansi_values : List (ℕ × (Modes → Bool))
 ansi_values = (2, λ m. m.kam) ∷ (4, λ m. m.irm) ∷ (12, λ m. m.srm) ∷ (20, λ m. m.lnm) ∷ []
 
--- those of DECCKM, DECSCLM, DECSCNM, DECOM, DECAWM, DECARM and DECTCEM; that of DECCOLM is the width
+-- the values of DECCKM, DECSCLM, DECSCNM, DECOM, DECAWM, DECARM and DECTCEM; that of DECCOLM is the width
 abbrev pub private_values : List (ℕ × (Modes → Bool))
 private_values =
     (1, λ m. m.decckm) ∷ (4, λ m. m.decsclm) ∷ (5, λ m. m.decscnm) ∷ (6, λ m. m.decom) ∷ (7, λ m. m.decawm)

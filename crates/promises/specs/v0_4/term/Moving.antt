@@ -76,7 +76,7 @@ bottom_margin last p = if p == 0 then last else min p last
 abbrev pub are_margins : ℕ → ℕ → ℕ → Bool
 are_margins last p1 p2 = nat_lt (from_one p1) (bottom_margin last p2)
 
--- DECSTBM: the cursor goes home; what are no margins has no effect
+-- DECSTBM: the cursor goes home; parameters that aren't margins have no effect
 abbrev pub set_margins : ℕ → ℕ → Display → Display
 set_margins p1 p2 s =
     if are_margins (bottom_row s) p1 p2

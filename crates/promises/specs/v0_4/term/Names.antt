@@ -11,7 +11,7 @@ use Rattle.vt_term.specs.Functions.{Function}
 abbrev pub name_with : ℕ → List ℕ → Function → Option (List ℕ)
 name_with rows values f = if f.takes rows values then Some f.name else None
 
--- of a graphic byte, if it has a glyph
+-- the name of a graphic byte, if it has a glyph
 abbrev pub print_name : ℕ → Option (List ℕ)
 print_name b = if has_no_glyph b then None else Some (codes "text")
 

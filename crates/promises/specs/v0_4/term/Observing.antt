@@ -7,14 +7,14 @@ use Rattle.vt_term.specs.Happenings.{Happening}
 use Rattle.vt_term.specs.Machines.{Machine}
 use Rattle.vt_term.specs.State.{Display, State}
 
--- the screens, what is held and the report bytes `after` are those that bytes leave: of a terminal in a state, with what a profile
--- keeps besides
+-- bytes played on a terminal in a state, with what a profile keeps besides, leave these screens, this held part and the
+-- report bytes `after`
 pub record Feeds' {S K : Type 0} (m : Machine S) (screens : Display → K → S) (s : State) (k : K) (bytes : List ℕ) (t : State) (l : K)
     (before after : List ℕ) : Type 0 where
   pub screens_are : screens t.display l ≡ screens_after m (events_from s.held bytes) (screens s.display k)
   pub held : t.held ≡ held_from s.held bytes
   pub reports : after ≡ before ++ reports_after m (events_from s.held bytes) (screens s.display k)
 
--- what happens at bytes there
+-- the happenings of bytes on such a terminal
 abbrev pub happenings_of : {S K : Type 0} → Machine S → (Display → K → S) → State → K → List ℕ → List Happening
 happenings_of m screens s k bytes = happenings_on m (screens s.display k) s.held bytes

@@ -22,19 +22,19 @@ pub record IsSoundPageAt' (size : Size) (page : PageState) : Type 0 where
   pub saved : IsPlace size.rows page.grid.width page.saved.row page.saved.col page.saved.wrap
   pub saved_sets : AreSoundSets (saved_sets page.saved)
 
--- of any size
+-- a page is sound at its own size
 abbrev pub IsSoundSizedPage : PageState → Type 0
 IsSoundSizedPage page = IsSoundPageAt page.grid.size page
 
--- a VT220's
+-- a page of a VT220's size is sound
 abbrev pub IsSoundPage : PageState → Type 0
 IsSoundPage page = IsSoundPageAt vt220_size page
 
--- narrow and blank, with what is saved at power-up
+-- a narrow and blank page, with what is saved at power-up
 abbrev pub blank_page : Size → PageState
 blank_page size = record { grid = blank_grid size false; saved = saved_at_power_up }
 
--- that of the VT220
+-- the blank page of a VT220's size
 abbrev pub page_at_power_up : PageState
 page_at_power_up = blank_page vt220_size
 

@@ -1,7 +1,7 @@
 -- 0.4: vt_term/specs/Parameters.
 use Rattle.std.specs.Prelude.{List, max, slice_index, ℕ}
 
--- one that isn't there is 0, as `slice_index` is past the end
+-- the first parameter; one that isn't there is 0, as `slice_index` is past the end
 abbrev pub first : List ℕ → ℕ
 first params = slice_index params 0
 

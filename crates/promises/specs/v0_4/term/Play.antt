@@ -10,7 +10,7 @@ use Rattle.vt_term.specs.State.{Display, State}
 abbrev pub after_events : List Event → Display → Display
 after_events events s = screens_after vt220 events s
 
--- their reports, each in the state before its event
+-- the reports of events, each in the state before its event
 abbrev pub reports_of : List Event → Display → List ℕ
 reports_of events s = reports_after vt220 events s
 

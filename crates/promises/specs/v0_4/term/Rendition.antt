@@ -37,7 +37,7 @@ select_graphic_rendition params s = with_rendition (with_attributes params s.bru
 abbrev pub with_protection : Bool → Display → Display
 with_protection protected s = record s { brush = record s.brush { protected = protected } }
 
--- DECSCA: 1 protects what is written from now on, 0 and 2 do not
+-- DECSCA: 1 protects the glyphs that are written after it, 0 and 2 do not
 abbrev pub select_character_attribute : ℕ → Display → Display
 select_character_attribute p s =
     if p == 1 then with_protection true s else (if p == 0 || p == 2 then with_protection false s else s)

@@ -10,7 +10,7 @@ use Rattle.vt_term.specs.State.{Display}
 unfoldable pub control_report : ℕ → Display → List ℕ
 control_report b = (function_in controls b).report 0
 
--- by the first value
+-- the report of a control sequence by its first value
 unfoldable pub sequence_report : Option ℕ → Option ℕ → ℕ → ℕ → Display → List ℕ
 sequence_report marker inter last p = (function_in (sequences_of marker inter) last).report p
 

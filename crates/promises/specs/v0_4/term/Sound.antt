@@ -10,7 +10,7 @@ use Rattle.vt_term.specs.Sound.{AreSoundMargins, IsPlace, IsSoundAt, IsSoundDisp
 use Rattle.vt_term.specs.State.{Display, State}
 use Rattle.vt_term.specs.declared.state.Margins.{Margins}
 
--- at least two rows of so many
+-- margins of at least two rows, on a screen of so many
 pub record AreSoundMargins' (rows : ℕ) (m : Margins) : Type 0 where
   pub from_row_1 : 1 ≤ m.top
   pub two_rows : m.top < m.bottom
@@ -47,7 +47,7 @@ pub record IsSoundAt' (size : Size) (s : State) : Type 0 where
 abbrev pub IsSoundSized : State → Type 0
 IsSoundSized s = IsSoundAt s.display.grid.size s
 
--- a VT220's
+-- the display is sound at a VT220's size
 abbrev pub IsSoundDisplay : Display → Type 0
 IsSoundDisplay s = IsSoundDisplayAt vt220_size s
 

@@ -45,7 +45,7 @@ last_column s = s.grid.width
 abbrev pub at_place : ℕ → ℕ → Cursor
 at_place row col = record { row = row; col = col; wrap = false }
 
--- all rows
+-- the margins of all rows
 abbrev pub margins_of : Size → Margins
 margins_of size = record { top = 1; bottom = size.rows }
 

@@ -12,8 +12,8 @@ use Rattle.vt_trace.specs.Counted.{AreCounts, HasCountedBy}
 use Rattle.vt_trace.specs.Names.{Listing}
 use Rattle.vt_trace.specs.declared.summary.Summary.{Summary}
 
--- the counts of what was ignored by the numbers of its kinds, and of the other events by the numbers of their names in a list, on a
--- screen of so many rows
+-- the counts of events on a screen of so many rows. Those of what was ignored are by the numbers of its kinds. Those of
+-- the other events are by the numbers of their names in a list
 pub record AreCounts' (d : Listing) (rows : ℕ) (events : List Event) (kinds : List ℕ) (ignored named : List ℕ) : Type 0 where
   pub size : length ignored ≡ 13312
   pub of_ignored : (k : ℕ) → get_or ignored k 0 ≡ all_ignored_by d.called rows events kinds k
@@ -26,10 +26,10 @@ pub record HasCountedBy' (d : Listing) (rows : ℕ) (bytes : List ℕ) (s : Summ
   pub code : s.code ≡ code_of (split_of bytes).rest
   pub counts : AreCounts d rows (events_of bytes) (item_kinds bytes) s.ignored.items s.named
 
--- by a VT220's names
+-- the summary has counted these bytes by a VT220's names
 abbrev pub HasCountedOn : ℕ → List ℕ → Summary → Type 0
 HasCountedOn rows bytes s = HasCountedBy vt220_listing rows bytes s
 
--- that of a VT220
+-- the summary has counted these bytes for a VT220
 abbrev pub HasCounted : List ℕ → Summary → Type 0
 HasCounted bytes s = HasCountedOn last_row bytes s

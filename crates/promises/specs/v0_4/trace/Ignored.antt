@@ -14,11 +14,11 @@ use Rattle.vt_trace.specs.Ignored.{LeavesAlone}
 abbrev pub is_ignored_by : Names → ℕ → Event → Bool
 is_ignored_by called rows event = elim (called rows event) [ None ↦ true | Some name ↦ false ]
 
--- by a VT220's names
+-- an event without a name among a VT220's, on a screen of so many rows
 abbrev pub is_ignored_on : ℕ → Event → Bool
 is_ignored_on rows event = is_ignored_by name_on rows event
 
--- on a VT220
+-- an event without a name on a VT220
 abbrev pub is_ignored : Event → Bool
 is_ignored event = is_ignored_on last_row event
 
@@ -27,7 +27,7 @@ pub record LeavesAlone' (event : Event) (s : Display) : Type 0 where
   pub same : effect event s ≡ s
   pub silent : report event s ≡ []
 
--- so it is on every sound display
+-- the event leaves every sound display as it is, and reports nothing
 abbrev pub HasNoEffect : Event → Type 0
 HasNoEffect event = (s : Display) → IsSoundDisplay s → LeavesAlone event s
 

@@ -26,12 +26,12 @@ shown bytes = flat_map shown_byte bytes
 abbrev pub further : ℕ → List ℕ
 further value = 0x3B ∷ decimal value
 
--- in decimal, with `;` between them
+-- values in decimal, with `;` between them
 abbrev pub joined : List ℕ → List ℕ
 joined [] = []
 joined (value ∷ values) = decimal value ++ flat_map further values
 
--- of a control sequence the marker and the values, of a graphic byte itself
+-- the column of values: of a control sequence the marker and the values, of a graphic byte itself
 abbrev pub values_column : Event → List ℕ
 values_column (Print b) = shown_byte b
 values_column (Control b) = []
@@ -50,23 +50,23 @@ bytes_column (Sequence marker params inter last) =
 abbrev pub line : ℕ → List ℕ → List ℕ → List ℕ
 line place name column = decimal place ++ (0x09 ∷ (name ++ (0x09 ∷ (column ++ 0x0A ∷ []))))
 
--- what events are called on a screen of so many rows; an event without a name is ignored
+-- the names of events on a screen of so many rows; an event without a name is ignored
 abbrev pub Names : Type 0
 Names = ℕ → Event → Option (List ℕ)
 
--- an event with a name, or one that is ignored
+-- the line of an event with a name, or of one that is ignored
 abbrev pub line_named : ℕ → Event → Option (List ℕ) → List ℕ
 line_named place event (Some name) = line place name (values_column event)
 line_named place event None = line place (codes "ignored") (bytes_column event)
 
--- on a screen of so many rows
+-- the line of an event by these names, on a screen of so many rows
 unfoldable pub event_line_by : Names → ℕ → ℕ → Event → List ℕ
 event_line_by names rows place event = line_named place event (names rows event)
 
--- by a VT220's names
+-- the line of an event by a VT220's names, on a screen of so many rows
 abbrev pub event_line_on : ℕ → ℕ → Event → List ℕ
 event_line_on rows place event = event_line_by name_on rows place event
 
--- on a VT220's
+-- the line of an event on a VT220
 abbrev pub event_line : ℕ → Event → List ℕ
 event_line place event = event_line_on last_row place event

@@ -11,11 +11,11 @@ use Rattle.vt_trace.specs.Names.{Listing}
 abbrev pub names_in : FunctionTable → List (List ℕ)
 names_in table = map (λ row. row.1.name) table
 
--- of SCS: a name for each set
+-- the names of SCS: one for each set
 abbrev pub designation_names : List ℕ → List (List ℕ)
 designation_names begins = map (λ row. begins ++ set_name row.1) finals
 
--- in the order of the tables. Of the names after `?` the first two alone aren't in another table
+-- all names, in the order of the tables. Of those after `?`, the first two alone aren't in another table
 abbrev pub names : List (List ℕ)
 names =
     codes "text"
@@ -35,12 +35,12 @@ names =
 abbrev pub numbered : ℕ → List ℕ
 numbered number = get_or names number []
 
--- what events are called, and these names in the order of a summary
+-- the names of events, and a list of them in the order of a summary
 pub record Listing' : Type 0 where
   pub called : Names
   pub listed : List (List ℕ)
 
--- that of a VT220
+-- the names of a VT220, and the list of them
 abbrev pub vt220_listing : Listing
 vt220_listing = record { called = name_on; listed = names }
 

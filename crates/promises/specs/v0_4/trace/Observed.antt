@@ -10,7 +10,7 @@ abbrev pub traced_told : Names → Tracer → List Happening → List ℕ
 traced_told names t [] = []
 traced_told names t (h ∷ hs) = traced_at names t h ++ traced_told names (tracer_at t h) hs
 
--- the tracer after them
+-- the tracer after happenings
 abbrev pub tracer_told : Tracer → List Happening → Tracer
 tracer_told t [] = t
 tracer_told t (h ∷ hs) = tracer_told (tracer_at t h) hs

@@ -41,18 +41,19 @@ abbrev pub is_empty : List Event → Bool
 is_empty [] = true
 is_empty (event ∷ events) = false
 
--- of what has begun, when it is cut off
+-- the kind of what has begun, when it is cut off
 abbrev pub cut_kind : Beginning → ℕ
 cut_kind (OfEscape inside) = cut_sequence
 cut_kind (OfControl opening inside) = cut_sequence
 cut_kind (OfString opening code content) = code
 
--- of a sequence with its last byte: CAN and SUB cut it off, and any other sequence without a function is spoilt
+-- the kind of a sequence with its last byte: CAN and SUB cut it off, and any other sequence without a function is
+-- spoilt
 abbrev pub sequence_kind : List Event → ℕ → List ℕ
 sequence_kind events last =
     if is_cancel last then cut_sequence ∷ [] else (if is_empty events then spoilt_sequence ∷ [] else [])
 
--- of an item, unless it has a function; SUB is one by itself, whatever it ends
+-- the kind of an item, unless it has a function; SUB is one by itself, whatever it ends
 abbrev pub item_kind : Item → List ℕ
 item_kind (Single b) = if is_empty (single_function b) then b ∷ [] else []
 item_kind (Ended (OfString opening code content) last) = code ∷ []
@@ -60,16 +61,16 @@ item_kind (Ended (OfEscape inside) last) = sequence_kind (function (OfEscape ins
 item_kind (Ended (OfControl opening inside) last) = sequence_kind (function (OfControl opening inside) last) last
 item_kind (Cut beginning) = cut_kind beginning ∷ []
 
--- of what is left at the end
+-- the kind of what is left at the end
 abbrev pub rest_kind : Option Beginning → List ℕ
 rest_kind None = []
 rest_kind (Some beginning) = cut_kind beginning ∷ []
 
--- of the items of bytes
+-- the kinds of the items of bytes
 abbrev pub item_kinds : List ℕ → List ℕ
 item_kinds bytes = flat_map item_kind (split_of bytes).items
 
--- of bytes: those of their items, and of what is left
+-- the kinds of bytes: those of their items, and of what is left
 abbrev pub kinds_of : List ℕ → List ℕ
 kinds_of bytes = item_kinds bytes ++ rest_kind (split_of bytes).rest
 
@@ -86,6 +87,6 @@ kind_column kind = codes "ignored" ++ elim (kind_name kind) [ None ↦ [] | Some
 abbrev pub first_column : List ℕ → List ℕ
 first_column bytes = shown (take 32 bytes) ++ (if nat_lt 32 (length bytes) then codes ".." else [])
 
--- of what began at a place
+-- the line of an item without a function that began at a place
 abbrev pub skipped_line : ℕ → ℕ → List ℕ → List ℕ
 skipped_line place kind bytes = line place (kind_column kind) (first_column bytes)

@@ -14,12 +14,12 @@ use Rattle.vt_syntax.specs.declared.event.Event.TheVariants.{Control, Escape, Pr
 use Rattle.vt_syntax.specs.declared.event.Event.{Event}
 use Rattle.vt_trace.specs.Names.{Listing}
 
--- none is 0, and 20..2F are 1 to 16
+-- the number of an intermediate: 1 to 16 for 20..2F, and 0 if there is none
 abbrev pub inter_number : Option ℕ → ℕ
 inter_number None = 0
 inter_number (Some i) = i - 0x1F
 
--- none is 0, and 3C..3F are 1 to 4
+-- the number of a marker: 1 to 4 for 3C..3F, and 0 if there is none
 abbrev pub marker_number : Option ℕ → ℕ
 marker_number None = 0
 marker_number (Some m) = m - 0x3B
@@ -33,7 +33,8 @@ kind_number (Escape inter last) = 0x100 + 0x80 * inter_number inter + last
 kind_number (Sequence marker params inter last) =
     0x100 + 0x80 * (17 + 17 * marker_number marker + inter_number inter) + last
 
--- an event without its values, of which a line of the summary tells: a single byte, whatever it is, or a sequence
+-- the event that stands for a kind in a line of the summary: a single byte, whatever it is, or a sequence without its
+-- values
 abbrev pub without_values : Event → Event
 without_values (Print b) = Control b
 without_values (Control b) = Control b
@@ -60,7 +61,7 @@ times_named_by called rows name events = count_by (has_name_by called rows name)
 unfoldable pub times_ignored_by : Names → ℕ → ℕ → List Event → ℕ
 times_ignored_by called rows number events = count_by (is_ignored_kind_by called rows number) events
 
--- among kinds of items without a function
+-- how often a number is among kinds of items without a function
 unfoldable pub times_skipped : ℕ → List ℕ → ℕ
 times_skipped number kinds = count_by (λ kind. kind == number) kinds
 
@@ -79,7 +80,7 @@ ignored_line times event = count_line (times (kind_number event)) (codes "ignore
 abbrev pub named_line : Listing → (ℕ → ℕ) → ℕ → List ℕ
 named_line d times number = count_line (times number) (numbered_in d number)
 
--- without one, and with each of these
+-- what `f` gives without a byte, and then with each of these
 abbrev pub optionally : List ℕ → (Option ℕ → List ℕ) → List ℕ
 optionally bytes f = f None ++ flat_map (λ b. f (Some b)) bytes
 
@@ -89,15 +90,15 @@ intermediates = range_with_len 0x20 16
 abbrev pub markers : List ℕ
 markers = range_with_len 0x3C 4
 
--- of an escape sequence
+-- the final bytes of escape sequences
 abbrev pub escape_finals : List ℕ
 escape_finals = range_with_len 0x30 79
 
--- of a control sequence
+-- the final bytes of control sequences
 abbrev pub finals : List ℕ
 finals = range_with_len 0x40 63
 
--- of a single byte, or of the kind of items without a function that has its number
+-- the line of a single byte, or of the kind of items without a function that has its number
 abbrev pub single_line : (ℕ → ℕ) → ℕ → List ℕ
 single_line times b = count_line (times b) (codes "ignored " ++ elim (kind_name b) [ None ↦ shown_byte b | Some name ↦ name ])
 
@@ -136,7 +137,7 @@ event_summary_by d rows events kinds =
 unfoldable pub summary_by : Listing → ℕ → List ℕ → List ℕ
 summary_by d rows bytes = event_summary_by d rows (events_of bytes) (kinds_of bytes)
 
--- by a VT220's names
+-- the summary of a terminal's input by a VT220's names
 abbrev pub summary_on : ℕ → List ℕ → List ℕ
 summary_on rows bytes = summary_by vt220_listing rows bytes
 

@@ -21,7 +21,7 @@ use Rattle.vt_term.specs.Happenings.{Happening}
 use Rattle.vt_term.specs.State.{Display, State}
 use Rattle.vt_trace.specs.declared.tracing.Tracer.{Tracer}
 
--- before the first byte, and between items
+-- a tracer before the first byte, or between items
 abbrev pub between : (place begin : ℕ) → Bool → Tracer
 between n m v = record { place = n; begin = m; in_text = v; code = 0; first = record { items = [] } }
 
@@ -124,7 +124,7 @@ unfoldable pub skipped : Tracer → Held → ℕ → List ℕ
 skipped t held b =
     skipped_lines t (cuts_off held b) (ends_silent held b) (item_place t held b) (ended_kind t.code held b) (item_first t held b)
 
--- whether a text may go on after it
+-- whether a text may go on after a byte
 unfoldable pub goes_on : Tracer → Held → ℕ → Bool
 goes_on t held b = t.in_text && not (cuts_off held b || ends_silent held b)
 
@@ -149,7 +149,7 @@ traced_at names t h =
     skipped t h.held h.byte
     ++ written_all names (goes_on t h.held h.byte) (place_of t.place (item_place t h.held h.byte) h.byte) h.events h.before
 
--- the tracer after it: between items it keeps nothing of one
+-- the tracer after what happens at a byte: between items it keeps nothing of an item
 abbrev pub tracer_at : Tracer → Happening → Tracer
 tracer_at t h = record {
   place = t.place + 1;
@@ -159,7 +159,7 @@ tracer_at t h = record {
   first = record { items = if is_nothing (held_from h.held (h.byte ∷ [])) then [] else item_first t h.held h.byte };
 }
 
--- a byte on a VT220
+-- what is written of a byte on a VT220
 unfoldable pub traced : State → Tracer → ℕ → List ℕ
 traced s t b = traced_at name_on t (happening s b)
 
@@ -176,8 +176,8 @@ unfoldable pub tracer_all : State → Tracer → List ℕ → Tracer
 tracer_all s t [] = t
 tracer_all s t (b ∷ bytes) = tracer_all (play s (b ∷ [])).state (tracer_after s t b) bytes
 
--- what a tracer keeps of bytes, by their split: of what is left it has the place, which is the length of the items before
--- it, the first bytes, and the C1 control of a string
+-- what a tracer keeps of bytes, by their split. Of what is left it has the place, the first bytes, and the C1 control
+-- of a string. The place is the length of the items before what is left
 pub record IsAfter' (bytes : List ℕ) (t : Tracer) : Type 0 where
   pub place : t.place ≡ length bytes
   pub begin : is_nothing (held_after bytes) ≡ false → t.begin ≡ length (flat_map item_bytes (split_of bytes).items)

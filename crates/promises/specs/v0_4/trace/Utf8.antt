@@ -17,13 +17,14 @@ use Rattle.vt_trace.specs.Names.{Listing}
 use Rattle.vt_trace.specs.Utf8.{Dialect}
 use Rattle.vt_trace.specs.declared.tracing.Tracer.{Tracer}
 
--- what is written of one: it is content in a string. Otherwise it is text, and cuts an unfinished sequence off
+-- what is written of such a byte: nothing if it is content of a string. Otherwise it is text, and cuts an unfinished
+-- sequence off
 abbrev pub traced_beyond : Tracer → ℕ → List ℕ
 traced_beyond t b =
     if t.code == 0 then (if length t.first.items == 0 then text_of t.in_text t.place b else open_lines t ++ text_of false t.place b)
     else []
 
--- the tracer after one
+-- the tracer after such a byte
 abbrev pub tracer_beyond : Tracer → ℕ → Tracer
 tracer_beyond t b =
     if t.code == 0 then between (t.place + 1) t.place true
@@ -37,7 +38,7 @@ pub record Dialect' (W : Type 0) : Type 0 where
   pub after : W → ℕ → W
   pub reports : W → ℕ → List ℕ
 
--- that of a VT220, to which a character is translated
+-- the dialect of a VT220, to which a character is translated
 abbrev pub vt220_dialect : Dialect State
 vt220_dialect = record {
   names = name_on;
@@ -51,7 +52,7 @@ abbrev pub after_all : {W : Type 0} → Dialect W → W → List ℕ → W
 after_all d w [] = w
 after_all d w (c ∷ cs) = after_all d (d.after w c) cs
 
--- their reports
+-- the reports of characters
 abbrev pub reports_all : {W : Type 0} → Dialect W → W → List ℕ → List ℕ
 reports_all d w [] = []
 reports_all d w (c ∷ cs) = d.reports w c ++ reports_all d (d.after w c) cs
@@ -86,7 +87,7 @@ dialect_tracer d w t pending (b ∷ bytes) =
     dialect_tracer d (after_all d w (read pending b).characters) (tracer_as t b (completed d w (read pending b).characters))
     (read pending b).pending bytes
 
--- the same of a VT220
+-- what is written of bytes on a VT220, and the tracer after them
 abbrev pub trace_utf8 : State → Tracer → (pending bytes : List ℕ) → List ℕ
 trace_utf8 s t pending bytes = dialect_trace vt220_dialect s t pending bytes
 
@@ -114,10 +115,10 @@ counted_bytes pending bytes = map counted_as (characters pending bytes)
 unfoldable pub summary_utf8_by : Listing → ℕ → List ℕ → List ℕ
 summary_utf8_by d rows bytes = summary_by d rows (counted_bytes [] bytes)
 
--- by a VT220's names
+-- the summary of a host's UTF-8 by a VT220's names, on a screen of so many rows
 abbrev pub summary_utf8_on : ℕ → List ℕ → List ℕ
 summary_utf8_on rows bytes = summary_utf8_by vt220_listing rows bytes
 
--- on a VT220
+-- the summary of a host's UTF-8 on a VT220
 abbrev pub summary_utf8 : List ℕ → List ℕ
 summary_utf8 bytes = summary_utf8_on last_row bytes

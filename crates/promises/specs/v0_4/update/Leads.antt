@@ -14,7 +14,7 @@ pub record Leads' (shown : State) (bytes : List ℕ) (to : State) : Type 0 where
   pub whole : play shown bytes ≡ silently to
   pub cut : (pieces : List (List ℕ)) → joined pieces ≡ bytes → play_all shown pieces ≡ silently to
 
--- to what was there before, bytes are appended that lead from one state to the other
+-- `after` is what was there before, and then bytes that lead from one state to the other
 pub record Updates' (shown to : State) (before after : List ℕ) : Type 0 where
   pub sent : List ℕ
   pub appended : after ≡ before ++ sent
@@ -27,7 +27,7 @@ LeadsAlong shown [] (to ∷ states) = ⊥
 LeadsAlong shown (sent ∷ others) [] = ⊥
 LeadsAlong shown (sent ∷ others) (to ∷ states) = Leads shown sent to × LeadsAlong to others states
 
--- the last of some states, or the one before them
+-- the last of some states, or the one before them if there are none
 abbrev pub last_state : State → List State → State
 last_state s [] = s
 last_state s (to ∷ states) = last_state to states

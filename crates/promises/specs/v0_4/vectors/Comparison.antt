@@ -6,7 +6,7 @@ use Rattle.vt_vectors.specs.declared.expectation.Vector.{Vector}
 use Rattle.vt_vectors.specs.declared.mismatch.Mismatch.TheVariants.{Memory, Repaint, Reports, Text}
 use Rattle.vt_vectors.specs.declared.mismatch.Mismatch.{Mismatch}
 
--- what a vector says that its input must give
+-- the outcome that a vector's input must give
 abbrev pub expected_of : Vector → Outcome
 expected_of v = record { text = v.text.now; reports = v.reports.now; repaint = option_copied v.repaint }
 

@@ -15,7 +15,7 @@ pub record Outcome' : Type 0 where
   pub reports : List ℕ
   pub repaint : Option (List ℕ)
 
--- there is a repaint between sequences only
+-- the repaint, between sequences only
 abbrev pub between_sequences : Held → List ℕ → Option (List ℕ)
 between_sequences Nothing repaint = Some repaint
 between_sequences (Escape inters) repaint = None
@@ -29,6 +29,6 @@ repaint_of s = between_sequences s.held (paint s)
 abbrev pub outcome_after : Played → Outcome
 outcome_after played = record { text = text played.state; reports = played.reports; repaint = repaint_of played.state }
 
--- after a play from power-up
+-- the outcome after a play from power-up
 abbrev pub outcome_of : List ℕ → Outcome
 outcome_of input = outcome_after (play power_up input)

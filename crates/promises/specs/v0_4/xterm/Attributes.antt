@@ -8,7 +8,7 @@ use Rattle.vt_term.specs.State.{Display}
 abbrev pub begins_colour : ℕ → Bool
 begins_colour p = p == 38 || (p == 48 || p == 58)
 
--- how many parameters follow: 5 and an index; 2, red, green and blue; else one
+-- how many parameters of a colour follow: 5 and an index; 2, red, green and blue; otherwise one
 abbrev pub colour_length : List ℕ → ℕ
 colour_length [] = 0
 colour_length (kind ∷ params) = if kind == 5 then 2 else (if kind == 2 then 4 else 1)

@@ -5,37 +5,38 @@ use Rattle.promises.specs.v0_4.term.Functions.{byte, effect}
 use Rattle.promises.specs.v0_4.term.Modes.{autowrap_mode}
 use Rattle.promises.specs.v0_4.term.Moving.{cursor_forward}
 use Rattle.promises.specs.v0_4.term.Parameters.{count, first, second}
-use Rattle.promises.specs.v0_4.term.Resets.{is_level, set_conformance_level, soft_reset}
-use Rattle.promises.specs.v0_4.term.Saving.{restore_cursor, save_cursor}
+use Rattle.promises.specs.v0_4.term.Resets.{is_level, screen_alignment, set_conformance_level, soft_reset}
+use Rattle.promises.specs.v0_4.term.Saving.{save_cursor}
 use Rattle.promises.specs.v0_4.xterm.Attributes.{select_attributes}
+use Rattle.promises.specs.v0_4.xterm.Bounded.{bounded_effect, is_bare}
 use Rattle.promises.specs.v0_4.xterm.Columns.{cursor_character_absolute, cursor_next_line, cursor_preceding_line}
 use Rattle.promises.specs.v0_4.xterm.Columns.{line_position_absolute, line_position_forward}
-use Rattle.promises.specs.v0_4.xterm.Pages.{change_page_modes, on_display, reset_to_initial_state}
+use Rattle.promises.specs.v0_4.xterm.Pages.{bounds_of, change_page_modes, on_display, reset_to_initial_state}
+use Rattle.promises.specs.v0_4.xterm.Pages.{restore_screens, set_sides, sided, with_full_sides}
 use Rattle.promises.specs.v0_4.xterm.Repeating.{repeat}
 use Rattle.promises.specs.v0_4.xterm.Scroll.{rows_down, rows_down_by, rows_up}
 use Rattle.promises.specs.v0_4.xterm.Tabs.{cursor_backward_tabulation, cursor_forward_tabulation}
 use Rattle.std.specs.List.{list_any}
-use Rattle.std.specs.Prelude.{[], Bool, codes, false, if◌then◌else◌, length, List, None, Option, Some, true}
-use Rattle.std.specs.Prelude.{unwrap_or, ℕ, ◌&&◌, ◌++◌, ◌==◌, ◌||◌, ◌∷◌}
+use Rattle.std.specs.Prelude.{[], Bool, codes, false, if◌then◌else◌, List, None, Option, Some, true, unwrap_or, ℕ}
+use Rattle.std.specs.Prelude.{◌&&◌, ◌++◌, ◌==◌, ◌||◌, ◌∷◌}
 use Rattle.vt_syntax.specs.declared.event.Event.TheVariants.{Control, Escape, Print, Sequence}
 use Rattle.vt_syntax.specs.declared.event.Event.{Event}
 use Rattle.vt_term.specs.State.{Display}
 use Rattle.vt_xterm.specs.Pages.{Screens}
+use Rattle.vt_xterm.specs.declared.sides.Sides.{Sides}
 
 -- the functions of control sequences, by their final bytes
 abbrev pub FunctionTable : Type 0
 FunctionTable = List (ℕ × (List ℕ → Screens → Screens))
 
--- the only parameter is empty, or 0
-abbrev pub is_bare : List ℕ → Bool
-is_bare params = length params == 1 && first params == 0
+-- `s`: DECSLRM under DECLRMM, otherwise without parameters SCP, which is DECSC
+abbrev pub save_or_set_sides : List ℕ → Option Sides → Screens → Screens
+save_or_set_sides params None s = if is_bare params then on_display save_cursor s else s
+save_or_set_sides params (Some m) s = set_sides (first params) (second params) s
 
--- SCP and RCP: DECSC and DECRC; with parameters they are other functions
-abbrev pub save_if_bare : List ℕ → Display → Display
-save_if_bare params s = if is_bare params then save_cursor s else s
-
-abbrev pub restore_if_bare : List ℕ → Display → Display
-restore_if_bare params s = if is_bare params then restore_cursor s else s
+-- RCP: DECRC; with parameters it is another function
+abbrev pub restore_if_bare : List ℕ → Screens → Screens
+restore_if_bare params s = if is_bare params then restore_screens s else s
 
 -- CNL, CPL, CHA, CHT, SU, SD, CBT, SD, HPA, HPR, REP, VPA, VPR, SGR, SCP and RCP
 abbrev pub plain_functions : FunctionTable
@@ -54,21 +55,21 @@ plain_functions =
     ∷ (byte (codes "d"), λ params. on_display (line_position_absolute (count params)))
     ∷ (byte (codes "e"), λ params. on_display (line_position_forward (count params)))
     ∷ (byte (codes "m"), λ params. on_display (select_attributes params))
-    ∷ (byte (codes "s"), λ params. on_display (save_if_bare params))
-    ∷ (byte (codes "u"), λ params. on_display (restore_if_bare params))
+    ∷ (byte (codes "s"), λ params s. save_or_set_sides params s.pages.sides s)
+    ∷ (byte (codes "u"), restore_if_bare)
     ∷ []
 
--- after `?`: SM and RM of private modes
+-- control sequences with the marker `?`: SM and RM of private modes
 abbrev pub private_functions : FunctionTable
 private_functions = (byte (codes "h"), change_page_modes true) ∷ (byte (codes "l"), change_page_modes false) ∷ []
 
--- DECSTR: a soft reset that leaves DECAWM set
+-- DECSTR: a soft reset that leaves DECAWM set, and resets DECLRMM
 abbrev pub soft_reset_wrapping : Display → Display
 soft_reset_wrapping s = autowrap_mode true (soft_reset s)
 
--- after `!`
+-- control sequences with the intermediate `!`
 abbrev pub exclamation_functions : FunctionTable
-exclamation_functions = (byte (codes "p"), λ params. on_display soft_reset_wrapping) ∷ []
+exclamation_functions = (byte (codes "p"), λ params s. sided None (on_display soft_reset_wrapping s)) ∷ []
 
 -- DECSCL: its soft reset leaves DECAWM set, too
 abbrev pub set_level_wrapping : List ℕ → Display → Display
@@ -76,40 +77,62 @@ set_level_wrapping params s =
     if is_level (first params) (second params)
     then autowrap_mode true (set_conformance_level (first params) (second params) s) else s
 
--- after `"`
-abbrev pub quote_functions : FunctionTable
-quote_functions = (byte (codes "p"), λ params. on_display (set_level_wrapping params)) ∷ []
+abbrev pub set_level_without_sides : List ℕ → Screens → Screens
+set_level_without_sides params s =
+    if is_level (first params) (second params) then sided None (on_display (set_level_wrapping params) s)
+    else on_display (set_level_wrapping params) s
 
--- by the intermediate
+-- control sequences with the intermediate `"`
+abbrev pub quote_functions : FunctionTable
+quote_functions = (byte (codes "p"), set_level_without_sides) ∷ []
+
+-- the tables by the intermediate
 abbrev pub intermediate_functions : List (ℕ × FunctionTable)
 intermediate_functions = (0x22, quote_functions) ∷ (byte (codes "!"), exclamation_functions) ∷ []
 
 abbrev pub table_after : List (ℕ × FunctionTable) → ℕ → FunctionTable
 table_after tables b = unwrap_or (look_up tables b) []
 
--- by the marker and the intermediate
+-- the table by the marker and the intermediate
 unfoldable pub functions_of : Option ℕ → Option ℕ → FunctionTable
 functions_of None None = plain_functions
 functions_of (Some marker) None = table_after ((byte (codes "?"), private_functions) ∷ []) marker
 functions_of None (Some inter) = table_after intermediate_functions inter
 functions_of (Some marker) (Some inter) = []
 
--- what the table has for the final byte, or else the event's effect on a VT220
+-- the function that the table has for the final byte, otherwise the event's effect on a VT220
 unfoldable pub function_in : FunctionTable → Event → ℕ → List ℕ → Screens → Screens
 function_in table event last params = unwrap_or (look_up table last) (λ params. on_display (effect event)) params
 
--- of an escape sequence without intermediate: RIS, which also resets the pages
+-- escape sequences without intermediate: DECRC, and RIS, which also resets the pages
 abbrev pub plain_escapes : FunctionTable
-plain_escapes = (byte (codes "c"), λ params. reset_to_initial_state) ∷ []
+plain_escapes =
+    (byte (codes "8"), λ params. restore_screens) ∷ (byte (codes "c"), λ params. reset_to_initial_state) ∷ []
+
+-- DECALN: the margins are full
+abbrev pub alignments : FunctionTable
+alignments = (byte (codes "8"), λ params s. with_full_sides (on_display screen_alignment s)) ∷ []
+
+abbrev pub escapes_with : ℕ → FunctionTable
+escapes_with inter = table_after ((byte (codes "#"), alignments) ∷ []) inter
+
+-- the effect of an event if left and right margins leave no column out
+abbrev pub screen_effect : Event → Screens → Screens
+screen_effect (Print b) = on_display (effect (Print b))
+screen_effect (Control b) = on_display (effect (Control b))
+screen_effect (Escape None last) = function_in plain_escapes (Escape None last) last []
+screen_effect (Escape (Some inter) last) = function_in (escapes_with inter) (Escape (Some inter) last) last []
+screen_effect (Sequence marker params inter last) =
+    function_in (functions_of marker inter) (Sequence marker params inter last) last params.items
+
+-- the effect of an event between these margins, or as without any
+abbrev pub effect_between : Event → Option Sides → Screens → Screens
+effect_between event None s = screen_effect event s
+effect_between event (Some m) s = bounded_effect screen_effect event m s
 
 -- the effect of an event
 abbrev pub xterm_effect : Event → Screens → Screens
-xterm_effect (Print b) = on_display (effect (Print b))
-xterm_effect (Control b) = on_display (effect (Control b))
-xterm_effect (Escape None last) = function_in plain_escapes (Escape None last) last []
-xterm_effect (Escape (Some inter) last) = on_display (effect (Escape (Some inter) last))
-xterm_effect (Sequence marker params inter last) =
-    function_in (functions_of marker inter) (Sequence marker params inter last) last params.items
+xterm_effect event s = effect_between event (bounds_of s) s
 
 -- ?3, ?40, ?47, ?1047 and ?1049
 abbrev pub is_page_mode : ℕ → Bool
@@ -118,6 +141,10 @@ is_page_mode p = p == 3 || (p == 40 || (p == 47 || (p == 1047 || p == 1049)))
 -- ?2004
 abbrev pub is_paste_mode : ℕ → Bool
 is_paste_mode p = p == 2004
+
+-- ?69h, among other modes or not
+abbrev pub sets_sides : ℕ → ℕ → List ℕ → Bool
+sets_sides marker last params = marker == byte (codes "?") && (last == byte (codes "h") && list_any (λ p. p == 69) params)
 
 -- a control sequence that is SM or RM of one of these modes
 abbrev pub sets_mode : (ℕ → Bool) → ℕ → ℕ → List ℕ → Bool
@@ -147,6 +174,15 @@ is_paste_function (Sequence None params inter last) = false
 is_paste_function (Sequence (Some marker) params None last) = sets_mode is_paste_mode marker last params.items
 is_paste_function (Sequence (Some marker) params (Some inter) last) = false
 
+-- SM of ?69
+abbrev pub is_side_function : Event → Bool
+is_side_function (Print b) = false
+is_side_function (Control b) = false
+is_side_function (Escape inter last) = false
+is_side_function (Sequence None params inter last) = false
+is_side_function (Sequence (Some marker) params None last) = sets_sides marker last params.items
+is_side_function (Sequence (Some marker) params (Some inter) last) = false
+
 -- CSI ? 1049 h, and CSI ? 1049 l
 abbrev pub alternate_page : Bool → Event
 alternate_page shown =
@@ -156,6 +192,6 @@ alternate_page shown =
 abbrev pub into_alternate : List ℕ → List ℕ
 into_alternate bytes = spell_event (alternate_page true) ++ bytes
 
--- and then ?1049l
+-- ?1049h, the bytes, and then ?1049l
 abbrev pub through_alternate : List ℕ → List ℕ
 through_alternate bytes = spell_event (alternate_page true) ++ (bytes ++ spell_event (alternate_page false))

@@ -1,27 +1,32 @@
 -- 0.4: vt_xterm/specs/Pages.
 use Rattle.promises.specs.v0_4.glyph.LookUp.{look_up}
 use Rattle.promises.specs.v0_4.term.Editing.{erase_in_display}
-use Rattle.promises.specs.v0_4.term.Modes.{column_mode, private_modes, with_mode}
+use Rattle.promises.specs.v0_4.term.Modes.{autowrap_mode, column_mode, origin_mode, private_modes, with_mode}
 use Rattle.promises.specs.v0_4.term.Pages.{blank_page, blanked, fitted, page_of, with_page}
 use Rattle.promises.specs.v0_4.term.Saving.{restore_cursor, save_cursor}
-use Rattle.promises.specs.v0_4.term.State.{display_of}
-use Rattle.std.specs.Prelude.{[], Bool, false, fold, if◌then◌else◌, List, not, true, unwrap_or, ℕ, ◌&&◌, ◌==◌, ◌∷◌}
+use Rattle.promises.specs.v0_4.term.State.{display_of, last_column}
+use Rattle.promises.specs.v0_4.xterm.Sides as between
+use Rattle.promises.specs.v0_4.xterm.Sides.{are_sides, bounds, full_sides, sides_of}
+use Rattle.std.specs.Prelude.{[], Bool, false, fold, if◌then◌else◌, is_some, List, None, not, Option, Some, true}
+use Rattle.std.specs.Prelude.{unwrap_or, ℕ, ◌&&◌, ◌==◌, ◌∷◌}
 use Rattle.vt_screen.specs.declared.size.Size.{Size}
 use Rattle.vt_syntax.specs.declared.held.Held.{Held}
 use Rattle.vt_term.specs.Pages.{PageState}
 use Rattle.vt_term.specs.State.{Display, State}
 use Rattle.vt_xterm.specs.Pages.{PagesState, Screens}
+use Rattle.vt_xterm.specs.declared.sides.Sides.{Sides}
 
 -- the page that isn't shown; whether the alternate page is the one that is shown; whether DECCOLM has an effect; whether pasted text
--- is wanted in brackets
+-- is wanted in brackets; the left and right margins, if DECLRMM is set
 pub record PagesState' : Type 0 where
   pub other : PageState
   pub alternate : Bool
   pub resizes : Bool
   pub brackets : Bool
+  pub sides : Option Sides
 
 abbrev pub pages_of : Size → PagesState
-pages_of size = record { other = blank_page size; alternate = false; resizes = false; brackets = false }
+pages_of size = record { other = blank_page size; alternate = false; resizes = false; brackets = false; sides = None }
 
 -- the display, and the pages behind it: what events change
 pub record Screens' : Type 0 where
@@ -31,6 +36,70 @@ pub record Screens' : Type 0 where
 -- a function of the display alone
 abbrev pub on_display : (Display → Display) → Screens → Screens
 on_display f s = record s { display = f s.display }
+
+-- other margins, or none
+abbrev pub sided : Option Sides → Screens → Screens
+sided sides s = record s { pages = record s.pages { sides = sides } }
+
+abbrev pub with_sides : Sides → Screens → Screens
+with_sides m = sided (Some m)
+
+-- what a change makes of the margins, if there are any
+abbrev pub change_sides : (Sides → Sides) → Option Sides → Option Sides
+change_sides f None = None
+change_sides f (Some m) = Some (f m)
+
+-- all columns of the screen, if DECLRMM is set
+abbrev pub with_full_sides : Screens → Screens
+with_full_sides s = sided (change_sides (λ m. full_sides (last_column s.display)) s.pages.sides) s
+
+-- the margins that bound functions
+abbrev pub bounds_of : Screens → Option Sides
+bounds_of s = bounds (last_column s.display) s.pages.sides
+
+-- some margins bound functions
+abbrev pub is_bounded : Screens → Bool
+is_bounded s = is_some (bounds_of s)
+
+-- no wrap is pending in the right margin's column
+abbrev pub unwrapped : Screens → Screens
+unwrapped s = sided (change_sides (λ m. record m { wrap = false }) s.pages.sides) s
+
+-- DECRC: if DECOM is restored, the cursor is brought between the margins; a pending wrap of a right margin isn't
+-- restored
+abbrev pub restored : Option Sides → Display → Display
+restored None s = restore_cursor s
+restored (Some m) s = between.brought m (restore_cursor s)
+
+abbrev pub restore_screens : Screens → Screens
+restore_screens s = unwrapped (on_display (restored (bounds_of s)) s)
+
+-- DECLRMM: if it is set, the margins are full, unless there are margins already; if it is reset, there are none
+abbrev pub sides_set : Display → Option Sides → Option Sides
+sides_set s None = Some (full_sides (last_column s))
+sides_set s (Some m) = Some m
+
+abbrev pub side_mode : Bool → Screens → Screens
+side_mode on s = sided (if on then sides_set s.display s.pages.sides else None) s
+
+-- DECOM: home is between the margins
+abbrev pub sided_origin_mode : Bool → Option Sides → Screens → Screens
+sided_origin_mode on None = on_display (origin_mode on)
+sided_origin_mode on (Some m) = on_display (between.origin_mode on m)
+
+abbrev pub origin_mode_between : Bool → Screens → Screens
+origin_mode_between on s = unwrapped (sided_origin_mode on (bounds_of s) s)
+
+-- DECAWM: without it no wrap is pending
+abbrev pub autowrap_mode_between : Bool → Screens → Screens
+autowrap_mode_between on s = if on then on_display (autowrap_mode true) s else unwrapped (on_display (autowrap_mode false) s)
+
+-- DECSLRM: the cursor goes home; parameters that aren't margins have no effect
+abbrev pub set_sides : ℕ → ℕ → Screens → Screens
+set_sides p1 p2 s =
+    if are_sides (last_column s.display) p1 p2
+    then with_sides (sides_of (last_column s.display) p1 p2)
+    (on_display (between.home (sides_of (last_column s.display) p1 p2)) s) else s
 
 -- the other page is shown, in the width of the screen; everything else stays
 abbrev pub exchanged : Bool → Screens → Screens
@@ -49,38 +118,41 @@ show_page alternate s =
 abbrev pub with_blank : Screens → Screens
 with_blank s = record s { pages = record s.pages { other = blanked s.pages.other } }
 
--- ?1047: the same; the alternate page is left blank
+-- ?1047: the alternate page is shown, or the main one; the alternate page is left blank
 abbrev pub show_or_clear : Bool → Screens → Screens
 show_or_clear alternate s =
     if alternate then show_page true s else (if s.pages.alternate then with_blank (show_page false s) else s)
 
 -- ?1048: DECSC and DECRC
 abbrev pub save_or_restore : Bool → Screens → Screens
-save_or_restore save s = on_display (if save then save_cursor else restore_cursor) s
+save_or_restore save s = if save then on_display save_cursor s else restore_screens s
 
 -- ?1049: DECSC, the alternate page, ED 2; and back the main page, DECRC
 abbrev pub show_and_save : Bool → Screens → Screens
 show_and_save alternate s =
-    if alternate then on_display (erase_in_display false 2) (show_page true (on_display save_cursor s))
-    else on_display restore_cursor (show_page false s)
+    if alternate then unwrapped (on_display (erase_in_display false 2) (show_page true (on_display save_cursor s)))
+    else restore_screens (show_page false s)
 
--- ?40: DECCOLM has an effect from now on
+-- ?40: whether DECCOLM has an effect
 abbrev pub allow_column_mode : Bool → Screens → Screens
 allow_column_mode on s = record s { pages = record s.pages { resizes = on } }
 
--- ?2004: pasted text is wanted in brackets from now on
+-- ?2004: whether pasted text is wanted in brackets
 abbrev pub bracket_pastes : Bool → Screens → Screens
 bracket_pastes on s = record s { pages = record s.pages { brackets = on } }
 
 -- ?3: DECCOLM, if it has an effect
 abbrev pub allowed_column_mode : Bool → Screens → Screens
-allowed_column_mode wide s = if s.pages.resizes then on_display (column_mode wide) s else s
+allowed_column_mode wide s = if s.pages.resizes then with_full_sides (on_display (column_mode wide) s) else s
 
 abbrev pub page_modes : List (ℕ × (Bool → Screens → Screens))
 page_modes =
     (3, allowed_column_mode)
+    ∷ (6, origin_mode_between)
+    ∷ (7, autowrap_mode_between)
     ∷ (40, allow_column_mode)
     ∷ (47, show_page)
+    ∷ (69, side_mode)
     ∷ (1047, show_or_clear)
     ∷ (1048, save_or_restore)
     ∷ (1049, show_and_save)

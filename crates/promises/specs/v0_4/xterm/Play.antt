@@ -2,35 +2,43 @@
 use Rattle.promises.specs.v0_4.screen.Sizes.{vt220_size}
 use Rattle.promises.specs.v0_4.syntax.Held.{events_from, held_from}
 use Rattle.promises.specs.v0_4.term.Machines.{reports_after, screens_after}
-use Rattle.promises.specs.v0_4.term.Pages.{IsSoundPage}
 use Rattle.promises.specs.v0_4.term.Play.{play}
 use Rattle.promises.specs.v0_4.term.Reports.{report}
 use Rattle.promises.specs.v0_4.term.Scrolling.{scrolled_off}
-use Rattle.promises.specs.v0_4.term.Sound.{IsSound}
 use Rattle.promises.specs.v0_4.term.Text.{line_text}
 use Rattle.promises.specs.v0_4.utf8.Decoding.{characters, pending_after}
 use Rattle.promises.specs.v0_4.utf8.Translation.{translation}
+use Rattle.promises.specs.v0_4.xterm.Bounded.{beyond_in, held_beyond, writing_beyond}
 use Rattle.promises.specs.v0_4.xterm.Front.{xterm_effect}
 use Rattle.promises.specs.v0_4.xterm.Log.{xterm_lines_off}
-use Rattle.promises.specs.v0_4.xterm.Pages.{pages_of, screens, shown_by}
-use Rattle.std.specs.Prelude.{[], flat_map, if◌then◌else◌, List, nat_lt, ℕ, ◌++◌, ◌∷◌}
+use Rattle.promises.specs.v0_4.xterm.Pages.{bounds_of, pages_of, screens, shown_by}
+use Rattle.promises.specs.v0_4.xterm.Sides.{FitsSides}
+use Rattle.std.specs.Prelude.{[], flat_map, if◌then◌else◌, List, nat_lt, None, Option, Some, ℕ, ◌++◌, ◌∷◌}
 use Rattle.vt_screen.specs.declared.cell.Cell.{Cell}
 use Rattle.vt_screen.specs.declared.size.Size.{Size}
 use Rattle.vt_syntax.specs.declared.event.Event.{Event}
 use Rattle.vt_term.specs.Machines.{Machine}
+use Rattle.vt_term.specs.Pages.{IsSoundPageAt}
+use Rattle.vt_term.specs.Sound.{IsSoundAt}
 use Rattle.vt_term.specs.State.{State}
 use Rattle.vt_xterm.specs.Pages.{PagesState, Screens}
-use Rattle.vt_xterm.specs.Play.{FrontState, Whole, WholePlayed}
+use Rattle.vt_xterm.specs.Play.{FrontState, IsSoundWholeAt, Whole, WholePlayed}
+use Rattle.vt_xterm.specs.declared.sides.Sides.{Sides}
 
 -- the state of a terminal, and the pages behind it
 pub record Whole' : Type 0 where
   pub state : State
   pub pages : PagesState
 
--- what holds of all that bytes leave. (this profile)
-pub record IsSoundWhole' (w : Whole) : Type 0 where
-  pub state : IsSound w.state
-  pub other : IsSoundPage w.pages.other
+-- what holds of all that bytes leave, if the two pages have this size. (this profile)
+pub record IsSoundWholeAt' (size : Size) (w : Whole) : Type 0 where
+  pub state : IsSoundAt size w.state
+  pub other : IsSoundPageAt size w.pages.other
+  pub sides : FitsSides w.state.display w.pages.sides
+
+-- what holds of all that bytes leave at a VT220's size
+abbrev pub IsSoundWhole : Whole → Type 0
+IsSoundWhole w = IsSoundWholeAt vt220_size w
 
 -- what is left, the report bytes, and the lines that scroll off
 pub record WholePlayed' : Type 0 where
@@ -49,13 +57,16 @@ pub record FrontState' : Type 0 where
 abbrev pub front_of : Size → FrontState
 front_of size = record { pending = []; pages = pages_of size }
 
--- that of a VT220's size
+-- the front of a VT220's size
 abbrev pub front_at_power_up : FrontState
 front_at_power_up = front_of vt220_size
 
+abbrev pub whole_of : State → PagesState → Whole
+whole_of s pages = record { state = s; pages = pages }
+
 -- a terminal and a front
 abbrev pub behind : State → FrontState → Whole
-behind s front = record { state = s; pages = front.pages }
+behind s front = whole_of s front.pages
 
 -- an xterm; its reports are those of a VT220
 abbrev pub xterm : Machine Screens
@@ -65,7 +76,7 @@ xterm = record { display = λ s. s.display; effect = xterm_effect; report = λ e
 abbrev pub after_events : List Event → Screens → Screens
 after_events events s = screens_after xterm events s
 
--- their reports, each in the state before its event
+-- the reports of events, each in the state before its event
 abbrev pub reports_of : List Event → Screens → List ℕ
 reports_of events s = reports_after xterm events s
 
@@ -80,14 +91,35 @@ play_bytes w bytes = record {
   lines = xterm_lines_off (events_from w.state.held bytes) (screens_of w);
 }
 
--- a byte is played as it is, and a character beyond ASCII by its bytes on a VT220, which no function here changes
+-- a character beyond ASCII by its bytes on a VT220, which no function here changes
+abbrev pub play_translation : Whole → ℕ → WholePlayed
+play_translation w c = record {
+  whole = record w { state = (play w.state (translation w.state c)).state };
+  reports = (play w.state (translation w.state c)).reports;
+  lines = if w.pages.alternate then [] else scrolled_off w.state (translation w.state c);
+}
+
+-- a character beyond ASCII between left and right margins: its glyph is written, as that of a graphic byte is
+abbrev pub screens_beyond : Sides → ℕ → Whole → Screens
+screens_beyond m c w = beyond_in w.state.held (writing_beyond c m) (screens_of w)
+
+abbrev pub play_between : Sides → ℕ → Whole → WholePlayed
+play_between m c w = record {
+  whole = record {
+    state = shown_by (screens_beyond m c w) (held_beyond w.state.held);
+    pages = (screens_beyond m c w).pages;
+  };
+  reports = [];
+  lines = [];
+}
+
+abbrev pub play_beyond : Whole → Option Sides → ℕ → WholePlayed
+play_beyond w None c = play_translation w c
+play_beyond w (Some m) c = play_between m c w
+
+-- a character: an ASCII one is played as its byte
 unfoldable pub play_character : Whole → ℕ → WholePlayed
-play_character w c =
-    if nat_lt c 0x80 then play_bytes w (c ∷ []) else record {
-      whole = record w { state = (play w.state (translation w.state c)).state };
-      reports = (play w.state (translation w.state c)).reports;
-      lines = if w.pages.alternate then [] else scrolled_off w.state (translation w.state c);
-    }
+play_character w c = if nat_lt c 0x80 then play_bytes w (c ∷ []) else play_beyond w (bounds_of (screens_of w)) c
 
 -- two plays, one after the other
 abbrev pub both : WholePlayed → WholePlayed → WholePlayed

@@ -12,11 +12,11 @@ abbrev pub times : ℕ → (Display → Display) → Display → Display
 times zero f s = s
 times (suc n) f s = f (times n f s)
 
--- the column before the cursor, or under it with the wrap flag; 0 in column 1 without it
+-- the column before the cursor, or the cursor's own if the wrap flag is set; 0 in column 1 without the flag
 abbrev pub column_before : Display → ℕ
 column_before s = if s.cursor.wrap then s.cursor.col else s.cursor.col - 1
 
--- the glyph there
+-- the glyph in that column
 abbrev pub glyph_before : Display → ℕ
 glyph_before s = (slice_index_or (row_of s.grid s.cursor.row) (column_before s - 1) blank).glyph
 

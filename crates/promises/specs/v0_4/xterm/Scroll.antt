@@ -8,7 +8,7 @@ use Rattle.vt_term.specs.State.{Display}
 abbrev pub rows_up : ℕ → Display → Display
 rows_up n s = record s { grid = scroll_up s.grid s.margins.top s.margins.bottom n }
 
--- SD: they move down by n
+-- SD: the rows between the margins move down by n
 abbrev pub rows_down : ℕ → Display → Display
 rows_down n s = record s { grid = scroll_down s.grid s.margins.top s.margins.bottom n }
 

@@ -2,17 +2,18 @@
 use Rattle.promises.specs.v0_4.syntax.Held.{events_from}
 use Rattle.promises.specs.v0_4.term.Functions.{effect}
 use Rattle.promises.specs.v0_4.term.Scrolling.{line_off}
-use Rattle.promises.specs.v0_4.xterm.Front.{xterm_effect}
+use Rattle.promises.specs.v0_4.xterm.Front.{screen_effect}
 use Rattle.promises.specs.v0_4.xterm.Log.{page_line_off}
 use Rattle.promises.specs.v0_4.xterm.Pages.{on_display}
-use Rattle.std.specs.Prelude.{[], List, ℕ, ⊤, ◌∷◌, ◌≡◌}
+use Rattle.std.specs.Prelude.{[], List, None, ℕ, ⊤, ◌∷◌, ◌≡◌}
 use Rattle.vt_syntax.specs.declared.event.Event.{Event}
 use Rattle.vt_term.specs.State.{State}
 use Rattle.vt_xterm.specs.Pages.{Screens}
 
--- the event has a VT220's effect, and scrolls off what it scrolls off there
+-- while DECLRMM is reset the event has a VT220's effect, and scrolls off what it scrolls off there
 abbrev pub IsTerminals : Event → Type 0
-IsTerminals event = (s : Screens) → (xterm_effect event s ≡ on_display (effect event) s) × (page_line_off event s.display ≡ line_off event s.display)
+IsTerminals event = (s : Screens) → s.pages.sides ≡ None
+    → (screen_effect event s ≡ on_display (effect event) s) × (page_line_off event s.display ≡ line_off event s.display)
 
 unfoldable pub AreTerminals : List Event → Type 0
 AreTerminals [] = ⊤

@@ -7,7 +7,7 @@ use Rattle.promises.specs.v0_4.term.Rendition.{rendition_changes}
 use Rattle.promises.specs.v0_4.trace.Lines.{Names}
 use Rattle.promises.specs.v0_4.trace.Names.{names}
 use Rattle.promises.specs.v0_4.xterm.Attributes.{without_colours}
-use Rattle.promises.specs.v0_4.xterm.Front.{is_bare}
+use Rattle.promises.specs.v0_4.xterm.Bounded.{is_bare}
 use Rattle.promises.specs.v0_4.xterm.Pages.{page_modes}
 use Rattle.std.specs.List.{list_any}
 use Rattle.std.specs.Prelude.{[], Bool, codes, false, if◌then◌else◌, List, None, Option, Some, true, ℕ, ◌++◌, ◌==◌}
@@ -16,22 +16,30 @@ use Rattle.vt_syntax.specs.declared.event.Event.TheVariants.{Control, Escape, Pr
 use Rattle.vt_trace.specs.Names.{Listing}
 use Rattle.vt_xterm_trace.specs.Names.{Named}
 
--- the name of a function, and the values for which it has an effect; with others it is ignored
+-- the name of a function with these values, and the values for which it has an effect; with others it is ignored
 pub record Named' : Type 0 where
-  pub name : List ℕ
+  pub name : List ℕ → List ℕ
   pub takes : List ℕ → Bool
 
--- by the final byte
+-- named functions by the final byte
 abbrev pub NameTable : Type 0
 NameTable = List (ℕ × Named)
 
 -- a function of any values
 abbrev pub always : List ℕ → Named
-always name = record { name = name; takes = λ values. true }
+always name = record { name = λ values. name; takes = λ values. true }
 
 -- a function, if the values pass the test
 abbrev pub taking : (List ℕ → Bool) → List ℕ → Named
-taking takes name = record { name = name; takes = takes }
+taking takes name = record { name = λ values. name; takes = takes }
+
+-- a function of any values, named by them
+abbrev pub naming : (List ℕ → List ℕ) → Named
+naming name = record { name = name; takes = λ values. true }
+
+-- `s`: SCP without parameters, otherwise DECSLRM, which has an effect under DECLRMM
+abbrev pub saves_or_sets : List ℕ → List ℕ
+saves_or_sets values = if is_bare values then codes "SCP" else codes "DECSLRM"
 
 -- SD by `T`: one value
 abbrev pub is_one : List ℕ → Bool
@@ -63,15 +71,15 @@ plain_names =
     ∷ (byte (codes "d"), always (codes "VPA"))
     ∷ (byte (codes "e"), always (codes "VPR"))
     ∷ (byte (codes "m"), taking has_attribute (codes "SGR"))
-    ∷ (byte (codes "s"), taking is_bare (codes "SCP"))
+    ∷ (byte (codes "s"), naming saves_or_sets)
     ∷ (byte (codes "u"), taking is_bare (codes "RCP"))
     ∷ []
 
--- after `?`
+-- control sequences with the marker `?`
 abbrev pub private_names : NameTable
 private_names = (byte (codes "h"), taking has_mode (codes "SM")) ∷ (byte (codes "l"), taking has_mode (codes "RM")) ∷ []
 
--- by the marker and the intermediate
+-- the table by the marker and the intermediate
 abbrev pub names_of : Option ℕ → Option ℕ → NameTable
 names_of None None = plain_names
 names_of (Some marker) None = if marker == byte (codes "?") then private_names else []
@@ -80,9 +88,9 @@ names_of (Some marker) (Some inter) = []
 
 -- the name, if the function takes the values
 abbrev pub name_with : List ℕ → Named → Option (List ℕ)
-name_with values f = if f.takes values then Some f.name else None
+name_with values f = if f.takes values then Some (f.name values) else None
 
--- what the table has for the final byte, or else a VT220's name
+-- the name that the table has for the final byte, otherwise a VT220's name
 abbrev pub name_in : NameTable → ℕ → List ℕ → Option (List ℕ) → Option (List ℕ)
 name_in table last values otherwise = elim (look_up table last) [ None ↦ otherwise | Some f ↦ name_with values f ]
 
@@ -97,7 +105,7 @@ xterm_names rows (Control b) = name_on rows (Control b)
 xterm_names rows (Escape inter last) = name_on rows (Escape inter last)
 xterm_names rows (Sequence marker params inter last) = xterm_sequence_name rows marker inter last params.items
 
--- those that a VT220's functions don't have, in the order of the table
+-- the names that a VT220's functions don't have, in the order of the table
 abbrev pub own_names : List (List ℕ)
 own_names =
     codes "CNL"
@@ -114,8 +122,9 @@ own_names =
     ∷ codes "VPR"
     ∷ codes "SCP"
     ∷ codes "RCP"
+    ∷ codes "DECSLRM"
     ∷ []
 
--- in the order of a summary, after those of a VT220
+-- the names of xterm, and the list of them in the order of a summary: those of a VT220 come first
 abbrev pub xterm_listing : Listing
 xterm_listing = record { called = xterm_names; listed = names ++ own_names }

@@ -40,7 +40,7 @@ abbrev pub HaveNames : List Event → Type 0
 HaveNames [] = ⊤
 HaveNames (event ∷ events) = ((rows : ℕ) → xterm_names rows event ≡ name_on rows event) × HaveNames events
 
--- so have the events of ASCII characters, each in the state that those before it leave, and they have a VT220's effect
+-- the events of ASCII characters have a VT220's names and effect, each in the state that those before it leave
 abbrev pub PlaysVt220s : Whole → List ℕ → Type 0
 PlaysVt220s w [] = ⊤
 PlaysVt220s w (c ∷ cs) =

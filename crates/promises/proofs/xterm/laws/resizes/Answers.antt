@@ -6,6 +6,7 @@ use Rattle.vt_screen.specs.declared.size.Size.{Size}
 use Rattle.vt_term.specs.Pages.{IsSoundPageAt, IsSoundSizedPage}
 use Rattle.vt_term.specs.Sound.{IsSoundAt, IsSoundSized}
 use Rattle.vt_xterm.specs.Play.{Whole}
+use Rattle.vt_xterm.specs.Sides.{FitsSides}
 
 pub returns-clause-own : goal.returns-clause-own
 returns-clause-own c = coe 1 0 (ι. (w : Whole) → IsSoundSized w.state → IsSoundPageAt w.state.display.grid.size w.pages.other → (whole_on-same ι) w.state.display.grid.size w ≡ w) c.resizes.ensures.own
@@ -15,3 +16,6 @@ returns-clause-own_log c = coe 1 0 (ι. (w : Whole) → IsSoundSized w.state →
 
 pub returns-clause-sound : goal.returns-clause-sound
 returns-clause-sound c = coe 1 0 (ι. (size : Size) (w : Whole) → IsSize size → IsSoundSized w.state → IsSoundSizedPage w.pages.other → IsSoundAt size ((whole_on-same ι) size w).state × IsSoundPageAt size ((whole_on-same ι) size w).pages.other) c.resizes.ensures.sound
+
+pub returns-clause-sides : goal.returns-clause-sides
+returns-clause-sides c = coe 1 0 (ι. (size : Size) (w : Whole) → IsSize size → IsSoundSized w.state → FitsSides w.state.display w.pages.sides → FitsSides ((whole_on-same ι) size w).state.display ((whole_on-same ι) size w).pages.sides) c.resizes.ensures.sides

@@ -238,7 +238,7 @@ def public_items(crate):
                 continue
             extern, kind, name, trait, of = head.groups()
             is_root = path.name == "main.rt" or path.name == "lib.rt" and text.startswith("pub ")
-            if kind == "fn" and (extern or is_root or name in names or path.stem in modules and text.startswith("pub ")):
+            if kind == "fn" and (extern or is_root or text.startswith("pub ") and (name in names or path.stem in modules)):
                 found.append(Item(path, kind, "", name, signature(text)))
             elif kind in ("trait", "struct", "enum", "const") and name in names:
                 found.append(Item(path, kind, "", name, text))

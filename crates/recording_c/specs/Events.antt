@@ -1,4 +1,4 @@
--- The events of a recording as C sees them.
+-- The events of a recording as C sees them. (this profile)
 use Rattle.std.specs.Prelude.{◌≡◌, ℕ, List, ◌++◌, length, map, drop, Bool, true, false, Option, Some, None}
 use Rattle.vt_device.specs.declared.fault.Break.{Break}
 use Rattle.vt_device.specs.declared.fault.Part.{Part}

@@ -1,4 +1,4 @@
--- The format of a recording, and what its first line names, as C sees them.
+-- The format of a recording, and what its first line names, as C sees them. (this profile)
 use Rattle.std.specs.Prelude.{ℕ, List, Bool, true, false, Option, Some, None}
 use Rattle.vt_recording.specs.declared.format.Format.{Format}
 use Rattle.vt_recording.specs.declared.format.Format.TheVariants.{Raw, Script, Ttyrec, Asciicast}

@@ -1,4 +1,4 @@
--- The statuses that the calls return.
+-- The statuses that the calls return. (this profile)
 use Rattle.std.specs.Prelude.{ℕ}
 
 -- the call succeeded

@@ -1,3 +1,4 @@
+-- A device with what its calls have returned. (this profile)
 use Rattle.std.specs.Prelude.{◌==◌, ◌&&◌, ℕ, List, length, Bool, true, false, Ok, Err, Option, Some, Result, nat_lt}
 use Rattle.std_io.specs.declared.io.error.Error.{Error}
 

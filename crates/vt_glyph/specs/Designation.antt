@@ -1,4 +1,4 @@
--- The final bytes that designate sets. (VT220 manual, chapter 4: SCS. This profile: British and German are
+-- The final bytes that designate sets. (EK-VT220-RM, chapter 4: SCS; ECMA-35 14. This profile: British and German are
 -- designated as any other set is, whatever modes are set.)
 use Rattle.std.specs.Prelude.{ℕ, List, [], ◌∷◌, Option}
 use Rattle.vt_glyph.specs.declared.set.Set.{Set}

@@ -1,4 +1,5 @@
 -- The encoding of a glyph in one byte, by its spelling. Among the public clauses only those of `Glyph::code` use it.
+-- (this profile)
 use Rattle.std.specs.Prelude.{◌≡◌, ℕ, ◌+◌, ◌-◌, List, nat_lt, if◌then◌else◌}
 use Rattle.std.proofs.Common.{arith, sym, ap, ◌∙◌}
 use Rattle.std.proofs.lemmas.Bool.Decides.{nat_tests}

@@ -1,4 +1,4 @@
--- The designated sets and the shifts, as contracts see them.
+-- The designated sets and the shifts, as contracts see them. (EK-VT220-RM, chapters 2 and 4; ECMA-35)
 use Rattle.std.specs.Prelude.{◌≡◌, ℕ, ◌+◌, ◌≤◌, ◌<◌, List, ◌∷◌, map, length, Option, Some, None}
 use Rattle.std.specs.Option.{ForSome}
 use Rattle.vt_glyph.specs.declared.set.Set.{Set}
@@ -11,7 +11,8 @@ pub record GraphicSets : Type 0 where
   pub right : ℕ
   pub pending : Option ℕ
 
--- there are four sets; GL is one of G0 to G3, GR one of G1 to G3; a single shift is to G2 or G3
+-- there are four sets; GL is one of G0 to G3, GR one of G1 to G3; a single shift is to G2 or G3 (EK-VT220-RM,
+-- chapter 4: SCS, the locking shifts and the single shifts)
 pub record AreSoundSets (sets : GraphicSets) : Type 0 where
   pub four : length sets.g ≡ 4
   pub left : sets.left < 4

@@ -1,5 +1,5 @@
 -- The bytes that write a glyph if G0 is ASCII, G2 Supplemental, G3 Special Graphics, GL is G0 and no single shift is
--- pending. (This profile: one spelling a glyph)
+-- pending. (this profile: one spelling a glyph)
 use Rattle.std.specs.Prelude.{◌≡◌, ℕ, List, [], ◌∷◌, Option, None, ◌==◌, ◌&&◌, nat_le, if◌then◌else◌, find}
 use Rattle.std.specs.Option.{option_map_or}
 use Rattle.vt_glyph.specs.declared.set.Set.{Set}
@@ -21,7 +21,7 @@ spelling_of n =
     if nat_le 0x20 n && nat_le n 0x7E then Plain n
     else option_map_or Second (code_in Supplemental n) (option_map_or Third (code_in Special n) (Plain space))
 
--- the bytes of a spelling: a single shift is `ESC N` or `ESC O` (SS2 and SS3 in their 7-bit form)
+-- the bytes of a spelling: a single shift is `ESC N` or `ESC O` (SS2 and SS3 in their 7-bit form, ECMA-48 5.3)
 abbrev pub spelled : Spelling → List ℕ
 spelled (Plain code) = code ∷ []
 spelled (Second code) = 0x1B ∷ 0x4E ∷ code ∷ []

@@ -1,6 +1,6 @@
 -- The glyphs of the graphic sets, by their Unicode numbers.
--- (VT220 manual, chapter 2: the charts of the sets. The Unicode numbers of Special Graphics, and U+2426 for what is
--- undefined, are this project's choice.)
+-- (EK-VT220-RM, chapter 2: the charts of the sets. The Unicode numbers of Special Graphics, and U+2426 for what is
+-- undefined, are this profile's.)
 use Rattle.std.specs.Prelude.{ℕ, ◌+◌, List, [], ◌∷◌, Bool, ◌==◌, ◌||◌, IsTrue, zip, if◌then◌else◌}
 use Rattle.std.specs.List.{range_with_len, list_any}
 use Rattle.vt_glyph.specs.declared.set.Set.{Set}

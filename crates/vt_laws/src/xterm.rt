@@ -36,10 +36,10 @@ use vt_xterm::laws::soundness;
 /// States what the events do that scroll lines off under TERM=xterm.
 ///
 /// If the top margin is line 1, SU moves the rows from line 1 to the bottom margin up. Those that leave at the top
-/// scroll off. Otherwise row 1 stays, and none scrolls off. REP scrolls off what its glyphs scroll off, each in the
-/// state before it. A glyph with the wrap flag set at the bottom margin is written after the rows from line 1 have
-/// moved up by one. With any other cursor or margins it leaves row 1 where it is. Each other event scrolls off what it
-/// does on a VT220. On the alternate page no line scrolls off, and none between left and right margins.
+/// scroll off. Otherwise row 1 stays, and none scrolls off. REP scrolls off what its glyphs scroll off one after another.
+/// If the wrap flag is set at the bottom margin, a glyph first moves the rows from line 1 up by one. Otherwise
+/// row 1 stays where it is. Each other event scrolls off the lines that it scrolls off on a VT220. No line scrolls off
+/// on the alternate page, or while there are left and right margins.
 pub fn scrolls()
     ensures rows { (params : ArrayVec ℕ) (s : Screens) → bounds_of s ≡ None → s.display.margins.top ≡ 1
         → ((xterm_effect (scroll_up_event params) s).display.grid

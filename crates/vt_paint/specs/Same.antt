@@ -1,4 +1,4 @@
--- Tests whether two parts of a state are equal.
+-- Tests whether two parts of a state are equal. (this profile)
 use Rattle.std.specs.Prelude.{Bool, ◌==◌, ◌&&◌}
 use Rattle.std.specs.Cmp.Lexicographic.{pointwise}
 use Rattle.vt_glyph.specs.declared.set.Set.{Set}

@@ -5,11 +5,11 @@ use Rattle.std.proofs.lemmas.Nat.{div_below}
 use Rattle.vt_screen.specs.declared.size.Size.{Size}
 use Rattle.vt_screen.specs.Sizes.{IsSize}
 
--- 255 columns are at most four times 80
-pub few-screens : (size : Size) → IsSize size → div_ceil size.wide size.narrow ≤ 4
+-- 255 columns are fewer than 255 times two
+pub few-screens : (size : Size) → IsSize size → div_ceil size.wide size.narrow ≤ 255
 few-screens size sized =
-    let whole : size.wide / size.narrow < 4 =
-    div_below size.wide size.narrow 4 (omega (arith, sized.narrow)) (omega (arith, sized.narrow, sized.columns)) in
+    let whole : size.wide / size.narrow < 255 =
+    div_below size.wide size.narrow 255 (omega (arith, sized.narrow)) (omega (arith, sized.narrow, sized.columns)) in
     omega (arith, whole)
 
 -- what a division leaves has five places

@@ -1,5 +1,5 @@
--- The bytes that make a modern terminal show a screen, given what it shows. (this profile; CUP, ED and SGR: ECMA-48;
--- DECTCEM: xterm)
+-- The bytes that make a modern terminal show a screen, given what it shows. (this profile; CUP, ED and SGR: ECMA-48
+-- 8.3.21, 8.3.39 and 8.3.117; DECTCEM: xterm's control sequences)
 use Rattle.std.specs.Prelude.{◌≡◌, ℕ, zero, suc, ◌+◌, List, [], ◌∷◌, ◌++◌, Bool, true, false, not, ◌==◌, ◌&&◌, if◌then◌else◌}
 use Rattle.std.specs.Prelude.{codes, map, encode_utf8}
 use Rattle.vt_syntax.specs.Spelling.{spell_event}

@@ -1,4 +1,4 @@
--- The screen as text with its attributes, for modern terminals. (this profile; SGR: ECMA-48, 8.3.117)
+-- The screen as text with its attributes, for modern terminals. (this profile; SGR: ECMA-48 8.3.117)
 use Rattle.std.specs.Prelude.{ℕ, List, [], ◌∷◌, ◌++◌, not, codes, flat_map, encode_utf8}
 use Rattle.std.specs.List.{range_with_len}
 use Rattle.vt_screen.specs.declared.cell.Rendition.{Rendition}

@@ -1,4 +1,5 @@
--- What a modern terminal shows after what a drawing sends. (CUP, ED and SGR: ECMA-48; DECTCEM: xterm)
+-- What a modern terminal shows after what a drawing sends. (CUP, ED and SGR: ECMA-48 8.3.21, 8.3.39 and 8.3.117;
+-- DECTCEM: xterm's control sequences)
 use Rattle.std.specs.Prelude.{◌≡◌, ◌≤◌, ◌<◌, ℕ, ◌+◌, List, [], ◌∷◌, Bool, false, ◌==◌, ◌&&◌, ◌||◌, if◌then◌else◌}
 use Rattle.std.specs.Prelude.{codes, length, nat_lt, encode_utf8, slice_index_or}
 use Rattle.std.specs.List.{flat_map}

@@ -70,7 +70,7 @@ fn push_rows(
 fn narrow_screens(size: Size) -> usize
     requires { IsSize size }
     ensures value { result ≡ narrow_screens size }
-    ensures few { result ≤ 4 }
+    ensures few { result ≤ MOST }
 {
     size.wide.div_ceil(size.narrow)
 }

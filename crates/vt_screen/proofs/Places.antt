@@ -100,7 +100,7 @@ row_of-same s w f r xs r1 r24 long same =
     ∙ ap (λ x. get_or (row_of (grid_of s w f) r) x d) here)
 
 -- the bounds of a width
-pub width-bounds : (s : Size) (w : ℕ) → IsSize s → (wide : Bool) × (w ≡ width_of s wide) → (80 ≤ w) × (w ≤ stride s)
+pub width-bounds : (s : Size) (w : ℕ) → IsSize s → (wide : Bool) × (w ≡ width_of s wide) → (2 ≤ w) × (w ≤ stride s)
 width-bounds s w sized (true, is) = (omega (arith, sized.narrow, sized.wide), omega arith)
 width-bounds s w sized (false, is) = (omega (arith, sized.narrow), omega (arith, sized.wide))
 

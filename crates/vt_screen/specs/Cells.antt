@@ -1,4 +1,5 @@
--- A cell, and the cell that erasing makes of it.
+-- A cell, and the cell that erasing makes of it. (EK-VT220-RM, chapter 4: SGR and DECSCA. One value for a blank cell
+-- and a plainly written space is this profile's)
 use Rattle.std.specs.Prelude.{ℕ, Bool, false, if◌then◌else◌}
 use Rattle.vt_glyph.specs.Tables.{space}
 use Rattle.vt_screen.specs.declared.cell.Rendition.{Rendition}
@@ -30,9 +31,10 @@ abbrev pub cell_like : Cell → ℕ → Cell
 cell_like like glyph = record like { glyph = glyph }
 
 -- a selective erase leaves a protected cell as it is; of another it clears the glyph and keeps the attributes
+-- (EK-VT220-RM, chapter 4: DECSED and DECSEL. That the attributes stay is this profile's)
 abbrev pub selectively_erased : Cell → Cell
 selectively_erased cell = if cell.protected then cell else record cell { glyph = space }
 
--- an erase makes a cell blank, protected or not
+-- an erase makes a cell blank, protected or not (EK-VT220-RM, chapter 4: ED, EL and ECH)
 abbrev pub erased : Bool → Cell → Cell
 erased selective cell = if selective then selectively_erased cell else blank

@@ -1,4 +1,5 @@
--- A brush and a cell as one number each. Among the public clauses only those of `Brush::number` and `Cell::word` cite them.
+-- A brush and a cell as one number each. Among the public clauses only those of `Brush::number` and `Cell::word` cite
+-- them. (this profile)
 use Rattle.std.specs.Prelude.{ℕ, ◌+◌, ◌*◌, Bool, if◌then◌else◌}
 use Rattle.vt_glyph.specs.Encoding.{encoding_of}
 use Rattle.vt_screen.specs.declared.cell.Brush.{Brush}

@@ -28,8 +28,8 @@ pub fn tests()
     ensures { TestLaws }
 {}
 
-/// States that a grid on a screen of its own size is the same one, if no row leaves. What is inside both sizes stays,
-/// and a sound grid is sound on any size.
+/// States that a grid keeps the cells inside both sizes if the size changes, moved up by the rows that leave. At its own
+/// size it is the same grid, if no row leaves. A sound grid is sound at any size.
 pub fn sizes()
     ensures { SizeLaws }
 {}

@@ -24,13 +24,16 @@ pub fn fill_cells(cells: &mut [Cell], cell: &Cell)
     fill_each(&mut cells[at..], cell);
 }
 
-/// Writes one cell at every position of a line of at least 80 cells. Speed: the first 80 are filled by a loop of a
+/// Writes one cell at every position of a line. Speed: of a line of at least 80 cells, the first 80 are filled by a loop of a
 /// fixed length.
 #[inline(always)]
 pub fn fill_line(line: &mut [Cell], cell: &Cell)
-    requires { 80 ≤ length line.old }
     ensures { (k : ℕ) → k < length line.old → slice_index_or line.new k blank ≡ cell.now }
 {
+    if line.len() < 80 {
+        fill_cells(line, cell);
+        return;
+    }
     fill_cells(&mut line[..80], cell);
     if line.len() > 80 {
         fill_cells(&mut line[80..], cell);

@@ -53,7 +53,7 @@ fn fill_rows(
 )
     requires room { length cells.old ≡ room order.now.size }
     requires rows { (1 ≤ first) × (first ≤ end) × (end ≤ order.now.size.rows + 1) }
-    requires width { (80 ≤ width) × (width ≤ stride order.now.size) }
+    requires width { width ≤ stride order.now.size }
     ensures inside { (r c : ℕ) → first ≤ r → r < end → 1 ≤ c → c ≤ width → stored order.now cells.new r c ≡ cell.now }
     ensures outside { (r c : ℕ) → 1 ≤ r → r ≤ order.now.size.rows → (r < first) ⊎ (end ≤ r) → 1 ≤ c → c ≤ width
         → stored order.now cells.new r c ≡ stored order.now cells.old r c }

@@ -15,7 +15,7 @@ pub const MOST: usize = 255;
 pub struct Size {
     /// The number of rows. A screen has 2 to 255.
     pub rows: usize,
-    /// The number of columns of the narrow screen, at least 80.
+    /// The number of columns of the narrow screen, at least 2.
     pub narrow: usize,
     /// The number of columns of the wide screen: at least those of the narrow one, at most 255.
     pub wide: usize,

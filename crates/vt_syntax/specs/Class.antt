@@ -4,7 +4,7 @@ use Rattle.std.specs.Prelude.{not, if◌then◌else◌, ◌⊎◌}
 use Rattle.vt_syntax.specs.declared.class.Class.{Class}
 use Rattle.vt_syntax.specs.declared.class.Class.TheVariants.{Quiet, Cancel, Esc, Intermediate, Parameter, Final, High}
 
--- CAN and SUB
+-- CAN and SUB, which cancel a sequence (EK-VT220-RM, chapter 4)
 abbrev pub is_cancel : ℕ → Bool
 is_cancel b = b == 0x18 || b == 0x1A
 
@@ -35,15 +35,15 @@ class_of b =
 unfoldable pub opens_string : ℕ → Bool
 opens_string b = b == 0x90 || b == 0x98 || b == 0x9D || b == 0x9E || b == 0x9F
 
--- the C1 controls that open a control sequence (CSI) or a string
+-- the C1 controls that open a control sequence (CSI, ECMA-48 5.4) or a string
 abbrev pub opens : ℕ → Bool
 opens b = b == 0x9B || opens_string b
 
--- the bytes that open something
+-- the bytes that open something: these, and ESC (ECMA-35 13)
 abbrev pub is_opener : ℕ → Bool
 is_opener b = b == 0x1B || opens b
 
--- the plain bytes, 20..7E: graphic bytes of the left half
+-- the plain bytes, 20..7E: graphic bytes of the left half (ECMA-35 6.2)
 abbrev pub is_plain : ℕ → Bool
 is_plain b = nat_le 0x20 b && nat_lt b 0x7F
 
@@ -58,6 +58,7 @@ abbrev pub IsInAreas : ℕ → Type 0
 IsInAreas b = ((0x20 ≤ b) × (b ≤ 0x7E)) ⊎ ((0xA1 ≤ b) × (b ≤ 0xFE))
 
 -- the bytes of lines: BS to CR, all from 20 to 7F and all from A0 to FF. None of them opens anything or makes a report
+-- (this profile)
 abbrev pub is_of_lines : ℕ → Bool
 is_of_lines b = (nat_le 0x08 b && nat_le b 0x0D) || ((nat_le 0x20 b && nat_le b 0x7F) || nat_le 0xA0 b)
 

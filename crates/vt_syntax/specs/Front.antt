@@ -1,4 +1,4 @@
--- Fronts: events that are whole at the front of a chunk, between sequences.
+-- Fronts: events that are whole at the front of a chunk, between sequences. (this profile)
 use Rattle.std.specs.Prelude.{◌≡◌, ◌≤◌, ◌-◌, ℕ, List, [], ◌∷◌, length, take, slice_index, ◌⊎◌, true}
 use Rattle.vt_syntax.specs.declared.event.Event.{Event}
 use Rattle.vt_syntax.specs.declared.event.Event.TheVariants as event
@@ -24,7 +24,7 @@ pub record IsFront (piece : List ℕ) (bytes : ℕ) (event : Event) : Type 0 whe
 
 -- ---- what a chunk begins with
 
--- a control of C0 other than CAN and ESC, or the 8-bit form of one of C1 that opens nothing
+-- a control of C0 other than CAN and ESC (ECMA-48 5.2), or the 8-bit form of one of C1 that opens nothing (5.3)
 abbrev pub IsControl : ℕ → Type 0
 IsControl b = IsC0 b ⊎ IsC1 b
 
@@ -54,12 +54,13 @@ AreFirst f = (slice_index (front_list f) 0 ≡ f.first) × (slice_index (front_l
 
 -- ---- which escape sequences there are, by their bytes
 
--- ESC and a final byte 30..7E that isn't the 7-bit form of a C1 control which opens something
+-- ESC and a final byte 30..7E (ECMA-35 13) that isn't the 7-bit form of a C1 control which opens something
+-- (ECMA-48 5.3)
 abbrev pub BeginsWithShortEscape : List ℕ → Type 0
 BeginsWithShortEscape piece =
     (2 ≤ length piece) × (slice_index piece 0 ≡ 0x1B) × IsEnding (held.Escape Zero) (slice_index piece 1)
 
--- ESC, an intermediate 20..2F and a final byte 30..7E
+-- ESC, an intermediate 20..2F and a final byte 30..7E (ECMA-35 13)
 abbrev pub BeginsWithEscape : List ℕ → Type 0
 BeginsWithEscape piece =
     (3 ≤ length piece) × (slice_index piece 0 ≡ 0x1B) × IsIntermediate (slice_index piece 1)

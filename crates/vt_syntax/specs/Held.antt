@@ -1,5 +1,5 @@
 -- The held part of a rest: the parts that decide how the rest goes on. The spelling of a held part: short bytes that
--- leave it.
+-- leave it. (this profile)
 use Rattle.std.specs.Prelude.{◌≡◌, ◌+◌, ◌≤◌, ℕ, List, [], ◌∷◌, ◌++◌, map, length, Bool, false, Option, Some, None}
 use Rattle.std.specs.Prelude.{nat_le, nat_lt, ◌&&◌, if◌then◌else◌, decimal}
 use Rattle.std.specs.List.{join_with_byte}
@@ -86,8 +86,8 @@ held_from held bytes = held_after (spell held ++ bytes)
 -- ---- the final byte of a sequence
 
 -- the byte is the final byte of the held sequence, which then has a function: 40..7E of a control sequence that isn't
--- spoilt. Of an escape sequence with at most one intermediate it is 30..7E; without one, letters that open something
--- are none
+-- spoilt (ECMA-48 5.4). Of an escape sequence with at most one intermediate it is 30..7E (ECMA-35 13); without one,
+-- letters that open something are none (ECMA-48 5.3)
 abbrev pub IsEnding : Held → ℕ → Type 0
 IsEnding (Control marker params full phase) last = (0x40 ≤ last) × (last ≤ 0x7E)
 IsEnding (Escape Zero) last = (0x30 ≤ last) × (last ≤ 0x7E) × (opens (last + 0x40) ≡ false)
@@ -98,8 +98,8 @@ abbrev pub phase_inter : Phase → Option ℕ
 phase_inter (Inter i) = Some i
 phase_inter _ = None
 
--- the held sequence with its final byte; after ESC alone, 40..5F is the 7-bit form of a C1 control. If no sequence is
--- held, the byte alone
+-- the held sequence with its final byte; after ESC alone, 40..5F is the 7-bit form of a C1 control (ECMA-48 5.3). If no
+-- sequence is held, the byte alone
 abbrev pub ended_by : Held → ℕ → Event
 ended_by (Control marker params full phase) last = event.Sequence marker params (phase_inter phase) last
 ended_by (Escape Zero) last =

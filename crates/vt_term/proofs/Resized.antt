@@ -63,7 +63,7 @@ pub page_on-sound : (size : Size) (off : ℕ) (page : PageState) → IsSize size
     → IsSoundPageAt size (page_on size off page)
 page_on-sound size off page sized sound =
     let some : 1 ≤ size.rows = omega (arith, sized.rows.0) in
-    let wide : (80 ≤ width_on size page.grid) × (width_on size page.grid ≤ size.wide) =
+    let wide : (2 ≤ width_on size page.grid) × (width_on size page.grid ≤ size.wide) =
     width-bounds size (width_on size page.grid) sized (page.grid.width == page.grid.size.wide, refl) in
     record {
       of_size = refl;
@@ -77,7 +77,7 @@ pub display_on-sound : (size : Size) (s : Display) → IsSize size → IsSoundSi
 unfolding stops_on
 display_on-sound size s sized sound =
     let some : 1 ≤ size.rows = omega (arith, sized.rows.0) in
-    let wide : (80 ≤ width_on size s.grid) × (width_on size s.grid ≤ size.wide) =
+    let wide : (2 ≤ width_on size s.grid) × (width_on size s.grid ≤ size.wide) =
     width-bounds size (width_on size s.grid) sized (s.grid.width == s.grid.size.wide, refl) in
     record {
       of_size = refl;

@@ -1,5 +1,5 @@
 -- Inserting, deleting and erasing. Each of these resets the wrap flag, but for a parameter that isn't listed.
--- (EK-VT220-RM; the flag is this profile's)
+-- (EK-VT220-RM, chapter 4, by the mnemonics, and ECMA-48 by its sections; the flag is this profile's)
 use Rattle.std.specs.Prelude.{ℕ, ◌+◌, ◌-◌, min, Bool, false, ◌==◌, ◌&&◌, ◌||◌, nat_lt, nat_le, if◌then◌else◌}
 use Rattle.vt_screen.specs.Grid.{Grid, is_within, scroll_up, scroll_down, insert_cells, delete_cells, erase, erase_area}
 use Rattle.vt_term.specs.declared.state.Cursor.{Cursor}
@@ -13,35 +13,35 @@ with_grid grid s = record s { grid = grid; cursor = record s.cursor { wrap = fal
 abbrev pub is_inside : Display → Bool
 is_inside s = is_within s.margins.top s.margins.bottom s.cursor.row
 
--- IL and DL: inside the margins, the cursor goes to column 1
+-- IL and DL: inside the margins, the cursor goes to column 1 (EK-VT220-RM)
 abbrev pub line_edited : Grid → Display → Display
 line_edited grid s = record s {
   grid = if is_inside s then grid else s.grid;
   cursor = at_place s.cursor.row (if is_inside s then 1 else s.cursor.col);
 }
 
--- IL: n blank rows come in at the cursor's row, above the bottom margin
+-- IL: n blank rows come in at the cursor's row, above the bottom margin (ECMA-48 8.3.67)
 abbrev pub insert_line : ℕ → Display → Display
 insert_line n s = line_edited (scroll_down s.grid s.cursor.row s.margins.bottom n) s
 
--- DL: n rows go, starting at the cursor's row, above the bottom margin
+-- DL: n rows go, starting at the cursor's row, above the bottom margin (ECMA-48 8.3.32)
 abbrev pub delete_line : ℕ → Display → Display
 delete_line n s = line_edited (scroll_up s.grid s.cursor.row s.margins.bottom n) s
 
--- ICH: n blank cells come in at the cursor
+-- ICH: n blank cells come in at the cursor (ECMA-48 8.3.64)
 abbrev pub insert_character : ℕ → Display → Display
 insert_character n s = with_grid (insert_cells s.grid s.cursor.row s.cursor.col n) s
 
--- DCH: n cells go, starting at the cursor
+-- DCH: n cells go, starting at the cursor (ECMA-48 8.3.26)
 abbrev pub delete_character : ℕ → Display → Display
 delete_character n s = with_grid (delete_cells s.grid s.cursor.row s.cursor.col n) s
 
--- ECH: n cells starting at the cursor become blank, not past the last column
+-- ECH: n cells starting at the cursor become blank, not past the last column (ECMA-48 8.3.38)
 abbrev pub erase_character : ℕ → Display → Display
 erase_character n s =
     with_grid (erase s.grid s.cursor.row s.cursor.col (min (s.cursor.col + n - 1) (last_column s)) false) s
 
--- 0, 1 and 2 name areas
+-- 0, 1 and 2 name areas (ED and EL, ECMA-48 8.3.39 and 8.3.41)
 abbrev pub names_area : ℕ → Bool
 names_area p = nat_le p 2
 
@@ -59,12 +59,12 @@ display_area p cursor r c =
 abbrev pub rows_between : ℕ → ℕ → ℕ → ℕ → Bool
 rows_between first end r c = nat_le first r && nat_lt r end
 
--- ED, and DECSED which is selective
+-- ED (ECMA-48 8.3.39), and DECSED, which is selective (EK-VT220-RM)
 abbrev pub erase_in_display : Bool → ℕ → Display → Display
 erase_in_display selective p s =
     if names_area p then with_grid (erase_area s.grid (display_area p s.cursor) selective) s else s
 
--- EL, and DECSEL which is selective
+-- EL (ECMA-48 8.3.41), and DECSEL, which is selective (EK-VT220-RM)
 abbrev pub erase_in_line : Bool → ℕ → Display → Display
 erase_in_line selective p s =
     if names_area p then with_grid (erase_area s.grid (line_area p s.cursor) selective) s else s

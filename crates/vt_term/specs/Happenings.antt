@@ -1,5 +1,5 @@
--- What happens at the bytes of a feed, as its observers are told of it. Contracts of `Observer` and of `Terminal::feed_observed` cite
--- this, and no other public clause does.
+-- What happens at the bytes of a feed, as its observers are told of it. Contracts of `Observer` and of
+-- `Terminal::feed_observed` cite this, and no other public clause does. (this profile)
 use Rattle.std.specs.Prelude.{ℕ, List, [], ◌∷◌, flat_map}
 use Rattle.vt_syntax.specs.declared.event.Event.{Event}
 use Rattle.vt_syntax.specs.declared.held.Held.{Held}

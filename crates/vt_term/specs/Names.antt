@@ -1,5 +1,5 @@
--- The name of an event, as the tables of functions have it. On another screen than a VT220's other margins have an effect, so the
--- name may depend on the number of rows.
+-- The name of an event, as the tables of functions have it. On another screen than a VT220's other margins have an
+-- effect, so the name may depend on the number of rows. (the mnemonics of EK-VT220-RM, chapter 4)
 use Rattle.std.specs.Prelude.{ℕ, List, [], ◌∷◌, Option, Some, None, codes, if◌then◌else◌}
 use Rattle.vt_syntax.specs.declared.event.Event.{Event}
 use Rattle.vt_syntax.specs.declared.event.Event.TheVariants.{Print, Control, Escape, Sequence}

@@ -1,4 +1,4 @@
--- The state and the reports after bytes.
+-- The state and the reports after bytes. (this profile)
 use Rattle.std.specs.Prelude.{ℕ, List, [], ◌∷◌, ◌++◌}
 use Rattle.vt_syntax.specs.declared.event.Event.{Event}
 use Rattle.vt_syntax.specs.Held.{events_from, held_from}

@@ -1,4 +1,5 @@
--- The saved cursor. (EK-VT220-RM; the wrap flag is this profile's)
+-- The saved cursor. (EK-VT220-RM, chapter 4: DECSC and DECRC; the wrap flag, and bringing the row inside, are this
+-- profile's)
 use Rattle.std.specs.Prelude.{ℕ, ◌&&◌, min, max, if◌then◌else◌}
 use Rattle.vt_term.specs.State.{Display, saved_of}
 

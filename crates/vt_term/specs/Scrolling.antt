@@ -1,4 +1,4 @@
--- The lines that scroll off the top of the screen. (EK-VT220-RM: IND, NEL, LF and DECAWM)
+-- The lines that scroll off the top of the screen. (EK-VT220-RM, chapter 4: IND, NEL, LF and DECAWM)
 use Rattle.std.specs.Prelude.{ℕ, List, [], ◌∷◌, ◌++◌, Bool, false, ◌==◌, ◌||◌, ◌&&◌, not, if◌then◌else◌, flat_map}
 use Rattle.vt_syntax.specs.declared.event.Event.{Event}
 use Rattle.vt_syntax.specs.declared.event.Event.TheVariants.{Print, Control, Escape, Sequence}

@@ -1,4 +1,4 @@
--- The state of a terminal. (EK-VT220-RM; the values at power-up are this profile's)
+-- The state of a terminal. (EK-VT220-RM, chapter 4, for the parts; the values at power-up are this profile's)
 use Rattle.std.specs.Prelude.{ℕ, ◌-◌, ◌%◌, List, map, Bool, true, false, None, ◌==◌, ◌&&◌, nat_lt, slice_index_or}
 use Rattle.std.specs.List.{range_with_len}
 use Rattle.vt_syntax.specs.declared.held.Held.{Held}
@@ -81,7 +81,7 @@ modes_at_power_up = record {
   reports_8bit = false;
 }
 
--- what DECSC saves
+-- what DECSC saves (EK-VT220-RM, chapter 4; the wrap flag is this profile's)
 abbrev pub saved_of : Cursor → Brush → GraphicSets → Bool → Saved
 saved_of cursor brush sets origin = record {
   row = cursor.row;

@@ -1,4 +1,4 @@
--- Writing glyphs. (EK-VT220-RM, DECAWM and IRM; the moment of the wrap is this profile's)
+-- Writing glyphs. (EK-VT220-RM, chapter 4: DECAWM and IRM; the moment of the wrap is this profile's)
 use Rattle.std.specs.Prelude.{ℕ, ◌+◌, Option, Some, None, nat_lt, if◌then◌else◌}
 use Rattle.vt_glyph.specs.Invocation.{glyph_read, after_read}
 use Rattle.vt_screen.specs.Cells.{cell_of}
@@ -11,13 +11,13 @@ use Rattle.vt_term.specs.Moving.{next_line}
 abbrev pub after_wrap : Display → Display
 after_wrap s = if s.cursor.wrap then next_line s else s
 
--- the glyph with the brush, at the cursor; under IRM the cells at and after it move right first
+-- the glyph with the brush, at the cursor; under IRM the cells at and after it move right first (ECMA-48 7.2)
 abbrev pub with_glyph : ℕ → Display → Grid
 with_glyph glyph s =
     if s.modes.irm then put_inserting s.grid s.cursor.row s.cursor.col (cell_of glyph s.brush)
     else put s.grid s.cursor.row s.cursor.col (cell_of glyph s.brush)
 
--- one column on; in the last column the cursor stays, and the wrap flag is set under DECAWM
+-- one column on; in the last column the cursor stays, and the wrap flag is set under DECAWM (EK-VT220-RM)
 abbrev pub next_place : Display → Cursor
 next_place s =
     if nat_lt s.cursor.col (last_column s) then at_place s.cursor.row (s.cursor.col + 1)

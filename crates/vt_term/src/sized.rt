@@ -13,7 +13,7 @@ use vt_syntax::Parser;
 /// The limit of report bytes for each byte of a chunk.
 pub const REPORT_LIMIT: usize = 10;
 
-/// A terminal of any size from 2 rows of 80 columns to 255 rows of 255 columns, with a VT220's functions. `new` allocates its
+/// A terminal of any size from 2 rows of 2 columns to 255 rows of 255 columns, with a VT220's functions. `new` allocates its
 /// memory. After that, only calls that reserve capacity in `out` allocate. Its size never changes.
 #[derive(Drop)]
 pub struct SizedTerminal {

@@ -1,4 +1,4 @@
--- The bytes that a summary has counted.
+-- The bytes that a summary has counted. (this profile)
 use Rattle.std.specs.Prelude.{◌≡◌, ◌<◌, ◌+◌, ℕ, List, [], ◌∷◌, ◌++◌, length, get_or, if◌then◌else◌}
 use Rattle.vt_syntax.specs.declared.event.Event.{Event}
 use Rattle.vt_screen.specs.Grid.{last_row}
@@ -20,7 +20,8 @@ pub record AreCounts (d : Listing) (rows : ℕ) (events : List Event) (kinds : L
   pub of_ignored : (k : ℕ) → get_or ignored k 0 ≡ all_ignored_by d.called rows events kinds k
   pub of_named : (k : ℕ) → k < length d.listed → get_or named k 0 ≡ counted (times_named_by d.called rows (numbered_in d k) events)
 
--- the summary by these names of a screen of so many rows has counted the events and the items of these bytes, and no others
+-- the summary by these names of a screen of so many rows has counted the events and the items of these bytes, and no
+-- others
 pub record HasCountedBy (d : Listing) (rows : ℕ) (bytes : List ℕ) (s : Summary) : Type 0 where
   pub rows_are : s.rows ≡ rows
   pub held : s.parser ≡ held_after bytes
@@ -45,8 +46,8 @@ pub record AreSome (d : Listing) (s : Summary) : Type 0 where
 abbrev pub HasCountedSome : Listing → Summary → Type 0
 HasCountedSome d s = ∥ AreSome d s ∥₁
 
--- the kinds of the items without a function that bytes end or cut off, and of what is left. Before them this part is held,
--- and the C1 control `code` opened it if it is a string
+-- the kinds of the items without a function that bytes end or cut off, and of what is left. Before them this part is
+-- held, and the C1 control `code` opened it if it is a string
 unfoldable pub kinds_from : (code : ℕ) → Held → List ℕ → List ℕ
 kinds_from code held [] = if is_nothing held then [] else open_kind code ∷ []
 kinds_from code held (b ∷ bytes) =

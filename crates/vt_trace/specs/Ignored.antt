@@ -1,4 +1,4 @@
--- The events that are ignored, and those that do something.
+-- The events that are ignored, and those that do something. (this profile)
 use Rattle.std.specs.Prelude.{ℕ, ◌≡◌, ◌≢◌, ◌⊎◌, [], Bool, true, false, Some, None}
 use Rattle.vt_syntax.specs.declared.event.Event.{Event}
 use Rattle.vt_term.specs.State.{Display}

@@ -1,4 +1,4 @@
--- All names of events, in the order of the summary. The names themselves are in the tables of functions.
+-- All names of events, in the order of the summary (this profile). The names themselves are in the tables of functions.
 use Rattle.std.specs.Prelude.{ℕ, ◌≡◌, ◌≢◌, ◌+◌, ◌<◌, List, [], ◌∷◌, ◌++◌, false, codes, get_or, length, map, nat_eq, take}
 use Rattle.std.specs.Cmp.Lexicographic.{pointwise}
 use denote.Enum.Declared.{tag_of}

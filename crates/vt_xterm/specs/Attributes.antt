@@ -1,4 +1,5 @@
--- SGR with colours, which have no effect. (xterm's control sequences; ECMA-48 8.3.117; ISO 8613-6 for the parameters of a colour)
+-- SGR with colours, which have no effect. (xterm's control sequences: `m`; ECMA-48 8.3.117; ISO 8613-6 for the
+-- parameters of a colour)
 use Rattle.std.specs.Prelude.{ℕ, List, [], ◌∷◌, Bool, ◌==◌, ◌||◌, if◌then◌else◌}
 use Rattle.std.proofs.Common.{zero, suc}
 use Rattle.vt_term.specs.State.{Display}

@@ -1,4 +1,4 @@
--- The state, the reports and the lines that scroll off after UTF-8 under TERM=xterm.
+-- The state, the reports and the lines that scroll off after UTF-8 under TERM=xterm. (this profile)
 use Rattle.std.specs.Prelude.{ℕ, List, [], ◌∷◌, ◌++◌, Option, Some, None, nat_lt, flat_map, if◌then◌else◌}
 use Rattle.vt_syntax.specs.declared.event.Event.{Event}
 use Rattle.vt_syntax.specs.Held.{events_from, held_from}

@@ -1,4 +1,4 @@
--- Events that a front leaves to the terminal.
+-- Events that a front leaves to the terminal. (this profile)
 use Rattle.std.specs.Prelude.{◌≡◌, ℕ, List, [], ◌∷◌, None, ⊤}
 use Rattle.vt_syntax.specs.declared.event.Event.{Event}
 use Rattle.vt_syntax.specs.Held.{events_from}

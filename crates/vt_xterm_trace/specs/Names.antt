@@ -1,5 +1,5 @@
--- The names of events under TERM=xterm: those of the functions of these tables, otherwise a VT220's. (ECMA-48 8.3;
--- xterm's control sequences)
+-- The names of events under TERM=xterm: those of the functions of these tables, otherwise a VT220's. (xterm's
+-- control sequences: Functions using CSI; ECMA-48 8.3)
 use Rattle.std.specs.Prelude.{ℕ, List, [], ◌∷◌, ◌++◌, Bool, true, false, Option, Some, None, ◌==◌, codes, if◌then◌else◌}
 use Rattle.std.specs.List.{list_any}
 use Rattle.vt_syntax.specs.declared.event.Event.TheVariants.{Print, Control, Escape, Sequence}

@@ -10,7 +10,7 @@ loop-row-preserved c =
     let long : length c.loop-row.cells ≡ room c.args.order.now.size = omega arith in
     let step = row-filled c.args.order.now c.loop-row.cells c.fill_line.new.line c.args.width c.loop-row.row
     c.start-start.result (c.start-start.result + c.args.width - c.start-start.result) c.args.cell.now
-    c.start-start.ensures.order long (omega arith) (omega arith) c.requires.width.1 c.start-start.ensures.place
+    c.start-start.ensures.order long (omega arith) (omega arith) c.requires.width c.start-start.ensures.place
     (omega arith) c.fill_line.auto.line c.fill_line.ensures in
     record {
       written = λ r col low high col1 colw. elim (eqb_tells r c.loop-row.row) [

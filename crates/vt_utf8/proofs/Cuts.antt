@@ -114,7 +114,7 @@ ascii-characters (b ∷ bytes) all =
     rw (read-ascii b (first-of b bytes all))
     (ap (λ (t : List ℕ). b ∷ t) (ascii-characters bytes (rest-of b bytes all)))
 
-ascii-all : (s : State) (bytes : List ℕ) → All (λ b. b < 0x80) bytes → translated_all s bytes ≡ bytes
+pub ascii-all : (s : State) (bytes : List ℕ) → All (λ b. b < 0x80) bytes → translated_all s bytes ≡ bytes
 ascii-all s [] all = refl
 ascii-all s (b ∷ bytes) all =
     rw (translation-ascii s b (first-of b bytes all))

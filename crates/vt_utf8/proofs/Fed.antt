@@ -10,7 +10,6 @@ use Rattle.vt_utf8.specs.Decoding.{read, characters, pending_after}
 use Rattle.vt_utf8.specs.Translation.{translation}
 use Rattle.vt_utf8.specs.Play.{translated_all, translated, play_utf8}
 use Rattle.vt_utf8.specs.Private.Feeds.{FeedsUtf8}
-use Rattle.vt_utf8.specs.Decoding.{IsWhole}
 use Rattle.vt_utf8.proofs.Cuts.{translated-append}
 
 -- a piece starting at a place
@@ -59,21 +58,6 @@ module _ {size : Size} (none : (s : State) → IsSoundAt size s → play s [] �
             (sym (ap (λ (p : Played). p.reports) played
             ∙ ap (λ (r : List ℕ). r ++ (play t (translated_all t ys)).reports) silent));
       }
-
--- a whole character that causes no report
-pub feeds-whole : (s t : State) (piece : List ℕ) (c n : ℕ) (before out : List ℕ) → IsWhole piece c n
-    → t ≡ (play s (translation s c)).state → (play s (translation s c)).reports ≡ [] → out ≡ before
-    → FeedsUtf8 s [] (take n piece) t [] before out
-unfolding play_utf8 translated
-feeds-whole s t piece c n before out whole state silent same =
-    let played : play s (translated_all s (characters [] (take n piece))) ≡ play s (translation s c) =
-    ap (λ (cs : List ℕ). play s (translated_all s cs)) whole.characters ∙ played-one s c in
-    record {
-      state = state ∙ sym (ap (λ (p : Played). p.state) played);
-      left = sym whole.pending;
-      reports = same ∙ sym (append-nil before)
-          ∙ ap (λ (r : List ℕ). before ++ r) (sym (ap (λ (p : Played). p.reports) played ∙ silent));
-    }
 
 -- ---- one part of a piece, and the next
 

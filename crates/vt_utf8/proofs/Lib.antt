@@ -1,11 +1,14 @@
 mod Tables
 mod Reading
+mod Firsts
 pub mod Sizes
 pub mod Cuts
 pub mod Silence
 mod Plain
 pub mod Fed
 pub mod Logged
+mod CutOff
+mod PlayedAs
 pub mod Themselves
 pub mod Written
 mod Lanes

@@ -10,7 +10,7 @@ use Rattle.vt_term.specs.Sound.{IsSoundAt}
 use Rattle.vt_term.specs.Play.{play}
 use Rattle.vt_term.specs.Scrolling.{scrolled_off}
 use Rattle.vt_term.specs.Observers.{scrolled-append, scrolled-nothing}
-use Rattle.vt_utf8.specs.Decoding.{pending_after, IsWhole}
+use Rattle.vt_utf8.specs.Decoding.{pending_after}
 use Rattle.vt_utf8.specs.Translation.{translation}
 use Rattle.vt_utf8.specs.Play.{translated_all, translated, play_utf8}
 use Rattle.vt_utf8.specs.Logs.{AreKept}
@@ -93,10 +93,3 @@ module _ {O : Type 0} (Keeps : O → Rows → O → Type 0) (HasRoom IsFull : O 
   pub keeps-one : (s : State) (c : ℕ) (o p : O) → Keeps o (scrolled_off s (translation s c)) p
       → Keeps o (scrolled_off s (translated_all s (c ∷ []))) p
   keeps-one s c o p keeps = subst (λ (xs : List ℕ). Keeps o (scrolled_off s xs) p) (sym (translated-one s c)) keeps
-
-  pub keeps-whole : (s : State) (piece : List ℕ) (c n : ℕ) (o p : O) → IsWhole piece c n
-      → Keeps o (scrolled_off s (translation s c)) p → Keeps o (utf8_off s [] (take n piece)) p
-  unfolding translated
-  keeps-whole s piece c n o p whole keeps =
-      subst (λ (cs : List ℕ). Keeps o (scrolled_off s (translated_all s cs)) p) (sym whole.characters)
-      (keeps-one s c o p keeps)

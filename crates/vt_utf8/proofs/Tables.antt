@@ -11,7 +11,7 @@ use Rattle.vt_glyph.specs.Spell.{spelling_of}
 use Rattle.vt_glyph.specs.Encoding.{encoded_spelling, encoded_glyph}
 use Rattle.vt_utf8.specs.Similar.{latin, lines, letters, signs, shown, in_rows, in_chart, ascii_of_fullwidth}
 use Rattle.vt_utf8.specs.Private.Codes.{code_by, is_code, sign_of}
-use Rattle.vt_utf8.specs.declared.similar.TheConstants.{SUBSTITUTE, LATIN, LINES, LETTERS}
+use Rattle.vt_utf8.specs.declared.similar.TheConstants.{SUBSTITUTE, LATIN, LINES, LETTERS, SIGNS}
 
 -- a row with its entry changed
 abbrev on_row : {A : Type 0} → (ℕ → A) → ℕ × ℕ × ℕ → ℕ × ℕ × A
@@ -98,6 +98,39 @@ code_by-shown c =
     (λ _. either encoded_spelling spelling_of (nat_le 0xFF01 c && nat_le c 0xFF5E) _ _ _ _
     (λ is. fullwidth (ascii_of_fullwidth c) (grind (arith, nat_tests)) (grind (arith, nat_tests)))
     (λ _. substitute)))))
+
+-- ---- the codes of some ranges
+
+-- a sign's code, which isn't that of a line
+code-sign : (c : ℕ) → 0x2580 ≤ c → c < 0x3100 → sign_of c ≡ code_by c
+code-sign c low high =
+    let no_latin : nat_lt c 0x180 ≡ false = grind (arith, nat_tests) in
+    let no_letter : nat_lt c 0x2000 ≡ false = grind (arith, nat_tests) in
+    let no_line : nat_le 0x2500 c && nat_le c 0x257F ≡ false = grind (arith, nat_tests) in
+    let sign : nat_lt c 0x3100 ≡ true = grind (arith, nat_tests) in
+    rw (no_latin, no_letter, no_line, sign) refl
+
+elements-same : map (λ c. in_chart SUBSTITUTE SIGNS 0x2400 c) (range_with_len 0x2580 32) ≡ map sign_of (range_with_len 0x2580 32)
+unfolding sign_of
+elements-same = refl
+
+pub element-code : (c : ℕ) → 0x2580 ≤ c → c ≤ 0x259F → in_chart SUBSTITUTE SIGNS 0x2400 c ≡ code_by c
+element-code c low high =
+    within (λ k. in_chart SUBSTITUTE SIGNS 0x2400 k) sign_of 0x2580 32 c elements-same low (omega (arith, high))
+    ∙ code-sign c low (omega (arith, high))
+
+braille-same : map (λ c. 0x3A) (range_with_len 0x2801 255) ≡ map sign_of (range_with_len 0x2801 255)
+unfolding sign_of
+braille-same = refl
+
+pub braille-code : (c : ℕ) → 0x2801 ≤ c → c ≤ 0x28FF → 0x3A ≡ code_by c
+braille-code c low high =
+    within (λ k. 0x3A) sign_of 0x2801 255 c braille-same low (omega (arith, high))
+    ∙ code-sign c (omega (arith, low)) (omega (arith, high))
+
+pub blank-code : 0x20 ≡ code_by 0x2800
+unfolding sign_of
+blank-code = refl
 
 -- ---- the glyphs of the codes
 

@@ -1,4 +1,5 @@
--- The text of a screen as UTF-8 that places it, row by row. (EK-VT220-RM: CUP, IRM and DECOM; the form is this profile's)
+-- The text of a screen as UTF-8 that places it, row by row. (EK-VT220-RM, chapter 4: CUP, IRM and DECOM; the form is
+-- this profile's)
 use Rattle.std.specs.Prelude.{◌≡◌, ℕ, List, [], ◌∷◌, ◌++◌, Bool, true, false, None, ◌==◌, codes, flat_map, encode_utf8_all}
 use Rattle.std.specs.List.{range_with_len}
 use Rattle.vt_syntax.specs.declared.event.Event.{Event}

@@ -2,3 +2,4 @@
 pub mod Codes
 pub mod Feeds
 pub mod Ascii
+pub mod Cut

@@ -1,5 +1,5 @@
--- The terminal's bytes for a character, in a state. (EK-VT220-RM: SCS, the single shifts, NEL, DECAWM; ECMA-48: ST.
--- The choice of bytes is this profile's.)
+-- The terminal's bytes for a character, in a state. (EK-VT220-RM, chapter 4: SCS, the single shifts, NEL and DECAWM;
+-- ECMA-48 8.3.143: ST; their 7-bit forms: ECMA-48 5.3. The choice of bytes is this profile's.)
 use Rattle.std.specs.Prelude.{◌≡◌, ◌≤◌, ◌⊎◌, ℕ, List, [], ◌∷◌, ◌++◌, None, Bool, not, ◌==◌, ◌&&◌, nat_lt, is_none, if◌then◌else◌}
 use Rattle.vt_syntax.specs.declared.held.Held.{Held}
 use Rattle.vt_syntax.specs.declared.held.Held.TheVariants.{Nothing, Text}
@@ -23,11 +23,11 @@ use Rattle.vt_utf8.specs.Cells.{cells}
 
 -- ---- a glyph at the cursor, whatever the sets are; afterwards they are as before, and no single shift is pending
 
--- `ESC N` or `ESC O`, and the code that it shifts
+-- SS2 (`ESC N`) or SS3 (`ESC O`), and the code that it shifts
 abbrev pub shifted : ℕ → ℕ → List ℕ
 shifted final code = 0x1B ∷ final ∷ code ∷ []
 
--- `ESC *` or `ESC +`, and the set's final byte
+-- SCS of G2 (`ESC *`) or G3 (`ESC +`): the set's final byte
 abbrev pub designation : ℕ → Set → List ℕ
 designation inter set = 0x1B ∷ inter ∷ final_of set ∷ []
 

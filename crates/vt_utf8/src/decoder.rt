@@ -1,9 +1,11 @@
 //! Decoding: from bytes, one at a time, to characters.
 ghost use Rattle.std.specs.Prelude.{◌≡◌, ◌<◌, ◌≤◌, ◌++◌, [], ◌∷◌, ◌==◌, length, IfSome};
+ghost use Rattle.std.specs.Bool.{OnTrue};
 ghost use Rattle.std.specs.Option.{option_to_list};
 ghost use Rattle.bstr.specs.Utf8.{continues, decoded, lead_len, replacement};
 ghost use Rattle.vt_utf8.specs.Decoding.{IsWhole};
 ghost use Rattle.vt_utf8.specs.Decoding.{is_begun, pending_of, given_up, read, read_first};
+ghost use Rattle.vt_utf8.specs.Private.Cut.{IsCut};
 
 use arrayvec::ArrayVec;
 use bstr::decode_utf8 as decode;
@@ -108,6 +110,12 @@ fn two_bytes(piece: &[u8]) -> Option<char>
     None
 }
 
+/// Returns whether a chunk may begin with a character of three or four bytes: with any other, or none, it doesn't.
+#[inline(always)]
+fn may_be_long(piece: &[u8]) -> bool {
+    piece.len() >= 3 && piece[0] >= 0xE0 && continues(piece[1])
+}
+
 /// Returns the character beyond ASCII at the front of a chunk, if it is whole, and how many bytes it takes.
 #[inline(always)]
 pub fn whole_character(piece: &[u8]) -> Option<(char, usize)>
@@ -118,6 +126,9 @@ pub fn whole_character(piece: &[u8]) -> Option<(char, usize)>
     }
     if let Some(c) = two_bytes(piece) {
         return Some((c, 2));
+    }
+    if !may_be_long(piece) {
+        return None;
     }
     let (found, size) = decode(piece);
     let Some(c) = found else {
@@ -199,23 +210,64 @@ impl Decoder {
 
     /// Reads a byte if nothing is pending, and returns the character that it is, if it is one. U+FFFD is in place of an
     /// ill-formed byte.
+    #[inline(always)]
     fn push_first(&mut self, b: u8) -> Option<char>
         requires { self.old ≡ [] }
         ensures characters { option_to_list result ≡ (read_first b).characters }
         ensures pending { self.new ≡ (read_first b).pending }
     {
-        let bytes = [b];
-        let (found, size) = decode(&bytes);
-        if is_begun(&bytes, size) {
-            self.pending.push(b);
-            return None;
+        if b < 0x80 {
+            return Some(b as char);
         }
-        Some(found.unwrap_or('\u{FFFD}'))
+        if b < 0xC2 {
+            return Some('\u{FFFD}');
+        }
+        if b > 0xF4 {
+            return Some('\u{FFFD}');
+        }
+        self.pending.push(b);
+        None
+    }
+
+    /// Drops what is pending.
+    #[inline(always)]
+    pub(crate) fn clear(&mut self)
+        ensures { self.new ≡ [] }
+    {
+        self.pending.clear();
+    }
+
+    /// Returns whether one byte beyond ASCII is pending, and a byte can't continue it.
+    #[inline(always)]
+    pub(crate) fn is_cut_by(&self, b: u8) -> bool
+        ensures { OnTrue result (IsCut self.now b) }
+    {
+        let pending = self.pending.as_slice();
+        pending.len() == 1 && pending[0] >= 0x80 && !continues(b)
     }
 
     /// Reads a byte. Returns U+FFFD if what was pending is ill-formed, and the character that the byte completes, if it
-    /// completes one. U+FFFD is in place of an ill-formed byte.
+    /// completes one. U+FFFD is in place of an ill-formed byte. Speed: a first byte, and one that cuts off a first byte, are
+    /// read by fewer tests.
+    #[inline(always)]
     pub fn push(&mut self, b: u8) -> (Option<char>, Option<char>)
+        ensures characters { option_to_list result.0 ++ option_to_list result.1 ≡ (read self.old b).characters }
+        ensures lost { IfSome result.0 (λ c. c ≡ replacement) }
+        ensures pending { self.new ≡ (read self.old b).pending }
+    {
+        if self.is_empty() {
+            return (None, self.push_first(b));
+        }
+        if self.is_cut_by(b) {
+            self.pending.clear();
+            return (Some('\u{FFFD}'), self.push_first(b));
+        }
+        self.push_after(b)
+    }
+
+    /// Reads a byte as `push` does, whatever is pending.
+    #[inline(never)]
+    fn push_after(&mut self, b: u8) -> (Option<char>, Option<char>)
         ensures characters { option_to_list result.0 ++ option_to_list result.1 ≡ (read self.old b).characters }
         ensures lost { IfSome result.0 (λ c. c ≡ replacement) }
         ensures pending { self.new ≡ (read self.old b).pending }

@@ -1,6 +1,6 @@
 //! Feeding: UTF-8 changes a terminal's state, and gives report bytes.
-ghost use Rattle.std.specs.Prelude.{◌≡◌, ◌<◌, ◌+◌, ◌*◌, ◌≤◌, ◌++◌, ◌⊎◌, [], ◌∷◌, ℕ, List, All, length, take, drop, flat_map};
-ghost use Rattle.std.specs.Prelude.{vec_len, vec_capacity, OnOk, OnErr, IsOk, IfSome};
+ghost use Rattle.std.specs.Prelude.{◌≡◌, ◌<◌, ◌+◌, ◌*◌, ◌≤◌, ◌++◌, ◌⊎◌, [], ◌∷◌, ℕ, List, All, true, length, take, drop, flat_map};
+ghost use Rattle.std.specs.Prelude.{slice_index, vec_len, vec_capacity, OnOk, OnErr, IsOk, IfSome};
 ghost use Rattle.std.specs.Bool.{OnTrue};
 ghost use Rattle.std.specs.Option.{option_to_list};
 ghost use Rattle.std.specs.declared.option.Option.TheVariants.{None};
@@ -15,9 +15,10 @@ ghost use Rattle.vt_utf8.specs.Cells.{cells};
 ghost use Rattle.vt_utf8.specs.Similar.{shown};
 ghost use Rattle.vt_utf8.specs.Decoding.{pending_after};
 ghost use Rattle.vt_utf8.specs.Limits.{lines_limit, utf8_lines_limit};
-ghost use Rattle.vt_utf8.specs.Translation.{glyph_off, translation};
+ghost use Rattle.vt_utf8.specs.Translation.{glyph_off, reads_ascii, translation};
 ghost use Rattle.vt_utf8.specs.Play.{translated_all, translated, play_utf8};
-ghost use Rattle.vt_utf8.specs.Private.Feeds.{FeedsUtf8, utf8_off};
+ghost use Rattle.vt_utf8.specs.Private.Cut.{IsCut};
+ghost use Rattle.vt_utf8.specs.Private.Feeds.{FeedsUtf8, IsPlayedAs, utf8_off};
 
 use crate::ascii::ascii_run;
 use crate::decoder::{Decoder, whole_character};
@@ -25,7 +26,7 @@ use crate::laws::{ascii, sized_cuts, sized_one_byte, sized_silence, sized_writes
 use crate::log::BytesLog;
 use crate::similar::{code_of, glyph_of_code};
 use crate::translation::{
-    BYTE_LIMIT, TRANSLATION_LIMIT, is_at_end, is_wide, narrow_code, translation,
+    BYTE_LIMIT, TRANSLATION_LIMIT, is_at_end, is_wide, narrow_code, reads_ascii, translation,
 };
 use std::alloc::AllocError;
 use vt_syntax::Held;
@@ -178,8 +179,8 @@ fn ascii_front(piece: &[u8]) -> usize
     0
 }
 
-/// Plays the front of a chunk that isn't empty: the ASCII bytes or the whole characters there if nothing is pending,
-/// otherwise a byte. Returns how many bytes it played: none if the log is full.
+/// Plays the front of a chunk that isn't empty: the ASCII bytes or the whole characters there if nothing is pending, otherwise a
+/// byte, or the ASCII bytes that cut off a pending one. Returns how many bytes it played: none if the log is full.
 #[inline(always)]
 fn feed_next<L: BytesLog>(
     terminal: &mut SizedTerminal,
@@ -207,7 +208,79 @@ fn feed_next<L: BytesLog>(
         }
         return feed_beyond(terminal, decoder, piece, limit, log, out);
     }
-    feed_first(terminal, decoder, piece, limit, log, out)
+    feed_pending(terminal, decoder, piece, limit, log, out)
+}
+
+/// Returns how many ASCII bytes at the front of a chunk that isn't empty, at most 22, cut off one pending byte: none if it isn't cut
+/// off.
+#[inline(always)]
+fn cut_front(decoder: &Decoder, piece: &[u8]) -> usize
+    requires { 1 ≤ length piece.now }
+    ensures within { result ≤ length piece.now }
+    ensures few { result ≤ 22 }
+    ensures ascii { All (λ b. b < 0x80) (take result piece.now) }
+    ensures cut { 1 ≤ result → IsCut decoder.now (slice_index piece.now 0) }
+{
+    if decoder.is_cut_by(piece[0]) {
+        return ascii_front(piece).min(TRANSLATION_LIMIT);
+    }
+    0
+}
+
+/// Plays the front of a chunk that isn't empty, after a pending part: the ASCII bytes that cut off one byte, otherwise a byte.
+/// Returns how many bytes it played: none if the log is full. Speed: most bytes that are cut off are cut off by ASCII.
+#[inline(always)]
+fn feed_pending<L: BytesLog>(
+    terminal: &mut SizedTerminal,
+    decoder: &mut Decoder,
+    piece: &[u8],
+    limit: usize,
+    log: &mut L,
+    out: &mut Vec<u8>,
+) -> usize
+    requires some { 1 ≤ length piece.now }
+    requires room { vec_len out.old + 10 * length piece.now ≤ vec_capacity out.old }
+    requires limit { limit ≡ utf8_lines_limit terminal.old.display.grid.size }
+    ensures none { result ≡ 0 → L.IsFull log.new (utf8_lines_limit terminal.old.display.grid.size) }
+    ensures within { result ≤ length piece.now }
+    ensures fed { FeedsUtf8 terminal.old decoder.old (take result piece.now) terminal.new decoder.new
+        out.old.items out.new.items }
+    ensures keeps { L.Keeps log.old (utf8_off terminal.old decoder.old (take result piece.now)) log.new }
+    ensures bounded { vec_len out.new ≤ vec_len out.old + 10 * result }
+    ensures capacity { vec_capacity out.old ≤ vec_capacity out.new }
+{
+    let run = cut_front(decoder, piece);
+    if run == 0 {
+        return feed_first(terminal, decoder, piece, limit, log, out);
+    }
+    if log.is_full(limit) {
+        return feed_first(terminal, decoder, piece, limit, log, out);
+    }
+    decoder.clear();
+    feed_cut(terminal, &piece[..run], log, out);
+    run
+}
+
+/// Plays U+FFFD for one byte that ASCII cuts off, and the ASCII bytes.
+#[inline(always)]
+fn feed_cut<L: BytesLog>(terminal: &mut SizedTerminal, run: &[u8], log: &mut L, out: &mut Vec<u8>)
+    requires some { 1 ≤ length run.now }
+    requires few { length run.now ≤ 22 }
+    requires ascii { All (λ b. b < 0x80) run.now }
+    requires room { vec_len out.old + 10 * length run.now ≤ vec_capacity out.old }
+    requires lines_room { L.HasRoom log.old (utf8_lines_limit terminal.old.display.grid.size) }
+    ensures fed { (pending : List ℕ) → IsCut pending (slice_index run.now 0)
+        → FeedsUtf8 terminal.old pending run.now terminal.new [] out.old.items out.new.items }
+    ensures keeps { (pending : List ℕ) → IsCut pending (slice_index run.now 0)
+        → L.Keeps log.old (utf8_off terminal.old pending run.now) log.new }
+    ensures bounded { vec_len out.new ≤ vec_len out.old + 10 * length run.now }
+    ensures capacity { vec_capacity out.old ≤ vec_capacity out.new }
+{
+    let _ = terminal.width();
+    played_cuts();
+    one_split();
+    log.character(terminal, '\u{FFFD}', out);
+    let _ = log.feed(terminal, run, out);
 }
 
 /// Plays ASCII bytes with nothing pending. Returns how many it played: fewer if the log is full.
@@ -235,6 +308,40 @@ fn feed_ascii<L: BytesLog>(
     log.feed(terminal, run, out)
 }
 
+/// Returns whether a chunk begins with a space, and a byte beyond ASCII follows it.
+#[inline(always)]
+fn is_single_space(piece: &[u8]) -> bool
+    ensures { OnTrue result ((2 ≤ length piece.now) × (slice_index piece.now 0 ≡ space)) }
+{
+    piece.len() >= 2 && piece[0] == b' ' && piece[1] >= 0x80
+}
+
+/// Returns the character beyond ASCII as which the front of a chunk is played with nothing pending, and how many bytes it takes: a
+/// whole character, or U+00A0 for a single space. Speed: a run of ASCII costs more than a character.
+#[inline(always)]
+fn next_character(terminal: &SizedTerminal, piece: &[u8]) -> Option<(char, usize)>
+    ensures { IfSome result (λ found. (0x80 ≤ found.0) × IsPlayedAs terminal.now piece.now found.0 found.1) }
+{
+    if let Some((c, size)) = whole_character(piece) {
+        return Some((c, size));
+    }
+    if is_single_space(piece) && reads_spaces(terminal) {
+        return Some(('\u{A0}', 1));
+    }
+    None
+}
+
+/// Returns whether a space is read as one of ASCII, between sequences.
+#[inline(always)]
+fn reads_spaces(terminal: &SizedTerminal) -> bool
+    ensures { OnTrue result ((terminal.now.held ≡ Nothing) × (reads_ascii terminal.now.display.sets ≡ true)) }
+{
+    match terminal.held() {
+        Held::Nothing => reads_ascii(terminal.sets()),
+        _ => false,
+    }
+}
+
 /// Plays the whole characters beyond ASCII at the front of a chunk, with nothing pending, until the log is full. Returns how many
 /// bytes they take. Speed: a byte at a time leaves the same.
 #[inline(always)]
@@ -257,7 +364,7 @@ fn feed_whole<L: BytesLog>(
     sized_cuts();
     one_split();
     let mut at = 0;
-    while let Some((c, size)) = whole_character(&piece[at..]) {
+    while let Some((c, size)) = next_character(terminal, &piece[at..]) {
         if log.is_full(limit) {
             return at;
         }
@@ -378,7 +485,8 @@ fn feed_lost<L: BytesLog>(
     played_cuts();
     one_split();
     if let Some(c) = lost {
-        log.character(terminal, c, out);
+        let _ = c;
+        log.character(terminal, '\u{FFFD}', out);
     }
 }
 

@@ -2,7 +2,7 @@
 //!
 //! A glyph's code is one byte. An ASCII glyph is its own code. A glyph that is spelled by G2 has the code of its
 //! spelling with the high bit set. A glyph that is spelled by G3 has the code less 60 (hexadecimal).
-ghost use Rattle.std.specs.Prelude.{◌≡◌, ◌&&◌, nat_le, true};
+ghost use Rattle.std.specs.Prelude.{◌≡◌, ◌≤◌, ◌&&◌, nat_le, true};
 ghost use Rattle.vt_glyph.specs.Encoding.{encoded_spelling, encoded_glyph};
 ghost use Rattle.vt_glyph.specs.Spell.{spelling_of};
 ghost use Rattle.vt_utf8.specs.Private.Codes.{code_by, is_code, sign_of};
@@ -276,6 +276,27 @@ fn code_by(c: u32) -> u8
     } else {
         SUBSTITUTE
     }
+}
+
+/// Returns the code for a block element, U+2580 to U+259F. Speed: it is one look-up, in the rows of `SIGNS` that begin with it.
+#[inline(always)]
+pub(crate) fn element_code(c: u32) -> u8
+    requires { (0x2580 ≤ c) × (c ≤ 0x259F) }
+    ensures { result ≡ code_by c }
+{
+    in_chart(&SIGNS, 0x2400, c)
+}
+
+/// Returns the code for a braille pattern, U+2800 to U+28FF. Speed: it is one comparison.
+#[inline(always)]
+pub(crate) fn braille_code(c: u32) -> u8
+    requires { (0x2800 ≤ c) × (c ≤ 0x28FF) }
+    ensures { result ≡ code_by c }
+{
+    if c == 0x2800 {
+        return 0x20;
+    }
+    0x3A
 }
 
 /// Returns the code of the glyph that is shown for a character of U+00A0 or above.

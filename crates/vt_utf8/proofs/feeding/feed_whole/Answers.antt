@@ -1,8 +1,9 @@
 use Rattle.std.proofs.Common.{◌≡◌, ◌∙◌, ℕ, List, [], arith, ap, refl, length, length-drop, vec_len}
 use Rattle.vt_utf8.specs.Limits.{lines_limit}
-use Rattle.vt_utf8.proofs.Fed.{rest-of, feeds-nothing, feeds-more, feeds-whole}
+use Rattle.vt_utf8.proofs.Fed.{rest-of, feeds-nothing, feeds-more}
 use Rattle.vt_utf8.proofs.Sizes.{fed-size, limit-stays, character-fits}
-use Rattle.vt_utf8.proofs.Logged.{keeps-none, keeps-more, keeps-whole}
+use Rattle.vt_utf8.proofs.Logged.{keeps-none, keeps-more}
+use Rattle.vt_utf8.proofs.PlayedAs.{feeds-as, keeps-as}
 use Rattle.vt_utf8.proofs.feeding.feed_whole.Goals as goal
 
 pub loop-c-init : goal.loop-c-init
@@ -33,12 +34,12 @@ loop-c-preserved g c =
       fed = feeds-more (c.sized_cuts.ensures.none c.args.terminal.now.display.grid.size) (c.sized_cuts.ensures.two c.args.terminal.now.display.grid.size) c.sized_cuts.ensures.pending c.args.terminal.now c.loop-c.terminal
           c.character.new.terminal [] [] [] piece c.args.out.now.items c.loop-c.out.items
           c.character.new.out.items at c.in-Some.size c.width.ensures.sound before.fed
-          (feeds-whole _ _ _ c.in-Some.c c.in-Some.size _ _ whole fed.state fed.silent fed.out);
+          (feeds-as _ _ _ c.in-Some.c c.in-Some.size _ _ whole fed.state fed.silent fed.out);
       keeps = keeps-more g.L.Log.Keeps g.L.Log.HasRoom g.L.Log.IsFull g.met.L.Log.kept c.one_split.ensures
           (c.sized_cuts.ensures.translated c.args.terminal.now.display.grid.size) c.args.terminal.now c.loop-c.terminal [] [] piece at c.in-Some.size c.args.log.now
           c.loop-c.log c.character.new.self c.width.ensures.sound before.fed.state before.fed.left before.keeps
-          (keeps-whole g.L.Log.Keeps g.L.Log.HasRoom g.L.Log.IsFull g.met.L.Log.kept c.loop-c.terminal _ c.in-Some.c
-          c.in-Some.size c.loop-c.log c.character.new.self whole fed.keeps);
+          (keeps-as g.L.Log.Keeps c.loop-c.terminal _ c.in-Some.c c.in-Some.size c.loop-c.log c.character.new.self
+          whole fed.keeps);
       items = fed.out ∙ before.items;
       room = omega (arith, same_len, before.room, fed.capacity);
       capacity = omega (arith, before.capacity, fed.capacity);

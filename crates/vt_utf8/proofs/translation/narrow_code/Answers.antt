@@ -1,6 +1,9 @@
-use Rattle.std.proofs.Common.{sym, ◌∙◌}
+use Rattle.std.proofs.Common.{ap, sym, ◌∙◌}
 use Rattle.std.proofs.lemmas.Bool.{eqb-true}
 use Rattle.vt_utf8.proofs.Narrow.{latin-narrow, lines-narrow, elements-narrow, punctuation-narrow, braille-narrow, replacement-narrow}
+use Rattle.vt_glyph.specs.Encoding.{encoded_glyph}
+use Rattle.vt_utf8.specs.Private.Codes.{is_code}
+use Rattle.vt_utf8.proofs.Tables.{code_by-glyph, code_by-code}
 use Rattle.vt_utf8.proofs.translation.narrow_code.Goals as goal
 
 pub returns-then-is_in : goal.returns-then-is_in
@@ -20,8 +23,8 @@ returns-then-is_in-2 c = (
 pub returns-then-is_in-3 : goal.returns-then-is_in-3
 returns-then-is_in-3 c = (
   eqb-true _ _ (sym (elements-narrow c.args.c (sym c.if-is_in-3.true ∙ c.is_in-3.ensures))),
-  c.code_of-then-is_in-3.ensures.glyph,
-  c.code_of-then-is_in-3.ensures.is_code,
+  ap encoded_glyph c.element_code.ensures ∙ code_by-glyph c.args.c,
+  ap is_code c.element_code.ensures ∙ code_by-code c.args.c,
 )
 
 pub returns-then-is_in-4 : goal.returns-then-is_in-4
@@ -34,8 +37,8 @@ returns-then-is_in-4 c = (
 pub returns-then-is_in-5 : goal.returns-then-is_in-5
 returns-then-is_in-5 c = (
   eqb-true _ _ (sym (braille-narrow c.args.c (sym c.if-is_in-5.true ∙ c.is_in-5.ensures))),
-  c.code_of-then-is_in-5.ensures.glyph,
-  c.code_of-then-is_in-5.ensures.is_code,
+  ap encoded_glyph c.braille_code.ensures ∙ code_by-glyph c.args.c,
+  ap is_code c.braille_code.ensures ∙ code_by-code c.args.c,
 )
 
 pub returns-then-is_in-6 : goal.returns-then-is_in-6

@@ -58,7 +58,7 @@ pub(crate) fn print_notes<R: Eprint + AllocGlobal>(
             );
         } else if has_impossible(rt.alloc(), beginning, format, host) {
             let _ = eprintln!(rt;
-                "vt220: {name}: the window changes to a size from outside 80x2 to 255x255, and the screen doesn't"
+                "vt220: {name}: the window changes to a size from outside 2x2 to 255x255, and the screen doesn't"
             );
         }
     }
@@ -103,7 +103,7 @@ fn language_hint(
     if heading.terminal.is_none() && has_any(front, 0x1B, &XTERM_SEQUENCES) {
         return Some("it has sequences of an xterm: use --terminal xterm");
     }
-    if host.encoding == Encoding::Dec && !front.is_ascii() && is_utf8(front) {
+    if host.encoding == Encoding::Dec && is_utf8(front) {
         return Some("it looks like UTF-8: use --encoding utf-8");
     }
     None
@@ -124,16 +124,15 @@ fn has_any(bytes: &[u8], first: u8, sequences: &[&[u8]]) -> bool {
     false
 }
 
-/// Returns whether bytes are UTF-8 up to the last byte of ASCII, and not all of them ASCII.
+/// Returns whether bytes are UTF-8 and not all of them ASCII. A last character that isn't whole is left out.
 fn is_utf8(bytes: &[u8]) -> bool {
-    let mut front = 0;
-    for (i, byte) in bytes.iter().enumerate() {
-        if byte.is_ascii() {
-            front = i;
-        }
-    }
-    match bytes.get(..front) {
-        Some(front) => !front.is_ascii() && std::str::from_utf8(front).is_ok(),
+    let whole = match std::str::from_utf8(bytes) {
+        Ok(_) => bytes.len(),
+        Err(error) if error.error_len().is_none() => error.valid_up_to(),
+        Err(_) => 0,
+    };
+    match bytes.get(..whole) {
+        Some(text) => !text.is_ascii(),
         None => false,
     }
 }

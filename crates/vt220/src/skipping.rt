@@ -1,6 +1,6 @@
-//! The part of a recording that is played with its index: from a checkpoint to the first one after the moment. It is a
-//! recording in the same format. It has the first line of the file, if that names the terminal, and what stands for all
-//! before the checkpoint. Then comes the file from there on.
+//! The part of a recording that is played with its index. It is a recording in the same format, of three parts: the first
+//! line of the file, if that names the terminal; the event of a checkpoint, which takes the place of everything before; and
+//! the file from the checkpoint to the first one after the moment.
 
 use std::alloc::{AllocError, Global};
 use std::fs::{File, Files, OpenFile};

@@ -1,4 +1,4 @@
--- The effect of the repaint of a terminal and of the front that a handle keeps for it.
+-- The effect of the repaint of a terminal and of the front that a handle keeps for it. (this profile)
 use Rattle.vt_term.specs.State.{State}
 use Rattle.vt_xterm.specs.Play.{FrontState, behind}
 use Rattle.vt_xterm.specs.Sides.{FitsSides}

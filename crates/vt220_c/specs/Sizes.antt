@@ -14,7 +14,7 @@ use Rattle.vt_xterm_paint.specs.Repaint.{xterm_paint_limit}
 -- the size of so many rows of so many columns, if a screen may have it. DECCOLM leaves its width
 abbrev pub size_of : (rows columns : ℕ) → Option Size
 size_of rows columns =
-    cond (nat_lt 1 rows && (nat_lt rows 256 && (nat_lt 79 columns && nat_lt columns 256)))
+    cond (nat_lt 1 rows && (nat_lt rows 256 && (nat_lt 1 columns && nat_lt columns 256)))
     (Some (record { rows = rows; narrow = columns; wide = columns })) None
 
 -- the size of a terminal that is opened: 24 rows of 80 columns are a VT220's screen, which DECCOLM makes 132 columns

@@ -1,4 +1,4 @@
--- The bytes of a host under TERM=xterm, played on a terminal and the front that a handle keeps for it.
+-- The bytes of a host under TERM=xterm, played on a terminal and the front that a handle keeps for it. (this profile)
 use Rattle.std.specs.Prelude.{◌≡◌, ◌+◌, ℕ, List, [], ◌∷◌}
 use Rattle.vt_term.specs.State.{State}
 use Rattle.vt_utf8.specs.Decoding.{pending_after}
@@ -25,7 +25,7 @@ xterm_front s front bytes = record {
 abbrev pub xterm_lines : State → FrontState → List ℕ → List ℕ
 xterm_lines s front bytes = xterm_log (behind s front) front.pending bytes
 
--- how often BEL is carried out: at its byte, unless a control string is held there. (this profile)
+-- how often BEL is carried out: at its byte, unless a control string is held there
 abbrev pub xterm_bells : State → FrontState → List ℕ → ℕ
 xterm_bells s front [] = 0
 xterm_bells s front (b ∷ bytes) =

@@ -4,7 +4,7 @@ ghost use Rattle.std.specs.Bool.{OnTrue, OnFalse};
 ghost use Rattle.vt220_c.specs.Told.{WritesAt, Plays, Rings, lines_if};
 
 use crate::bytes::put;
-use crate::inner::{CHUNK, Front, Inner, Logged};
+use crate::inner::{CHUNK, Fed, Inner, Logged};
 use crate::player::Player;
 use vt_term::REPORT_LIMIT;
 
@@ -201,7 +201,7 @@ pub(crate) fn play_byte<P: Player>(
     player: &mut P,
     byte: u8,
     out: &mut [u8],
-) -> Front
+) -> Fed
     requires kept_fits { P.Fits inner.old.display.grid.size player.old }
     ensures kept_fits { P.Fits inner.old.display.grid.size player.new }
     ensures within { result.taken ≤ 1 }
@@ -214,7 +214,7 @@ pub(crate) fn play_byte<P: Player>(
     let _ = inner.terminal.width();
     player.cuts();
     if out.len() < REPORT_LIMIT {
-        return Front {
+        return Fed {
             taken: 0,
             written: 0,
         };
@@ -222,7 +222,7 @@ pub(crate) fn play_byte<P: Player>(
     inner.reports.clear();
     player.feed(&mut inner.terminal, &[byte], &mut inner.reports);
     put(out, 0, inner.reports.as_slice());
-    Front {
+    Fed {
         taken: 1,
         written: inner.reports.len(),
     }

@@ -26,7 +26,7 @@ pub(crate) fn size_of(rows: usize, columns: usize) -> Option<Size>
     ensures value { result ≡ size_of rows columns }
     ensures in_range { IfSome result (λ size. IsSize size) }
 {
-    if 1 < rows && rows < 256 && 79 < columns && columns < 256 {
+    if 1 < rows && rows < 256 && 1 < columns && columns < 256 {
         return Some(Size {
             rows,
             narrow: columns,

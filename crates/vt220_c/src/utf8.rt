@@ -10,7 +10,7 @@ ghost use Rattle.vt220_c.specs.Utf8.{pending_in, c_utf8, cells_of_character, gly
 ghost use Rattle.vt220_c.specs.Written.{written_over};
 
 use crate::handle::Vt220;
-use crate::inner::{Front, Inner};
+use crate::inner::{Fed, Inner};
 use crate::playing::{play, play_byte};
 use crate::scratch_handle::Vt220Scratch;
 use crate::sizes::room_holds;
@@ -139,7 +139,7 @@ pub extern "C" fn core_feed_utf8(
 /// byte.
 #[inline(always)]
 #[tactic(auto, unfolding(vt_utf8::specs::Play::play_utf8))]
-fn play_byte_utf8(inner: &mut Inner, u: &mut Vt220Utf8, byte: u8, out: &mut [u8]) -> Front
+fn play_byte_utf8(inner: &mut Inner, u: &mut Vt220Utf8, byte: u8, out: &mut [u8]) -> Fed
     ensures within { result.taken ≤ 1 }
     ensures state { inner.new ≡ (play_utf8 inner.old (pending_in u.old) (take result.taken (byte ∷ []))).state }
     ensures pending { u.new ≡ c_utf8 (pending_after (pending_in u.old) (take result.taken (byte ∷ []))) }

@@ -15,7 +15,7 @@ ghost use Rattle.vt220_c.specs.Written.{written_over};
 ghost use Rattle.vt220_c.specs.Xterm.{IsSession, xterm_played, xterm_front, xterm_lines, xterm_bells};
 
 use crate::handle::Vt220;
-use crate::inner::{Front as Sent, Inner};
+use crate::inner::{Fed, Inner};
 use crate::playing::{play, play_byte};
 use crate::scratch_handle::Vt220Scratch;
 use crate::sizes::{room_holds, size_for, size_of};
@@ -200,7 +200,7 @@ fn is_printed(sides: Option<Sides>, held: &Held, pending: &[u8], byte: u8) -> bo
 
 /// Plays a byte under TERM=xterm, if `out` has capacity for its reports. Speed: most bytes are printed as on a VT220.
 #[inline(always)]
-fn play_byte_xterm(inner: &mut Inner, front: &mut SizedFront, byte: u8, out: &mut [u8]) -> Sent
+fn play_byte_xterm(inner: &mut Inner, front: &mut SizedFront, byte: u8, out: &mut [u8]) -> Fed
     requires { IsSession inner.old front.old }
     ensures within { result.taken ≤ 1 }
     ensures state { inner.new ≡ (xterm_played inner.old front.old (take result.taken (byte ∷ []))).whole.state }

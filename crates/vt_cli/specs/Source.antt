@@ -127,7 +127,7 @@ and_then next (Err complaint) = Err complaint
 -- the size of so many rows of so many columns, if a screen may have it. Its narrow and its wide screen are of one width
 abbrev pub size_of : (columns rows : ℕ) → Option Size
 size_of columns rows =
-    cond (nat_lt 79 columns && (nat_lt columns 256 && (nat_lt 1 rows && nat_lt rows 256)))
+    cond (nat_lt 1 columns && (nat_lt columns 256 && (nat_lt 1 rows && nat_lt rows 256)))
     (Some (record { rows = rows; narrow = columns; wide = columns })) None
 
 -- a VT220's screen is asked for by its width, any other one by its size
@@ -274,7 +274,7 @@ line_of NoTimes =
 line_of NoEncoding = codes "vt220: --encoding is dec, utf-8 or auto" ++ 0x0A ∷ []
 line_of NoTerminal = codes "vt220: --terminal is vt220, xterm or auto" ++ 0x0A ∷ []
 line_of NoColumns = codes "vt220: --columns is 80, 132 or auto" ++ 0x0A ∷ []
-line_of NoSize = codes "vt220: --size is columns and rows, as 120x40: 80 to 255 columns and 2 to 255 rows; or it is auto" ++ 0x0A ∷ []
+line_of NoSize = codes "vt220: --size is columns and rows, as 120x40: 2 to 255 columns and 2 to 255 rows; or it is auto" ++ 0x0A ∷ []
 line_of TwoSizes = codes "vt220: --size and --columns are given: one of the two is enough" ++ 0x0A ∷ []
 line_of OneSize =
     codes "vt220: this command plays 80x24 and 132x24 alone" ++ 0x0A ∷ codes "vt220: all but events and content play any size" ++ 0x0A ∷ []

@@ -41,7 +41,8 @@ const TEXT: &str = "The screen: 24 lines of UTF-8, each without the spaces at it
 const REPORTS: &str = "What the terminal answers to the host, chunk by chunk as the input comes";
 
 /// The purpose of `repaint`, as the help has it.
-const REPAINT: &str = "The bytes that rebuild the terminal, hidden state included, on any terminal";
+const REPAINT: &str =
+    "The bytes that rebuild the terminal, hidden state included, if played for the same terminal";
 
 /// The purpose of `status`, as the help has it.
 const STATUS: &str =
@@ -247,7 +248,7 @@ takes the text to find before FILE.
   --encoding NAME  how the host's bytes are read: dec, utf-8 or auto [default: auto]
   --terminal NAME  the terminal for which the host sends: vt220, xterm or auto [default: auto]
   --columns N      the columns of the screen: 80, 132 or auto [default: auto]
-  --size CxR       its columns and rows, for commands that play any size: 80x2 to 255x255, or auto
+  --size CxR       its columns and rows, for commands that play any size: 2x2 to 255x255, or auto
   --animate        for picture: one that moves, with a step for each event of output
   --theme NAME     the colours of a picture that moves: dark, light, green or amber [default: dark]
   --cursor SHAPE   its cursor: outline, block, underline or hidden [default: outline]

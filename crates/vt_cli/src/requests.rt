@@ -139,7 +139,7 @@ fn request_among(alloc: Global, matches: &ArgMatches<'_>) -> Result<Request, Ref
 /// - `--encoding NAME`: dec, utf-8 or auto
 /// - `--terminal NAME`: vt220, xterm or auto
 /// - `--columns N`: 80, 132 or auto
-/// - `--size COLUMNSxROWS`: 80 to 255 columns and 2 to 255 rows, or auto
+/// - `--size COLUMNSxROWS`: 2 to 255 columns and 2 to 255 rows, or auto
 /// - `--animate`, `--theme NAME`, `--cursor SHAPE` and `--title TEXT`
 /// - `--full`, `--partial` and `--quiet`
 ///

@@ -110,7 +110,7 @@ impl Complaint {
             Complaint::NoTerminal => "vt220: --terminal is vt220, xterm or auto\n",
             Complaint::NoColumns => "vt220: --columns is 80, 132 or auto\n",
             Complaint::NoSize => {
-                "vt220: --size is columns and rows, as 120x40: 80 to 255 columns and 2 to 255 rows; or it is auto\n"
+                "vt220: --size is columns and rows, as 120x40: 2 to 255 columns and 2 to 255 rows; or it is auto\n"
             }
             Complaint::TwoSizes => {
                 "vt220: --size and --columns are given: one of the two is enough\n"
@@ -314,7 +314,7 @@ pub fn size_of(columns: u64, rows: u64) -> Option<Size>
     ensures value { result ≡ size_of columns rows }
     ensures in_range { IfSome result (λ size. IsSize size) }
 {
-    if 79 < columns && columns < 256 && 1 < rows && rows < 256 {
+    if 1 < columns && columns < 256 && 1 < rows && rows < 256 {
         let columns = columns as usize;
         return Some(Size {
             rows: rows as usize,

@@ -9,7 +9,7 @@ pub enum What {
     Text,
     /// The terminal's reports, those of each chunk before the next is read.
     Reports,
-    /// The bytes that rebuild the terminal's state on any terminal, after the whole input.
+    /// The bytes that rebuild the terminal's state, after the whole input.
     Repaint,
     /// The cursor, the wrap flag, the margins, the held part, and how many report bytes there were, after the whole
     /// input.

@@ -1,5 +1,5 @@
--- The bytes of characters: in DEC's encoding those of ASCII and of DEC's supplemental set, otherwise UTF-8. (VT220 manual,
--- chapter 2: the charts of the sets; RFC 3629: UTF-8. SUB for all other characters is this profile's.)
+-- The bytes of characters: in DEC's encoding those of ASCII and of DEC's supplemental set, otherwise UTF-8.
+-- (EK-VT220-RM, chapter 2: the charts of the sets; RFC 3629: UTF-8. SUB for all other characters is this profile's.)
 use Rattle.std.specs.Prelude.{◌≡◌, ℕ, ◌+◌, ◌==◌, List, length, map, not, cond, nat_lt, Option, Some, None, option_map, unwrap_or, is_some, encode_utf8_all}
 use Rattle.std.specs.List.{filter}
 use Rattle.vt_glyph.specs.declared.set.Set.TheVariants.{Supplemental}
@@ -29,7 +29,8 @@ pub record AreConverted (characters bytes : List ℕ) (replaced : ℕ) : Type 0 
   pub bytes_are : bytes ≡ bytes_of characters
   pub replaced_are : replaced ≡ replaced_in characters
 
--- the bytes of characters in an encoding, up to a number of bytes, and how many characters have none. In UTF-8 all have some
+-- the bytes of characters in an encoding, up to a number of bytes, and how many characters have none. In UTF-8 all have
+-- some
 abbrev pub AreWritten : Encoding → (until : Option Moment) → (characters bytes : List ℕ) → (replaced : ℕ) → Type 0
 AreWritten Dec until characters bytes replaced = AreConverted (cut until characters) bytes replaced
 AreWritten Utf8 until characters bytes replaced = (bytes ≡ cut until (encode_utf8_all characters)) × (replaced ≡ 0)

@@ -1,4 +1,4 @@
--- An event, as contracts see it.
+-- An event, as contracts see it. (this profile)
 use Rattle.vt_recording.specs.Asciicast.{Event}
 use Rattle.vt_recording.specs.declared.asciicast.Event as declared
 

@@ -1,4 +1,4 @@
--- A step and a spot, as contracts see them.
+-- A step and a spot, as contracts see them. (this profile)
 use Rattle.vt_recording.specs.Timing as timing
 use Rattle.vt_recording.specs.declared.timing.Step.{Step}
 use Rattle.vt_recording.specs.declared.timing.Replay.{Replay}

@@ -58,16 +58,16 @@ fn plain_length(rest: &[u8]) -> usize
     }
 }
 
-/// An escape, as a terminal's recording has it.
+/// An escape of JSON that stands for one byte.
 #[derive(Clone, Copy)]
 struct Escape {
     /// The byte that it stands for.
     byte: u8,
-    /// The length of its name.
+    /// The number of bytes of the escape, the backslash among them.
     length: usize,
 }
 
-/// Returns the byte that a backslash and a letter stand for.
+/// Returns the byte that an escape of a backslash and this letter stands for, if there is one.
 fn short_escape(letter: u8) -> Option<u8>
     ensures { IfSome result (λ byte. short_escape letter ≡ Some byte) }
 {
@@ -116,8 +116,8 @@ fn front_escape(rest: &[u8]) -> Option<Escape>
     Some(Escape { byte, length: 2 })
 }
 
-/// Appends the text of a string in front of its first quote or unknown escape, and returns where that is. The opening quote comes
-/// before the bytes.
+/// Appends the text of the first bytes of a string, and returns how many these are. They end at the closing quote, unless an unknown
+/// escape or a control character comes first. `rest` begins after the opening quote.
 fn unescape(rest: &[u8], text: &mut Vec<u8>) -> Result<usize, AllocError>
     requires { text.old.items ≡ [] }
     ensures { IfOk result (λ at. IsReadTo rest.now text.new.items at) }
@@ -136,7 +136,7 @@ fn unescape(rest: &[u8], text: &mut Vec<u8>) -> Result<usize, AllocError>
     Ok(at)
 }
 
-/// Writes the text of a string to `text`, and returns whether the array ends after it. The opening quote comes before the bytes. It
+/// Writes the text of a string to `text`, and returns whether the array ends after it. `rest` begins after the opening quote. It
 /// returns false if there is an escape that it doesn't know.
 pub(crate) fn last_text(rest: &[u8], text: &mut Vec<u8>) -> Result<bool, AllocError>
     ensures { IfOk result (λ is_last. IsTrue is_last → IsText rest.now text.new.items) }

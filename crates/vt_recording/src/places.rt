@@ -15,7 +15,7 @@ fn is_size(code: &str) -> bool
     code == "r"
 }
 
-/// What a line has: whether it has output, and whether it has a change of the window's size.
+/// The kinds of event that a line has: output, and a change of the window's size.
 #[derive(Clone, Copy)]
 struct Told {
     output: bool,

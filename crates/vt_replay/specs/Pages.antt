@@ -1,5 +1,5 @@
--- The pages: the lines of the screen before each event that blanks all of it. (EK-VT220-RM: ED, IL, DL, RIS and DECCOLM;
--- that their lines are written is this profile's)
+-- The pages: the lines of the screen before each event that blanks all of it. (EK-VT220-RM, chapter 4: ED, IL, DL, RIS
+-- and DECCOLM; that their lines are written is this profile's)
 use Rattle.std.specs.Prelude.{◌≡◌, ◌≤◌, ℕ, List, [], ◌∷◌, ◌++◌, Bool, false, Option, Some, None, length, codes}
 use Rattle.std.specs.Prelude.{◌==◌, ◌||◌, ◌&&◌, nat_le, if◌then◌else◌, flat_map}
 use Rattle.vt_syntax.specs.declared.event.Event.{Event}

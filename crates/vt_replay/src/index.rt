@@ -189,7 +189,7 @@ fn push_frame(bytes: &[u8], repaint: &[u8], out: &mut Vec<u8>) -> Result<(), All
     out.extend_from_slice(repaint)
 }
 
-/// Puts what stands for the recording before a checkpoint into `out`: its repaint, in the form of the recording.
+/// Appends the event that takes the place of all of the recording before a checkpoint: the repaint, in the format of the recording.
 pub(crate) fn push_event(
     format: Format,
     bytes: &[u8],
@@ -209,7 +209,7 @@ pub(crate) fn push_event(
 
 // ---- where steps end in the file
 
-/// Returns the place so many bytes after another one, or the end of a file of so many bytes.
+/// Returns the place that is `count` bytes after `place`, or the end of a file of `total` bytes if that comes first.
 fn past(total: usize, place: usize, count: usize) -> usize
     requires { place ≤ total }
     ensures value { result ≡ past total place count }
@@ -218,7 +218,7 @@ fn past(total: usize, place: usize, count: usize) -> usize
     place + count.min(total - place)
 }
 
-/// Returns where steps end in a file of so many bytes, each after a header of so many.
+/// Returns the places in a file of `total` bytes at which steps end. Each step comes after `header` bytes.
 fn framed_places(
     alloc: Global,
     header: usize,
@@ -278,7 +278,7 @@ fn steps_for(
     }
 }
 
-/// Returns where steps end in a file. In a recording by script these places aren't looked for.
+/// Returns the places in a file at which steps end. A recording by script has no checkpoints, so there it returns none.
 fn places_for(
     alloc: Global,
     format: Format,
@@ -309,7 +309,7 @@ fn is_indexed(
     broken.is_none() && !characters && head_of(format, bytes) <= FRONT_LENGTH && is_in_turn(steps)
 }
 
-/// Returns where steps end in a file, if the recording has checkpoints.
+/// Returns the places in a file at which steps end, or none if the recording has no checkpoints ([`is_indexed`]).
 fn indexed_places(
     alloc: Global,
     format: Format,

@@ -21,6 +21,9 @@ pub fn front_for(chunk: &[u8], reports: &Vec<u8>) -> usize
     chunk.len().min(reports.capacity() / REPORT_LIMIT)
 }
 
+/// The encoding for an output that reads the host's language itself: it is given the bytes as they come.
+pub(crate) const AS_THEY_COME: Encoding = Encoding::Dec;
+
 /// Gives a source's bytes in an encoding to an output, and writes what it makes of them, as `write_output` does of a
 /// reader's. The source hasn't failed or ended before. In UTF-8 the output is given the terminal's bytes, and what is
 /// pending at the end isn't given. `piece` and `limit` count the host's bytes.

@@ -13,7 +13,7 @@ ghost use Rattle.vt_trace.specs.Trace.{trace, tracer_all, end_lines};
 ghost use Rattle.vt_trace.specs.Counted.{HasCountedSome, summary_after};
 ghost use Rattle.vt_trace.specs.Names.{vt220_listing};
 
-use crate::output::{front_for, write_output_from};
+use crate::output::{AS_THEY_COME, front_for, write_output_from};
 use std::alloc::{AllocError, Global};
 use std::io::Write;
 use vt_cli::Encoding;
@@ -112,8 +112,15 @@ pub(crate) fn write_word_at<O: SizedWordOutput, S: Source, W: Write>(
     ensures whole { S.ended reader.new ≡ true → IsAtEnd (S.remaining reader.new) }
 {
     let mut output = O::new(alloc, size, piece)?;
-    let dec = Encoding::Dec;
-    write_output_from(alloc, &mut output, dec, reader, writer, piece, limit)
+    write_output_from(
+        alloc,
+        &mut output,
+        AS_THEY_COME,
+        reader,
+        writer,
+        piece,
+        limit,
+    )
 }
 
 /// The output of the trace.

@@ -3,7 +3,7 @@ ghost use Rattle.std.specs.Prelude.{◌≡◌, ◌+◌, ◌≤◌, ◌<◌, ◌^
 ghost use Rattle.std.specs.Prelude.{vec_len, vec_capacity};
 ghost use Rattle.vt_replay.specs.Status.{line, two_numbers, kind_of_held, status};
 
-use itoa::Buffer;
+use vt_paint::push_number;
 use vt_syntax::Held;
 use vt_term::SizedTerminal;
 
@@ -30,18 +30,6 @@ fn yes_or_no(flag: bool) -> &'static [u8]
     ensures short { length result.now ≤ 3 }
 {
     if flag { b"yes" } else { b"no" }
-}
-
-/// Appends a number, of at most twenty digits, in existing capacity.
-fn push_number(n: u64, out: &mut Vec<u8>)
-    requires { vec_len out.old + 20 ≤ vec_capacity out.old }
-    ensures items { out.new.items ≡ out.old.items ++ decimal n }
-    ensures bounded { vec_len out.new ≤ vec_len out.old + 20 }
-    ensures capacity { vec_capacity out.old ≤ vec_capacity out.new }
-{
-    let mut buffer = Buffer::new();
-    let digits = buffer.format(n);
-    out.extend_from_slice(digits.as_bytes()).unwrap();
 }
 
 /// Appends a short text, in existing capacity.

@@ -19,7 +19,7 @@ const ANSWERS: &[u8] = b"\x9b?62;1;6c\x9b>1;10;0c";
 /// More bytes than any replay here writes.
 const ROOM: usize = 100_000;
 
-/// The limit of a replay, and the most bytes of one write, which are some.
+/// The limit of a replay, and the most bytes of one write: at least one.
 #[derive(Clone, Copy)]
 struct Bounds {
     limit: u64,

@@ -2,8 +2,8 @@
 use std::alloc::Global;
 use vt_recording::{Break, Encoding, Format, Moment, take_apart};
 
-/// A recording, its timing file, the moment up to which it is wanted, its content, the place at which it is broken, and the
-/// number of characters that have no byte.
+/// What is taken apart: a recording, its timing file, and the moment up to which it is wanted. Then what comes of it: the
+/// content, the place at which it is broken, and the number of characters that have no byte.
 pub(super) type Row = (
     &'static [u8],
     Option<&'static [u8]>,

@@ -162,9 +162,7 @@ fn words_ask_for_a_log(rt: HostRuntime) {
     }
 }
 
-/// The request that the options of a line make: the format (none for auto), the timing file, the moments, the encoding, the terminal,
-/// the title, the text of a search, the bytes between two checkpoints, the index, whether the log is searched, whether a table is full,
-/// whether what came before a break is enough, and whether the notes are left out.
+/// The fields of a [`Request`] that the options of a line make.
 #[derive(Clone, Copy)]
 struct Options {
     format: Option<Format>,

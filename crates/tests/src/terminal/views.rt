@@ -116,8 +116,8 @@ pub(super) const LIGHT_ON_DARK: &str =
 const DARK_ON_LIGHT: &str =
     "<g fill='#101010' direction='ltr' font-style='normal' font-weight='normal' letter-spacing='0' word-spacing='0'>\n<rect fill='#d0d0d0' x='-10' y='-10' width='100%' height='100%'/>\n";
 
-/// An input, the start of its picture, how many empty lines its text alternative begins with, the line after them, how
-/// many empty lines follow, the colours, and the rest but for the last two lines.
+/// An input and its picture, in parts. The parts are the start, the empty lines at the front of the text alternative, the
+/// line after them, the empty lines that follow, the colours, and the rest without the last two lines.
 type Drawn = (
     &'static [u8],
     &'static str,

@@ -36,8 +36,8 @@ pub(super) fn terminal(alloc: Global, input: &[u8]) -> Result<Terminal, AllocErr
     Ok(terminal)
 }
 
-/// Has what an update was asked for, and what it has left. Its methods that can fail own nothing large, so no exit has
-/// to drop it.
+/// What an update was asked for, and what it has left. The methods that can fail own nothing large, so no exit has to
+/// drop it.
 #[derive(Drop)]
 pub(super) struct Asked {
     pub(super) shown: Terminal,

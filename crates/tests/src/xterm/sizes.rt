@@ -69,8 +69,8 @@ fn sizes(rt: HostRuntime) {
 /// The brush and the sets at power-up.
 const END: &[u8] = b"\x1b[0m\x1b[0\"q\x1b(B\x1b)B\x1b*<\x1b+<\x0f\x1b}";
 
-/// A session, what is sent before the items of the page that isn't shown, these, what is sent before those of the page that is
-/// shown, these, and what is sent after them. Neither has its end.
+/// A session, and its repaint in five parts. The second one has the items of the page that isn't shown, and the fourth those of
+/// the page that is shown, each without its end. The others are sent before, between and after these.
 type Session = (&'static str, [&'static [u8]; 5]);
 
 // the second one shows the alternate page, on which DECSC saves nothing; the others have left and right margins, and the last one a wrap that

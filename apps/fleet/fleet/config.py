@@ -13,7 +13,7 @@ from .store import connect
 PATHS = ("~/.config/vt220-fleet.conf", "/etc/vt220-fleet.conf")
 DEFAULT_STORE = "redis://127.0.0.1:6379"
 CHOICES = {"encoding": ("dec", "utf-8"), "terminal": ("vt220", "xterm")}  # of what a session's program writes
-COLUMNS, ROWS = (80, 255), (2, 255)  # the fewest and the most of a screen
+COLUMNS, ROWS = (2, 255), (2, 255)  # the fewest and the most of a screen
 
 
 class Unclear(Exception):

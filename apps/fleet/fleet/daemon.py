@@ -72,6 +72,9 @@ class Shared:
         self.asked.put((words, asked))
         return asked
 
+    def hset(self, name, field, value):
+        self.post("HSET", name, field, value)
+
     def xdel(self, name, entry_id):
         self.post("XDEL", name, entry_id)
 

@@ -8,8 +8,8 @@ import vt220.cast
 import vt220.page
 from vt220.process import TERMS
 
-from .keys import DEC, key, language_of
-from .session import bytes_of
+from .keys import DEC, key, language_of, text
+from .session import bytes_of, events_of, first_screen
 
 PROGRAM = os.path.join(os.path.dirname(os.path.abspath(__file__)), "..", "..", "..", "crates", "vt220", "out", "vt220")
 
@@ -30,25 +30,27 @@ def log(store, incarnation, out):
 
 
 def language(store, incarnation):
-    """Returns what a session's bytes are: their encoding, and the terminal and the screen that they are for."""
-    return language_of(*store.hmget(key(incarnation, "about"), *DEC._fields))
+    """Returns what a session's bytes are: their encoding, the terminal that they are for, and its screen at the first of them that is left."""
+    *said, resized = store.hmget(key(incarnation, "about"), *DEC._fields, "resized")
+    found = language_of(*said)
+    return found._replace(screen=first_screen(store, incarnation, found, text(resized)))
 
 
 def asciicast(store, incarnation, title, out):
-    """Writes an asciicast, version 2."""
+    """Writes an asciicast, version 2. A change of the size is an event."""
     written = language(store, incarnation)
-    parts = bytes_of(store, incarnation)
+    parts = events_of(store, incarnation)
     if not (first := next(parts, None)):
         return
-    _, begin, _ = first
+    begin = first[1]
     size = {"width": written.size()["columns"], "height": written.size()["rows"]}
     head = {**size, "timestamp": begin // 1000, "title": title, "env": {"TERM": TERMS[written.terminal]}}
-    events = (((moment - begin) / 1000, "o", data) for _, moment, data in itertools.chain([first], parts))
+    events = (((moment - begin) / 1000, code, data) for _, moment, code, data in itertools.chain([first], parts))
     out.writelines(vt220.cast.asciicast(head, events, written.encoding))
 
 
 def ttyrec(store, incarnation, _title, out):
-    """Writes a ttyrec: frames of seconds, microseconds, length and bytes. It has no title."""
+    """Writes a ttyrec: frames of seconds, microseconds, length and bytes. It has no title, and no sizes."""
     for _, moment, data in bytes_of(store, incarnation):
         out.write(struct.pack("<III", moment // 1000, moment % 1000 * 1000, len(data)) + data)
 
@@ -56,10 +58,16 @@ def ttyrec(store, incarnation, _title, out):
 def page(store, incarnation, title, out):
     """Writes a page that plays the session in a browser."""
     written = language(store, incarnation)
-    parts = [(moment, data) for _, moment, data in bytes_of(store, incarnation)]
-    chunks = [((moment - parts[0][0]) * 1000, len(data)) for moment, data in parts]
+    content, chunks, changes, begin = bytearray(), [], [], None
+    for _, moment, code, data in events_of(store, incarnation):
+        begin = moment if begin is None else begin
+        if code == "r":
+            changes.append(((moment - begin) / 1000, text(data), len(content)))
+        else:
+            chunks.append(((moment - begin) * 1000, len(data)))
+            content += data
     options = {"encoding": written.encoding, "terminal": written.terminal, **(written.size() if written.screen != DEC.screen else {})}
-    out.write(vt220.page.page(b"".join(data for _, data in parts), chunks, title, **options).encode())
+    out.write(vt220.page.page(bytes(content), chunks, title, changes=changes, **options).encode())
 
 
 def picture(repaint, screen):

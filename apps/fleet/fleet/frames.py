@@ -40,20 +40,23 @@ class Frames:
         self.store.run_all(calls)
 
     def add(self, calls, session, worker):
-        """Adds the calls that send a repaint, or an update on what was sent before it; `by` and `step` say on what."""
+        """Adds the calls that send a repaint, with the size if that was changed, or an update on what was sent before it; `by` and `step` say on
+        what."""
         stream, session.is_dirty = key(session.incarnation, "view"), False
         if session.shown is None or session.step == STEPS:
             if session.shown is None:
                 # Not deleted: ids only grow in a stream that stays, whatever the clock does.
                 calls.append(("XTRIM", stream, "MAXLEN", 0))
-            session.shown, session.step = session.language.viewed(), 0
-            frame = {"repaint": session.terminal.repaint("vt220")}
-            session.shown.feed(frame["repaint"])
+            session.shown, session.step, repaint = session.viewed(), 0, session.terminal.repaint("vt220")
+            session.shown.feed(repaint)
+            frame = {"screen": session.resized, "resized": repaint} if session.resized else {"repaint": repaint}
         else:
             frame = {"update": session.shown.update(session.terminal)}
             if not frame["update"]:
                 return
             session.step += 1
-        words = [word for pair in (frame | {"by": worker, "step": session.step, "at": session.at}).items() for word in pair]
+        # A viewer of a version before that knows no changes of the size plays none of these.
+        frame |= {"by": f"{worker} {session.resized}" if session.resized else worker, "step": session.step, "at": session.at}
+        words = [word for pair in frame.items() for word in pair]
         calls += [("XADD", stream, "MAXLEN", 2 * STEPS, "*", *words), ("EXPIRE", stream, FORGET)]
         session.framed = time.monotonic()

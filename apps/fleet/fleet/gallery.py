@@ -41,24 +41,24 @@ class Picture:
 
     def __init__(self, incarnation):
         self.incarnation, self.number, self.shown = incarnation, 0, -1
-        self.terminal = vt220.Terminal()  # until there is one to show
+        self.terminal, self.size = vt220.Terminal(), ("", "")  # until there is one to show; the size that it has, and the one to which it was changed
         self.modes = self.terminal.modes()
         self.begin, self.updates = 0, []  # since which number an update led from each screen to the next: (number, bytes)
         self.facts, self.facts_changed = {}, 0
 
-    def follow(self, terminal, update=None):
-        """Takes in where a terminal is now. An update led there from where it was."""
+    def follow(self, terminal, size, update=None):
+        """Takes in where a terminal of a size is now. An update led there from where it was."""
         self.number = self.shown = next(self.numbers)
-        self.modes = terminal.modes()
+        self.modes, self.size = terminal.modes(), size
         if update is not None and terminal is self.terminal:
             self.updates.append((self.number, update))
         else:
             self.terminal, self.begin, self.updates = terminal, self.number, []
 
-    def replace(self, terminal):
+    def replace(self, terminal, size):
         """Takes in a terminal that was read from the store."""
-        if self.shown < 0 or not terminal.same_state(self.terminal):
-            self.follow(terminal)
+        if self.shown < 0 or size != self.size or not terminal.same_state(self.terminal):
+            self.follow(terminal, size)
 
     def learn(self, facts):
         if facts != self.facts:
@@ -71,6 +71,7 @@ class Picture:
             return None
         made = {"session": self.incarnation}
         made |= {"bytes": base64.b64encode(self.way_from(number)).decode()} if self.shown > number else {}
+        made |= dict(zip(("screen", "resized"), self.size)) if self.shown > number and number < self.begin else {}
         return made | ({"facts": self.facts} if self.facts_changed > number else {})
 
     def way_from(self, number):
@@ -89,12 +90,13 @@ class Followed(Viewer):
 
     def play(self, fields):
         """Plays a frame, and has clients play it too. A worker sends a repaint also if nothing changed, and clients aren't sent that."""
-        before = self.picture.terminal.copy() if b"repaint" in fields and self.picture.shown >= 0 else None
+        before = self.picture.terminal.copy() if b"update" not in fields and self.picture.shown >= 0 else None
         if is_played := super().play(fields):
-            if before is not None and before.same_state(self.terminal):
+            size = self.language.screen, self.resized
+            if before is not None and size == self.picture.size and before.same_state(self.terminal):
                 self.picture.terminal = self.terminal
             else:
-                self.picture.follow(self.terminal, fields.get(b"update"))
+                self.picture.follow(self.terminal, size, fields.get(b"update"))
         return is_played
 
     def is_to_be_read(self):
@@ -191,9 +193,9 @@ class Gallery:
         each.read, each.is_final, each.is_reading = time.monotonic(), is_over, False
 
     def replace(self, each):
-        terminal = as_it_is(self.store, each.incarnation, READ).terminal
+        session = as_it_is(self.store, each.incarnation, READ)
         with self.lock:
-            each.picture.replace(terminal)
+            each.picture.replace(session.terminal, (session.language.screen, session.resized))
         self.on_change()
 
     def since(self, told):

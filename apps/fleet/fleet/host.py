@@ -11,6 +11,7 @@ import threading
 import time
 
 from . import keys
+from .config import is_screen
 from .keys import PIECE, key
 from .store import ResponseError, is_of_session
 from .wire import STREAMS
@@ -82,7 +83,7 @@ class Host:
         self.takes_input = takes_input
         self.at = self.begun = self.stored = 0  # positions: of what was sent, where this host began, of what the store has taken
         self.played = 0
-        self.held = collections.deque()  # what was sent last: (position after it, moment, bytes)
+        self.held = collections.deque()  # what was sent last: (position after it, moment, bytes, their field)
         self.held_bytes = 0
         self.held_from = self.held_to = 0  # the positions between which bytes are held
         self.fault = None
@@ -113,6 +114,11 @@ class Host:
     def version(self):
         return keys.version(self.format)
 
+    def allow_resizing(self):
+        """Says in the store that the program's size can be changed."""
+        self.about += ["resizable", 1]
+        self.store.hset(self.part("about"), "resizable", 1)
+
     # Another host's session, whose program lives.
 
     def resume(self, is_waited_for=is_dead_here):
@@ -138,40 +144,46 @@ class Host:
         """Returns whether this host holds all that the store has and the program's holder had."""
         return self.held_to >= self.at
 
-    def send_up_to(self, at, data):
-        """Appends the bytes before a position that the store doesn't have. Those that it has are held, as if this host had sent them."""
-        known = max(0, len(data) - max(0, at - self.at))
+    def send_up_to(self, at, data, field="bytes"):
+        """Appends the bytes before a position that the store doesn't have, or a change of the size. Those that it has are held, as if this host had sent
+        them."""
+        length = keys.length(field, data)
+        known = max(0, length - max(0, at - self.at))
         if known:
-            self.hold(at - len(data) + known, keys.now(), data[:known])
-        if known < len(data):
-            self.send(data[known:])
+            self.hold(at - length + known, keys.now(), data[:known] if field == "bytes" else data, field)
+        if known < length:
+            self.send(data[known:], field)
 
     # Bytes to the store.
 
-    def send(self, data):
-        """Appends bytes, in entries of a limited size. Raises a fault if the session cannot go on."""
+    def send(self, data, field="bytes"):
+        """Appends bytes, in entries of a limited size, or a change of the size. Raises a fault if the session cannot go on."""
         for begin in range(0, len(data), PIECE):
-            self.send_one(data[begin : begin + PIECE])
+            self.send_one(data[begin : begin + PIECE], field)
 
-    def send_one(self, data):
+    def send_one(self, data, field):
         with self.lock:
             moment = keys.now()
-            self.hold(self.at + len(data), moment, data)
-            self.at += len(data)
-            self.append(self.at, moment, data)
+            self.at += keys.length(field, data)
+            self.hold(self.at, moment, data, field)
+            self.append(self.at, moment, data, field)
         self.wait_for_worker()
 
-    def hold(self, at, moment, data):
-        self.held.append((at, moment, data))
+    def hold(self, at, moment, data, field):
+        self.held.append((at, moment, data, field))
         self.held_bytes += len(data)
         self.held_to = at
         while self.held_bytes - len(self.held[0][2]) >= HELD:
-            self.held_from, _, dropped = self.held.popleft()
+            self.held_from, _, dropped, _ = self.held.popleft()
             self.held_bytes -= len(dropped)
 
-    def append(self, at, moment, data):
-        words = self.incarnation, at - len(data), at, self.version(), moment, data, self.me
-        answer = self.store.run("append", *words)
+    def words_of(self, at, moment, data, field, there=0):
+        """Returns the words that append an entry after a position of the store. A change of the size needs a format that has such ones."""
+        version = keys.version(self.format if field == "bytes" else max(self.format, keys.RESIZED))
+        return self.incarnation, max(there, at - keys.length(field, data)), at, version, moment, data, self.me, field
+
+    def append(self, at, moment, data, field="bytes"):
+        answer = self.store.run("append", *self.words_of(at, moment, data, field))
         if answer[0] == "ok":
             self.played, self.stored = keys.number(answer[1], self.played), at
         elif answer[0] in ("lost", "back"):
@@ -192,10 +204,9 @@ class Host:
                 self.fail(WentBack(f"the store lost the bytes from {there} to {self.at}, and the host has those from {self.held_from}"))
             self.rebuilt += 1
             self.register_again()
-            for at, moment, data in list(self.held):
-                if at > there:
-                    words = max(there, at - len(data)), at, self.version(), moment, data, self.me
-                    answer = self.store.run("append", self.incarnation, *words)
+            for held in list(self.held):
+                if held[0] > there:
+                    answer = self.store.run("append", *self.words_of(*held, there))
                     if answer[0] != "ok":
                         self.fail(WentBack(f"the store has the bytes up to {there} and takes none after them: {answer[0]}"))
             self.stored = self.at
@@ -284,8 +295,8 @@ class Host:
     # What comes for the program.
 
     def receive(self, patience=0.5):
-        """Waits for what comes for the program. Returns it, as a list of ("report", bytes), ("keys", bytes), ("signal", number),
-        each one once and in order."""
+        """Waits for what comes for the program. Returns it, as a list of ("report", bytes), ("keys", bytes), ("signal", number) and
+        ("screen", a size), each one once and in order."""
         try:
             got = self.read_entries(self.store.read_streams(COUNT, self.streams(), patience))
         except ResponseError as error:
@@ -326,6 +337,8 @@ class Host:
         """Returns the kind of an entry for the program, and what it is, or None if it isn't one."""
         if name == "answers":
             return self.report_of(entry_id, fields)
+        if name == "signals" and is_screen(keys.text(fields.get(b"screen"))):
+            return "screen", fields[b"screen"]
         if name == "signals":
             is_known = fields.get(b"signal") in (b"1", b"2", b"9", b"15")
             return ("signal", int(fields[b"signal"])) if is_known else None

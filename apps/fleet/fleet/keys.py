@@ -19,14 +19,17 @@ the incarnation, so that a name can be used again without meeting anything of it
     fleet:of:WORKER              set of the incarnations that a worker owns
 
     fleet:INCARNATION:about      hash: name, host, started, owner, end (of the bytes), played, answered, how it ended, and unless it is
-                                 a VT220 with its own bytes: the encoding, the terminal, the screen, and the format that the session needs
-    fleet:INCARNATION:bytes      stream of what the host sent. The id of an entry is POSITION-0, the position after its last byte.
-                                 The first entry is 0-1; the last one, POSITION-2, carries the exit status
+                                 a VT220 with its own bytes: the encoding, the terminal, the screen, and the format that the session needs;
+                                 whether its size can be changed (resizable), and the present size if it was (resized)
+    fleet:INCARNATION:bytes      stream of what the host sent. The id of an entry is POSITION-0, the position after its last byte. A
+                                 change of the size counts as one byte. The first entry is 0-1; the last one, POSITION-2, carries the exit
+                                 status
     fleet:INCARNATION:answers    stream of reports. The id of a report is the position just after the byte that asked for it
-    fleet:INCARNATION:checkpoint hash: a position and bytes that rebuild the terminal there, with length, checksum and versions
+    fleet:INCARNATION:checkpoint hash: a position and bytes that rebuild the terminal there, with length, checksum and versions; and its
+                                 size if that was changed
     fleet:INCARNATION:view       stream for viewers: a repaint, then updates
     fleet:INCARNATION:keys       stream of what viewers typed
-    fleet:INCARNATION:signals    stream of the signals that viewers sent
+    fleet:INCARNATION:signals    stream of the signals and the sizes that operators sent
     fleet:INCARNATION:typed:VIEWER  the number of the last thing that a viewer typed; goes when the viewer leaves, or after a day
     fleet:INCARNATION:ended      hash: where and how it ended, and the screen's text
     fleet:INCARNATION:fault      why no worker can go on with it
@@ -46,9 +49,15 @@ import vt220
 
 from .config import is_screen
 
-# The formats that this program reads and writes. Since 3 a session has an encoding, since 4 a terminal, and since 5 a size of its screen.
-FORMATS = (2, 3, 4, 5)
+# The formats that this program reads and writes. Since 3 a session has an encoding, since 4 a terminal, since 5 a size of its screen, and since
+# 6 changes of this size.
+FORMATS = (2, 3, 4, 5, 6)
 FORMAT, OLDEST = max(FORMATS), min(FORMATS)
+
+
+def size_of(screen):
+    """Returns the rows and the columns of a size, by these names."""
+    return dict(zip(("columns", "rows"), map(int, screen.split("x"))))
 
 
 class Language(NamedTuple):
@@ -60,7 +69,7 @@ class Language(NamedTuple):
 
     def size(self):
         """Returns the rows and the columns, by these names."""
-        return dict(zip(("columns", "rows"), map(int, self.screen.split("x"))))
+        return size_of(self.screen)
 
     def opened(self):
         """Returns a terminal of this language."""
@@ -74,6 +83,7 @@ class Language(NamedTuple):
 DEC, UTF8, XTERM = Language(), Language("utf-8"), Language("utf-8", "xterm")
 NEEDED = {DEC: OLDEST, UTF8: 3, XTERM: 4}  # the oldest format in which a session of a language is written that has a VT220's size
 SIZED = 5  # and of any other one
+RESIZED = 6  # and whose size was changed
 ALL, LIVE, NAMES, WAITING, SUSPECTS, TRYING, FOREIGN, WORKERS, DRAINING, UNFIT = (
     "fleet:all", "fleet:live", "fleet:names", "fleet:waiting", "fleet:suspects", "fleet:trying", "fleet:foreign",
     "fleet:workers", "fleet:draining", "fleet:unfit",
@@ -184,6 +194,11 @@ def needed(language):
     return NEEDED[language] if language in NEEDED else SIZED
 
 
+def length(field, data):
+    """Returns how many positions an entry takes, by its field: each byte takes one, and a change of the size, too."""
+    return len(data) if field == "bytes" else 1
+
+
 def version(number=FORMAT):
     """Returns the version of a format and of the library, as entries carry it."""
     return f"{number}.{vt220.version()}"
@@ -219,25 +234,27 @@ def position(entry_id):
     return int(entry_id.split(b"-")[0])
 
 
-def checksum(at, repaint):
-    return hashlib.sha256(b"%d:%d:" % (at, len(repaint)) + repaint).hexdigest()
+def checksum(at, repaint, screen=""):
+    return hashlib.sha256(b"%d:%d:" % (at, len(repaint)) + repaint + screen.encode()).hexdigest()
 
 
-def checkpoint(at, repaint, number=FORMAT):
-    """Returns the fields of a checkpoint: a position, and bytes that rebuild the terminal there."""
-    return {"at": at, "length": len(repaint), "sha256": checksum(at, repaint), "v": version(number), "repaint": repaint}
+def checkpoint(at, repaint, number=FORMAT, screen=""):
+    """Returns the fields of a checkpoint: a position, bytes that rebuild the terminal there, and its size if that was changed."""
+    made = {"at": at, "length": len(repaint), "sha256": checksum(at, repaint, screen), "v": version(number), "repaint": repaint}
+    return made | {"screen": screen}
 
 
 def read_checkpoint(fields, formats=FORMATS):
-    """Returns the position of a checkpoint, and the bytes that rebuild the terminal. Raises Damaged if it isn't as it was stored, and Version if it isn't of
-    one of these formats."""
+    """Returns the position of a checkpoint, the bytes that rebuild the terminal, and its size if that was changed. Raises Damaged if it isn't as it was
+    stored, and Version if it isn't of one of these formats."""
     if b"v" in fields and format_of(fields[b"v"]) not in formats:
         raise Version("a checkpoint", fields[b"v"])
     try:
-        at, length, repaint = int(fields[b"at"]), int(fields[b"length"]), fields[b"repaint"]
-        is_sound = length == len(repaint) and text(fields[b"sha256"]) == checksum(at, repaint) and b"v" in fields
+        at, length, repaint, screen = int(fields[b"at"]), int(fields[b"length"]), fields[b"repaint"], text(fields.get(b"screen"))
+        is_sound = length == len(repaint) and text(fields[b"sha256"]) == checksum(at, repaint, screen) and b"v" in fields
+        is_sound = is_sound and (not screen or is_screen(screen))
     except (KeyError, ValueError):
         is_sound = False
     if not is_sound:
         raise Damaged()
-    return at, repaint
+    return at, repaint, screen

@@ -98,6 +98,7 @@ class DaemonMetrics:
         yield gauge("host_lag_seconds", "Seconds for which the same bytes of a program are being sent, at most", max((now - since for each in programs if (since := each.sends_since) is not None), default=0))
         yield counter("host_bytes", "Bytes of its programs that the store has taken from this daemon", totals["bytes"])
         yield counter("host_inputs", "Keys and reports that its programs were given", totals["inputs"])
+        yield counter("host_resizes", "Changes of the size that its programs were given", totals["resizes"])
         yield counted(GaugeMetricFamily, "host_programs", "Its programs by their state: slowed if too much waits, or if the store is away", "state", self.states())
         yield from of_store(self.daemon.store)
 

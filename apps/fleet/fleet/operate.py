@@ -9,7 +9,7 @@ from . import keys
 from .claims import SHOWN
 from .keys import key
 
-FIELDS = ("name", "host", "owner", "end", "played", "seen", "closed", "started", "input", "command", *keys.DEC._fields)
+FIELDS = ("name", "host", "owner", "end", "played", "seen", "closed", "started", "input", "command", "resized", *keys.DEC._fields)
 COLUMNS = ("NAME", "STATE", "HOST", "WORKER", "LAG", "SIZE", "SCREEN", "LAST OUTPUT")
 SIGNALS = {"HUP": 1, "INT": 2, "KILL": 9, "TERM": 15}
 
@@ -69,7 +69,8 @@ def described(incarnation, fields, fault, status):
     try:
         end, played, started, seen = (keys.number(fields[name]) for name in ("end", "played", "started", "seen"))
         made |= {"size": end, "lag": max(0, end - played), "started": started, "seen": seen}
-        keys.language_of(*(fields[name] for name in keys.DEC._fields))
+        language = keys.language_of(*(fields[name] for name in keys.DEC._fields))
+        made["screen"] = keys.language_of(*language[:2], fields["resized"] or language.screen).screen
     except keys.Wrong as wrong:
         made["fault"] = made["fault"] or f"Wrong: {wrong}"
     return made
@@ -147,6 +148,7 @@ def show_list(store, is_json, is_all):
 
 REFUSALS = {
     "refused": "the host of this session allows no input: start it with --input",
+    "fixed": "the size of this session can't be changed: it has no holder that knows how to",
     "silent": "the host of this session is silent",
     "closed": "the session has ended",
     "lost": "the session has ended",
@@ -194,6 +196,9 @@ class Typist:
     def signal(self, number):
         self.send("signal", number)
 
+    def resize(self, screen):
+        self.send("screen", screen)
+
     def leave(self):
         """Has the store forget this typist, whose last thing arrived."""
         if self.number > 1:
@@ -235,6 +240,12 @@ class Sender(threading.Thread):
         self.join(patience)
 
 
+def is_over(store, incarnation):
+    """Returns whether a session has ended, or has a fault."""
+    over = key(incarnation, "ended"), key(incarnation, "fault")
+    return bool(store.hexists(key(incarnation, "about"), "closed") or store.exists(*over))
+
+
 def kill(store, name, signal, patience):
     """Has the host send a signal to the program, and waits until the session is over."""
     incarnation = find(store, name)
@@ -244,9 +255,31 @@ def kill(store, name, signal, patience):
     typist = Typist(store, incarnation, patience)
     typist.signal(SIGNALS[signal])
     typist.leave()
-    over = key(incarnation, "ended"), key(incarnation, "fault")
-    if not comes(lambda: store.hexists(key(incarnation, "about"), "closed") or store.exists(*over), patience):
+    if not comes(lambda: is_over(store, incarnation), patience):
         raise Refused(f"{name} still runs after {patience:g} s; try --signal KILL")
+    return 0
+
+
+def resize(store, name, screen, patience):
+    """Has a program's terminal get another size, as 120x40, and waits until the session has it."""
+    incarnation = find(store, name)
+
+    def has_it():
+        return any(each["screen"] == screen for each in about(store, [incarnation]))
+
+    def is_known():
+        """Returns whether the holder of a program that has just begun has said what it knows."""
+        return store.hexists(key(incarnation, "about"), "resizable") or is_over(store, incarnation)
+
+    typist = Typist(store, incarnation, patience)
+    if not has_it():
+        comes(is_known, patience)
+        typist.resize(screen)
+        typist.leave()
+    if not comes(lambda: has_it() or is_over(store, incarnation), patience):
+        raise Refused(f"{name} hasn't the size {screen} after {patience:g} s")
+    if not has_it():
+        raise Refused(REFUSALS["closed"])
     return 0
 
 

@@ -15,6 +15,7 @@ import time
 from vt220.process import LOCALES, TERMS
 
 from . import wire
+from .config import is_screen
 from .host import Host, is_dead_here
 from .keys import PIECE, Fault, checked_name, language_of
 
@@ -25,6 +26,7 @@ HOLDERS = [os.path.join(HERE, place, "vt220-fleet-holder") for place in ("..", "
 GATHER = 0.003  # seconds that more of the same output is waited for
 CHOKED = 256  # inputs that a program may not have read; more stay in the store
 NEWS = object()  # the store said something of the session
+KNOWN = object()  # the holder said what it knows
 
 
 PR_SET_DUMPABLE = 4
@@ -125,9 +127,11 @@ class Program(threading.Thread):
         self.fleet, self.link, self.state, self.before = daemon, link, state, before
         self.host = Host(daemon.shared, state.name, daemon.lease, state.takes_input, state.command, state.incarnation or None, *state.language, me=daemon.me)
         self.host.renews, self.host.is_program_over = False, self.is_program_over
-        self.came = queue.SimpleQueue()  # (position after them, bytes), NEWS, or None for the end
+        # (position after them, bytes, their field), NEWS, KNOWN, or None for the end; and what was taken of that and put back.
+        self.came, self.ahead = queue.SimpleQueue(), []
         self.heard = self.heard_from = state.base  # the position up to which the holder has sent bytes, and at which it began
-        self.is_named = self.passes_on = self.is_over = self.is_gone = self.is_left = False
+        self.is_named = self.passes_on = self.is_over = self.is_gone = self.is_left = self.knows_sizes = False
+        self.resizes = 0  # changes of the size that the holder made
         self.given = self.taken = 0  # inputs that the holder was sent, and that the program has read
         self.unread, self.lock = [], threading.Lock()  # inputs that the program may not have read: (stream, id)
         self.end, self.status = state.end, None  # the position after what the program wrote, as far as this is known
@@ -143,8 +147,14 @@ class Program(threading.Thread):
         if letter == wire.BYTES:
             if number != self.heard + len(data) or number - max(self.heard_from, self.host.at) > 4 * wire.HELD:
                 raise wire.Strange("bytes that no holder sends")
-            self.heard, self.end = number, max(self.end, number)
-            self.came.put((number, data))
+            self.take(number, data, "bytes")
+        elif letter == wire.RESIZED:
+            if number != self.heard + 1 or not is_screen(data.decode("latin-1")):
+                raise wire.Strange("a change of the size that no holder makes")
+            self.take(number, data, "screen")
+        elif letter == wire.KNOWS and number > 0 and not self.knows_sizes:
+            self.knows_sizes = True
+            self.came.put(KNOWN)
         elif letter == wire.TAKEN:
             self.note_taken(number)
         elif letter == wire.OVER:
@@ -152,6 +162,10 @@ class Program(threading.Thread):
         elif letter == wire.ENDED:
             self.status = number
             self.came.put(None)
+
+    def take(self, number, data, field):
+        self.heard, self.end = number, max(self.end, number)
+        self.came.put((number, data, field))
 
     def note_taken(self, number):
         """Removes from the store what the program has."""
@@ -180,7 +194,7 @@ class Program(threading.Thread):
 
     def counts(self):
         """Returns how much of this session went to the store, and to its program."""
-        return {"bytes": self.host.stored - self.host.begun, "inputs": self.given}
+        return {"bytes": self.host.stored - self.host.begun, "inputs": self.given, "resizes": self.resizes}
 
     # What goes to the store.
 
@@ -189,6 +203,7 @@ class Program(threading.Thread):
             self.begin()
             while came := self.next():
                 self.sends_since = time.monotonic()
+                self.resizes += came[2] == "screen" and came[0] > self.host.at
                 self.host.send_up_to(*came)
                 self.sends_since = None
                 self.link.say(wire.packed(wire.KEPT, self.host.at))
@@ -221,26 +236,30 @@ class Program(threading.Thread):
             self.fleet.wake()
 
     def next(self):
-        """Returns what the program wrote: (position after them, bytes), all that come within some milliseconds; or None at its end."""
+        """Returns what the program wrote: (position after them, bytes, "bytes"), all that come within some milliseconds; or a change of the size, with
+        its field; or None at its end."""
         came, end = self.next_part(), time.monotonic() + GATHER
-        while came and len(came[1]) < PIECE and (left := end - time.monotonic()) > 0:
+        while came and came[2] == "bytes" and len(came[1]) < PIECE and (left := end - time.monotonic()) > 0:
             try:
                 more = self.next_part(left)
             except queue.Empty:
                 break
-            if more is None:
-                self.came.put(None)
+            if more is None or more[2] != "bytes":
+                self.ahead.append(more)
                 break
-            came = more[0], came[1] + more[1]
+            came = more[0], came[1] + more[1], "bytes"
         return came
 
     def next_part(self, patience=None):
         while True:
-            part = self.came.get(timeout=patience)
+            part = self.ahead.pop() if self.ahead else self.came.get(timeout=patience)
             self.is_program_over()
-            if part is not NEWS:
+            if part is KNOWN:
+                self.host.allow_resizing()
+            elif part is not NEWS:
                 return part
-            self.host.renew_if_due()
+            else:
+                self.host.renew_if_due()
 
     def give_up(self, error):
         """Ends the program if the session can't go on, or couldn't begin. Otherwise the holder comes again."""
@@ -263,10 +282,12 @@ class Program(threading.Thread):
 
     def pass_on(self, part, entries):
         """Sends what came for the program to its holder. Keys stay in the store until the holder said that the program has them: if this
-        daemon dies, the next one removes those that the holder took. A signal is read at once, also if this daemon dies."""
+        daemon dies, the next one removes those that the holder took. A signal or a size is read at once, also if this daemon dies."""
         for kind, stream, entry_id, what in self.host.read_entries([[part, entries]]):
-            if kind == "signal":
-                self.link.say(wire.framed(wire.SIGNAL, wire.entry(stream, entry_id, bytes([what]))))
+            if stream == "signals":
+                letter, data = (wire.SIGNAL, bytes([what])) if kind == "signal" else (wire.SIZE, what)
+                if letter == wire.SIGNAL or self.knows_sizes:
+                    self.link.say(wire.framed(letter, wire.entry(stream, entry_id, data)))
                 self.host.forget(stream, entry_id)
                 continue
             with self.lock:

@@ -4,8 +4,7 @@ A terminal's state is a function of the bytes. Its repaint, played on any termin
 state. Bytes may be cut anywhere. So a checkpoint and the bytes after its position are the session, for any process that has both. In UTF-8
 a checkpoint's position is before the bytes that begin a character and wait for its other bytes.
 """
-import vt220
-
+from .config import is_screen
 from .keys import DEC, FORMATS, PIECE, Damaged, Long, Lost, Trimmed, Version, Wrong
 from .keys import format_of, key, language_of, number as number_of, position, read_checkpoint, text
 
@@ -13,15 +12,28 @@ from .keys import format_of, key, language_of, number as number_of, position, re
 class Session:
     """A session's terminal, played up to the position `at`."""
 
-    def __init__(self, incarnation, at=0, repaint=b"", formats=FORMATS, language=DEC):
+    def __init__(self, incarnation, at=0, repaint=b"", screen="", formats=FORMATS, language=DEC):
         self.incarnation, self.at, self.formats, self.language = incarnation, at, formats, language
         self.newest = 0  # the newest format of what was read
-        self.terminal = language.opened()
+        self.terminal, self.resized = language.opened(), ""  # the size if it was changed
+        self.resized_at = at  # the position of the last change
+        if screen:
+            self.resize(screen)
         self.terminal.feed(repaint)
         self.status = None
 
+    def resize(self, screen):
+        """Changes the size."""
+        self.language, self.resized, self.resized_at = self.language._replace(screen=screen), screen, self.at
+        self.terminal.resize(**self.language.size())
+
+    def viewed(self):
+        """Returns a terminal for what viewers get of this session, as it is now."""
+        return viewed(self.language, self.resized)
+
     def data_of(self, entry_id, fields):
-        """Returns what of an entry wasn't played yet. Raises a fault if it isn't a host's, or if bytes before it are missing."""
+        """Returns what of an entry wasn't played yet: of a change of the size one byte. Raises a fault if it isn't a host's, or if bytes before it are
+        missing."""
         said = fields.get(b"v", b"")
         written = format_of(said)
         if written not in self.formats:
@@ -29,7 +41,8 @@ class Session:
         self.newest = max(self.newest, written)
         head, _, tail = entry_id.partition(b"-")
         at, number = int(head), int(tail)
-        data = fields.get(b"bytes", b"")
+        screen = fields.get(b"screen", b"")
+        data = screen[:1] or fields.get(b"bytes", b"")
         if not is_formed(at, number, fields):
             raise Wrong(f"entry {entry_id.decode()} is no host's: it has {', '.join(map(repr, sorted(fields)))}, {len(data)} bytes")
         begin = at - len(data)
@@ -43,6 +56,21 @@ class Session:
         """Returns the position up to which all bytes are in the terminal's state, and so in its repaint: what is pending comes after it."""
         return self.at - len(self.terminal.pending())
 
+    def is_settled(self):
+        """Returns whether the terminal is between sequences, and no change of the size came after what is pending."""
+        return self.terminal.is_between() and self.settled() >= self.resized_at
+
+    def play_entry(self, entry_id, fields, reports, most=None, budget=None):
+        """Plays what of an entry wasn't played yet, up to `most` reports and so many bytes. Returns how many bytes were played, and whether these
+        are all."""
+        data = self.data_of(entry_id, fields)
+        if data and b"screen" in fields:
+            self.at += 1
+            self.resize(text(fields[b"screen"]))
+            return 1, True
+        played = self.play(data[:budget], reports, most)
+        return played, played == len(data)
+
     def play(self, data, reports, most=None):
         """Plays bytes, up to `most` reports. Appends the reports as (position, bytes), and returns how many bytes were played."""
         begin, length = self.at, len(data)
@@ -54,8 +82,18 @@ class Session:
         return self.at - begin
 
 
+def viewed(language, resized):
+    """Returns a terminal for what viewers get of a session of a language, whose size may have been changed."""
+    made = language.viewed()
+    if resized:
+        made.resize(**language.size())
+    return made
+
+
 def is_formed(at, number, fields):
-    """Returns whether an entry is of one of the three forms that hosts write."""
+    """Returns whether an entry is of one of the four forms that hosts write."""
+    if b"screen" in fields:
+        return number == 0 and at > 0 and is_screen(text(fields[b"screen"])) and b"bytes" not in fields and b"status" not in fields
     if number == 0:
         return 0 < len(fields.get(b"bytes", b"")) <= min(at, PIECE) and b"status" not in fields
     if number == 2:
@@ -94,7 +132,7 @@ def play_on(store, session, end):
     while True:
         entries = store.xrange(key(session.incarnation, "bytes"), min=f"({last}", count=64)
         for entry_id, fields in entries:
-            session.play(session.data_of(entry_id, fields), [])
+            session.play_entry(entry_id, fields, [])
             last = entry_id.decode()
         if not entries:
             break
@@ -120,13 +158,34 @@ def as_it_is(store, incarnation, most=None):
             seen = begin
 
 
-def bytes_of(store, incarnation):
-    """Yields (position, moment in milliseconds, bytes) for all entries that the store still has. If a host's clock went back, the
-    moments stand still meanwhile."""
-    last, latest = "-", 0
+def entries_of(store, incarnation):
+    """Yields (id, fields) for all entries that the store still has."""
+    last = "-"
     while entries := store.xrange(key(incarnation, "bytes"), min=last, count=64):
-        for entry_id, fields in entries:
-            if b"bytes" in fields:
-                latest = max(latest, number_of(fields.get(b"t"), 0))
-                yield position(entry_id), latest, fields[b"bytes"]
+        yield from entries
         last = "(" + entries[-1][0].decode()
+
+
+def events_of(store, incarnation):
+    """Yields (position, moment in milliseconds, code, bytes) for all that the store still has: the code "o" and what the program wrote, or "r" and a
+    new size. If a host's clock went back, the moments stand still meanwhile."""
+    latest = 0
+    for entry_id, fields in entries_of(store, incarnation):
+        field, code = (b"screen", "r") if b"screen" in fields else (b"bytes", "o")
+        if field in fields:
+            latest = max(latest, number_of(fields.get(b"t"), 0))
+            yield position(entry_id), latest, code, fields[field]
+
+
+def bytes_of(store, incarnation):
+    """Yields (position, moment in milliseconds, bytes) for all that the program wrote and the store still has."""
+    return ((at, moment, data) for at, moment, code, data in events_of(store, incarnation) if code == "o")
+
+
+def first_screen(store, incarnation, language, resized):
+    """Returns the size of a session at the first of the bytes that the store still has. Each change has the size before it, too."""
+    if not resized:
+        return language.screen
+    changes = (text(fields.get(b"before")) for _, fields in entries_of(store, incarnation) if b"screen" in fields)
+    found = next(changes, resized)
+    return found if is_screen(found) else language.screen

@@ -12,35 +12,125 @@ from vt220.keyboard import typed
 from . import keys
 from .keys import key
 from .operate import Sender, Typist
-from .session import as_it_is
+from .session import as_it_is, viewed
 
 FRAME = 0.05
+UNKNOWN = 1000  # rows and columns of a window whose size isn't known
 LEAVE = b"\x1d"  # Ctrl-], as telnet has it
 
 
 class Drawing:
-    """Draws a terminal on today's terminals. Only what changed is drawn."""
+    """Draws a terminal on today's terminals. Only what changed is drawn. A window that is smaller shows the part with the cursor, and its last row says
+    which part that is."""
 
     def __init__(self, out):
-        self.out, self.shown, self.line, self.rows = out, None, "", vt220.ROWS
+        self.out, self.terminal, self.shown = out, None, None  # the terminal that is drawn, and what is on the screen: None for anything else
+        self.window = window_of(out)
+        self.top = self.left = 0  # how many rows and columns are above and left of the part
+        self.line, self.said = "", (vt220.ROWS + 1, "")  # what is to be said, and the row and the line that are below the part
 
     def draw(self, terminal):
-        is_erased = self.shown is None or self.shown.width() != terminal.width()
-        self.say(terminal.draw(self.shown).decode())
+        self.terminal = terminal
+        rows, columns = self.find_part(terminal)
+        part = terminal if self.has_all(terminal, rows, columns) else self.part_of(terminal, rows, columns)
+        drawn, is_erased = self.way_to(part)
+        said = self.last_line(terminal, rows, columns)
         if is_erased:
-            self.rows, self.shown = terminal.rows(), terminal.copy()
-            self.note(self.line)
-        else:
-            self.shown.copy_from(terminal)
+            self.said = said[0], ""
+        elif said[0] != self.said[0] and self.said[1]:
+            self.say(written(self.said[0], ""))
+        self.say(drawn.decode())
+        self.shown = part if part is not terminal else terminal.copy()
+        if said[1] != self.said[1]:
+            self.say(written(*said))
+        self.said = said
 
     def note(self, line):
-        """Writes a line below the screen."""
+        """Says something below the screen."""
         self.line = line
-        self.say(f"\0337\033[{self.rows + 1};1H\033[0m\033[K{line[:80]}\0338")
+        if self.terminal:
+            self.draw(self.terminal)
+        else:
+            self.said = min(vt220.ROWS + 1, self.window[0]), line[: min(80, self.window[1])]
+            self.say(written(*self.said))
+
+    def fit(self):
+        """Draws all again if the window has another size than before."""
+        window = window_of(self.out)
+        if window != self.window:
+            self.window, self.shown = window, None
+            self.note(self.line)
+
+    def find_part(self, terminal):
+        """Moves the part no further than needed to have the cursor in it. Returns how many rows and columns the window has for the part."""
+        rows, columns = self.window
+        if rows > 1 and (not self.has_all(terminal, rows, columns) or self.line and terminal.rows() == rows):
+            rows -= 1
+        cursor = terminal.cursor()
+        self.top = panned(self.top, rows, terminal.rows(), cursor.row, 0)
+        self.left = panned(self.left, columns, terminal.width(), cursor.col, columns // 2)
+        return rows, columns
+
+    def has_all(self, terminal, rows, columns):
+        return terminal.rows() <= rows and terminal.width() <= columns
+
+    def part_of(self, terminal, rows, columns):
+        """Returns a terminal that has the part alone, in its upper left corner. All after that are spaces that look blank, and vt220_draw writes nothing
+        where a screen is blank: on a reverse screen they have the attribute."""
+        part, cursor, modes, width = terminal.copy(), terminal.cursor(), terminal.modes(), terminal.width()
+        change = f"\030\033[!p\033[{7 if modes.decscnm else 0}m" + (f"\033[1;1H\033[{self.top}M" if self.top else "")
+        for row in range(1, terminal.rows() + 1):
+            kept = columns if row <= rows else 0
+            change += f"\033[{row};1H\033[{self.left}P" if self.left else ""
+            change += f"\033[{row};{kept + 1}H{' ' * (width - kept)}" if kept < width else ""
+        change += f"\033[{cursor.row - self.top};{cursor.col - self.left}H\033[?25{'h' if modes.dectcem else 'l'}"
+        part.feed(change.encode())
+        return part
+
+    def way_to(self, part):
+        """Returns bytes that lead from what is shown to a part, and whether they erase what was there."""
+        is_other = self.shown is None or (self.shown.rows(), self.shown.width()) != (part.rows(), part.width())
+        try:
+            return part.draw(None if is_other else self.shown), is_other
+        except vt220.OtherSize:  # one that was resized to a VT220's size
+            return part.draw(), True
+
+    def last_line(self, terminal, rows, columns):
+        """Returns the row below the part, and what is said there. There is nothing if the window has no such row."""
+        row, said = min(rows, terminal.rows()) + 1, [self.line] if self.line else []
+        if not self.has_all(terminal, rows, columns):
+            bottom, right = min(self.top + rows, terminal.rows()), min(self.left + columns, terminal.width())
+            said.append(f"rows {self.top + 1}-{bottom} of {terminal.rows()}, columns {self.left + 1}-{right} of {terminal.width()}")
+        return row, "; ".join(said)[: min(columns, max(80, terminal.width()))] if row <= self.window[0] else ""
 
     def say(self, words):
         self.out.write(words)
         self.out.flush()
+
+
+def window_of(out):
+    """Returns the rows and the columns of a window. One whose size isn't known has enough of both."""
+    try:
+        columns, rows = os.get_terminal_size(out.fileno())
+    except (OSError, ValueError):
+        columns = rows = 0
+    return rows or UNKNOWN, columns or UNKNOWN
+
+
+def panned(first, shown, most, cursor, step):
+    """Returns how much is before the part of so much that is shown: as much as before, if the cursor is in it. Otherwise it moves by `step` more."""
+    if shown >= most:
+        return 0
+    if cursor <= first:
+        first = max(0, cursor - 1 - step)
+    if cursor > first + shown:
+        first = cursor - shown + step
+    return min(first, most - shown)
+
+
+def written(row, line):
+    """Returns what writes a line at a row, and leaves the cursor where it was."""
+    return f"\0337\033[{row};1H\033[0m\033[K{line}\0338"
 
 
 class Viewer:
@@ -52,6 +142,7 @@ class Viewer:
         self.by, self.step = None, 0
         self.worker, self.fault, self.is_over, self.takes_input = "", "", False, False
         self.language, self.is_known = keys.DEC, False  # known: the store has said how the session is
+        self.first, self.resized = "", ""  # the size with which it began, and the one of the screen that is shown if it was changed
 
     def ask(self):
         """Tells the worker that somebody looks, and learns how the session is. Call it each second."""
@@ -63,10 +154,10 @@ class Viewer:
             self.is_over, self.fault = True, self.fault or "Lost: the store no longer has this session"
             return
         self.worker, self.fault, self.is_over = keys.text(answer[1]), keys.shown(answer[2]), bool(answer[3])
-        self.takes_input, language = answer[5] == b"1", keys.language_of(*answer[6:9])
-        if language.screen != self.language.screen:
-            self.terminal = language.viewed()
-        self.language, self.is_known = language, True
+        self.takes_input = answer[5] == b"1"
+        if not self.is_known:
+            self.language, self.is_known = keys.language_of(*answer[6:9]), True
+            self.terminal, self.first = self.language.viewed(), self.language.screen
         if order(answer[4]) < order(self.last):  # the stream began anew
             self.last = "0-0"
 
@@ -82,17 +173,25 @@ class Viewer:
 
     def play(self, fields):
         """A repaint leads there from anywhere; an update only from where the one before it led. Returns whether it was played."""
-        by, step = fields.get(b"by"), keys.number(fields.get(b"step"))
+        by, step, whole = fields.get(b"by"), keys.number(fields.get(b"step")), fields.get(b"repaint", fields.get(b"resized"))
         if not self.is_known:
             return False
-        if b"repaint" in fields:
-            self.terminal.feed(fields[b"repaint"])
+        if whole is not None:
+            self.fit(keys.text(fields.get(b"screen")))
+            self.terminal.feed(whole)
         elif (by, step) == (self.by, self.step + 1):
             self.terminal.feed(fields.get(b"update", b""))
         else:
             return False
         self.by, self.step = by, step
         return True
+
+
+    def fit(self, resized):
+        """Takes another terminal if the session's size is another one than before."""
+        if resized != self.resized:
+            self.language, self.resized = keys.language_of(*self.language[:2], resized or self.first), resized
+            self.terminal = viewed(self.language, resized)
 
 
 def order(entry_id):
@@ -169,5 +268,6 @@ def look(viewer, drawing, keyboard):
                 drawing.note(noted)
         if viewer.follow(0 if keyboard else FRAME):  # a store's shortest wait is longer than a key should take
             drawing.draw(viewer.terminal)
+        drawing.fit()
         if keyboard and not keyboard.pass_on(viewer.terminal.modes(), viewer.language):
             return

@@ -59,17 +59,19 @@ class Kept(Session):
         self.is_dirty = True  # something was played since viewers were sent a frame
         self.taken, self.begun = time.monotonic(), self.at
         self.is_on_trial = False  # workers died in its company; this one takes no other until it caught up
-        self.needed = keys.needed(self.language)
+        self.needed = keys.RESIZED if self.resized else keys.needed(self.language)
+
+    def resize(self, screen):
+        super().resize(screen)
+        self.needed, self.shown = keys.RESIZED, None
 
     def play_some(self, every, budget, number=keys.FORMAT):
         """Plays what was read, up to so many bytes, and makes a checkpoint if one is due. Returns what is left of the bytes."""
         while self.queue and budget > 0 and len(self.reports) < REPORTS:
-            entry_id, fields = self.queue[0]
-            data = self.data_of(entry_id, fields)
-            played = self.play(data[:budget], self.reports, REPORTS)
+            played, is_whole = self.play_entry(*self.queue[0], self.reports, REPORTS, budget)
             budget -= played
             self.is_dirty = self.is_dirty or played > 0
-            if played == len(data):
+            if is_whole:
                 del self.queue[0]
         if self.at - self.checked >= (every if self.status is None or self.queue else 1):
             self.check(max(number, self.needed))
@@ -78,9 +80,9 @@ class Kept(Session):
         return budget
 
     def check(self, number):
-        """Makes a checkpoint in a format, if the terminal is between sequences."""
-        if self.terminal.is_between():
-            self.checked, self.checkpoint = self.at, keys.checkpoint(self.settled(), self.terminal.repaint(), number)
+        """Makes a checkpoint in a format, if there can be one here."""
+        if self.is_settled():
+            self.checked, self.checkpoint = self.at, keys.checkpoint(self.settled(), self.terminal.repaint(), number, self.resized)
             self.newest = number
 
     def check_again(self, number):
@@ -438,9 +440,9 @@ class Worker:
         words = [self.claims.me, session.incarnation, session.at, made["v"] if made else keys.version(max(self.claims.format, session.needed))]
         words += [-1 if settings.keep is None else settings.keep, -1 if settings.retain is None else int(settings.retain * 1000)]
         if made:
-            words += ["always" if session.replaces else "newer", made["at"], made["length"], made["sha256"], made["repaint"]]
+            words += ["always" if session.replaces else "newer", *(made[name] for name in ("at", "length", "sha256", "repaint", "screen"))]
         else:
-            words += ["none", 0, 0, "", ""]
+            words += ["none", 0, 0, "", "", ""]
         words += [session.status, session.terminal.text()] if session.is_over() else ["none", ""]
         for position, report in session.reports:
             words += [position, report]

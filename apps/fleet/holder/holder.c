@@ -4,7 +4,9 @@
  *   vt220-fleet-holder SOCKET ORPHAN PATIENCE INPUT ENCODING TERMINAL SCREEN NAME COMMAND ..
  *
  * ORPHAN: the milliseconds without a daemon after which the program is ended; -1: never. PATIENCE: the milliseconds after a signal to end
- * for which the holder waits until the session's end is in the store. INPUT is 0 or 1. SCREEN is the size, as 120x40: columns and rows. fleet/wire.py describes the frames. */
+ * for which the holder waits until the session's end is in the store. INPUT is 0 or 1. SCREEN is the size, as 120x40: columns and rows. fleet/wire.py describes the frames.
+ *
+ * A change of the size has a position among the bytes, as if it was one. So all that holds for bytes holds for it, too. */
 #define _GNU_SOURCE /* for ppoll */
 #include "../../keep/command.h"
 #include "../../keep/frame.h"
@@ -26,18 +28,21 @@ enum {
     PIECE = 16384,     /* the most bytes of an entry of the store */
     HELD = 1 << 20,    /* bytes that the store may lack: then the program is made to wait. As many that it has are kept */
     TYPED = 4096,      /* the most bytes of one input */
-    STREAMS = 3,       /* reports, keys, signals */
+    STREAMS = 3,       /* reports, keys, signals and sizes */
     ID_LENGTH = 17,    /* of what precedes an input: its stream, and the two numbers of its id */
     KILL_AFTER = 3000, /* milliseconds that a program has to end after a hang-up */
     AGAIN = 200,       /* milliseconds between two looks for a daemon */
     SLOW = 10000,      /* milliseconds that a daemon has for the rest of a frame */
+    SCREEN = 8,        /* capacity for a size, as 255x255 */
+    LEAST_ROWS = 2, LEAST_COLUMNS = 80, MOST = 255, /* of a screen */
+    KNOWN = 1,         /* what this holder knows beyond the first frames: sizes that change */
     NO_STORE = 69      /* the exit status if there is no daemon, or if it can't store the end */
 };
 
 /* The frames of a holder. */
-enum { STATE = 'S', BYTES = 'B', TAKEN = 'W', OVER = 'C', ENDED = 'E' };
+enum { STATE = 'S', KNOWS = 'V', BYTES = 'B', RESIZED = 'Z', TAKEN = 'W', OVER = 'C', ENDED = 'E' };
 /* The frames of a daemon. */
-enum { NAMED = 'N', REFUSED = 'R', KEPT = 'A', INPUT = 'I', SIGNAL = 'X', STOP = 'T', DONE = 'D' };
+enum { NAMED = 'N', REFUSED = 'R', KEPT = 'A', INPUT = 'I', SIGNAL = 'X', SIZE = 'Y', STOP = 'T', DONE = 'D' };
 
 struct bytes {
     uint8_t *at;
@@ -46,6 +51,11 @@ struct bytes {
 
 struct entry_id {
     uint64_t moment, number;
+};
+
+struct change {
+    uint64_t at; /* the position after it. Its place in `written` has a byte that isn't sent */
+    char screen[SCREEN];
 };
 
 static struct {
@@ -57,13 +67,15 @@ static struct {
     bool is_started, is_over, is_closed; /* over: the command has ended; closed: nobody has its terminal any more */
     int status;
     struct bytes written;      /* by the program, from the position `base` on */
+    struct bytes changes;      /* the changes of the size among them, each a struct change */
     uint64_t base, kept, sent; /* positions: of the first byte that is held; up to which the store has all, and the daemon */
     struct bytes typed;        /* what the program hasn't read yet */
     struct entry_id last[STREAMS]; /* of the last input of each stream */
     uint64_t heard;            /* inputs of this daemon */
     int link;                  /* to the daemon; -1 if there is none */
     bool can_send;             /* the daemon reads */
-    bool owes_taken, owes_over, owes_end;
+    bool owes_known, owes_taken, owes_over, owes_end;
+    bool is_resized;           /* its size has changed once */
     char incarnation[64];      /* empty until the daemon has said it */
     bool is_done;
     int refused; /* the exit status if the daemon refused the session; otherwise 0 */
@@ -117,6 +129,13 @@ static uint64_t end(void) {
     return the.base + the.written.len;
 }
 
+/* Returns the first change of the size after a position; NULL if there is none. */
+static const struct change *next_change(uint64_t position) {
+    const struct change *changes = (const struct change *)(const void *)the.changes.at, *found = NULL;
+    for (size_t i = the.changes.len / sizeof *changes; i > 0 && changes[i - 1].at > position; i--) found = &changes[i - 1];
+    return found;
+}
+
 /* Drops the bytes before a position, but not those that the store or the daemon may lack. */
 static void drop_before(uint64_t position) {
     if (position > the.kept) position = the.kept;
@@ -124,6 +143,7 @@ static void drop_before(uint64_t position) {
     if (position <= the.base) return;
     drop(&the.written, position - the.base);
     the.base = position;
+    while (the.changes.len > 0 && ((const struct change *)(const void *)the.changes.at)->at <= position) drop(&the.changes, sizeof(struct change));
 }
 
 /* --- the program --- */
@@ -154,6 +174,31 @@ static void read_program(void) {
     ssize_t n = read(the.line.master, the.written.at + the.written.len, PIECE);
     if (n > 0) the.written.len += (size_t)n;
     else if (n == 0 || (errno != EAGAIN && errno != EINTR)) the.is_closed = true;
+}
+
+/* Reads what the program has written, as far as there is room for it. */
+static void drain_program(void) {
+    struct pollfd polled = {the.line.master, POLLIN, 0};
+    for (size_t read = 0; read < HELD && !the.is_closed && has_room() && poll(&polled, 1, 0) > 0; read += PIECE) read_program();
+}
+
+/* Changes the size of the program's terminal, if it can have this one. What the program wrote before is of the size before. */
+static void resize_program(const char *screen) {
+    struct change change = {0};
+    struct winsize size = {0};
+    char end_of_it;
+    if (sscanf(screen, "%3hux%3hu%c", &size.ws_col, &size.ws_row, &end_of_it) != 2 || !the.is_started || the.is_closed) return;
+    if (size.ws_row < LEAST_ROWS || size.ws_row > MOST || size.ws_col < LEAST_COLUMNS || size.ws_col > MOST) return;
+    if (size.ws_row == the.size.ws_row && size.ws_col == the.size.ws_col) return;
+    drain_program();
+    if (the.is_closed || !reserve(&the.written, 1) || !reserve(&the.changes, sizeof change)) return;
+    change.at = end() + 1;
+    snprintf(change.screen, sizeof change.screen, "%hux%hu", size.ws_col, size.ws_row);
+    add(&the.changes, &change, sizeof change);
+    add(&the.written, "", 1);
+    the.size = size;
+    the.is_resized = true;
+    ioctl(the.line.master, TIOCSWINSZ, &size);
 }
 
 static void write_program(void) {
@@ -199,8 +244,8 @@ static bool send_state(int link) {
     size_t len = 0;
     FILE *to = open_memstream(&state, &len);
     if (to == NULL) return false;
-    bool is_sized = strcmp(the.screen, "80x24") != 0; /* otherwise the state has the form of before, so an older daemon knows it */
-    fprintf(to, "%c%c%s%c%s%c%s%c", is_sized ? '3' : '2', 0, the.name, 0, the.incarnation, 0, the.input, 0);
+    bool is_sized = the.is_resized || strcmp(the.screen, "80x24") != 0; /* otherwise the state has the form of before, so an older daemon knows it */
+    fprintf(to, "%c%c%s%c%s%c%s%c", the.is_resized ? '4' : is_sized ? '3' : '2', 0, the.name, 0, the.incarnation, 0, the.input, 0);
     fprintf(to, "%s%c%s%c", the.encoding, 0, the.terminal, 0);
     if (is_sized) fprintf(to, "%s%c", the.screen, 0);
     fprintf(to, "%" PRIu64 "%c%" PRIu64 "%c", the.base, 0, end(), 0);
@@ -227,6 +272,7 @@ static bool meet_daemon(void) {
     the.sent = the.base;
     the.heard = 0;
     the.alone = 0;
+    the.owes_known = true;
     the.owes_taken = false;
     the.owes_over = the.owes_end = the.is_over;
     return true;
@@ -246,8 +292,9 @@ static void refuse(int status, const uint8_t *why, size_t len) {
     if (the.is_started) stop_program(KILL_AFTER);
 }
 
-/* Takes an input or a signal, unless it was taken before. */
+/* Takes an input, a signal or a size, unless it was taken before. */
 static void take(char letter, const uint8_t *bytes, size_t len) {
+    char screen[SCREEN] = "";
     struct entry_id id;
     if (len < ID_LENGTH || bytes[0] >= STREAMS) return;
     struct entry_id *last = &the.last[bytes[0]];
@@ -257,6 +304,11 @@ static void take(char letter, const uint8_t *bytes, size_t len) {
     if (is_new) *last = id;
     if (letter == SIGNAL) {
         if (is_new && len > ID_LENGTH) signal_program(bytes[ID_LENGTH]);
+        return;
+    }
+    if (letter == SIZE) {
+        if (len - ID_LENGTH < sizeof screen) memcpy(screen, bytes + ID_LENGTH, len - ID_LENGTH);
+        if (is_new) resize_program(screen);
         return;
     }
     the.heard++;
@@ -301,21 +353,28 @@ static void hear_daemon(void) {
 /* Returns whether the daemon is to be sent something. */
 static bool has_news(void) {
     bool is_all_sent = the.sent == end();
-    return the.owes_taken || the.owes_over || !is_all_sent || (the.owes_end && the.is_closed);
+    return the.owes_known || the.owes_taken || the.owes_over || !is_all_sent || (the.owes_end && the.is_closed);
 }
 
 /* Sends the most urgent of what the daemon is to know. If the daemon has ended, what it said last is still to be read. */
 static void send_news(void) {
     static uint8_t frame[sizeof(uint64_t) + PIECE];
-    uint64_t number;
+    const struct change *change = next_change(the.sent);
+    uint64_t number, until = change != NULL ? change->at - 1 : end(); /* bytes before a change are sent first */
     size_t len = 0;
     char letter;
-    if (the.owes_taken) {
+    if (the.owes_known) {
+        letter = KNOWS, number = KNOWN, the.owes_known = false;
+    } else if (the.owes_taken) {
         letter = TAKEN, number = the.heard, the.owes_taken = false;
     } else if (the.owes_over) {
         letter = OVER, number = 0, the.owes_over = false;
+    } else if (change != NULL && the.sent == until) {
+        len = strlen(change->screen);
+        memcpy(frame + sizeof number, change->screen, len);
+        letter = RESIZED, number = ++the.sent;
     } else if (the.sent < end()) {
-        len = end() - the.sent < PIECE ? end() - the.sent : PIECE;
+        len = until - the.sent < PIECE ? until - the.sent : PIECE;
         memcpy(frame + sizeof number, the.written.at + (the.sent - the.base), len);
         letter = BYTES, number = the.sent += len;
     } else {

@@ -11,6 +11,7 @@ import socket
 import struct
 import subprocess
 import tempfile
+import termios
 import threading
 import types
 import urllib.error
@@ -205,9 +206,10 @@ def viewers_type_in_order_and_once(machine, _):
 class OnTerminal:
     """The command on a terminal of its own, and what it drew there."""
 
-    def __init__(self, url, *words):
+    def __init__(self, url, *words, window=(0, 0)):
         self.child, self.master = pty.fork()
         if self.child == 0:
+            termios.tcsetwinsize(0, window)  # its rows and columns
             os.execve(local.COMMAND, [local.COMMAND, *words], os.environ | {"FLEET_REDIS": url, "TERM": "xterm"})
         self.drawn = b""
 
@@ -418,7 +420,7 @@ def names_of(collector):
 
 def alerts_and_documents_name_the_metrics_that_there_are(url, _):
     store, source = stores.connect(url), Source(url, "one")
-    of_daemon = DaemonMetrics(types.SimpleNamespace(store=store, all=list, totals=lambda: {"bytes": 0, "inputs": 0}))
+    of_daemon = DaemonMetrics(types.SimpleNamespace(store=store, all=list, totals=lambda: {"bytes": 0, "inputs": 0, "resizes": 0}))
     known = set().union(*map(names_of, (WorkerMetrics(worker(url)), of_daemon, PageMetrics(Page(store, store, config.Web())), WholeFleet(store))))
     texts = {file: text_of(file) for file in ("alerts.yml", "README.md", "RUNBOOK.md", "tests/gameday.py")}
     used = {re.sub(r"_bucket$", "", each) for each in re.findall(r"\bfleet_\w+", texts["alerts.yml"])}

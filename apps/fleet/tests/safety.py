@@ -132,6 +132,8 @@ def rights_of_commands(urls):
     check(fleet(urls["typist"], "type", "--enter", "roles", "hello")[0] == 0, "a typist can")
     check(wait_for(lambda: "got hello" in fleet(urls["viewer"], "text", "roles")[1]), "and the program reads it")
     check(fleet(urls["typist"], "kill", "roles")[0] == 77, "but sends no signal")
+    check(fleet(urls["typist"], "resize", "roles", "90x30")[0] == 77, "and no size")
+    check(fleet(urls["operator"], "resize", "--patience", str(PATIENCE), "roles", "90x30")[0] == 0, "an operator does")
     check(fleet(urls["viewer"], "end", "--force", "roles")[0] == 77, "a viewer ends nothing")
 
 
@@ -170,7 +172,8 @@ def what_is_no_holder_harms_no_session(machine, _):
     too_long = wire.HEAD.pack(wire.STATE, wire.LONGEST + 1)
     strange = [b"x" * 100, too_long, wire.framed(wire.STATE), wire.packed(wire.BYTES, 1, b"x"), state_of_holder(version="1"), state_of_holder("a\nb")]
     strange += [state_of_holder("\udcff"), state_of_holder("x" * 300), state_of_holder(encoding="utf-7"), state_of_holder(numbers="x"), state_of_holder("good")]
-    strange += [state_of_holder(version=wire.SIZED), *(state_of_holder(version=wire.SIZED, screen=[each]) for each in ("79x24", "80x256", "x", "-80x24"))]
+    strange += [state_of_holder(version=wire.SIZED), *(state_of_holder(version=wire.SIZED, screen=[each]) for each in ("1x24", "80x256", "x", "-80x24"))]
+    strange += [state_of_holder() + wire.packed(wire.RESIZED, *words) for words in ((2, b"90x30"), (1, b"1x24"), (1, b""), (1, b"\xff"))]
     strange += [state_of_holder() + frame for frame in (wire.packed(wire.BYTES, 5, b"x"), wire.packed(wire.BYTES, 1 << 63, b"x"), wire.framed(wire.TAKEN))]
     for number, data in enumerate(strange):
         with connected() as made:

@@ -146,6 +146,35 @@ def sessions_of_several_sizes_in_the_browser(machine, _):
     check(browser.said == [], f"the browser complains of nothing: {browser.said[:2]}")
 
 
+def looking_at(served, name):
+    """Returns a browser that shows the only session."""
+    browser = Browser(served.url)
+    check(wait_for(lambda: count(browser, "li") == 1), "the session is there")
+    choose(browser, name)
+    return browser
+
+
+def a_session_that_is_resized_in_the_browser(machine, _):
+    """To a larger size, and then to that of a VT220. Another page that comes later shows the same."""
+    served = Served(machine)
+    Processes(machine, 1)
+    source = Source(machine.url, "resized", lease=600).listen().send(b"first")
+    browser = looking_at(served, "resized")
+    check(wait_for(lambda: [row.rstrip() for row in lines(browser)] == ["first", *[""] * 23]), f"24 rows: {lines(browser)[:2]}")
+    source.host.send(b"120x40", "screen")
+    source.send(b"\033[40;117Hlast")
+    large = ["first", *[""] * 38, " " * 116 + "last"]
+    check(wait_for(lambda: [row.rstrip() for row in lines(browser)] == large), f"40 rows: {lines(browser)[:2]}")
+    later = looking_at(served, "resized")
+    check(wait_for(lambda: [row.rstrip() for row in lines(later)] == large), f"on another page: {lines(later)[:2]}")
+    source.host.send(b"80x24", "screen")
+    source.send(b"\033[24;79Hup")
+    small = [*[""] * 23, " " * 78 + "up"]
+    for each in (browser, later):
+        check(wait_for(lambda: [row.rstrip() for row in lines(each)] == small), f"24 rows again: {lines(each)[:2]}")
+        check(each.said == [], f"the browser complains of nothing: {each.said[:2]}")
+
+
 # What is copied if the first row of the screen is selected.
 COPIED = """((root, row) => {
   const copy = new ClipboardEvent("copy", { clipboardData: new DataTransfer(), bubbles: true, cancelable: true });
@@ -297,18 +326,21 @@ def tell(client, picture):
     client[1] = picture.number
 
 
+USUAL = "80x24", ""  # the size of a session that wasn't resized
+
+
 def clients_are_led_where_a_session_is(_, data):
     """One is told each change, others some of them; one knew another picture, and one comes at the end."""
     picture, session, shown = Picture("x"), vt220.Terminal(), vt220.Terminal()
     clients = {every: [vt220.Terminal(), -1] for every in (1, 7, len(data))}
     other = Picture("x")
-    other.follow(vt220.Terminal())
+    other.follow(vt220.Terminal(), USUAL)
     tell(clients[7], other)
     for step, at in enumerate(range(0, len(data), 50)):
         session.feed(data[at : at + 50])
         if session.is_between():
             update = shown.update(session)
-            picture.follow(shown, update if step % 20 else None)
+            picture.follow(shown, USUAL, update if step % 20 else None)
         for every, client in clients.items():
             if step % every == every - 1:
                 tell(client, picture)
@@ -317,7 +349,7 @@ def clients_are_led_where_a_session_is(_, data):
         check(client[0].same_state(shown), f"one that is told after {every} changes")
     check(picture.since(picture.number) is None, "nothing is left to be told")
     shown.feed(b"\033[")
-    picture.replace(shown.copy())
+    picture.replace(shown.copy(), USUAL)
     tell(clients[1], picture)
     check(clients[1][0].text() == shown.text(), "a screen inside a sequence is shown")
 

@@ -15,13 +15,17 @@ if old and old ~= inc then guarded(old, close, 'lost', version) end
 redis.call('SET', 'fleet:lease:' .. name, inc, 'PX', lease)
 redis.call('HSET', 'fleet:names', name, inc)
 if redis.call('EXISTS', key(inc, 'about')) == 1 and redis.call('EXISTS', key(inc, 'bytes')) == 1 then
+  local is_resized = field(inc, 'about', 'resized')
+  local needs = field(inc, 'about', 'needs')
   if ARGV[5] then redis.call('HSET', key(inc, 'about'), unpack(ARGV, 5)) end
+  if is_resized and needs then redis.call('HSET', key(inc, 'about'), 'needs', needs) end
   local about = redis.call('HMGET', key(inc, 'about'), 'end', 'played')
   return {'ok', about[1] or '0', about[2] or '0', common_format()}
 end
 local fields = {'name', name, 'started', moment(), 'v', version, 'end', 0, 'played', 0, 'answered', 0}
 for i = 5, #ARGV do fields[#fields + 1] = ARGV[i] end
 redis.call('DEL', key(inc, 'bytes'), key(inc, 'answers'), key(inc, 'checkpoint'))
+redis.call('HDEL', key(inc, 'about'), 'resized')
 redis.call('HSET', key(inc, 'about'), unpack(fields))
 redis.call('XADD', key(inc, 'bytes'), '0-1', 'v', version, 't', moment(), 'begin', 1)
 redis.call('ZADD', 'fleet:all', moment(), inc)

@@ -17,14 +17,21 @@ function made(tag, name, ...inside) {
   return element;
 }
 
-// Its facts come with the first news of a session, and its size never changes.
+// Returns a terminal of a size. One whose size was changed isn't a VT220's, also if it has that one's size.
+function terminalOf(screen, resized) {
+  const [columns, rows] = screen.split("x").map(Number), terminal = new vt220.Terminal(core, { rows, columns });
+  if (resized) terminal.resize(rows, columns);
+  return terminal;
+}
+
+// Its facts come with the first news of a session.
 function newSession(id, { screen }) {
-  const [columns, rows] = screen.split("x").map(Number), name = made("span", "name"), how = made("span", "how"), small = made("span", "small");
+  const name = made("span", "name"), how = made("span", "how"), small = made("span", "small");
   small.setAttribute("aria-hidden", "true");
   const button = made("button", "", name, how, small), item = made("li", "", button);
   button.type = "button";
   button.addEventListener("click", () => choose(id));
-  const session = { id, name, how, button, item, terminal: new vt220.Terminal(core, { rows, columns }), small: new vt220.Screen(core, small), facts: {} };
+  const session = { id, name, how, button, item, screen, resized: "", terminal: terminalOf(screen, ""), small: new vt220.Screen(core, small), facts: {} };
   sessions.set(id, session);
   return session;
 }
@@ -39,8 +46,16 @@ function forget(id) {
 function take(news) {
   const session = sessions.get(news.session) || newSession(news.session, news.facts);
   if (news.facts) learn(session, news.facts);
+  if (news.screen) fit(session, news);
   if (news.bytes) play(session, Uint8Array.from(atob(news.bytes), (byte) => byte.charCodeAt(0)));
   if (news.facts && session.id === chosen) describe(session);
+}
+
+// Bytes that lead to a screen from any other one come with its size.
+function fit(session, { screen, resized }) {
+  if (screen === session.screen && resized === session.resized) return;
+  session.terminal.close();
+  Object.assign(session, { screen, resized, terminal: terminalOf(screen, resized) });
 }
 
 function play(session, bytes) {

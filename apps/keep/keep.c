@@ -148,7 +148,7 @@ static struct window size_given(const char *given) {
     bool has_both = *at == 'x';
     if (has_both) at++, size.rows = read_number(&at);
     if (has_both && *at == 0 && is_size(&size)) return size;
-    fail(2, "new: --size is columns and rows, as 120x40: 80 to %d columns and 2 to %d rows, not '%.100s'", VT220_MOST_COLUMNS, VT220_MOST_ROWS, given);
+    fail(2, "new: --size is columns and rows, as 120x40: 2 to %d columns and 2 to %d rows, not '%.100s'", VT220_MOST_COLUMNS, VT220_MOST_ROWS, given);
 }
 
 /* Returns the size of a new session: that of its option, of the window of a client that attaches at once, or otherwise a VT220's. */

@@ -2,9 +2,13 @@
  *
  * A client begins with HELLO_LENGTH bytes, whose form is the same in every version of the protocol: "keep", the lowest and the
  * highest version that it speaks, what it asks, and flags. After that both sides send frames: a letter, the length as a
- * uint32_t of this machine, and that many bytes. The keeper's first frame is FRAME_HELLO, which has the same form in every
- * version, too: the version that both will speak (0 if there is none), the lowest and the highest that the keeper speaks,
- * whether the command has ended (1; 2 if a client that was attached has shown that), and the keeper's own version as text.
+ * uint32_t of this machine, and that many bytes. The keeper's first frame is FRAME_HELLO. Its form is the same in every version, too:
+ *
+ *   byte 0    the version that both will speak, or 0 if there is none
+ *   byte 1    the lowest version that the keeper speaks
+ *   byte 2    the highest
+ *   byte 3    0 while the command runs, 1 when it has ended, 2 when a client that was attached has shown that it has
+ *   others    the version of the keeper's program, as text
  *
  * A keeper runs as long as its session, so it may be older than the client. A version of the protocol may therefore add asks and
  * frames, but never changes what one means. A client that speaks more than one version is served in the highest that both know.

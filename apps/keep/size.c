@@ -5,7 +5,7 @@
  * asks for another one. */
 #include "session.h"
 
-enum { LEAST_ROWS = 2, LEAST_COLUMNS = 80 };
+enum { LEAST_ROWS = 2, LEAST_COLUMNS = 2 };
 
 static size_t within(size_t number, size_t least, size_t most) {
     return number < least ? least : number > most ? most : number;

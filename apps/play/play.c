@@ -479,7 +479,7 @@ static double speed_of(const char *text) {
 static struct size size_given(const char *given) {
     struct size size = {0, 0};
     if (strcmp(given, "auto") == 0 || size_of(given, &size)) return size;
-    fail(2, "--size is columns and rows, as 120x40: 80 to %d columns and 2 to %d rows, or auto, not '%.100s'", VT220_MOST_COLUMNS,
+    fail(2, "--size is columns and rows, as 120x40: 2 to %d columns and 2 to %d rows, or auto, not '%.100s'", VT220_MOST_COLUMNS,
          VT220_MOST_ROWS, given);
 }
 

@@ -12,7 +12,7 @@
 #include <unistd.h>
 
 enum { WIDE = 132, NARROW = 80 };
-enum { LEAST_ROWS = 2, MOST_CHANGES = 1000 /* of the size that are carried out */, WINDOW_DIGITS = 9, OPTION_DIGITS = 3 };
+enum { LEAST_ROWS = 2, LEAST_COLUMNS = 2, MOST_CHANGES = 1000 /* of the size that are carried out */, WINDOW_DIGITS = 9, OPTION_DIGITS = 3 };
 enum { PART = 65536, BEGINNING = 1024 };
 enum { PACE = 50000, PACE_BYTES = 48 }; /* a line of 9600 baud carries 960 bytes a second: a chunk every 50 ms */
 enum { SECOND = 1000000, DECIMALS = 6, SECONDS_DIGITS = 9, NUMBER_DIGITS = 15 };
@@ -84,7 +84,7 @@ static bool number(const char **at, int digits, uint64_t *value) {
 }
 
 static bool is_size(const struct size *size) {
-    return size->rows >= LEAST_ROWS && size->rows <= VT220_MOST_ROWS && size->columns >= NARROW && size->columns <= VT220_MOST_COLUMNS;
+    return size->rows >= LEAST_ROWS && size->rows <= VT220_MOST_ROWS && size->columns >= LEAST_COLUMNS && size->columns <= VT220_MOST_COLUMNS;
 }
 
 /* Reads two numbers with a text between them, and returns whether that is the whole text. */

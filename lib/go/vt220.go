@@ -253,7 +253,7 @@ func New() (*Terminal, error) { return OpenAs(Bytes) }
 // OpenAs opens a terminal for a language in its power-up state. It returns the errors of New, and ErrLanguage if there is no such language.
 func OpenAs(language Language) (*Terminal, error) { return OpenSize(language, Rows, 80) }
 
-// OpenSize opens a terminal for a language and of a size in its power-up state: 2 to 255 rows of 80 to 255 columns. At another size than 24 by
+// OpenSize opens a terminal for a language and of a size in its power-up state: 2 to 255 rows of 2 to 255 columns. At another size than 24 by
 // 80 DECCOLM leaves the width. It returns the errors of OpenAs, and ErrSize if there is no such size.
 func OpenSize(language Language, rows, columns int) (*Terminal, error) {
 	t := new(Terminal)
@@ -264,7 +264,7 @@ func OpenSize(language Language, rows, columns int) (*Terminal, error) {
 	return t, nil
 }
 
-// Resize changes the size, as xterm does if its window changes, also inside a sequence: 2 to 255 rows of 80 to 255 columns. DECCOLM then leaves
+// Resize changes the size, as xterm does if its window changes, also inside a sequence: 2 to 255 rows of 2 to 255 columns. DECCOLM then leaves
 // the width. If the cursor would be below the last row, so many rows leave at the top that it is in the last one: read them before, with RowText.
 // It returns ErrSize if there is no such size, and ErrMemory if the allocation fails, and then nothing has changed.
 func (t *Terminal) Resize(rows, columns int) error {
@@ -451,7 +451,7 @@ func (t *Terminal) Saved() Saved {
 	}
 }
 
-// Repaint returns bytes that, fed to any terminal of the same language, whatever its state, leave it exactly as this one is. What is pending of
+// Repaint returns bytes that, fed to any terminal of the same language and size, whatever its state, leave it exactly as this one is. What is pending of
 // UTF-8 is left out: these bytes are fed after them. It returns ErrPartial inside a sequence.
 func (t *Terminal) Repaint(s *Scratch) ([]byte, error) { return t.RepaintAs(t.Language(), s) }
 

@@ -17,6 +17,8 @@ import tempfile
 import termios
 import time
 
+from sanitizers import sanitizers
+
 # Each test has two arguments or more, and its help is its own text.
 if sys.argv[1:] == ["--help"] or len(sys.argv) < 3:
     print(__main__.__doc__, end="", file=sys.stdout if sys.argv[1:] == ["--help"] else sys.stderr)
@@ -36,8 +38,8 @@ ENVIRONMENT |= {"KEEP_DIR": str(FOLDER), "LC_ALL": "C", "SHELL": "/bin/sh", "HOM
 # Keepers and clients wait for each other as long as a test does. Where their own limit is tested, the test gives them a short one.
 ENVIRONMENT |= {"KEEP_LINGER": "86400", "KEEP_PATIENCE": str(PATIENCE)}
 SHORT = {"KEEP_PATIENCE": "1"}
-# What the sanitizers find in the programs of this test is in files whose names begin so. They don't look for leaks, as in apps/keep/tests/run.
-SANITIZERS = {"ASAN_OPTIONS": f"exitcode=99:detect_leaks=0:log_path={ROOM}/asan", "UBSAN_OPTIONS": f"exitcode=99:log_path={ROOM}/ubsan"}
+# What the sanitizers find in the programs of this test is in files whose names begin so.
+SANITIZERS = sanitizers(ROOM)
 ENVIRONMENT |= {name: re.sub("(?<=log_path=)[^:]*", rf"\g<0>.{ROOM.name}", os.environ.get(name, usual)) for name, usual in SANITIZERS.items()}
 FINDINGS = re.findall("log_path=([^:]*)", ":".join(ENVIRONMENT[name] for name in SANITIZERS))
 found = ""

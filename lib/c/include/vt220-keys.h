@@ -1,15 +1,16 @@
-/* vt220-keys.h: the keyboard of a DEC VT220 and that of an xterm, for C11 and C++: what each key sends to the host under the terminal's
- * modes.
+/* vt220-keys.h: the keyboard of a DEC VT220 and that of an xterm, for C11 and C++: what each key sends to the host
+ * under the terminal's modes.
  *
- * The keys are those of the VT220 Programmer Reference Manual (EK-VT220-RM), chapter 3, in VT200 mode. Under TERM=xterm a few send what
- * xterm sends (ctlseqs of xterm, 'PC-Style Function Keys'). A key is given in one of three forms, each as text with its length:
+ * The keys are those of the VT220 Programmer Reference Manual (EK-VT220-RM), chapter 3, in VT200 mode. Under TERM=xterm
+ * a few send what xterm sends (ctlseqs of xterm, 'PC-Style Function Keys'). A key is given in one of three forms, each
+ * as text with its length:
  *
- * 1. One character, in UTF-8. An ASCII character sends itself, but CR is the key Return. A character of the DEC Supplemental set
- *    sends its byte of that set, A1 to FE. No key sends any other character. To a host in UTF-8 each character beyond ASCII sends
- *    itself, but a C1 control doesn't.
+ * 1. One character, in UTF-8. An ASCII character sends itself, but CR is the key Return. A character of the DEC
+ *    Supplemental set sends its byte of that set, A1 to FE. No key sends any other character. To a host in UTF-8 each
+ *    character beyond ASCII sends itself, but a C1 control doesn't.
  *
- * 2. A name of this list: a name, another name of the same key, and what it sends. Upper and lower case are equal, and an underscore
- *    doesn't count: PrevScreen is prev_screen.
+ * 2. A name of this list: a name, another name of the same key, and what it sends. Upper and lower case are equal, and
+ *    an underscore doesn't count: PrevScreen is prev_screen.
  *
  *    Main keypad:
  *      Return         Enter        CR, or CR LF if LNM is set
@@ -53,8 +54,8 @@
  *      @ 2 and the space (00), [ 3 (1B), \ 4 (1C), ] 5 (1D), ^ 6 ~ (1E), _ 7 ? (1F), 8 (7F)
  *    As an exception ^? is 7F: it is the usual notation of DEL.
  *
- *    CSI is ESC [ and SS3 is ESC O. If S8C1T is set, CSI is the byte 9B and SS3 is the byte 8F. The keys F1 to F5 of a VT220 send
- *    nothing: they are local.
+ *    CSI is ESC [ and SS3 is ESC O. If S8C1T is set, CSI is the byte 9B and SS3 is the byte 8F. The keys F1 to F5 of a
+ *    VT220 send nothing: they are local.
  *
  *    Under TERM=xterm these keys send something else:
  *      Find           Home         CSI H, or SS3 H if DECCKM is set
@@ -63,13 +64,14 @@
  *      F13 to F16                  CSI 1;2 P, CSI 1;2 Q, CSI 1;2 R, CSI 1;2 S: Shift with F1 to F4
  *      F17 to F20                  CSI 15;2 ~, CSI 17;2 ~, CSI 18;2 ~, CSI 19;2 ~: Shift with F5 to F8
  *
- *    There the name of a cursor key, a function key or a key of the editing keypad may begin with S-, A- and C-, in any order. Then
- *    Shift, Alt and Ctrl are held down, as in C-Left. Such a key sends CSI, its number or 1, a semicolon, the number of the modifiers, and
- *    its final byte. That number is 1, and 1 more for Shift, 2 for Alt and 4 for Ctrl. S-Tab sends CSI Z.
+ *    There the name of a cursor key, a function key or a key of the editing keypad may begin with S-, A- and C-, in any
+ *    order. Then Shift, Alt and Ctrl are held down, as in C-Left. Such a key sends CSI, its number or 1, a semicolon,
+ *    the number of the modifiers, and its final byte. That number is 1, and 1 more for Shift, 2 for Alt and 4 for Ctrl.
+ *    S-Tab sends CSI Z.
  *
- * 3. The sequence that a VT220 sends for a key in one of its modes with 7-bit controls, and under TERM=xterm that of an xterm, too.
- *    Modern terminals send the same sequences, and CSI H or SS3 H for Home, CSI F or SS3 F for End. So a key that was typed on such a
- *    terminal is passed on as it came, and gets the form that the program asked for.
+ * 3. The sequence that a VT220 sends for a key in one of its modes with 7-bit controls, and under TERM=xterm that of an
+ *    xterm, too. Modern terminals send the same sequences, and CSI H or SS3 H for Home, CSI F or SS3 F for End. So a
+ *    key that was typed on such a terminal is passed on as it came, and gets the form that the program asked for.
  */
 #ifndef VT220_KEYS_H
 #define VT220_KEYS_H
@@ -89,19 +91,21 @@ extern "C" {
 
 /* Writes what a key sends.
  *   language    what the host sends: VT220_BYTES, VT220_UTF8 or VT220_XTERM
- *   modes       the terminal's modes, by vt220_modes. The call reads lnm, decckm, keypad_application and reports_8bit. KAM, which
- *               locks a keyboard, is the caller's to look at.
+ *   modes       the terminal's modes, by vt220_modes. The call reads lnm, decckm, keypad_application and reports_8bit.
+ *               KAM, which locks a keyboard, is the caller's to look at.
  *   key, len    the key, in one of the three forms above
  *   out, size   the output buffer; VT220_KEY_LIMIT bytes are always enough
  *   written     receives the length; 0 if there is no such key or character
  * Returns VT220_OK, VT220_ROOM, VT220_NO_KEY or VT220_NO_CHARACTER. */
-uint32_t vt220_key(uint32_t language, const vt220_mode_set *modes, const char *key, size_t len, uint8_t *out, size_t size, size_t *written);
+uint32_t vt220_key(uint32_t language, const vt220_mode_set *modes, const char *key, size_t len, uint8_t *out,
+                   size_t size, size_t *written);
 
-/* Finds the first key in what was typed on a modern terminal, whose input is UTF-8. The key is a character, a sequence that ESC [ or
- * ESC O begins, or another byte alone. ESC is a key by itself if nothing that follows makes it a sequence, or nothing follows.
+/* Finds the first key in what was typed on a modern terminal, whose input is UTF-8. The key is a character, a sequence
+ * that ESC [ or ESC O begins, or another byte alone. ESC is a key by itself if nothing that follows makes it a
+ * sequence, or nothing follows.
  *   typed, len   what was typed
- * Returns how many bytes the key has, so that they can be passed to vt220_key. Returns 0 if the end of the key is missing, or len
- * is 0. */
+ * Returns how many bytes the key has, so that they can be passed to vt220_key. Returns 0 if the end of the key is
+ * missing, or len is 0. */
 size_t vt220_key_length(const char *typed, size_t len);
 
 #ifdef __cplusplus

@@ -18,7 +18,7 @@ static vt220 opened(uint32_t language, size_t rows, size_t columns, const char *
 static void open_and_read(void) {
     static const struct {
         size_t rows, columns, stops;
-    } sizes[] = {{24, 80, 132}, {2, 80, 80}, {255, 255, 255}, {40, 120, 120}, {24, 132, 132}, {25, 80, 80}, {24, 81, 81}};
+    } sizes[] = {{24, 80, 132}, {2, 80, 80}, {255, 255, 255}, {40, 120, 120}, {24, 132, 132}, {25, 80, 80}, {24, 81, 81}, {5, 40, 40}};
     for (size_t i = 0; i < sizeof sizes / sizeof sizes[0]; i++) {
         for (uint32_t language = VT220_BYTES; language <= VT220_XTERM; language++) {
             vt220 t = opened(language, sizes[i].rows, sizes[i].columns, "\033[999;999Hx");
@@ -43,7 +43,7 @@ static void open_and_read(void) {
 }
 
 static void no_sizes(void) {
-    static const size_t sizes[][2] = {{1, 80}, {256, 80}, {24, 79}, {24, 256}, {0, 0}, {SIZE_MAX, 80}, {24, SIZE_MAX}};
+    static const size_t sizes[][2] = {{1, 80}, {256, 80}, {24, 1}, {24, 256}, {0, 0}, {SIZE_MAX, 80}, {24, SIZE_MAX}};
     vt220 t = VT220_INIT;
     for (size_t i = 0; i < sizeof sizes / sizeof sizes[0]; i++) {
         for (uint32_t language = VT220_BYTES; language <= VT220_XTERM; language++)
@@ -100,7 +100,7 @@ static void written_forms(void) {
         writes *call;
         uint32_t what;
     } forms[] = {{vt220_text, VT220_OF_TEXT}, {first_row, VT220_OF_ROW_TEXT}, {vt220_show, VT220_OF_SHOW}, {vt220_picture, VT220_OF_PICTURE}, {draws, VT220_OF_DRAW}, {vt220_repaint, VT220_OF_REPAINT}};
-    static const size_t sizes[][2] = {{2, 80}, {40, 120}, {120, 200}, {255, 255}};
+    static const size_t sizes[][2] = {{2, 2}, {2, 80}, {30, 40}, {40, 120}, {120, 200}, {255, 255}};
     for (size_t i = 0; i < sizeof sizes / sizeof sizes[0]; i++) {
         for (uint32_t language = VT220_BYTES; language <= VT220_XTERM; language += 2) {
             vt220 t = opened(language, sizes[i][0], sizes[i][1], ""), to = opened(language, sizes[i][0], sizes[i][1], "\033[3 q\033[?7lgarbage\033[1");
@@ -125,7 +125,7 @@ static void written_forms(void) {
 
 /* Updates: few bytes or many lead to the other state; without capacity nothing changes. */
 static void updates(void) {
-    static const size_t sizes[][2] = {{2, 80}, {24, 80}, {40, 120}, {255, 255}};
+    static const size_t sizes[][2] = {{2, 2}, {2, 80}, {30, 40}, {24, 80}, {40, 120}, {255, 255}};
     for (size_t i = 0; i < sizeof sizes / sizeof sizes[0]; i++) {
         vt220 shown = opened(VT220_BYTES, sizes[i][0], sizes[i][1], "one"), to = opened(VT220_BYTES, sizes[i][0], sizes[i][1], ""), client = opened(VT220_BYTES, sizes[i][0], sizes[i][1], "one");
         vt220 before = opened(VT220_BYTES, sizes[i][0], sizes[i][1], "");

@@ -1,7 +1,7 @@
 // reading.js: how a recording by asciinema, ttyrec or script, or the bytes of a program are played. A page of vt220-page has what was read of its
 // recording. Otherwise the reader reads the file.
 import { INPUT, MARKER, OUTPUT, SIZE_CHANGE } from "./reader.js";
-import { MOST_COLUMNS, MOST_ROWS, isSize } from "./vt220.js";
+import { LEAST_COLUMNS, LEAST_ROWS, MOST_COLUMNS, MOST_ROWS, isSize } from "./vt220.js";
 
 /** LF, which ends a line. */
 export const LF = 0x0a;
@@ -150,7 +150,7 @@ export function noteOnBytes(bytes, encoding) {
 
 /** Returns what a VT220 can't show of a recording, a sentence each. */
 function notesOn({ size, terminal: named, isTimed, broken }, terminal, isOfItsSize, left) {
-  const [columns, rows] = size ?? [WIDTHS[0], HEIGHT], notes = [], least = `A screen has ${WIDTHS[0]} to ${MOST_COLUMNS} columns and 2 to ${MOST_ROWS} rows`;
+  const [columns, rows] = size ?? [WIDTHS[0], HEIGHT], notes = [], least = `A screen has ${LEAST_COLUMNS} to ${MOST_COLUMNS} columns and ${LEAST_ROWS} to ${MOST_ROWS} rows`;
   if (size && !isOfItsSize) notes.push(`It was recorded in a window of ${columns} columns and ${rows} rows. ${isSize(rows, columns) ? "It is played at another size" : least}, so lines may be in other places.`);
   if (left > 0) notes.push(`Its window changed its size ${left === 1 ? "once" : `${left} times`} to one at which it isn't played. ${least}, and at most ${MOST_CHANGES} changes are carried out.`);
   if (named === "xterm" && terminal === "vt220") notes.push("It was recorded for an xterm. A VT220 ignores what it doesn't know of it, such as colours.");

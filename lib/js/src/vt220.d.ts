@@ -44,7 +44,7 @@ export interface Options {
   /** What the host sends: without it the VT220's own bytes. With the terminal "xterm" it is always UTF-8. */
   encoding?: Encoding;
   terminal?: TerminalName;
-  /** The size: without it a VT220's, 24 rows of 80 columns, which DECCOLM makes 132. Any other one has 2 to 255 rows of 80 to 255 columns. */
+  /** The size: without it a VT220's, 24 rows of 80 columns, which DECCOLM makes 132. Any other one has 2 to 255 rows of 2 to 255 columns. */
   rows?: number;
   columns?: number;
 }

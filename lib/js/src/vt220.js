@@ -8,7 +8,9 @@ export const MOST_COLUMNS = 255;
 
 const CODES = ["OK", "MEMORY", "IN_USE", "CLOSED", "PARTIAL", "ROOM", "UNSUPPORTED", "NO_ROW", "NO_KEY", "NO_CHARACTER", "LANGUAGE", "SIZE"];
 const MEMORY = 1, CLOSED = 3, NO_ROW = 7, SIZE = 11, XTERM = 2;
-const LEAST_ROWS = 2, NARROW = 80; // the fewest rows and columns of a screen
+export const LEAST_ROWS = 2; // the fewest of a screen
+export const LEAST_COLUMNS = 2;
+const NARROW = 80; // the columns of a VT220's screen at power-up
 const HELD = ["nothing", "escape", "control", "string"];
 const CURSOR = ["row", "column", "wrap"];
 const MARGINS = ["top", "bottom"];
@@ -41,13 +43,13 @@ function languageOf({ encoding = "dec", terminal = "vt220" } = {}) {
 /** Returns whether a screen may have so many rows and columns. */
 export function isSize(rows, columns) {
   const isOf = (value, least, most) => Number.isInteger(value) && least <= value && value <= most;
-  return isOf(rows, LEAST_ROWS, MOST_ROWS) && isOf(columns, NARROW, MOST_COLUMNS);
+  return isOf(rows, LEAST_ROWS, MOST_ROWS) && isOf(columns, LEAST_COLUMNS, MOST_COLUMNS);
 }
 
 /** Throws SIZE if no screen has so many rows and columns. */
 function checkSize(rows, columns) {
   if (isSize(rows, columns)) return;
-  throw new Vt220Error(CODES[SIZE], `a screen has ${LEAST_ROWS} to ${MOST_ROWS} rows of ${NARROW} to ${MOST_COLUMNS} columns, not ${rows} of ${columns}`);
+  throw new Vt220Error(CODES[SIZE], `a screen has ${LEAST_ROWS} to ${MOST_ROWS} rows of ${LEAST_COLUMNS} to ${MOST_COLUMNS} columns, not ${rows} of ${columns}`);
 }
 
 /** Compiles the module: bytes, a module, or a response. */

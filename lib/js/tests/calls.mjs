@@ -92,7 +92,7 @@ function drawings({ Terminal }, core, check) {
 }
 
 /** The sizes that no screen has, as rows and columns. */
-const NO_SIZES = [[1, 80], [256, 80], [24, 79], [24, 256], [0, 0], [24.5, 80], [24, NaN], ["24", 80], [24, null], [24, 2 ** 32 + 80], [2 ** 32 + 24, 80]];
+const NO_SIZES = [[1, 80], [256, 80], [24, 1], [24, 256], [0, 0], [24.5, 80], [24, NaN], ["24", 80], [24, null], [24, 2 ** 32 + 80], [2 ** 32 + 24, 80]];
 
 function errors({ Terminal, Vt220Error, ROWS, COLUMNS, MOST_ROWS, MOST_COLUMNS }, core, other, check) {
   const t = new Terminal(core), closed = new Terminal(core);
@@ -114,7 +114,7 @@ function errors({ Terminal, Vt220Error, ROWS, COLUMNS, MOST_ROWS, MOST_COLUMNS }
   }
   for (const name of PROPERTIES) check(`closed: ${name}`, thrown(() => closed[name]) === "CLOSED");
   for (const [rows, columns] of NO_SIZES) {
-    const said = `a screen has 2 to 255 rows of 80 to 255 columns, not ${rows} of ${columns}`;
+    const said = `a screen has 2 to 255 rows of 2 to 255 columns, not ${rows} of ${columns}`;
     for (const call of [() => new Terminal(core, { rows, columns }), () => t.resize(rows, columns)]) {
       check(`the size of ${rows} rows and ${columns} columns`, thrown(call) === "SIZE" && (() => { try { call(); } catch (error) { return error.message === said; } })());
     }
@@ -168,7 +168,7 @@ async function handles(wasm, check) {
   const { exports } = await WebAssembly.instantiate(await WebAssembly.compile(wasm));
   const [t, x, open, pages] = [0, 2, 0, 2].map((language) => exports.open(language, 24, 80)), at = { t, x, open, pages };
   check("no such language", exports.open(4, 24, 80) === 0);
-  for (const [rows, columns] of [[1, 80], [256, 80], [24, 79], [24, 256]]) check("no such size", exports.open(0, rows, columns) === 0);
+  for (const [rows, columns] of [[1, 80], [256, 80], [24, 1], [24, 256]]) check("no such size", exports.open(0, rows, columns) === 0);
   for (const name of ["text", "show", "picture", "repaint", "row_text", "update", "draw", "feed_log"])
     for (const one of name === "update" ? [open] : [open, pages])
       check(`before the start: ${name}`, exports[name](one, name === "update" || name === "draw" ? t : 1, 1, 2) === (name.startsWith("feed") ? 0 : 3) && exports.written() === 0);
@@ -254,7 +254,7 @@ function resizes({ Terminal }, core, check) {
 
 /** Tests all sizes at their ends, and that sizes that come and go take no more memory. */
 function sizesOfScreens(vt220, core, check) {
-  for (const terminal of ["vt220", "xterm"]) for (const [rows, columns] of [[2, 80], [24, 80], [24, 132], [40, 120], [255, 255]]) atSize(vt220, core, { rows, columns, terminal }, check);
+  for (const terminal of ["vt220", "xterm"]) for (const [rows, columns] of [[2, 2], [30, 40], [2, 80], [24, 80], [24, 132], [40, 120], [255, 255]]) atSize(vt220, core, { rows, columns, terminal }, check);
   resizes(vt220, core, check);
   const t = new vt220.Terminal(core), turn = () => {
     for (const [rows, columns] of [[60, 200], [24, 80], [80, 90], [61, 201], [30, 100]]) t.resize(rows, columns);

@@ -415,7 +415,7 @@ def test_two_sizes():
         with pytest.raises(vt220.OtherSize):
             call(large)
     assert large.draw(small) == large.draw()
-    for size in ((1, 80), (256, 80), (24, 79), (24, 256)):
+    for size in ((1, 80), (256, 80), (24, 1), (24, 256)):
         with pytest.raises(vt220.OtherSize):
             vt220.Terminal(rows=size[0], columns=size[1])
         with pytest.raises(vt220.OtherSize):

@@ -436,8 +436,8 @@ def _check_row(row: int, last: int) -> int:
 def _check_size(rows: int, columns: int) -> Tuple[int, int]:
     """Returns a size. Raises OtherSize if no screen has it, and TypeError if the numbers aren't integers."""
     size = operator.index(rows), operator.index(columns)
-    if not (2 <= size[0] <= MOST_ROWS and 80 <= size[1] <= MOST_COLUMNS):
-        raise OtherSize(f"a screen has 2 to {MOST_ROWS} rows of 80 to {MOST_COLUMNS} columns, not {size[0]} of {size[1]}")
+    if not (2 <= size[0] <= MOST_ROWS and 2 <= size[1] <= MOST_COLUMNS):
+        raise OtherSize(f"a screen has 2 to {MOST_ROWS} rows of 2 to {MOST_COLUMNS} columns, not {size[0]} of {size[1]}")
     return size
 
 
@@ -626,7 +626,7 @@ def _open(language: int, rows: int, columns: int, handle: _Handle) -> int:
 class Terminal:
     """Opens a terminal in its power-up state. Its host sends the VT220's own bytes ("dec"), or UTF-8 ("utf-8").
 
-    Without a size it has a VT220's: 24 rows of 80 columns, which DECCOLM makes 132. Another one has 2 to 255 rows of 80 to 255 columns, and
+    Without a size it has a VT220's: 24 rows of 80 columns, which DECCOLM makes 132. Another one has 2 to 255 rows of 2 to 255 columns, and
     DECCOLM leaves its width. resize() changes the size.
 
     With terminal="xterm" its host sends what programs send under TERM=xterm-256color. This is always UTF-8. alternate() returns whether
@@ -660,7 +660,7 @@ class Terminal:
         return int(_library.vt220_rows(self._opened()))
 
     def resize(self, rows: int, columns: int) -> None:
-        """Changes the size, as xterm does if its window changes. Each has 2 to 255 rows of 80 to 255 columns.
+        """Changes the size, as xterm does if its window changes. Each has 2 to 255 rows of 2 to 255 columns.
 
         If the cursor would be below the last row, so many rows leave at the top that it is in the last one: read them before, with
         row_text(). DECCOLM leaves the width then. Raises OtherSize if no screen has this size.
@@ -764,7 +764,8 @@ class Terminal:
         return _library.calls.picture(self._handle).decode()  # type: ignore[no-any-return]
 
     def repaint(self, terminal: str = "") -> bytes:
-        """Returns bytes that leave any terminal of this one's encoding and terminal exactly as this one is. What is pending of UTF-8 is left out.
+        """Returns bytes that leave any terminal of this one's encoding, terminal and size exactly as this one is. What is pending of UTF-8 is
+        left out.
 
         With terminal="vt220" they are for a VT220, which they leave in this one's state, with the page that is shown. Raises Partial inside a
         sequence, and OtherLanguage if they are for an xterm and this terminal is a VT220.

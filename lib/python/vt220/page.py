@@ -22,7 +22,7 @@ FIELDS = ("TITLE", "PLAYERS", "REST")
 BEGINNING = 1 << 18
 # The size that a template is for, as its style names it, and the limits of others: the fewest and the most columns, and rows.
 SIZED = "--columns: {}; --rows: {};"
-SIZE, COLUMNS, ROWS = (80, 24), (80, 255), (2, 255)
+SIZE, COLUMNS, ROWS = (80, 24), (2, 255), (2, 255)
 # How a page plays, if its options don't name it. Times are in seconds; a marker is a time and a label, and an input a time and a text.
 OPTIONS: Mapping[str, object] = {"start": 0, "poster": None, "speed": 1, "pause": 1, "autoplay": False, "loop": False, "stops": False, "controls": True,
                                 "encoding": "dec", "terminal": "vt220", "rows": SIZE[1], "columns": SIZE[0], "markers": (), "inputs": (), "keystrokes": False}

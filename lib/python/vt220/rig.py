@@ -158,7 +158,7 @@ class Rig:
     The command is in UTF-8, and so are the keys that it gets. With the encoding "dec" it gets the bytes of a VT220, and sends them.
     With the terminal "xterm" it is in UTF-8, TERM is xterm-256color, and its keys are those of xterm.
 
-    The screen has a VT220's size, 24 rows of 80 columns or of 132, or another one of 2 to 255 rows and 80 to 255 columns. resize() changes it.
+    The screen has a VT220's size, 24 rows of 80 columns or of 132, or another one of 2 to 255 rows and 2 to 255 columns. resize() changes it.
     """
 
     def __init__(self, argv: Sequence[str], *, rows: int = ROWS, columns: int = 80, cwd: Optional[Directory] = None, env: Optional[Dict[str, str]] = None,

@@ -315,7 +315,7 @@ impl Terminal {
         Terminal::open_as(Language::Bytes)
     }
 
-    /// Opens a terminal for a language and of a size in its power-up state: 2 to 255 rows of 80 to 255 columns. At another size than 24 by
+    /// Opens a terminal for a language and of a size in its power-up state: 2 to 255 rows of 2 to 255 columns. At another size than 24 by
     /// 80 DECCOLM leaves the width.
     ///
     /// ```
@@ -336,7 +336,7 @@ impl Terminal {
         Ok(Terminal(handle))
     }
 
-    /// Changes the size, as xterm does if its window changes, also inside a sequence: 2 to 255 rows of 80 to 255 columns. DECCOLM then
+    /// Changes the size, as xterm does if its window changes, also inside a sequence: 2 to 255 rows of 2 to 255 columns. DECCOLM then
     /// leaves the width. If the cursor would be below the last row, so many rows leave at the top that it is in the last one: read them
     /// before, with `row_text`.
     ///
@@ -485,7 +485,7 @@ impl Terminal {
         scratch.text(&self.0, sys::VT220_OF_PICTURE, |s, out, size, written| unsafe { sys::vt220_picture(&self.0, s, out, size, written) }).expect("a picture has no error")
     }
 
-    /// Returns bytes that, fed to any terminal of the same language, whatever its state, leave it exactly as this one is. What is pending of
+    /// Returns bytes that, fed to any terminal of the same language and size, whatever its state, leave it exactly as this one is. What is pending of
     /// UTF-8 is left out: these bytes are fed after them.
     ///
     /// # Errors

@@ -56,6 +56,7 @@ class Module:
         for line in text.split("\n"):
             if not line.strip() or line.lstrip().startswith("--") or line.startswith("use "):
                 continue
+            line = re.sub(r"  -- .*", "", line)
             if not line.startswith(" "):
                 start = START.match(line)
                 name = start.group(1) if start else name

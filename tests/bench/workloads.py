@@ -1,8 +1,10 @@
-"""The benchmark's inputs: eleven workloads, seven in UTF-8, and three screens, the same bytes on every machine.
+"""The benchmark's inputs: eleven workloads, seven in UTF-8, two recordings by asciinema, and three screens, the same bytes on every machine.
 
 Four workloads are what frequent programs write on a terminal line: `seq`, `find`, make with gcc, and `git log --color`. The programs' words
 are fixed, and all others are made from the seed.
 """
+
+import json
 
 LETTERS = b"      eeeeettttaaaaooooiiinnnssshhrrddllccuummwwffggyyppbbvkxjqz.,0123456789"
 NAMES = (b"account", b"build", b"cache", b"device", b"event", b"format", b"graph", b"header", b"index", b"layout", b"memory", b"network",
@@ -178,6 +180,20 @@ def make(name, size, among=WORKLOADS):
         parts.append(among[name](source))
         length += len(parts[-1])
     return b"".join(parts)[:size]
+
+
+def cast(name):
+    """A recording by asciinema of 10,000 events of 100 bytes, each up to a second after the one before it, and its content."""
+    source, micros, ending = Source(21), 0, CASTS[name]
+    lines, texts = [json.dumps({"version": 2, "width": 80, "height": 24})], []
+    for _ in range(10_000):
+        micros += source.below(1_000_000)
+        texts.append(source.text(100 - len(ending)).decode() + ending)
+        lines.append(json.dumps([micros / 1_000_000, "o", texts[-1]]))
+    return "".join(f"{line}\n" for line in lines).encode(), "".join(texts).encode()
+
+
+CASTS = {"lines": "\r\n", "words": ""}
 
 
 def fields():

@@ -39,7 +39,7 @@ SCENES = [
     b"\033[5\1777;3\177H#\033\177(\1770q\033(B",
 ]
 # The cursor at an edge, and what is sent there.
-TOUCHED = [b"\033[5;10r\033[%d;3H", b"\033[?6h\033[5;10r\033[%d;1H", b"\033[%d;80H#", b"\033[?3h\033[%d;132H#"]
+TOUCHED = [b"\033[5;10r\033[%(row)d;3H", b"\033[?6h\033[5;10r\033[%(row)d;1H", b"\033[%(row)d;%(last)dH#", b"\033[?3h\033[%(row)d;132H#"]
 TOUCHING = [b"\033[A", b"\033[B", b"\033[C", b"\t", b"\b", b"\033[L", b"\033[M", b"\033D", b"\033M", b"\033E", b"\n", b"\v", b"\033[@", b"\033[K", b"\0337", b"\0338"]
 
 
@@ -52,6 +52,7 @@ class Chance(random.Random):
     controls = CONTROLS
     scenes = SCENES
     touched_by = TOUCHING
+    rows, columns = 24, 80
 
     def letters(self):
         return bytes(self.choices(b"abcxyzEN#~@[]{|}_` \241\244\327\335\375\377\240\250", k=self.length()))
@@ -68,11 +69,12 @@ class Chance(random.Random):
 
     def filled(self):
         """A row up to its end, or a screen up to its last row."""
-        return self.choice([b"x" * self.choice([79, 80, 81, 131, 132, 133]), b"row\r\n" * self.choice([1, 22, 23, 24, 30])])
+        columns, rows = self.columns, self.rows
+        return self.choice([b"x" * self.choice([columns - 1, columns, columns + 1, 131, 132, 133]), b"row\r\n" * self.choice([1, rows - 2, rows - 1, rows, rows + 6])])
 
     def sequence(self):
         final = self.choice(self.finals)
-        numbers = self.numbers.get(final, EDGES)
+        numbers = self.numbers.get(final) or EDGES + [edge + more for edge in (self.rows, self.columns) for more in (-1, 0, 1)]
         count = self.choice([0, 1, 1, 1, 2, 2, 3, 17])
         values = b";".join(self.choice([b"", b"%d" % self.choice(numbers), b"%d" % self.choice(numbers)]) for _ in range(count))
         marker = self.choice([b"?"] if final in "hl" and self.random() < 0.6 else [b""] * 8 + [b"?", b">", b"=", b"<"])
@@ -81,7 +83,7 @@ class Chance(random.Random):
 
     def touched(self):
         """The cursor at an edge: of the margins, of the screen, or behind a written last column."""
-        place = self.choice(TOUCHED) % self.choice([1, 4, 5, 6, 9, 10, 11, 23, 24])
+        place = self.choice(TOUCHED) % {b"row": self.choice([1, 4, 5, 6, 9, 10, 11, self.rows - 1, self.rows]), b"last": self.columns}
         return place + self.choice(self.touched_by) + self.choice([b"", b"X", b"\033[6n"])
 
     def string(self):
@@ -100,6 +102,26 @@ class Chance(random.Random):
     def pieces(self, data):
         cuts = sorted(self.randrange(len(data) + 1) for _ in range(self.randrange(4)))
         return [data[begin:end] for begin, end in zip([0, *cuts], [*cuts, len(data)])]
+
+    def size(self):
+        """Returns rows and columns."""
+        return self.choice([2, 3, 5, 10, 23, 24, 25, self.randint(2, 60)]), self.choice([2, 3, 9, 20, 40, 79, 80, 81, 132, self.randint(2, 140)])
+
+    def steps(self):
+        """Returns the pieces of an input, and between them changes of the size, which are pairs of rows and columns."""
+        made = self.pieces(self.input())
+        for _ in range(self.choice([0, 0, 1, 1, 2, 3])):
+            made.insert(self.randrange(len(made) + 1), self.size())
+        return made
+
+    def at_usual_size(self):
+        """Returns the size of a VT220's screen, and what is played at it."""
+        return (self.rows, self.columns), self.pieces(self.input())
+
+    def at_a_size(self):
+        """Returns a size, and what is played at it. The edges are those of the size."""
+        self.rows, self.columns = self.size()
+        return (self.rows, self.columns), self.steps()
 
 
 # Characters by their blocks: what programs send, and what has no cell, two cells or no glyph.

@@ -1,5 +1,5 @@
 """The repaint of the model's state, by docs/SPECIFICATION.md, 'Repaint'."""
-from terminal import ANSI_MODES, ATTRIBUTES, BLANK, PRIVATE_MODES, ROWS, SETS, SET_AT_POWER_UP, SPECIAL, WIDE, Brush, Saved, Sets, Terminal
+from terminal import ANSI_MODES, ATTRIBUTES, BLANK, PRIVATE_MODES, SETS, SET_AT_POWER_UP, SPECIAL, Brush, Saved, Sets, Terminal
 
 SPELLING_SETS = b"\033(B\033*<\033+0\017"
 SUPPLEMENTAL_CODES = {glyph: code for code, glyph in reversed(SETS["<"].items())}
@@ -29,10 +29,13 @@ def sets_bytes(sets: Sets):
 
 
 def stops_bytes(terminal):
-    if terminal.stops == set(range(9, WIDE, 8)):
-        return b"\033[?3h" if terminal.width == WIDE else b""
-    made = b"\033[?3h\033[3g" + b"".join(csi(1, stop, final="H") + b"\033H" for stop in sorted(terminal.stops))
-    return made + (b"" if terminal.width == WIDE else b"\033[?3l")
+    size = terminal.size
+    has_widths, is_wide = size.narrow != size.wide, terminal.width == size.wide
+    wide, narrow = (b"\033[?3h", b"\033[?3l") if has_widths else (b"", b"")
+    if terminal.stops == terminal.usual_stops():
+        return wide if is_wide else b""
+    made = wide + b"\033[3g" + b"".join(csi(1, stop, final="H") + b"\033H" for stop in sorted(terminal.stops))
+    return made + (b"" if is_wide else narrow)
 
 
 def saved_bytes(saved: Saved):
@@ -86,7 +89,7 @@ def items(terminal, column, wrap, sides=b""):
         stops_bytes(terminal),
         saved_bytes(terminal.saved),
         cells_bytes(terminal, wrap),
-        b"" if (terminal.top, terminal.bottom) == (1, ROWS) else csi(terminal.top, terminal.bottom, final="r"),
+        b"" if (terminal.top, terminal.bottom) == (1, terminal.size.rows) else csi(terminal.top, terminal.bottom, final="r"),
         sides,
         b"\033[?6h" if "DECOM" in terminal.modes else b"",
         cursor_bytes(terminal, column, wrap),
@@ -104,7 +107,7 @@ def repaint(terminal):
 
 def session_repaint(session):
     """Returns the repaint under TERM=xterm, of both pages."""
-    other = Terminal()
+    other = Terminal(session.size)
     other.cells, other.saved, other.width = session.other_cells, session.other_saved, len(session.other_cells[0])
     return b"".join([
         b"\033[?40h\033c",

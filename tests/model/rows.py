@@ -8,23 +8,35 @@ sys.path.append(str(TOP / "lib/rows"))
 
 from terminal import ATTRIBUTES
 from utf8 import has_known_width
-from vectors import session_repaints, vectors
+from vectors import session_repaints, sizes, vectors
 
 VT220, UTF8, XTERM = ("dec", "vt220"), ("utf-8", "vt220"), ("utf-8", "xterm")
 
 
 @dataclasses.dataclass
 class Row:
-    """The encoding and the terminal are its kind."""
+    """The encoding and the terminal are its kind. A size is a pair of rows and columns. `more` is played after a change to the second one."""
 
     name: str
     kind: tuple
     data: bytes
     wanted: dict
+    first: tuple = (24, 80)
+    second: tuple | None = None
+    more: bytes = b""
+
+    def steps(self):
+        """Returns what is played: bytes, each by itself, and the change of the size."""
+        change = [self.second] if self.second else []
+        return [*singly(self.data), *change, *singly(self.more)]
+
+
+def singly(data):
+    return [data[at:at + 1] for at in range(len(data))]
 
 
 def all_rows():
-    return [*rows_of_fields(), *rows_of_vectors(), *repaints_of_sessions()]
+    return [*rows_of_fields(), *rows_of_vectors(), *repaints_of_sessions(), *rows_of_sizes()]
 
 
 def rows_of_fields():
@@ -47,6 +59,13 @@ def rows_of_vectors():
         if all(character.isascii() or has_known_width(character) for character in characters):
             wanted = {of: value for of, value in vector.wanted.items() if of != "bells"}
             yield Row(vector.name, kind, vector.input, wanted | ({"repaint": vector.repaint} if kind == VT220 else {}))
+
+
+def rows_of_sizes():
+    """Returns the rows of lib/rows/sizes.txt."""
+    for sized in sizes():
+        wanted = {of: value for of, value in sized.wanted.items() if of != "bells"}
+        yield Row(sized.name, (sized.encoding, sized.terminal), sized.input, wanted, sized.first, sized.second, sized.more)
 
 
 def repaints_of_sessions():

@@ -5,8 +5,6 @@ wrongly twice, or is wrong in the specification.
 """
 from dataclasses import dataclass, field, replace
 
-ROWS = 24
-NARROW, WIDE = 80, 132
 CAN, SUB, ESC, BEL, DEL, CSI, ST = 0x18, 0x1A, 0x1B, 0x07, 0x7F, 0x9B, 0x9C
 STRINGS = {0x90: "DCS", 0x98: "SOS", 0x9D: "OSC", 0x9E: "PM", 0x9F: "APC"}
 MOST_VALUES, GREATEST_VALUE = 16, 9999
@@ -22,6 +20,20 @@ SUPPLEMENTAL |= {0x28: "\u00a4", 0x57: "\u0152", 0x5D: "\u0178", 0x77: "\u0153",
 SUPPLEMENTAL |= dict.fromkeys(UNDEFINED, NO_GLYPH)
 ASCII = {code: chr(code) for code in range(0x21, 0x7F)}
 SETS = {"B": ASCII, "A": ASCII | {0x23: "\u00a3"}, "K": ASCII | GERMAN, "0": ASCII | SPECIAL, "<": SUPPLEMENTAL}
+
+
+@dataclass(frozen=True)
+class Size:
+    """The rows of a screen, and the columns of the narrow and of the wide one."""
+
+    rows: int = 24
+    narrow: int = 80
+    wide: int = 132
+
+
+def size_of(rows, columns):
+    """Returns the size of a screen. 24 rows of 80 columns are a VT220's, which may be 132 columns wide."""
+    return Size() if (rows, columns) == (24, 80) else Size(rows, columns, columns)
 
 
 @dataclass(frozen=True)
@@ -66,25 +78,64 @@ ATTRIBUTES = {1: "bold", 4: "underline", 5: "blink", 7: "reverse"}
 
 
 class Terminal:
-    def __init__(self):
+    def __init__(self, size=Size()):
+        self.size = size
         self.sequence = None
         self.reports = []
-        self.scrolled_off = []
+        self.scrolled_off, self.left_by_resizes = [], []
         self.power_up()
 
-    def power_up(self, width=NARROW):
-        self.set_width(width)
+    def power_up(self, width=None):
+        self.set_width(width or self.size.narrow)
         self.row, self.column, self.wrap = 1, 1, False
         self.brush, self.sets, self.single_shift = PLAIN, Sets(), None
-        self.top, self.bottom = 1, ROWS
-        self.stops = set(range(9, WIDE, 8))
+        self.top, self.bottom = 1, self.size.rows
+        self.stops = self.usual_stops()
         self.modes = set(SET_AT_POWER_UP)
         self.keypad = self.eight_bit = False
         self.saved = Saved()
 
     def set_width(self, width):
         self.width = width
-        self.cells = [[BLANK] * width for _ in range(ROWS)]
+        self.cells = self.blank_cells(width)
+
+    def blank_cells(self, width):
+        return [[BLANK] * width for _ in range(self.size.rows)]
+
+    def usual_stops(self):
+        return set(range(9, self.size.wide + 1, 8))
+
+    # Changes of the size.
+
+    def resize(self, rows, columns):
+        """Gives the screen this size. Both of its widths are then the same. Returns the reports: none."""
+        size = Size(rows, columns, columns)
+        if size == self.size:
+            return b""
+        self.leave(max(self.row - rows, 0), size)
+        if (rows, columns) != (self.size.rows, self.width):
+            self.fill_margins(size)
+        kept = {stop for stop in self.stops if stop <= columns}
+        comes_in = range(self.size.wide + 1, columns + 1)
+        self.size, self.width = size, columns
+        self.stops = kept | self.usual_stops().intersection(comes_in)
+        for place in (self, self.saved):
+            bring_inside(place, size)
+        return b""
+
+    def fill_margins(self, size):
+        self.top, self.bottom = 1, size.rows
+        self.set_mode("DECOM", False)
+
+    def leave(self, n, size):
+        """Takes n rows off the top, and what is outside of a size off the rest."""
+        self.left_by_resizes += [self.line_text(row) for row in range(1, n + 1)]
+        self.cells = cut(self.cells, n, size)
+        self.row -= n
+
+    def play(self, steps):
+        """Plays bytes, and changes to pairs of rows and columns. Returns the reports."""
+        return b"".join(self.feed(step) if isinstance(step, bytes) else self.resize(*step) for step in steps)
 
     # Sequence syntax.
 
@@ -231,8 +282,8 @@ class Terminal:
         elif intermediate + final in (" F", " G"):
             self.eight_bit = final == "G"
         elif intermediate + final == "#8":
-            self.cells = [[("E", PLAIN)] * self.width for _ in range(ROWS)]
-            self.top, self.bottom = 1, ROWS
+            self.cells = [[("E", PLAIN)] * self.width for _ in range(self.size.rows)]
+            self.top, self.bottom = 1, self.size.rows
             self.home()
 
     def plain_escape(self, final):
@@ -284,7 +335,7 @@ class Terminal:
             for value in values:
                 self.rendition(value)
         elif name == "r":
-            self.set_margins(n, second if 0 < second < ROWS else ROWS)
+            self.set_margins(n, second if 0 < second < self.size.rows else self.size.rows)
         elif name == '"q' and first in (0, 1, 2):
             self.brush = replace(self.brush, protected=first == 1)
         elif name == '"p' and (first == 61 or first == 62 and second in (0, 1, 2)):
@@ -298,21 +349,21 @@ class Terminal:
             self.report(f"{self.row - self.origin() + 1};{self.column}R")
 
     def position(self, line, column):
-        last = self.bottom if "DECOM" in self.modes else ROWS
+        last = self.bottom if "DECOM" in self.modes else self.size.rows
         self.move_to(min(self.origin() + line - 1, last), min(column, self.width))
 
     def up(self, n):
         self.move_to(max(self.row - n, self.top if self.row >= self.top else 1), self.column)
 
     def down(self, n):
-        self.move_to(min(self.row + n, self.bottom if self.row <= self.bottom else ROWS), self.column)
+        self.move_to(min(self.row + n, self.bottom if self.row <= self.bottom else self.size.rows), self.column)
 
     def erase(self, which, is_screen, is_selective):
         """Erases from the cursor on, up to it, or all, of the screen or of the cursor's row."""
         if which not in (0, 1, 2):
             return
         here = (self.row, self.column)
-        for row in range(1, ROWS + 1) if is_screen else [self.row]:
+        for row in range(1, self.size.rows + 1) if is_screen else [self.row]:
             for column in range(1, self.width + 1):
                 if which == 2 or (which == 0 and (row, column) >= here) or (which == 1 and (row, column) <= here):
                     self.erase_cell(self.cells[row - 1], column - 1, is_selective)
@@ -345,7 +396,7 @@ class Terminal:
 
     def change_mode(self, number, is_private, is_set):
         if is_private and number == 3:
-            self.column_mode(WIDE if is_set else NARROW)
+            self.column_mode(self.size.wide if is_set else self.size.narrow)
             return
         name = (PRIVATE_MODES if is_private else ANSI_MODES).get(number)
         if name is None:
@@ -358,7 +409,7 @@ class Terminal:
 
     def column_mode(self, width):
         self.set_width(width)
-        self.top, self.bottom = 1, ROWS
+        self.top, self.bottom = 1, self.size.rows
         self.home()
         self.saved.column = min(self.saved.column, width)
         self.saved.wrap = False
@@ -380,7 +431,7 @@ class Terminal:
     def soft_reset(self):
         self.modes = self.modes - {"KAM", "IRM", "DECCKM", "DECOM", "DECAWM"} | {"DECTCEM"}
         self.keypad = False
-        self.top, self.bottom = 1, ROWS
+        self.top, self.bottom = 1, self.size.rows
         self.brush, self.sets, self.single_shift = PLAIN, Sets(), None
         self.saved = Saved()
         self.wrap = False
@@ -415,7 +466,7 @@ class Terminal:
             self.scroll(self.top, 1)
             self.wrap = False
         else:
-            self.move_to(min(self.row + 1, ROWS), self.column)
+            self.move_to(min(self.row + 1, self.size.rows), self.column)
 
     def reverse_index(self):
         if self.row == self.top:
@@ -444,14 +495,27 @@ class Terminal:
         return "".join([glyph for glyph, _ in self.cells[row - 1]]).rstrip(" ") + "\n"
 
     def text(self):
-        return "".join(self.line_text(row) for row in range(1, ROWS + 1))
+        return "".join(self.line_text(row) for row in range(1, self.size.rows + 1))
 
     def held(self):
         return self.sequence["kind"] if self.sequence else "none"
 
     def state(self):
         """Returns all that a terminal keeps, without what it has written."""
-        return {name: part for name, part in vars(self).items() if name not in ("reports", "scrolled_off")}
+        return {name: part for name, part in vars(self).items() if name not in ("reports", "scrolled_off", "left_by_resizes")}
+
+
+def cut(cells, n, size):
+    """Returns the cells after the first n rows, cut or filled to a size."""
+    rows = [(line + [BLANK] * size.wide)[:size.wide] for line in cells[n:n + size.rows]]
+    return rows + [[BLANK] * size.wide for _ in range(size.rows - len(rows))]
+
+
+def bring_inside(place, size):
+    place.row = min(place.row, size.rows)
+    if place.wrap and place.column < size.wide:
+        place.column, place.wrap = place.column + 1, False
+    place.column = min(place.column, size.wide)
 
 
 MOVES = {

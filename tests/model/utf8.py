@@ -3,7 +3,7 @@ import codecs
 import re
 import unicodedata
 
-from terminal import NO_GLYPH, SETS, Terminal
+from terminal import NO_GLYPH, SETS, Size, Terminal
 
 GLYPHS = {" ", NO_GLYPH}.union(*(chart.values() for chart in SETS.values()))
 
@@ -103,8 +103,8 @@ def has_known_width(character):
 
 
 class Utf8Terminal(Terminal):
-    def __init__(self):
-        super().__init__()
+    def __init__(self, size=Size()):
+        super().__init__(size)
         self.pending = b""
 
     def feed(self, data):

@@ -1,5 +1,5 @@
 """A terminal that plays what programs send under TERM=xterm, by docs/SPECIFICATION.md, 'Under TERM=xterm'."""
-from terminal import BLANK, NARROW, ROWS, Saved
+from terminal import BLANK, Saved, Size, bring_inside, cut
 from utf8 import Utf8Terminal
 
 COLOURS = (38, 48, 58)
@@ -7,21 +7,41 @@ COMPONENTS = {5: 1, 2: 3}
 
 
 class Xterm(Utf8Terminal):
-    def __init__(self):
-        super().__init__()
+    def __init__(self, size=Size()):
+        super().__init__(size)
         self.allows_columns = self.paste = False
 
-    def power_up(self, width=NARROW):
+    def power_up(self, width=None):
         super().power_up(width)
         self.sides = None
         self.is_alternate = self.paste = False
-        self.other_cells, self.other_saved = blank_cells(NARROW), Saved()
+        self.other_cells, self.other_saved = self.blank_cells(self.size.narrow), Saved()
+
+    # Changes of the size.
+
+    def resize(self, rows, columns):
+        super().resize(rows, columns)
+        bring_inside(self.other_saved, self.size)
+        return b""
+
+    def fill_margins(self, size):
+        super().fill_margins(size)
+        self.wrap = self.wrap_flag()
+        self.fill_sides(size.wide)
+
+    def leave(self, n, size):
+        """As many rows leave both pages. Those of the main page are logged if it is shown."""
+        logged = len(self.left_by_resizes)
+        super().leave(n, size)
+        if self.is_alternate:
+            del self.left_by_resizes[logged:]
+        self.other_cells = cut(self.other_cells, n, size)
 
     # Escape and control sequences. What isn't here has its effect on a VT220.
 
     def plain_escape(self, final):
         if final == "c":
-            self.power_up(NARROW if self.allows_columns else self.width)
+            self.power_up(self.size.narrow if self.allows_columns else self.width)
         else:
             super().plain_escape(final)
 
@@ -135,7 +155,7 @@ class Xterm(Utf8Terminal):
         self.column = column
 
     def lines_down(self, n):
-        self.move_to(min(self.row + n, self.bottom if "DECOM" in self.modes else ROWS), self.column)
+        self.move_to(min(self.row + n, self.bottom if "DECOM" in self.modes else self.size.rows), self.column)
 
     def next_lines(self, n):
         self.down(n)
@@ -255,7 +275,7 @@ class Xterm(Utf8Terminal):
         self.saved, self.other_saved = self.other_saved, self.saved
         self.is_alternate = is_alternate
         if len(self.cells[0]) != self.width:
-            self.cells = blank_cells(self.width)
+            self.cells = self.blank_cells(self.width)
             self.saved.column = min(self.saved.column, self.width)
             self.saved.wrap = False
 
@@ -264,7 +284,7 @@ class Xterm(Utf8Terminal):
         is_left = self.is_alternate and not is_alternate
         self.show(is_alternate)
         if is_left:
-            self.other_cells = blank_cells(self.width)
+            self.other_cells = self.blank_cells(self.width)
 
     def save_or_restore(self, is_saved):
         """?1048."""
@@ -285,10 +305,6 @@ class Xterm(Utf8Terminal):
 
     def want_brackets(self, is_wanted):
         self.paste = is_wanted
-
-
-def blank_cells(width):
-    return [[BLANK] * width for _ in range(ROWS)]
 
 
 def without_colours(values):

@@ -34,7 +34,7 @@ takes_start command = bytes_eq command (codes "events") || (bytes_eq command (co
 -- the size of so many rows of so many columns, if a screen may have it. Its narrow and its wide screen are of one width
 abbrev pub size_of : (columns rows : ℕ) → Option Size
 size_of columns rows =
-    cond (nat_lt 79 columns && (nat_lt columns 256 && (nat_lt 1 rows && nat_lt rows 256)))
+    cond (nat_lt 1 columns && (nat_lt columns 256 && (nat_lt 1 rows && nat_lt rows 256)))
     (Some (record { rows = rows; narrow = columns; wide = columns })) None
 
 -- the command of this name plays a VT220's screen alone, or none

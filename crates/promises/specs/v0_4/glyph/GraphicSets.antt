@@ -11,7 +11,8 @@ pub record GraphicSets' : Type 0 where
   pub right : ℕ
   pub pending : Option ℕ
 
--- there are four sets; GL is one of G0 to G3, GR one of G1 to G3; a single shift is to G2 or G3
+-- there are four sets; GL is one of G0 to G3, GR one of G1 to G3; a single shift is to G2 or G3 (EK-VT220-RM,
+-- chapter 4: SCS, the locking shifts and the single shifts)
 pub record AreSoundSets' (sets : GraphicSets) : Type 0 where
   pub four : length sets.g ≡ 4
   pub left : sets.left < 4

@@ -12,23 +12,24 @@ abbrev pub sets_at_power_up : GraphicSets
 sets_at_power_up =
     record { g = Ascii ∷ Ascii ∷ Supplemental ∷ Supplemental ∷ []; left = 0; right = 2; pending = None }
 
--- SCS
+-- SCS (ECMA-35 14)
 abbrev pub designated : ℕ → Set → GraphicSets → GraphicSets
 designated slot set sets = record sets { g = slice_set sets.g slot set }
 
--- the locking shifts to GL: LS0, LS1, LS2, LS3
+-- the locking shifts to GL: LS0, LS1, LS2, LS3 (ECMA-48 8.3.75, 8.3.76, 8.3.78, 8.3.80)
 abbrev pub locked_left : ℕ → GraphicSets → GraphicSets
 locked_left slot sets = record sets { left = slot }
 
--- the locking shifts to GR: LS1R, LS2R, LS3R
+-- the locking shifts to GR: LS1R, LS2R, LS3R (ECMA-48 8.3.77, 8.3.79, 8.3.81)
 abbrev pub locked_right : ℕ → GraphicSets → GraphicSets
 locked_right slot sets = record sets { right = slot }
 
--- the single shifts SS2, SS3: a second one replaces the first
+-- the single shifts SS2, SS3: a second one replaces the first (ECMA-48 8.3.141, 8.3.142)
 abbrev pub shifted_once : ℕ → GraphicSets → GraphicSets
 shifted_once slot sets = record sets { pending = Some slot }
 
--- DECRC gives the designations and locking shifts back, and leaves a single shift pending
+-- DECRC gives the designations and locking shifts back, and leaves a single shift pending (EK-VT220-RM, chapter 4:
+-- DECRC; the single shift is this profile's)
 abbrev pub restored : List Set → ℕ → ℕ → GraphicSets → GraphicSets
 restored g left right sets = record sets { g = g; left = left; right = right }
 
@@ -50,11 +51,11 @@ glyph_read sets b =
     if has_no_glyph b then None else (
     if b == 0x20 then Some space else Some (glyph_of (invoked sets b) (b % 0x80)))
 
--- a byte that has a glyph uses a pending single shift up
+-- a byte that has a glyph uses a pending single shift up (SS2 and SS3; that A0 and FF leave it is this profile)
 unfoldable pub after_read : GraphicSets → ℕ → GraphicSets
 after_read sets b = if has_no_glyph b then sets else record sets { pending = None }
 
--- the sets in GL and GR: graphic bytes are read through them if no single shift is pending (VT220 manual, chapter 4:
+-- the sets in GL and GR: graphic bytes are read through them if no single shift is pending (EK-VT220-RM, chapter 4:
 -- the in-use table)
 pub record InUseTable' : Type 0 where
   pub left : Set

@@ -52,23 +52,23 @@ spoken_escapes =
     codes "7" ∷ codes "=" ∷ codes ">" ∷ codes "c" ∷ codes "H" ∷ codes "N" ∷ codes "O" ∷ codes "n" ∷ codes "o"
     ∷ codes "~" ∷ codes "}" ∷ codes "|" ∷ codes " F" ∷ codes " G" ∷ []
 
--- CUF, CUB, CUP, IL, DL and DECSTBM; SGR; ED and EL starting at the cursor; TBC of all stops; SM and RM; DECSCA; DECSTR
+-- control sequences, by what ends them, each with what its parameters may be
 abbrev pub spoken_sequences : List (List ℕ × (List ℕ → Bool))
 spoken_sequences =
-    (codes "C", are_numbers)
-    ∷ (codes "D", are_numbers)
-    ∷ (codes "H", are_numbers)
-    ∷ (codes "L", are_numbers)
-    ∷ (codes "M", are_numbers)
-    ∷ (codes "r", are_numbers)
-    ∷ (codes "m", are_attributes)
-    ∷ (codes "J", is_among ([] ∷ []))
-    ∷ (codes "K", is_among ([] ∷ []))
-    ∷ (codes "g", is_among (codes "3" ∷ []))
-    ∷ (codes "h", is_among mode_numbers)
-    ∷ (codes "l", is_among mode_numbers)
-    ∷ (0x22 ∷ codes "q", is_among ([] ∷ codes "0" ∷ codes "1" ∷ []))
-    ∷ (codes "!p", is_among (codes "0" ∷ []))
+    (codes "C", are_numbers)  -- CUF
+    ∷ (codes "D", are_numbers)  -- CUB
+    ∷ (codes "H", are_numbers)  -- CUP
+    ∷ (codes "L", are_numbers)  -- IL
+    ∷ (codes "M", are_numbers)  -- DL
+    ∷ (codes "r", are_numbers)  -- DECSTBM
+    ∷ (codes "m", are_attributes)  -- SGR
+    ∷ (codes "J", is_among ([] ∷ []))  -- ED starting at the cursor
+    ∷ (codes "K", is_among ([] ∷ []))  -- EL starting at the cursor
+    ∷ (codes "g", is_among (codes "3" ∷ []))  -- TBC of all stops
+    ∷ (codes "h", is_among mode_numbers)  -- SM
+    ∷ (codes "l", is_among mode_numbers)  -- RM
+    ∷ (0x22 ∷ codes "q", is_among ([] ∷ codes "0" ∷ codes "1" ∷ []))  -- DECSCA
+    ∷ (codes "!p", is_among (codes "0" ∷ []))  -- DECSTR
     ∷ []
 
 abbrev pub is_spoken : Element → Bool

@@ -21,7 +21,8 @@ trimmed text = drop (prefix_len is_ascii_whitespace text) text
 abbrev pub without_mark : List ℕ → List ℕ
 without_mark bytes = cond (begins_with (0xEF ∷ 0xBB ∷ 0xBF ∷ []) bytes) (drop 3 bytes) bytes
 
--- what follows a byte order mark of UTF-8 and white space, if there are any
+-- what follows a byte order mark of UTF-8 and white space, if there are any (RFC 8259 8.1: a reader may ignore the
+-- mark)
 abbrev pub json_text : List ℕ → List ℕ
 json_text bytes = trimmed (without_mark bytes)
 
@@ -88,6 +89,7 @@ abbrev pub is_silent : (version : ℕ) → List ℕ → Bool
 is_silent version line = nat_eq (length line) 0 || (nat_eq version 3 && starts_with nat_eq line (0x23 ∷ []))
 
 -- the time of an event: in versions 1 and 3 its number counts from the event before. It stops at 2^64 - 1
+-- (this profile)
 abbrev pub clock_after : (version clock micros : ℕ) → ℕ
 clock_after version clock micros = cond (nat_eq version 2) micros (min (clock + micros) (2 ^ 64 - 1))
 

@@ -30,7 +30,8 @@ pub record AreConverted' (characters bytes : List ℕ) (replaced : ℕ) : Type 0
   pub bytes_are : bytes ≡ bytes_of characters
   pub replaced_are : replaced ≡ replaced_in characters
 
--- the bytes of characters in an encoding, up to a number of bytes, and how many characters have none. In UTF-8 all have some
+-- the bytes of characters in an encoding, up to a number of bytes, and how many characters have none. In UTF-8 all have
+-- some
 abbrev pub AreWritten : Encoding → (until : Option Moment) → (characters bytes : List ℕ) → (replaced : ℕ) → Type 0
 AreWritten Dec until characters bytes replaced = AreConverted (cut until characters) bytes replaced
 AreWritten Utf8 until characters bytes replaced = (bytes ≡ cut until (encode_utf8_all characters)) × (replaced ≡ 0)

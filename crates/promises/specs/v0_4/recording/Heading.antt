@@ -24,6 +24,7 @@ begins_with_digit [] = false
 begins_with_digit (byte ∷ text) = is_ascii_digit byte
 
 -- `vt` and a digit name a VT220 or a terminal like it, as in vt100. All other names are an xterm's, but no name is none
+-- (this profile)
 abbrev pub is_vt : List ℕ → Bool
 is_vt name = begins_with (codes "vt") name && begins_with_digit (drop 2 name)
 
@@ -48,7 +49,7 @@ text_of value = option_and_then as_str value
 abbrev pub number_of : Option Json → Option ℕ
 number_of value = count_of (option_and_then as_number value)
 
--- the header of version 3, and that of version 2
+-- the header of version 3 (asciicast 3), and that of version 2 (asciicast 2)
 abbrev pub by_term : Json → Heading
 by_term header = record {
   terminal = terminal_of (text_of (inner (codes "term") (codes "type") header));

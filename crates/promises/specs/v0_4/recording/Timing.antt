@@ -84,7 +84,7 @@ break_in false None session place stop at = Some (record { part = part.Timing; a
 break_in false (Some s) session place stop at =
     cond (nat_le (place + s.2) (length session)) None (Some (record { part = part.Recording; at = stop }))
 
--- the time after so many microseconds, which stops at 2^64 - 1
+-- the time after so many microseconds, which stops at 2^64 - 1 (this profile)
 abbrev pub later : (clock micros : ℕ) → ℕ
 later clock micros = min (clock + micros) (2 ^ 64 - 1)
 
@@ -129,8 +129,8 @@ start = record { clock = 0; place = 0 }
 abbrev pub replay : (session : List ℕ) (stop : ℕ) (until : Option ℕ) → List (List ℕ) → Replay
 replay session stop until lines = replay_of (is_apart lines) session stop until start 0 lines
 
--- what was taken: of the session, which is between the first line and the last one, what the timing file says. A session
--- that `script -a` appended ends it, too, and breaks nothing unless the counts go on there
+-- what was taken: of the session, which is between the first line and the last one, what the timing file says. A
+-- session that `script -a` appended ends it, too, and breaks nothing unless the counts go on there
 pub record IsReplayed' (until : Option Moment) (body timing : List ℕ) (from : ℕ) (content : List ℕ)
     (broken : Option Break) : Type 0 where
   pub end : ℕ

@@ -17,7 +17,7 @@ rectangle top bottom left right r c = is_within top bottom r && is_within left r
 abbrev pub from_below : Grid → ℕ → ℕ → ℕ → ℕ → Cell
 from_below g bottom n r c = if nat_le (r + n) bottom then cell_at g (r + n) c else blank
 
--- the rows move up by n, between the columns
+-- the rows move up by n, between the columns (IND, SU, DL)
 abbrev pub columns_up : Grid → ℕ → ℕ → ℕ → ℕ → ℕ → Grid
 columns_up g top bottom left right n = changed g (rectangle top bottom left right) (from_below g bottom n)
 
@@ -25,7 +25,7 @@ columns_up g top bottom left right n = changed g (rectangle top bottom left righ
 abbrev pub from_above : Grid → ℕ → ℕ → ℕ → ℕ → Cell
 from_above g top n r c = if nat_le (top + n) r then cell_at g (r - n) c else blank
 
--- the rows move down by n, between the columns
+-- the rows move down by n, between the columns (RI, SD, IL)
 abbrev pub columns_down : Grid → ℕ → ℕ → ℕ → ℕ → ℕ → Grid
 columns_down g top bottom left right n = changed g (rectangle top bottom left right) (from_above g top n)
 
@@ -33,7 +33,7 @@ columns_down g top bottom left right n = changed g (rectangle top bottom left ri
 abbrev pub from_left : Grid → ℕ → ℕ → ℕ → ℕ → Cell
 from_left g col n r c = if nat_le (col + n) c then cell_at g r (c - n) else blank
 
--- n blank cells come in at a place; those at and after it move right, and what passes the right margin is lost
+-- n blank cells come in at a place; those at and after it move right, and what passes the right margin is lost (ICH)
 abbrev pub insert_between : Grid → ℕ → ℕ → ℕ → ℕ → Grid
 insert_between g row col right n = changed g (rectangle row row col right) (from_left g col n)
 
@@ -41,10 +41,10 @@ insert_between g row col right n = changed g (rectangle row row col right) (from
 abbrev pub from_right : Grid → ℕ → ℕ → ℕ → ℕ → Cell
 from_right g right n r c = if nat_le (c + n) right then cell_at g r (c + n) else blank
 
--- n cells go, starting at a place; those after them move left, and blank cells come in at the right margin
+-- n cells go, starting at a place; those after them move left, and blank cells come in at the right margin (DCH)
 abbrev pub delete_between : Grid → ℕ → ℕ → ℕ → ℕ → Grid
 delete_between g row col right n = changed g (rectangle row row col right) (from_right g right n)
 
--- a cell comes in at a place, as in insert mode
+-- a cell comes in at a place, as in insert mode (IRM)
 abbrev pub put_between : Grid → ℕ → ℕ → ℕ → Cell → Grid
 put_between g row col right cell = put (insert_between g row col right 1) row col cell

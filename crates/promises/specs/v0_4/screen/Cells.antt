@@ -30,9 +30,10 @@ abbrev pub cell_like : Cell → ℕ → Cell
 cell_like like glyph = record like { glyph = glyph }
 
 -- a selective erase leaves a protected cell as it is; of another it clears the glyph and keeps the attributes
+-- (EK-VT220-RM, chapter 4: DECSED and DECSEL. That the attributes stay is this profile's)
 abbrev pub selectively_erased : Cell → Cell
 selectively_erased cell = if cell.protected then cell else record cell { glyph = space }
 
--- an erase makes a cell blank, protected or not
+-- an erase makes a cell blank, protected or not (EK-VT220-RM, chapter 4: ED, EL and ECH)
 abbrev pub erased : Bool → Cell → Cell
 erased selective cell = if selective then selectively_erased cell else blank

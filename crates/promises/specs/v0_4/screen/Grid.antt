@@ -75,7 +75,7 @@ with_row g row formula = grid_of g.size g.width (λ r c. if r == row then formul
 abbrev pub put : Grid → ℕ → ℕ → Cell → Grid
 put g row col cell = with_row g row (λ c. if c == col then cell else cell_at g row c)
 
--- a cell comes in at a place; those at and after it move right, and the last one is lost (VT220 manual, insert mode IRM)
+-- a cell comes in at a place; those at and after it move right, and the last one is lost (IRM, ECMA-48 7.2)
 abbrev pub put_inserting : Grid → ℕ → ℕ → Cell → Grid
 put_inserting g row col cell = with_row g row (λ c.
     if c == col then cell else (if nat_lt col c then cell_at g row (c - 1) else cell_at g row c))
@@ -86,17 +86,19 @@ put_run g row col glyphs like = with_row g row (λ c.
     if nat_le col c && nat_lt c (col + length glyphs) then cell_like like (slice_index glyphs (c - col)) else cell_at g
     row c)
 
--- n blank cells come in at a place; those at and after it move right, and what passes the last column is lost (ICH)
+-- n blank cells come in at a place; those at and after it move right, and what passes the last column is lost
+-- (ICH, ECMA-48 8.3.64)
 abbrev pub insert_cells : Grid → ℕ → ℕ → ℕ → Grid
 insert_cells g row col n = with_row g row (λ c.
     if nat_le (col + n) c then cell_at g row (c - n) else (if nat_le col c then blank else cell_at g row c))
 
--- n cells go, starting at a place; those after them move left, and blank cells come in at the last column (DCH)
+-- n cells go, starting at a place; those after them move left, and blank cells come in at the last column
+-- (DCH, ECMA-48 8.3.26)
 abbrev pub delete_cells : Grid → ℕ → ℕ → ℕ → Grid
 delete_cells g row col n = with_row g row (λ c.
     if nat_le col c then (if nat_le (c + n) g.width then cell_at g row (c + n) else blank) else cell_at g row c)
 
--- the places of an area are erased (ED, EL, ECH; selectively DECSED, DECSEL)
+-- the places of an area are erased (ED, EL, ECH, ECMA-48 8.3.39, 8.3.41, 8.3.38; selectively DECSED, DECSEL)
 abbrev pub erase_area : Grid → (ℕ → ℕ → Bool) → Bool → Grid
 erase_area g area selective = grid_of g.size g.width (λ r c. if area r c then erased selective (cell_at g r c) else cell_at g
     r c)
@@ -109,12 +111,12 @@ columns_of row from to r c = r == row && is_within from to c
 abbrev pub erase : Grid → ℕ → ℕ → ℕ → Bool → Grid
 erase g row from to selective = erase_area g (columns_of row from to) selective
 
--- the rows from top to bottom move up by n; blank rows come in below them (IND, DL)
+-- the rows from top to bottom move up by n; blank rows come in below them (IND; DL, ECMA-48 8.3.32)
 abbrev pub scroll_up : Grid → ℕ → ℕ → ℕ → Grid
 scroll_up g top bottom n = grid_of g.size g.width (λ r c.
     if is_within top bottom r then (if nat_le (r + n) bottom then cell_at g (r + n) c else blank) else cell_at g r c)
 
--- the rows from top to bottom move down by n; blank rows come in above them (RI, IL)
+-- the rows from top to bottom move down by n; blank rows come in above them (RI, IL, ECMA-48 8.3.104, 8.3.67)
 abbrev pub scroll_down : Grid → ℕ → ℕ → ℕ → Grid
 scroll_down g top bottom n = grid_of g.size g.width (λ r c.
     if is_within top bottom r then (if nat_le (top + n) r then cell_at g (r - n) c else blank) else cell_at g r c)
@@ -124,8 +126,8 @@ scroll_down g top bottom n = grid_of g.size g.width (λ r c.
 abbrev pub width_on : Size → Grid → ℕ
 width_on size g = width_of size (g.width == g.size.wide)
 
--- a grid on a screen of another size, after its first rows have left at the top: the rows and columns that both have stay, from the
--- top left, and the others are blank (xterm; the two widths are this profile's)
+-- a grid on a screen of another size, after its first rows have left at the top: the rows and columns that both have
+-- stay, from the top left, and the others are blank (xterm; the two widths are this profile's)
 abbrev pub grid_on : Size → ℕ → Grid → Grid
 grid_on size off g = grid_of size (width_on size g) (λ r c.
     if nat_le (r + off) g.size.rows && nat_le c g.width then cell_at g (r + off) c else blank)

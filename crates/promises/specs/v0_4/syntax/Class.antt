@@ -1,7 +1,7 @@
 -- 0.4: vt_syntax/specs/Class.
 use Rattle.std.specs.Prelude.{[], Bool, List, nat_le, nat_lt, not, true, ℕ, ◌&&◌, ◌==◌, ◌||◌, ◌∷◌, ◌≡◌, ◌≤◌, ◌⊎◌}
 
--- CAN and SUB
+-- CAN and SUB, which cancel a sequence (EK-VT220-RM, chapter 4)
 abbrev pub is_cancel : ℕ → Bool
 is_cancel b = b == 0x18 || b == 0x1A
 
@@ -22,15 +22,15 @@ is_final b = nat_le 0x40 b && nat_lt b 0x7F
 unfoldable pub opens_string : ℕ → Bool
 opens_string b = b == 0x90 || b == 0x98 || b == 0x9D || b == 0x9E || b == 0x9F
 
--- the C1 controls that open a control sequence (CSI) or a string
+-- the C1 controls that open a control sequence (CSI, ECMA-48 5.4) or a string
 abbrev pub opens : ℕ → Bool
 opens b = b == 0x9B || opens_string b
 
--- the bytes that open something
+-- the bytes that open something: these, and ESC (ECMA-35 13)
 abbrev pub is_opener : ℕ → Bool
 is_opener b = b == 0x1B || opens b
 
--- the plain bytes, 20..7E: graphic bytes of the left half
+-- the plain bytes, 20..7E: graphic bytes of the left half (ECMA-35 6.2)
 abbrev pub is_plain : ℕ → Bool
 is_plain b = nat_le 0x20 b && nat_lt b 0x7F
 

@@ -47,12 +47,13 @@ front_list f = take f.count (f.first ∷ f.second ∷ f.third ∷ [])
 abbrev pub AreFirst : FrontValues → Type 0
 AreFirst f = (slice_index (front_list f) 0 ≡ f.first) × (slice_index (front_list f) 1 ≡ f.second)
 
--- ESC and a final byte 30..7E that isn't the 7-bit form of a C1 control which opens something
+-- ESC and a final byte 30..7E (ECMA-35 13) that isn't the 7-bit form of a C1 control which opens something
+-- (ECMA-48 5.3)
 abbrev pub BeginsWithShortEscape : List ℕ → Type 0
 BeginsWithShortEscape piece =
     (2 ≤ length piece) × (slice_index piece 0 ≡ 0x1B) × IsEnding (held.Escape Zero) (slice_index piece 1)
 
--- ESC, an intermediate 20..2F and a final byte 30..7E
+-- ESC, an intermediate 20..2F and a final byte 30..7E (ECMA-35 13)
 abbrev pub BeginsWithEscape : List ℕ → Type 0
 BeginsWithEscape piece =
     (3 ≤ length piece) × (slice_index piece 0 ≡ 0x1B) × IsIntermediate (slice_index piece 1)

@@ -79,8 +79,8 @@ abbrev pub held_from : Held → List ℕ → Held
 held_from held bytes = held_after (spell held ++ bytes)
 
 -- the byte is the final byte of the held sequence, which then has a function: 40..7E of a control sequence that isn't
--- spoilt. Of an escape sequence with at most one intermediate it is 30..7E; without one, letters that open something
--- are none
+-- spoilt (ECMA-48 5.4). Of an escape sequence with at most one intermediate it is 30..7E (ECMA-35 13); without one,
+-- letters that open something are none (ECMA-48 5.3)
 abbrev pub IsEnding : Held → ℕ → Type 0
 IsEnding (Control marker params full phase) last = (0x40 ≤ last) × (last ≤ 0x7E)
 IsEnding (Escape Zero) last = (0x30 ≤ last) × (last ≤ 0x7E) × (opens (last + 0x40) ≡ false)

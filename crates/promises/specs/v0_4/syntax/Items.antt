@@ -45,7 +45,7 @@ abbrev pub rest_bytes : Option Beginning → List ℕ
 rest_bytes None = []
 rest_bytes (Some beginning) = beginning_bytes beginning
 
--- no, one or more intermediates
+-- no, one or more intermediates (ECMA-35 13)
 abbrev pub inters : List ℕ → Inters
 inters [] = Zero
 inters (i ∷ []) = One i
@@ -55,19 +55,21 @@ abbrev pub inters_of : List ℕ → Inters
 inters_of inside = inters (filter is_intermediate inside)
 
 -- after ESC with no intermediate, the byte is the 7-bit form of a C1 control that opens something: `[ P X ] ^ _`
+-- (ECMA-48 5.3)
 abbrev pub introduces : Inters → ℕ → Bool
 introduces Zero b = opens (b + 0x40)
 introduces _ b = false
 
--- the bytes that end a string: CAN, SUB, ST (9C) and, of OSC alone, BEL (this profile)
+-- the bytes that end a string: ST (9C; ECMA-48 5.6), CAN, SUB and, of OSC alone, BEL (this profile)
 unfoldable pub ends_string : Bool → ℕ → Bool
 ends_string osc b = is_cancel b || b == 0x9C || osc && b == 0x07
 
+-- the C1 control OSC (ECMA-48 8.3.89)
 abbrev pub is_osc : ℕ → Bool
 is_osc code = code == 0x9D
 
--- the byte ends the beginning, as its last byte: CAN, SUB or 30..7E an escape sequence, CAN, SUB or 40..7E a control
--- sequence
+-- the byte ends the beginning, as its last byte: 30..7E an escape sequence (ECMA-35 13), 40..7E a control sequence
+-- (ECMA-48 5.4), and CAN and SUB both (this profile)
 abbrev pub ends : Beginning → ℕ → Bool
 ends (OfEscape inside) b = is_cancel b || is_parameter b || is_final b && not (introduces (inters_of inside) b)
 ends (OfControl opening inside) b = is_cancel b || is_final b
@@ -77,7 +79,7 @@ ends (OfString opening code content) b = ends_string (is_osc code) b
 abbrev pub cuts_sequence : ℕ → Bool
 cuts_sequence b = b == 0x1B || nat_le 0x80 b
 
--- the byte cuts the beginning off, and is no part of it; a string is cut by ESC alone
+-- the byte cuts the beginning off, and is no part of it; a string is cut by ESC alone (this profile)
 abbrev pub cuts : Beginning → ℕ → Bool
 cuts (OfEscape inside) b = cuts_sequence b
 cuts (OfControl opening inside) b = cuts_sequence b

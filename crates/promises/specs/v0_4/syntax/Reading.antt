@@ -54,7 +54,7 @@ after_marker (b ∷ bytes) = if is_marker b then bytes else b ∷ bytes
 unfoldable pub value_of : List ℕ → ℕ
 value_of digits = min (digits_value 10 digits) 9999
 
--- the values of all parameters, which `;` separates
+-- the values of all parameters, which `;` separates (ECMA-48 5.4.2)
 abbrev pub values_of : List ℕ → List ℕ
 values_of bytes = map value_of (slice_split (λ b. b == 0x3B) (filter is_parameter (after_marker bytes)))
 
@@ -87,18 +87,19 @@ unfoldable pub is_spoilt : List ℕ → Bool
 is_spoilt bytes =
     list_any (λ b. b == 0x3A) bytes || has_late_marker bytes || has_late_parameter bytes || is_many (inters_of bytes)
 
--- the function of CAN or SUB: CAN has none, and that of SUB is SUB itself
+-- the function of CAN or SUB: CAN has none, and that of SUB is SUB itself (EK-VT220-RM, chapter 4)
 abbrev pub cancel_function : ℕ → List Event
 cancel_function b = if b == 0x1A then Control 0x1A ∷ [] else []
 
--- the function of a single byte: CAN and DEL have none, 20..7E and A0..FF are graphic, the others are controls
+-- the function of a single byte: CAN and DEL have none (EK-VT220-RM, chapter 4), 20..7E and A0..FF are graphic, the
+-- others are controls (ECMA-35 6.2, ECMA-48 5.2 and 5.3)
 abbrev pub single_function : ℕ → List Event
 single_function b =
     if b == 0x18 || b == 0x7F then [] else (
     if is_plain b || nat_le 0xA0 b then Print b ∷ [] else Control b ∷ [])
 
--- the function of an escape sequence: with no intermediate and a final 40..5F it is the 7-bit form of a C1 control.
--- With two or more intermediates there is none (this profile)
+-- the function of an escape sequence: with no intermediate and a final 40..5F it is the 7-bit form of a C1 control
+-- (ECMA-48 5.3). With two or more intermediates there is none (this profile)
 abbrev pub escape_function : Inters → ℕ → List Event
 escape_function Zero last =
     if nat_le 0x40 last && nat_lt last 0x60 then Control (last + 0x40) ∷ [] else Escape None last ∷ []
@@ -111,7 +112,7 @@ sequence_function bytes last =
     if is_spoilt bytes then []
     else Sequence (marker_of bytes) (params_of bytes) (inter_of (inters_of bytes)) last ∷ []
 
--- the function of a beginning with its last byte; a string has none, but for the SUB that ends it
+-- the function of a beginning with its last byte; a string has none, but for the SUB that ends it (this profile)
 abbrev pub function : Beginning → ℕ → List Event
 function (OfEscape inside) last =
     if is_cancel last then cancel_function last else escape_function (inters_of inside) last

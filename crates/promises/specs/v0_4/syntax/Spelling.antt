@@ -9,15 +9,15 @@ use Rattle.vt_syntax.specs.Spelling.{AreValues, IsSequence}
 use Rattle.vt_syntax.specs.declared.event.Event.TheVariants.{Control, Escape, Print, Sequence}
 use Rattle.vt_syntax.specs.declared.event.Event.{Event}
 
--- 20..7E or A0..FF
+-- 20..7E or A0..FF (ECMA-35 6.2)
 abbrev pub IsGraphic : ℕ → Type 0
 IsGraphic b = IsPlain b ⊎ (0xA0 ≤ b)
 
--- a C0 control other than CAN and ESC
+-- a C0 control other than CAN and ESC (ECMA-48 5.2)
 abbrev pub IsC0 : ℕ → Type 0
 IsC0 b = (b < 0x20) × (b ≢ 0x18) × (b ≢ 0x1B)
 
--- a C1 control that opens nothing
+-- a C1 control that opens nothing (ECMA-48 5.3)
 abbrev pub IsC1 : ℕ → Type 0
 IsC1 b = (0x80 ≤ b) × (b < 0xA0) × (opens b ≡ false)
 
@@ -25,7 +25,7 @@ IsC1 b = (0x80 ≤ b) × (b < 0xA0) × (opens b ≡ false)
 abbrev pub IsIntermediate : ℕ → Type 0
 IsIntermediate i = (0x20 ≤ i) × (i ≤ 0x2F)
 
--- 3C..3F
+-- 3C..3F (ECMA-48 5.4.1)
 abbrev pub IsMarker : ℕ → Type 0
 IsMarker m = (0x3C ≤ m) × (m ≤ 0x3F)
 
@@ -34,7 +34,7 @@ abbrev pub IsEscapeFinal : Option ℕ → ℕ → Type 0
 IsEscapeFinal None last = ((0x30 ≤ last) × (last < 0x40)) ⊎ ((0x60 ≤ last) × (last ≤ 0x7E))
 IsEscapeFinal (Some i) last = (0x30 ≤ last) × (last ≤ 0x7E)
 
--- 1 to 16 values of at most 9999
+-- 1 to 16 values of at most 9999 (this profile)
 pub record AreValues' (values : List ℕ) : Type 0 where
   pub some : 0 < length values
   pub few : length values ≤ 16

@@ -46,7 +46,7 @@ begin b =
     if b == 0x9B then rest_alone (OfControl EightBit []) else (
     if opens_string b then rest_alone (OfString EightBit b []) else items_alone (Single b ∷ [])))
 
--- a beginning and one more byte of it; after ESC that byte may open a control sequence or string
+-- a beginning and one more byte of it; after ESC that byte may open a control sequence or string (ECMA-48 5.3)
 abbrev pub extended : Beginning → ℕ → Beginning
 extended (OfEscape inside) b =
     if introduces (inters_of inside) b

@@ -34,7 +34,7 @@ use Rattle.vt_term.specs.State.{Display}
 abbrev pub byte : List ℕ → ℕ
 byte letter = slice_index_or letter 0 0
 
--- a control function. An event that asks for it with other values is ignored
+-- a control function. An event that asks for it with other values is ignored (EK-VT220-RM, chapter 4)
 pub record Function' : Type 0 where
   pub name : List ℕ
   -- whether the function takes these values of a control sequence, on a screen of so many rows
@@ -184,7 +184,7 @@ designate_to slot (Some set) s = with_sets (designated slot set) s
 abbrev pub designate : ℕ → ℕ → Display → Display
 designate slot last = designate_to slot (set_of_final last)
 
--- SCS, by the final byte that says the set; another final byte does nothing
+-- SCS, by the final byte that says the set (ECMA-35 14); another final byte does nothing
 abbrev pub designation : ℕ → List ℕ → ℕ → Function
 designation slot name last = record {
   name = name ++ unwrap_or (option_map set_name (set_of_final last)) [];
@@ -274,7 +274,7 @@ marker_tables = (byte (codes "?"), private_sequences) ∷ (byte (codes ">"), gre
 abbrev pub intermediate_tables : List (ℕ × FunctionTable)
 intermediate_tables = (0x22, quote_sequences) ∷ (byte (codes "!"), exclamation_sequences) ∷ []
 
--- the table by the marker and the intermediate; no sequence with both has a function
+-- the table by the marker and the intermediate (ECMA-48 5.4); no sequence with both has a function
 unfoldable pub sequences_of : Option ℕ → Option ℕ → FunctionTable
 sequences_of None None = plain_sequences
 sequences_of (Some marker) None = table_after marker_tables marker

@@ -40,7 +40,7 @@ keypad_mode application s = with_modes (λ m. record m { keypad_application = ap
 abbrev pub report_form : Bool → Display → Display
 report_form eight s = with_modes (λ m. record m { reports_8bit = eight }) s
 
--- KAM, IRM, SRM and LNM
+-- KAM, IRM and SRM (ECMA-48 7.2), and LNM (EK-VT220-RM)
 abbrev pub ansi_modes : List (ℕ × (Bool → Display → Display))
 ansi_modes =
     (2, λ on. with_modes (λ m. record m { kam = on }))
@@ -80,6 +80,6 @@ is_set values p m = unwrap_or (look_up values p) (λ m. false) m
 unfoldable pub with_mode : List (ℕ × (Bool → Display → Display)) → Bool → ℕ → Display → Display
 with_mode table on p = unwrap_or (look_up table p) (λ on s. s) on
 
--- SM and RM: each parameter in order
+-- SM and RM: each parameter in order (ECMA-48 8.3.125, 8.3.106)
 abbrev pub change_modes : List (ℕ × (Bool → Display → Display)) → Bool → List ℕ → Display → Display
 change_modes table on params s = fold (λ s p. with_mode table on p s) s params

@@ -5,48 +5,50 @@ use Rattle.promises.specs.v0_4.term.State.{at_place, bottom_row, last_column}
 use Rattle.std.specs.Prelude.{Bool, if◌then◌else◌, max, min, nat_le, nat_lt, ℕ, ◌+◌, ◌-◌, ◌==◌}
 use Rattle.vt_term.specs.State.{Display}
 
--- home is column 1 of row 1, or under DECOM of the top margin's row
+-- home is column 1 of row 1, or under DECOM of the top margin's row (EK-VT220-RM: DECOM)
 abbrev pub home : Display → Display
 home s = record s { cursor = at_place (if s.modes.decom then s.margins.top else 1) 1 }
 
--- BS: left by one, staying at column 1
+-- BS: left by one, staying at column 1 (ECMA-48 8.3.5)
 abbrev pub backspace : Display → Display
 backspace s = record s { cursor = at_place s.cursor.row (max (s.cursor.col - 1) 1) }
 
--- CR
+-- CR (ECMA-48 8.3.15)
 abbrev pub carriage_return : Display → Display
 carriage_return s = record s { cursor = at_place s.cursor.row 1 }
 
--- CUU: up n, not past the top margin, or from above it not past row 1
+-- CUU: up n, not past the top margin, or from above it not past row 1 (ECMA-48 8.3.22)
 abbrev pub cursor_up : ℕ → Display → Display
 cursor_up n s =
     let limit = if nat_le s.margins.top s.cursor.row then s.margins.top else 1 in
     record s { cursor = at_place (max (s.cursor.row - n) limit) s.cursor.col }
 
--- CUD: down n, not past the bottom margin, or from below it not past the last row
+-- CUD: down n, not past the bottom margin, or from below it not past the last row (ECMA-48 8.3.19)
 abbrev pub cursor_down : ℕ → Display → Display
 cursor_down n s =
     let limit = if nat_le s.cursor.row s.margins.bottom then s.margins.bottom else bottom_row s in
     record s { cursor = at_place (min (s.cursor.row + n) limit) s.cursor.col }
 
--- CUF: right n, not past the last column
+-- CUF: right n, not past the last column (ECMA-48 8.3.20)
 abbrev pub cursor_forward : ℕ → Display → Display
 cursor_forward n s = record s { cursor = at_place s.cursor.row (min (s.cursor.col + n) (last_column s)) }
 
--- CUB: left n, not past column 1
+-- CUB: left n, not past column 1 (ECMA-48 8.3.18)
 abbrev pub cursor_backward : ℕ → Display → Display
 cursor_backward n s = record s { cursor = at_place s.cursor.row (max (s.cursor.col - n) 1) }
 
 -- the row of a line: under DECOM counted from the top margin and not past the bottom one, else not past the last row
+-- (EK-VT220-RM: DECOM)
 abbrev pub row_of_line : ℕ → Display → ℕ
 row_of_line line s = if s.modes.decom then min (s.margins.top + line - 1) s.margins.bottom else min line (bottom_row s)
 
--- CUP and HVP: to a line and column, for which 0 means 1
+-- CUP and HVP: to a line and column, for which 0 means 1 (ECMA-48 8.3.21, 8.3.63)
 abbrev pub cursor_position : ℕ → ℕ → Display → Display
 cursor_position line col s =
     record s { cursor = at_place (row_of_line (from_one line) s) (min (from_one col) (last_column s)) }
 
 -- IND: down by one, staying at the last row; at the bottom margin the rows between the margins move up instead
+-- (EK-VT220-RM)
 abbrev pub index : Display → Display
 index s = record s {
   grid = if s.cursor.row == s.margins.bottom then scroll_up s.grid s.margins.top s.margins.bottom 1 else s.grid;
@@ -54,29 +56,30 @@ index s = record s {
       s.cursor.col;
 }
 
--- RI: up by one, staying at row 1; at the top margin the rows between the margins move down instead
+-- RI: up by one, staying at row 1; at the top margin the rows between the margins move down instead (ECMA-48 8.3.104)
 abbrev pub reverse_index : Display → Display
 reverse_index s = record s {
   grid = if s.cursor.row == s.margins.top then scroll_down s.grid s.margins.top s.margins.bottom 1 else s.grid;
   cursor = at_place (if s.cursor.row == s.margins.top then s.cursor.row else max (s.cursor.row - 1) 1) s.cursor.col;
 }
 
--- NEL
+-- NEL (ECMA-48 8.3.86)
 abbrev pub next_line : Display → Display
 next_line s = index (carriage_return s)
 
--- LF, VT and FF: IND, and under LNM column 1 too
+-- LF, VT and FF: IND, and under LNM column 1 too (EK-VT220-RM)
 abbrev pub line_feed : Display → Display
 line_feed s = if s.modes.lnm then next_line s else index s
 
+-- the bottom margin that DECSTBM names: the last row for 0, and not past it
 abbrev pub bottom_margin : ℕ → ℕ → ℕ
 bottom_margin last p = if p == 0 then last else min p last
 
--- margins of at least two rows
+-- margins of at least two rows (EK-VT220-RM: DECSTBM)
 abbrev pub are_margins : ℕ → ℕ → ℕ → Bool
 are_margins last p1 p2 = nat_lt (from_one p1) (bottom_margin last p2)
 
--- DECSTBM: the cursor goes home; parameters that aren't margins have no effect
+-- DECSTBM: the cursor goes home; parameters that aren't margins have no effect (EK-VT220-RM)
 abbrev pub set_margins : ℕ → ℕ → Display → Display
 set_margins p1 p2 s =
     if are_margins (bottom_row s) p1 p2

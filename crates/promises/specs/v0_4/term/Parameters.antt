@@ -8,7 +8,7 @@ first params = slice_index params 0
 abbrev pub second : List ℕ → ℕ
 second params = slice_index params 1
 
--- for a position or a count, 0 means 1
+-- for a position or a count, 0 means 1 (EK-VT220-RM, chapter 4)
 abbrev pub from_one : ℕ → ℕ
 from_one p = max p 1
 

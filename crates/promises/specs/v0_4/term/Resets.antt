@@ -12,12 +12,12 @@ use Rattle.vt_term.specs.State.{Display}
 abbrev pub screen_alignment : Display → Display
 screen_alignment s = home (record s { grid = fill s.grid (cell_of 0x45 plain_brush); margins = margins_of s.grid.size })
 
--- RIS
+-- RIS (ECMA-48 8.3.105)
 abbrev pub reset_to_initial_state : Display → Display
 reset_to_initial_state s = display_of s.grid.size
 
--- DECSTR. Everything that isn't named here is left: the place, the cells, the stops, SRM, LNM, DECSCLM, DECSCNM, DECARM and the
--- form of reports
+-- DECSTR. Everything that isn't named here is left: the place, the cells, the stops, SRM, LNM, DECSCLM, DECSCNM, DECARM
+-- and the form of reports
 abbrev pub soft_reset : Display → Display
 soft_reset s = record s {
   cursor = record s.cursor { wrap = false };
@@ -36,13 +36,14 @@ soft_reset s = record s {
   saved = saved_at_power_up;
 }
 
--- whether reports become 8-bit: 61 asks for 7-bit ones; 62 for 8-bit ones, or 7-bit ones with a second parameter 1
+-- whether reports become 8-bit by DECSCL: 61 asks for 7-bit ones; 62 for 8-bit ones, or 7-bit ones with a second
+-- parameter 1
 abbrev pub asked_form : ℕ → ℕ → Option Bool
 asked_form p1 p2 =
     if p1 == 61 || p1 == 62 && p2 == 1 then Some false else (
     if p1 == 62 && (p2 == 0 || p2 == 2) then Some true else None)
 
--- the values of DECSCL
+-- the values that DECSCL takes
 abbrev pub is_level : ℕ → ℕ → Bool
 is_level p1 p2 = is_some (asked_form p1 p2)
 

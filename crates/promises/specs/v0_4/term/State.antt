@@ -81,7 +81,7 @@ modes_at_power_up = record {
   reports_8bit = false;
 }
 
--- what DECSC saves
+-- what DECSC saves (EK-VT220-RM, chapter 4; the wrap flag is this profile's)
 abbrev pub saved_of : Cursor → Brush → GraphicSets → Bool → Saved
 saved_of cursor brush sets origin = record {
   row = cursor.row;

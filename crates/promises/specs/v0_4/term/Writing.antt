@@ -13,13 +13,13 @@ use Rattle.vt_term.specs.declared.state.Cursor.{Cursor}
 abbrev pub after_wrap : Display → Display
 after_wrap s = if s.cursor.wrap then next_line s else s
 
--- the glyph with the brush, at the cursor; under IRM the cells at and after it move right first
+-- the glyph with the brush, at the cursor; under IRM the cells at and after it move right first (ECMA-48 7.2)
 abbrev pub with_glyph : ℕ → Display → Grid
 with_glyph glyph s =
     if s.modes.irm then put_inserting s.grid s.cursor.row s.cursor.col (cell_of glyph s.brush)
     else put s.grid s.cursor.row s.cursor.col (cell_of glyph s.brush)
 
--- one column on; in the last column the cursor stays, and the wrap flag is set under DECAWM
+-- one column on; in the last column the cursor stays, and the wrap flag is set under DECAWM (EK-VT220-RM)
 abbrev pub next_place : Display → Cursor
 next_place s =
     if nat_lt s.cursor.col (last_column s) then at_place s.cursor.row (s.cursor.col + 1)

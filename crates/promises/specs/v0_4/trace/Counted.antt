@@ -19,7 +19,8 @@ pub record AreCounts' (d : Listing) (rows : ℕ) (events : List Event) (kinds : 
   pub of_ignored : (k : ℕ) → get_or ignored k 0 ≡ all_ignored_by d.called rows events kinds k
   pub of_named : (k : ℕ) → k < length d.listed → get_or named k 0 ≡ counted (times_named_by d.called rows (numbered_in d k) events)
 
--- the summary by these names of a screen of so many rows has counted the events and the items of these bytes, and no others
+-- the summary by these names of a screen of so many rows has counted the events and the items of these bytes, and no
+-- others
 pub record HasCountedBy' (d : Listing) (rows : ℕ) (bytes : List ℕ) (s : Summary) : Type 0 where
   pub rows_are : s.rows ≡ rows
   pub held : s.parser ≡ held_after bytes

@@ -22,11 +22,11 @@ use Rattle.vt_syntax.specs.declared.held.Held.TheVariants.{Nothing, Text}
 use Rattle.vt_syntax.specs.declared.held.Held.{Held}
 use Rattle.vt_term.specs.State.{Display, State}
 
--- `ESC N` or `ESC O`, and the code that it shifts
+-- SS2 (`ESC N`) or SS3 (`ESC O`), and the code that it shifts
 abbrev pub shifted : ℕ → ℕ → List ℕ
 shifted final code = 0x1B ∷ final ∷ code ∷ []
 
--- `ESC *` or `ESC +`, and the set's final byte
+-- SCS of G2 (`ESC *`) or G3 (`ESC +`): the set's final byte
 abbrev pub designation : ℕ → Set → List ℕ
 designation inter set = 0x1B ∷ inter ∷ final_of set ∷ []
 

@@ -50,7 +50,7 @@ abbrev pub writing_times : ℕ → ℕ → Sides → Screens → Screens
 writing_times zero glyph m s = s
 writing_times (suc n) glyph m s = writing_times n glyph (between.sides_after m s.display) (writing glyph m s)
 
--- REP
+-- REP (ECMA-48 8.3.103)
 abbrev pub repeating : ℕ → Sides → Screens → Screens
 repeating n m s =
     if between.column_before m s.display == 0 then s
@@ -70,7 +70,7 @@ abbrev pub writing_both : ℕ → Sides → Screens → Screens
 writing_both glyph m s = writing space (between.sides_after m s.display) (writing glyph m s)
 
 -- a character of two cells isn't split: from the last column that the cursor reaches it goes to the next line under
--- DECAWM, and without DECAWM it isn't written
+-- DECAWM, and without DECAWM it isn't written (this profile)
 abbrev pub is_at_end : Sides → Display → Bool
 is_at_end m s = s.cursor.col == between.last_reached m s && not (between.is_pending m s)
 
@@ -88,6 +88,7 @@ abbrev pub writing_beyond : ℕ → Sides → Screens → Screens
 writing_beyond c = writing_in_cells (cells c) (shown c)
 
 -- a character beyond ASCII is content in a string, and cuts an unfinished sequence, which then has no function
+-- (this profile)
 abbrev pub held_beyond : Held → Held
 held_beyond Nothing = Nothing
 held_beyond (Text osc) = Text osc
@@ -104,37 +105,37 @@ BoundedTable = List (ℕ × (List ℕ → Sides → Display → Display))
 
 abbrev pub bounded_controls : BoundedTable
 bounded_controls =
-    (0x08, λ params. between.cursor_backward 1)
-    ∷ (0x09, λ params. between.horizontal_tab)
-    ∷ (0x0A, λ params. between.line_feed)
-    ∷ (0x0B, λ params. between.line_feed)
-    ∷ (0x0C, λ params. between.line_feed)
-    ∷ (0x0D, λ params. between.carriage_return)
-    ∷ (0x84, λ params. between.index)
-    ∷ (0x85, λ params. between.next_line)
-    ∷ (0x8D, λ params. between.reverse_index)
+    (0x08, λ params. between.cursor_backward 1)  -- BS
+    ∷ (0x09, λ params. between.horizontal_tab)  -- HT
+    ∷ (0x0A, λ params. between.line_feed)  -- LF
+    ∷ (0x0B, λ params. between.line_feed)  -- VT
+    ∷ (0x0C, λ params. between.line_feed)  -- FF
+    ∷ (0x0D, λ params. between.carriage_return)  -- CR
+    ∷ (0x84, λ params. between.index)  -- IND
+    ∷ (0x85, λ params. between.next_line)  -- NEL
+    ∷ (0x8D, λ params. between.reverse_index)  -- RI
     ∷ []
 
 -- control sequences without marker and intermediate; VPA and VPR are as without margins
 abbrev pub bounded_plain : BoundedTable
 bounded_plain =
-    (byte (codes "@"), λ params. between.insert_character (count params))
-    ∷ (byte (codes "C"), λ params. between.cursor_forward (count params))
-    ∷ (byte (codes "D"), λ params. between.cursor_backward (count params))
-    ∷ (byte (codes "E"), λ params. between.cursor_next_line (count params))
-    ∷ (byte (codes "F"), λ params. between.cursor_preceding_line (count params))
-    ∷ (byte (codes "G"), λ params. between.cursor_character_absolute (count params))
-    ∷ (byte (codes "H"), λ params. between.cursor_position (first params) (second params))
-    ∷ (byte (codes "I"), λ params. between.cursor_forward_tabulation (count params))
-    ∷ (byte (codes "L"), λ params. between.insert_line (count params))
-    ∷ (byte (codes "M"), λ params. between.delete_line (count params))
-    ∷ (byte (codes "P"), λ params. between.delete_character (count params))
-    ∷ (byte (codes "Z"), λ params. between.cursor_backward_tabulation (count params))
-    ∷ (byte (codes "`"), λ params. between.cursor_character_absolute (count params))
-    ∷ (byte (codes "a"), λ params. between.character_position_forward (count params))
-    ∷ (byte (codes "d"), λ params m. line_position_absolute (count params))
-    ∷ (byte (codes "e"), λ params m. line_position_forward (count params))
-    ∷ (byte (codes "f"), λ params. between.cursor_position (first params) (second params))
+    (byte (codes "@"), λ params. between.insert_character (count params))  -- ICH
+    ∷ (byte (codes "C"), λ params. between.cursor_forward (count params))  -- CUF
+    ∷ (byte (codes "D"), λ params. between.cursor_backward (count params))  -- CUB
+    ∷ (byte (codes "E"), λ params. between.cursor_next_line (count params))  -- CNL
+    ∷ (byte (codes "F"), λ params. between.cursor_preceding_line (count params))  -- CPL
+    ∷ (byte (codes "G"), λ params. between.cursor_character_absolute (count params))  -- CHA
+    ∷ (byte (codes "H"), λ params. between.cursor_position (first params) (second params))  -- CUP
+    ∷ (byte (codes "I"), λ params. between.cursor_forward_tabulation (count params))  -- CHT
+    ∷ (byte (codes "L"), λ params. between.insert_line (count params))  -- IL
+    ∷ (byte (codes "M"), λ params. between.delete_line (count params))  -- DL
+    ∷ (byte (codes "P"), λ params. between.delete_character (count params))  -- DCH
+    ∷ (byte (codes "Z"), λ params. between.cursor_backward_tabulation (count params))  -- CBT
+    ∷ (byte (codes "`"), λ params. between.cursor_character_absolute (count params))  -- HPA
+    ∷ (byte (codes "a"), λ params. between.character_position_forward (count params))  -- HPR
+    ∷ (byte (codes "d"), λ params m. line_position_absolute (count params))  -- VPA
+    ∷ (byte (codes "e"), λ params m. line_position_forward (count params))  -- VPR
+    ∷ (byte (codes "f"), λ params. between.cursor_position (first params) (second params))  -- HVP
     ∷ []
 
 -- the table's function, otherwise the VT220's
@@ -144,14 +145,15 @@ bounded_in table event last params = unwrap_or (look_up table last) (λ params m
 unfoldable pub has_row : BoundedTable → ℕ → Bool
 has_row table last = is_some (look_up table last)
 
--- functions that leave a pending wrap, or don't always reset it: SU, SD, REP and DECSTBM
+-- functions that leave a pending wrap, or don't always reset it
 abbrev pub other_plain : List (ℕ × (List ℕ → Sides → Screens → Screens))
 other_plain =
-    (byte (codes "S"), λ params. leaving (between.rows_up (count params)))
+    (byte (codes "S"), λ params. leaving (between.rows_up (count params)))  -- SU
+    -- SD
     ∷ (byte (codes "T"), λ params m s. if length params == 1 then leaving (between.rows_down (count params)) m s else s)
-    ∷ (byte (codes "^"), λ params. leaving (between.rows_down (count params)))
-    ∷ (byte (codes "b"), λ params. repeating (count params))
-    ∷ (byte (codes "r"), λ params. margins_set (first params) (second params))
+    ∷ (byte (codes "^"), λ params. leaving (between.rows_down (count params)))  -- SD (xterm)
+    ∷ (byte (codes "b"), λ params. repeating (count params))  -- REP
+    ∷ (byte (codes "r"), λ params. margins_set (first params) (second params))  -- DECSTBM
     ∷ []
 
 -- ED and EL that erase something

@@ -29,49 +29,49 @@ use Rattle.vt_xterm.specs.declared.sides.Sides.{Sides}
 abbrev pub FunctionTable : Type 0
 FunctionTable = List (ℕ × (List ℕ → Screens → Screens))
 
--- `s`: DECSLRM under DECLRMM, otherwise without parameters SCP, which is DECSC
+-- `s`: DECSLRM under DECLRMM, otherwise without parameters SCP, which is DECSC (xterm: SCOSC; VT510 manual: DECSLRM)
 abbrev pub save_or_set_sides : List ℕ → Option Sides → Screens → Screens
 save_or_set_sides params None s = if is_bare params then on_display save_cursor s else s
 save_or_set_sides params (Some m) s = set_sides (first params) (second params) s
 
--- RCP: DECRC; with parameters it is another function
+-- RCP: DECRC; with parameters it is another function (xterm: SCORC)
 abbrev pub restore_if_bare : List ℕ → Screens → Screens
 restore_if_bare params s = if is_bare params then restore_screens s else s
 
--- CNL, CPL, CHA, CHT, SU, SD, CBT, SD, HPA, HPR, REP, VPA, VPR, SGR, SCP and RCP
+-- control sequences without marker and intermediate, each row with its function
 abbrev pub plain_functions : FunctionTable
 plain_functions =
-    (byte (codes "E"), λ params. on_display (cursor_next_line (count params)))
-    ∷ (byte (codes "F"), λ params. on_display (cursor_preceding_line (count params)))
-    ∷ (byte (codes "G"), λ params. on_display (cursor_character_absolute (count params)))
-    ∷ (byte (codes "I"), λ params. on_display (cursor_forward_tabulation (count params)))
-    ∷ (byte (codes "S"), λ params. on_display (rows_up (count params)))
-    ∷ (byte (codes "T"), λ params. on_display (rows_down_by params))
-    ∷ (byte (codes "Z"), λ params. on_display (cursor_backward_tabulation (count params)))
-    ∷ (byte (codes "^"), λ params. on_display (rows_down (count params)))
-    ∷ (byte (codes "`"), λ params. on_display (cursor_character_absolute (count params)))
-    ∷ (byte (codes "a"), λ params. on_display (cursor_forward (count params)))
-    ∷ (byte (codes "b"), λ params. on_display (repeat (count params)))
-    ∷ (byte (codes "d"), λ params. on_display (line_position_absolute (count params)))
-    ∷ (byte (codes "e"), λ params. on_display (line_position_forward (count params)))
-    ∷ (byte (codes "m"), λ params. on_display (select_attributes params))
-    ∷ (byte (codes "s"), λ params s. save_or_set_sides params s.pages.sides s)
-    ∷ (byte (codes "u"), restore_if_bare)
+    (byte (codes "E"), λ params. on_display (cursor_next_line (count params)))  -- CNL
+    ∷ (byte (codes "F"), λ params. on_display (cursor_preceding_line (count params)))  -- CPL
+    ∷ (byte (codes "G"), λ params. on_display (cursor_character_absolute (count params)))  -- CHA
+    ∷ (byte (codes "I"), λ params. on_display (cursor_forward_tabulation (count params)))  -- CHT
+    ∷ (byte (codes "S"), λ params. on_display (rows_up (count params)))  -- SU
+    ∷ (byte (codes "T"), λ params. on_display (rows_down_by params))  -- SD
+    ∷ (byte (codes "Z"), λ params. on_display (cursor_backward_tabulation (count params)))  -- CBT
+    ∷ (byte (codes "^"), λ params. on_display (rows_down (count params)))  -- SD (xterm)
+    ∷ (byte (codes "`"), λ params. on_display (cursor_character_absolute (count params)))  -- HPA
+    ∷ (byte (codes "a"), λ params. on_display (cursor_forward (count params)))  -- HPR
+    ∷ (byte (codes "b"), λ params. on_display (repeat (count params)))  -- REP
+    ∷ (byte (codes "d"), λ params. on_display (line_position_absolute (count params)))  -- VPA
+    ∷ (byte (codes "e"), λ params. on_display (line_position_forward (count params)))  -- VPR
+    ∷ (byte (codes "m"), λ params. on_display (select_attributes params))  -- SGR
+    ∷ (byte (codes "s"), λ params s. save_or_set_sides params s.pages.sides s)  -- SCP, DECSLRM
+    ∷ (byte (codes "u"), restore_if_bare)  -- RCP
     ∷ []
 
 -- control sequences with the marker `?`: SM and RM of private modes
 abbrev pub private_functions : FunctionTable
 private_functions = (byte (codes "h"), change_page_modes true) ∷ (byte (codes "l"), change_page_modes false) ∷ []
 
--- DECSTR: a soft reset that leaves DECAWM set, and resets DECLRMM
+-- DECSTR: a soft reset that leaves DECAWM set, and resets DECLRMM (xterm)
 abbrev pub soft_reset_wrapping : Display → Display
 soft_reset_wrapping s = autowrap_mode true (soft_reset s)
 
--- control sequences with the intermediate `!`
+-- control sequences with the intermediate `!`: DECSTR
 abbrev pub exclamation_functions : FunctionTable
 exclamation_functions = (byte (codes "p"), λ params s. sided None (on_display soft_reset_wrapping s)) ∷ []
 
--- DECSCL: its soft reset leaves DECAWM set, too
+-- DECSCL: its soft reset leaves DECAWM set, too (xterm)
 abbrev pub set_level_wrapping : List ℕ → Display → Display
 set_level_wrapping params s =
     if is_level (first params) (second params)
@@ -82,7 +82,7 @@ set_level_without_sides params s =
     if is_level (first params) (second params) then sided None (on_display (set_level_wrapping params) s)
     else on_display (set_level_wrapping params) s
 
--- control sequences with the intermediate `"`
+-- control sequences with the intermediate `"`: DECSCL
 abbrev pub quote_functions : FunctionTable
 quote_functions = (byte (codes "p"), set_level_without_sides) ∷ []
 
@@ -93,7 +93,7 @@ intermediate_functions = (0x22, quote_functions) ∷ (byte (codes "!"), exclamat
 abbrev pub table_after : List (ℕ × FunctionTable) → ℕ → FunctionTable
 table_after tables b = unwrap_or (look_up tables b) []
 
--- the table by the marker and the intermediate
+-- the table by the marker and the intermediate (ECMA-48 5.4)
 unfoldable pub functions_of : Option ℕ → Option ℕ → FunctionTable
 functions_of None None = plain_functions
 functions_of (Some marker) None = table_after ((byte (codes "?"), private_functions) ∷ []) marker
@@ -109,7 +109,7 @@ abbrev pub plain_escapes : FunctionTable
 plain_escapes =
     (byte (codes "8"), λ params. restore_screens) ∷ (byte (codes "c"), λ params. reset_to_initial_state) ∷ []
 
--- DECALN: the margins are full
+-- DECALN: the margins are full (xterm 379)
 abbrev pub alignments : FunctionTable
 alignments = (byte (codes "8"), λ params s. with_full_sides (on_display screen_alignment s)) ∷ []
 

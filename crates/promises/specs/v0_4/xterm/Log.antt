@@ -30,8 +30,8 @@ rows_off n s = if s.margins.top == 1 then first_rows (min s.margins.bottom n) s.
 -- line off and the others stay in its row
 abbrev pub scrolling_functions : List (ℕ × (List ℕ → Display → List (List Cell)))
 scrolling_functions =
-    (byte (codes "S"), λ params. rows_off (count params))
-    ∷ (byte (codes "b"), λ params. glyph_off)
+    (byte (codes "S"), λ params. rows_off (count params))  -- SU
+    ∷ (byte (codes "b"), λ params. glyph_off)  -- REP
     ∷ []
 
 unfoldable pub function_off : Option ℕ → Option ℕ → ℕ → List ℕ → Display → List (List Cell)
@@ -40,7 +40,8 @@ function_off (Some marker) None last = λ params s. []
 function_off None (Some inter) last = λ params s. []
 function_off (Some marker) (Some inter) last = λ params s. []
 
--- the lines that an event scrolls off the page that is shown: a control sequence by its function, another event as on a VT220
+-- the lines that an event scrolls off the page that is shown: a control sequence by its function, another event as on a
+-- VT220
 abbrev pub page_line_off : Event → Display → List (List Cell)
 page_line_off (Print b) s = line_off (Print b) s
 page_line_off (Control b) s = line_off (Control b) s

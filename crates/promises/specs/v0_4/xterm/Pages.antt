@@ -16,8 +16,8 @@ use Rattle.vt_term.specs.State.{Display, State}
 use Rattle.vt_xterm.specs.Pages.{PagesState, Screens}
 use Rattle.vt_xterm.specs.declared.sides.Sides.{Sides}
 
--- the page that isn't shown; whether the alternate page is the one that is shown; whether DECCOLM has an effect; whether pasted text
--- is wanted in brackets; the left and right margins, if DECLRMM is set
+-- the page that isn't shown; whether the alternate page is the one that is shown; whether DECCOLM has an effect;
+-- whether pasted text is wanted in brackets; the left and right margins, if DECLRMM is set
 pub record PagesState' : Type 0 where
   pub other : PageState
   pub alternate : Bool
@@ -75,6 +75,7 @@ abbrev pub restore_screens : Screens → Screens
 restore_screens s = unwrapped (on_display (restored (bounds_of s)) s)
 
 -- DECLRMM: if it is set, the margins are full, unless there are margins already; if it is reset, there are none
+-- (VT510 manual; xterm 379)
 abbrev pub sides_set : Display → Option Sides → Option Sides
 sides_set s None = Some (full_sides (last_column s))
 sides_set s (Some m) = Some m
@@ -94,7 +95,7 @@ origin_mode_between on s = unwrapped (sided_origin_mode on (bounds_of s) s)
 abbrev pub autowrap_mode_between : Bool → Screens → Screens
 autowrap_mode_between on s = if on then on_display (autowrap_mode true) s else unwrapped (on_display (autowrap_mode false) s)
 
--- DECSLRM: the cursor goes home; parameters that aren't margins have no effect
+-- DECSLRM: the cursor goes home; parameters that aren't margins have no effect (VT510 manual)
 abbrev pub set_sides : ℕ → ℕ → Screens → Screens
 set_sides p1 p2 s =
     if are_sides (last_column s.display) p1 p2
@@ -145,25 +146,26 @@ bracket_pastes on s = record s { pages = record s.pages { brackets = on } }
 abbrev pub allowed_column_mode : Bool → Screens → Screens
 allowed_column_mode wide s = if s.pages.resizes then with_full_sides (on_display (column_mode wide) s) else s
 
+-- the private modes that differ from those of a VT220, or that it lacks
 abbrev pub page_modes : List (ℕ × (Bool → Screens → Screens))
 page_modes =
-    (3, allowed_column_mode)
-    ∷ (6, origin_mode_between)
-    ∷ (7, autowrap_mode_between)
-    ∷ (40, allow_column_mode)
-    ∷ (47, show_page)
-    ∷ (69, side_mode)
-    ∷ (1047, show_or_clear)
-    ∷ (1048, save_or_restore)
-    ∷ (1049, show_and_save)
-    ∷ (2004, bracket_pastes)
+    (3, allowed_column_mode)  -- DECCOLM
+    ∷ (6, origin_mode_between)  -- DECOM
+    ∷ (7, autowrap_mode_between)  -- DECAWM
+    ∷ (40, allow_column_mode)  -- xterm: DECCOLM is allowed
+    ∷ (47, show_page)  -- xterm: the alternate screen buffer
+    ∷ (69, side_mode)  -- DECLRMM
+    ∷ (1047, show_or_clear)  -- xterm: the alternate screen buffer, cleared
+    ∷ (1048, save_or_restore)  -- xterm: the saved cursor
+    ∷ (1049, show_and_save)  -- xterm: the saved cursor, and the alternate screen buffer
+    ∷ (2004, bracket_pastes)  -- xterm: bracketed paste
     ∷ []
 
 -- one mode; what isn't in this table is a VT220's
 unfoldable pub with_page_mode : Bool → ℕ → Screens → Screens
 with_page_mode on p = unwrap_or (look_up page_modes p) (λ on. on_display (with_mode private_modes on p)) on
 
--- SM and RM of private modes: each parameter in order
+-- SM and RM of private modes: each parameter in order (DECSET and DECRST)
 abbrev pub change_page_modes : Bool → List ℕ → Screens → Screens
 change_page_modes on params s = fold (λ s p. with_page_mode on p s) s params
 
@@ -171,7 +173,8 @@ change_page_modes on params s = fold (λ s p. with_page_mode on p s) s params
 abbrev pub is_window_wide : Screens → Bool
 is_window_wide s = not s.pages.resizes && s.display.grid.width == s.display.grid.size.wide
 
--- RIS: as on a VT220, and both pages are blank. ?40 stays, and without it so does the width
+-- RIS: as on a VT220, and both pages are blank. ?40 stays, and without it so does the width (xterm 379; that the
+-- alternate page is blank is this profile's)
 abbrev pub reset_to_initial_state : Screens → Screens
 reset_to_initial_state s = record {
   display = column_mode (is_window_wide s) (display_of s.display.grid.size);

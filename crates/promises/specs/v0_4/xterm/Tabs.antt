@@ -14,10 +14,10 @@ stop_before stops (suc c) = if nat_lt 1 c && has_stop_at stops c then c else sto
 abbrev pub back_tab : Display → Display
 back_tab s = record s { cursor = at_place s.cursor.row (stop_before s.stops s.cursor.col) }
 
--- CHT: n times HT, which more often than there are columns changes nothing
+-- CHT: n times HT, which more often than there are columns changes nothing (ECMA-48 8.3.10)
 abbrev pub cursor_forward_tabulation : ℕ → Display → Display
 cursor_forward_tabulation n s = times (min n (last_column s)) horizontal_tab s
 
--- CBT: n times to the stop before
+-- CBT: n times to the stop before (ECMA-48 8.3.7)
 abbrev pub cursor_backward_tabulation : ℕ → Display → Display
 cursor_backward_tabulation n s = times (min n (last_column s)) back_tab s

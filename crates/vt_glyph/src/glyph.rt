@@ -81,9 +81,9 @@ impl Glyph {
         Glyph::encoded(code)
     }
 
-    /// Returns the glyph that this byte encodes.
+    /// Returns the glyph with this code, as `code` gives it.
     #[inline(always)]
-    pub(crate) fn encoded(byte: u8) -> Glyph
+    pub fn encoded(byte: u8) -> Glyph
         requires { IsEncoding byte }
         ensures { result ≡ encoded_glyph byte }
     {

@@ -1,7 +1,8 @@
 //! Laws of the definitions that contracts cite. A law is a function with an empty body, which a proof
 //! cites by calling it.
-ghost use Rattle.std.specs.Prelude.{◌≡◌, Some};
+ghost use Rattle.std.specs.Prelude.{◌≡◌, ◌≤◌, ℕ, Some};
 ghost use Rattle.vt_glyph.specs.declared.set.Set.{Set};
+ghost use Rattle.vt_glyph.specs.Encoding.{IsEncoding, encoded_glyph};
 ghost use Rattle.vt_glyph.specs.Designation.{set_of_final, final_of};
 ghost use Rattle.vt_glyph.specs.Laws.{SpellingLaws, GlyphLaws, InUseLaws, SetsLaws};
 
@@ -15,6 +16,11 @@ pub fn spelling()
 /// them.
 pub fn glyphs()
     ensures { GlyphLaws }
+{}
+
+/// States that each ASCII code from 20 to 7E is the code of its own glyph.
+pub fn ascii_codes()
+    ensures { (code : ℕ) → 0x20 ≤ code → code ≤ 0x7E → IsEncoding code × (encoded_glyph code ≡ code) }
 {}
 
 /// States that a byte with a glyph in either half is read through the sets in GL and GR if no single shift is pending.

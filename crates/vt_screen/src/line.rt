@@ -2,7 +2,7 @@
 ghost use Rattle.std.specs.Prelude.{◌≡◌, ℕ, ◌+◌, ◌-◌, ◌<◌, ◌≤◌, ◌↔◌, IsTrue, length, slice_index, slice_index_or, All};
 ghost use Rattle.std.specs.Bool.{OnTrue};
 ghost use Rattle.vt_screen.specs.Cells.{blank, brush_of, plain_brush, erased, selectively_erased, cell_like};
-ghost use Rattle.vt_glyph.specs.Encoding.{encoded_glyph, encoding_of};
+ghost use Rattle.vt_glyph.specs.Encoding.{encoded_glyph, encoding_of, IsEncoding};
 ghost use Rattle.vt_glyph.specs.Invocation.{HasGlyph, glyph_in_use};
 
 use crate::cell::Cell;
@@ -31,13 +31,21 @@ pub fn fill_line(line: &mut [Cell], cell: &Cell)
     ensures { (k : ℕ) → k < length line.old → slice_index_or line.new k blank ≡ cell.now }
 {
     if line.len() < 80 {
-        fill_cells(line, cell);
+        fill_short_line(line, cell);
         return;
     }
     fill_cells(&mut line[..80], cell);
     if line.len() > 80 {
         fill_cells(&mut line[80..], cell);
     }
+}
+
+/// Writes one cell at every position of a line of fewer than 80 cells. (Out of line: inlined, it makes longer lines slower.)
+#[inline(never)]
+fn fill_short_line(line: &mut [Cell], cell: &Cell)
+    ensures { (k : ℕ) → k < length line.old → slice_index_or line.new k blank ≡ cell.now }
+{
+    fill_cells(line, cell);
 }
 
 /// Writes one cell at every position, one by one.
@@ -139,14 +147,14 @@ fn write(place: &mut Cell, cell: &Cell)
     *place = *cell;
 }
 
-/// Writes ASCII codes, each with the attributes and the protection of `like`. Speed: this function and those below
+/// Writes the glyphs with these codes, each with the attributes and the protection of `like`. Speed: this function and those below
 /// write blocks. Writing cell by cell gives the same.
 #[inline(always)]
 pub fn write_codes(cells: &mut [Cell], codes: &[u8], like: Cell)
-    requires codes { All (λ code. (0x20 ≤ code) × (code ≤ 0x7E)) codes.now }
+    requires codes { All IsEncoding codes.now }
     requires len { length cells.old ≡ length codes.now }
     ensures { (k : ℕ) → k < length codes.now
-        → slice_index_or cells.new k blank ≡ cell_like like (slice_index codes.now k) }
+        → slice_index_or cells.new k blank ≡ cell_like like (encoded_glyph (slice_index codes.now k)) }
 {
     if codes.len() < 8 {
         write_few(cells, codes, &like);
@@ -159,11 +167,11 @@ pub fn write_codes(cells: &mut [Cell], codes: &[u8], like: Cell)
 /// apart for short runs too.)
 #[inline(never)]
 fn write_many(cells: &mut [Cell], codes: &[u8], like: &Cell)
-    requires codes { All (λ code. (0x20 ≤ code) × (code ≤ 0x7E)) codes.now }
+    requires codes { All IsEncoding codes.now }
     requires len { length cells.old ≡ length codes.now }
     requires many { 8 ≤ length codes.now }
     ensures { (k : ℕ) → k < length codes.now
-        → slice_index_or cells.new k blank ≡ cell_like like.now (slice_index codes.now k) }
+        → slice_index_or cells.new k blank ≡ cell_like like.now (encoded_glyph (slice_index codes.now k)) }
 {
     if is_plain(like) {
         write_blocks(cells, codes, &Cell::blank());
@@ -184,28 +192,28 @@ fn is_plain(cell: &Cell) -> bool
         | cell.protected)
 }
 
-/// Writes ASCII codes one after another.
+/// Writes the glyphs with these codes, one after another.
 #[inline(always)]
 fn write_each(cells: &mut [Cell], codes: &[u8], like: &Cell)
-    requires codes { All (λ code. (0x20 ≤ code) × (code ≤ 0x7E)) codes.now }
+    requires codes { All IsEncoding codes.now }
     requires len { length cells.old ≡ length codes.now }
     ensures { (k : ℕ) → k < length codes.now
-        → slice_index_or cells.new k blank ≡ cell_like like.now (slice_index codes.now k) }
+        → slice_index_or cells.new k blank ≡ cell_like like.now (encoded_glyph (slice_index codes.now k)) }
 {
     for (i, code) in codes.iter().enumerate() {
-        write_like(&mut cells[i], like, Glyph::ascii(*code));
+        write_like(&mut cells[i], like, Glyph::encoded(*code));
     }
 }
 
-/// Writes at least eight ASCII codes: sixteen at a time, and then the remainder in blocks that end with the last cell.
+/// Writes at least eight codes: sixteen at a time, and then the remainder in blocks that end with the last cell.
 /// So some cells are written twice. (If `like` is a constant, the compiler makes one move of each two cells.)
 #[inline(always)]
 fn write_blocks(cells: &mut [Cell], codes: &[u8], like: &Cell)
-    requires codes { All (λ code. (0x20 ≤ code) × (code ≤ 0x7E)) codes.now }
+    requires codes { All IsEncoding codes.now }
     requires len { length cells.old ≡ length codes.now }
     requires many { 8 ≤ length codes.now }
     ensures { (k : ℕ) → k < length codes.now
-        → slice_index_or cells.new k blank ≡ cell_like like.now (slice_index codes.now k) }
+        → slice_index_or cells.new k blank ≡ cell_like like.now (encoded_glyph (slice_index codes.now k)) }
 {
     let len = codes.len();
     let mut at = 0;
@@ -223,11 +231,11 @@ fn write_blocks(cells: &mut [Cell], codes: &[u8], like: &Cell)
 /// Writes fewer than eight codes.
 #[inline(always)]
 fn write_few(cells: &mut [Cell], codes: &[u8], like: &Cell)
-    requires codes { All (λ code. (0x20 ≤ code) × (code ≤ 0x7E)) codes.now }
+    requires codes { All IsEncoding codes.now }
     requires len { length cells.old ≡ length codes.now }
     requires few { length codes.now < 8 }
     ensures { (k : ℕ) → k < length codes.now
-        → slice_index_or cells.new k blank ≡ cell_like like.now (slice_index codes.now k) }
+        → slice_index_or cells.new k blank ≡ cell_like like.now (encoded_glyph (slice_index codes.now k)) }
 {
     let len = codes.len();
     if len >= 4 {
@@ -237,53 +245,53 @@ fn write_few(cells: &mut [Cell], codes: &[u8], like: &Cell)
         write_two(cells, codes, 0, like);
         write_two(cells, codes, len - 2, like);
     } else if len == 1 {
-        write_like(&mut cells[0], like, Glyph::ascii(codes[0]));
+        write_like(&mut cells[0], like, Glyph::encoded(codes[0]));
     }
 }
 
-/// Writes the eight ASCII codes that begin at `at`.
+/// Writes the eight codes that begin at `at`.
 #[inline(always)]
 fn write_eight(cells: &mut [Cell], codes: &[u8], at: usize, like: &Cell)
-    requires codes { All (λ code. (0x20 ≤ code) × (code ≤ 0x7E)) codes.now }
+    requires codes { All IsEncoding codes.now }
     requires len { length cells.old ≡ length codes.now }
     requires at { at + 8 ≤ length codes.now }
     ensures here { (k : ℕ) → at ≤ k → k < at + 8
-        → slice_index_or cells.new k blank ≡ cell_like like.now (slice_index codes.now k) }
+        → slice_index_or cells.new k blank ≡ cell_like like.now (encoded_glyph (slice_index codes.now k)) }
     ensures front { (k : ℕ) → k < at → slice_index_or cells.new k blank ≡ slice_index_or cells.old k blank }
 {
     write_four(cells, codes, at, like);
     write_four(cells, codes, at + 4, like);
 }
 
-/// Writes the four ASCII codes that begin at `at`.
+/// Writes the four codes that begin at `at`.
 #[inline(always)]
 fn write_four(cells: &mut [Cell], codes: &[u8], at: usize, like: &Cell)
-    requires codes { All (λ code. (0x20 ≤ code) × (code ≤ 0x7E)) codes.now }
+    requires codes { All IsEncoding codes.now }
     requires len { length cells.old ≡ length codes.now }
     requires at { at + 4 ≤ length codes.now }
     ensures here { (k : ℕ) → at ≤ k → k < at + 4
-        → slice_index_or cells.new k blank ≡ cell_like like.now (slice_index codes.now k) }
+        → slice_index_or cells.new k blank ≡ cell_like like.now (encoded_glyph (slice_index codes.now k)) }
     ensures front { (k : ℕ) → k < at → slice_index_or cells.new k blank ≡ slice_index_or cells.old k blank }
 {
     write_two(cells, codes, at, like);
     write_two(cells, codes, at + 2, like);
 }
 
-/// Writes the two ASCII codes that begin at `at`. (Both are read before a cell is written, so the compiler makes one
+/// Writes the two codes that begin at `at`. (Both are read before a cell is written, so the compiler makes one
 /// move of two cells.)
 #[inline(always)]
 fn write_two(cells: &mut [Cell], codes: &[u8], at: usize, like: &Cell)
-    requires codes { All (λ code. (0x20 ≤ code) × (code ≤ 0x7E)) codes.now }
+    requires codes { All IsEncoding codes.now }
     requires len { length cells.old ≡ length codes.now }
     requires at { at + 2 ≤ length codes.now }
     ensures here { (k : ℕ) → at ≤ k → k < at + 2
-        → slice_index_or cells.new k blank ≡ cell_like like.now (slice_index codes.now k) }
+        → slice_index_or cells.new k blank ≡ cell_like like.now (encoded_glyph (slice_index codes.now k)) }
     ensures front { (k : ℕ) → k < at → slice_index_or cells.new k blank ≡ slice_index_or cells.old k blank }
 {
     let first = codes[at];
     let second = codes[at + 1];
-    write_like(&mut cells[at], like, Glyph::ascii(first));
-    write_like(&mut cells[at + 1], like, Glyph::ascii(second));
+    write_like(&mut cells[at], like, Glyph::encoded(first));
+    write_like(&mut cells[at + 1], like, Glyph::encoded(second));
 }
 
 /// Writes the glyphs of graphic bytes, each with the attributes and the protection of `like`. Speed: in blocks of four,

@@ -1,5 +1,6 @@
 //! The screen, and all changes that a terminal makes to it.
 ghost use Rattle.std.specs.Prelude.{◌≡◌, ℕ, ◌+◌, ◌<◌, ◌≤◌, ◌⊎◌, ◌↔◌, false, IsTrue, IfOk, All, length, map};
+ghost use Rattle.vt_glyph.specs.Encoding.{IsEncoding, encoded_glyph};
 ghost use Rattle.vt_glyph.specs.Invocation.{HasGlyph, glyph_in_use};
 ghost use Rattle.vt_screen.specs.Sizes.{stride, room};
 ghost use Rattle.vt_screen.specs.Order.{stored};
@@ -14,7 +15,7 @@ use crate::size::{ROWS, Size};
 use std::alloc::{AllocError, Global};
 use std::marker::Model;
 use vt_glyph::InUse;
-use vt_glyph::laws::glyphs;
+use vt_glyph::laws::{ascii_codes, glyphs};
 
 /// A grid of cells of one of two widths, initially blank. (VT220 manual, chapter 4: DECCOLM sets the width. The VT220
 /// has 24 rows of 80 or 132 cells.)
@@ -236,9 +237,8 @@ impl Screen {
         ensures grid { self.new ≡ put_run self.old row column codes.now like }
         ensures sound { IsSoundGrid self.new }
     {
-        glyphs();
-        let start = self.order.start(row) + column - 1;
-        write_codes(&mut self.cells[start..start + codes.len()], codes, like);
+        ascii_codes();
+        self.put_codes(row, column, codes, like);
     }
 
     /// Writes graphic bytes, each from 20 to 7E or from A1 to FE, starting at a row and a column. They are read through
@@ -268,6 +268,22 @@ impl Screen {
             table,
             like,
         );
+    }
+
+    /// Writes the glyphs with these codes, starting at a row and a column. The result is that of writing them one after
+    /// another. The cells get the attributes and the protection of `like`. The glyphs end at or before the last column.
+    /// Without codes nothing changes.
+    #[inline(always)]
+    pub fn put_codes(&mut self, row: usize, column: usize, codes: &[u8], like: Cell)
+        requires row { (1 ≤ row) × (row ≤ self.old.size.rows) }
+        requires column { (1 ≤ column) × (column ≤ self.old.width) }
+        requires codes { All IsEncoding codes.now }
+        requires room { column + length codes.now ≤ self.old.width + 1 }
+        ensures grid { self.new ≡ put_run self.old row column (map encoded_glyph codes.now) like }
+        ensures sound { IsSoundGrid self.new }
+    {
+        let start = self.order.start(row) + column - 1;
+        write_codes(&mut self.cells[start..start + codes.len()], codes, like);
     }
 
     /// Erases the columns `from` to `to` of a row, both included. (VT220 manual: ED, EL, ECH; selectively DECSED,

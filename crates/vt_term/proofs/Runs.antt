@@ -1,9 +1,10 @@
 -- A run of graphic bytes is written as its bytes are, one after another.
-use Rattle.std.proofs.lemmas.List.{length-take, map-append, get_or-take, get_or-drop}
+use Rattle.std.proofs.lemmas.List.{length-take, length-map, map-append, get_or-take, get_or-drop}
+use Rattle.std.proofs.lemmas.List.Sums.{fold-append}
 use Rattle.std.proofs.Math.Seq.{take-add}
 use Rattle.vt_term.proofs.Cuts.{after_events-append}
 use Rattle.std.proofs.Common.{length-drop, take, drop, get_or, ◌≡◌, inl, inr, ℕ, suc, ◌+◌, ◌-◌, ◌≤◌, ◌<◌, List, [], ◌∷◌}
-use Rattle.std.proofs.Common.{◌++◌, length, map, All, true, false, refl, sym, ap, ◌∙◌, arith, rules}
+use Rattle.std.proofs.Common.{◌++◌, length, map, All, Bool, true, false, refl, sym, ap, ◌∙◌, arith, rules}
 use Rattle.std.proofs.Common.{nat_lt}
 use Rattle.std.proofs.lemmas.Bool.Decides.{leb_tells, nat_tests}
 use Rattle.vt_syntax.specs.declared.event.Event.{Event}
@@ -14,26 +15,10 @@ use Rattle.vt_screen.specs.Cells.{cell_of}
 use Rattle.vt_screen.specs.Grid.{put, put_run}
 use Rattle.vt_screen.specs.Laws.{RunLaws}
 use Rattle.vt_term.specs.State.{Display, last_column, at_place}
-use Rattle.vt_term.specs.Writing.{print, write_glyph, put_glyph, after_wrap, next_place}
+use Rattle.vt_term.specs.declared.state.Cursor.{Cursor}
+use Rattle.vt_term.specs.Writing.{print, write_glyph, write_glyphs, with_glyph, IsAfterGlyphs, put_glyph, after_wrap, next_place}
 use Rattle.vt_term.specs.Runs.{WritesOver, advanced_by, with_run}
 use Rattle.vt_term.specs.Play.{after_events}
-
--- below, bytes of one kind are written, each as its glyph
-
--- a byte writes its glyph
-print-over : (Kind : ℕ → Type 0) (glyph : ℕ → ℕ) (s : Display) (b : ℕ) → WritesOver Kind glyph s → Kind b
-    → print b s ≡ write_glyph (glyph b) s
-print-over Kind glyph s b writes is = rw (writes.glyph b is, writes.sets b is) refl
-
--- where no wrap is pending, over the cell at the cursor
-print-step : (Kind : ℕ → Type 0) (glyph : ℕ → ℕ) (s : Display) (b : ℕ) → WritesOver Kind glyph s → Kind b
-    → s.cursor.wrap ≡ false
-    → print b s ≡ record s {
-      grid = put s.grid s.cursor.row s.cursor.col (cell_of (glyph b) s.brush);
-      cursor =
-          next_place s;
-    }
-print-step Kind glyph s b writes is off = print-over Kind glyph s b writes is ∙ rw (off, writes.replaces) refl
 
 -- one glyph on is one column on
 next_place-one : (s : Display) → s.cursor.col ≤ last_column s → next_place s ≡ advanced_by 1 s
@@ -53,37 +38,113 @@ next_place-near s near =
     let test : nat_lt s.cursor.col (last_column s) ≡ true = grind (arith, nat_tests) in
     rw test refl
 
+-- ---- glyphs
+
+-- where no wrap is pending and IRM is reset, a glyph is written over the cell at the cursor
+glyph-step : (s : Display) (n : ℕ) → s.modes.irm ≡ false → s.cursor.wrap ≡ false
+    → write_glyph n s ≡ record s {
+      grid = put s.grid s.cursor.row s.cursor.col (cell_of n s.brush);
+      cursor =
+          next_place s;
+    }
+glyph-step s n over off = rw (off, over) refl
+
+-- glyphs that end in the cursor's row
+pub writes-run : RunLaws → (glyphs : List ℕ) (s : Display) → s.modes.irm ≡ false → s.cursor.wrap ≡ false
+    → 1 ≤ length glyphs → s.cursor.col + length glyphs ≤ last_column s + 1 → write_glyphs glyphs s ≡ with_run glyphs s
+writes-run runs [] s over off some room = absurd (omega arith)
+writes-run runs (n ∷ []) s over off some room =
+    glyph-step s n over off
+    ∙ rw (
+      runs.one s.grid s.cursor.row s.cursor.col n (cell_of space s.brush),
+      next_place-one s (omega arith),
+    ) refl
+writes-run runs (n ∷ next ∷ rest) s over off some room =
+    let like : Cell = cell_of space s.brush in
+    let glyphs : List ℕ = next ∷ rest in
+    let t : Display = record s {
+      grid = put s.grid s.cursor.row s.cursor.col (cell_of n s.brush);
+      cursor =
+          at_place s.cursor.row (s.cursor.col + 1);
+    } in
+    let first : write_glyph n s ≡ t = glyph-step s n over off ∙ rw (next_place-near s (omega arith)) refl in
+    let goes_on : write_glyphs glyphs t ≡ with_run glyphs t =
+    writes-run runs (next ∷ rest) t over refl (omega arith) (omega arith) in
+    let column : s.cursor.col + 1 + length glyphs ≡ s.cursor.col + length (n ∷ glyphs) = omega arith in
+    let grid : put_run t.grid s.cursor.row (s.cursor.col + 1) glyphs like
+    ≡ put_run s.grid s.cursor.row s.cursor.col (n ∷ glyphs) like =
+    rw (← runs.one s.grid s.cursor.row s.cursor.col n like)
+    (sym (runs.append s.grid s.cursor.row s.cursor.col (n ∷ []) glyphs like)) in
+    ap (λ (u : Display). write_glyphs glyphs u) first ∙ goes_on ∙ rw (grid, column) refl
+
+-- glyphs may be written in parts
+pub write_glyphs-append : (a b : List ℕ) (s : Display) → write_glyphs (a ++ b) s ≡ write_glyphs b (write_glyphs a s)
+write_glyphs-append a b s = fold-append (λ t glyph. write_glyph glyph t) s a b
+
+with_glyph-width : (n : ℕ) (s : Display) → (with_glyph n s).width ≡ s.grid.width
+with_glyph-width n s = grind arith
+
+glyph-leaves : (s : Display) (n : ℕ) → s.cursor.wrap ≡ false → s.cursor.col + 1 ≤ last_column s
+    → IsAfterGlyphs 1 s (write_glyph n s)
+glyph-leaves s n off room = rw off (record {
+  cursor = next_place-near s (omega arith);
+  width = with_glyph-width n s;
+  sets = refl;
+})
+
+pub glyphs-leave : (glyphs : List ℕ) (s : Display) → s.cursor.wrap ≡ false → s.cursor.col + length glyphs ≤ last_column s
+    → IsAfterGlyphs (length glyphs) s (write_glyphs glyphs s)
+glyphs-leave [] s off room = record {
+  cursor = ap (λ (w : Bool). record { row = s.cursor.row; col = s.cursor.col; wrap = w }) off
+      ∙ ap (λ (c : ℕ). at_place s.cursor.row c) (sym (zero s.cursor.col));
+  width = refl;
+  sets = refl;
+}
+  where
+    zero : (c : ℕ) → c + 0 ≡ c
+    zero c = omega arith
+glyphs-leave (n ∷ glyphs) s off room =
+    let t : Display = write_glyph n s in
+    let first = glyph-leaves s n off (omega (arith, room)) in
+    let column : t.cursor.col ≡ s.cursor.col + 1 = ap (λ (c : Cursor). c.col) first.cursor in
+    let row : t.cursor.row ≡ s.cursor.row = ap (λ (c : Cursor). c.row) first.cursor in
+    let rest = glyphs-leave glyphs t (ap (λ (c : Cursor). c.wrap) first.cursor)
+    (omega (arith, column, first.width, room)) in
+    let place : t.cursor.col + length glyphs ≡ s.cursor.col + length (n ∷ glyphs) = omega (arith, column) in
+    record {
+      cursor = rest.cursor ∙ rw (row, place) refl;
+      width = rest.width ∙ first.width;
+      sets = rest.sets ∙ first.sets;
+    }
+
+-- below, bytes of one kind are written, each as its glyph
+
+-- a byte writes its glyph
+print-over : (Kind : ℕ → Type 0) (glyph : ℕ → ℕ) (s : Display) (b : ℕ) → WritesOver Kind glyph s → Kind b
+    → print b s ≡ write_glyph (glyph b) s
+print-over Kind glyph s b writes is = rw (writes.glyph b is, writes.sets b is) refl
+
+write_glyph-writes : (Kind : ℕ → Type 0) (glyph : ℕ → ℕ) (s : Display) (n : ℕ) → WritesOver Kind glyph s
+    → WritesOver Kind glyph (write_glyph n s)
+write_glyph-writes Kind glyph s n writes = search rules
+
+-- bytes write their glyphs
+prints-glyphs : (Kind : ℕ → Type 0) (glyph : ℕ → ℕ) (bytes : List ℕ) (s : Display) → WritesOver Kind glyph s
+    → All Kind bytes → after_events (map Print bytes) s ≡ write_glyphs (map glyph bytes) s
+prints-glyphs Kind glyph [] s writes all = refl
+prints-glyphs Kind glyph (b ∷ bytes) s writes all =
+    ap (λ (t : Display). after_events (map Print bytes) t) (print-over Kind glyph s b writes (all 0 0 (omega arith)))
+    ∙ prints-glyphs Kind glyph bytes (write_glyph (glyph b) s) (write_glyph-writes Kind glyph s (glyph b) writes)
+    (λ k d h. all (suc k) d (omega arith))
+
 pub prints-run : RunLaws → (Kind : ℕ → Type 0) (glyph : ℕ → ℕ) (bytes : List ℕ) (s : Display) → WritesOver Kind glyph s
     → All Kind bytes → s.cursor.wrap ≡ false
     → 1 ≤ length bytes → s.cursor.col + length bytes ≤ last_column s + 1
     → after_events (map Print bytes) s ≡ with_run (map glyph bytes) s
-prints-run runs Kind glyph [] s writes all off some room = absurd (omega arith)
-prints-run runs Kind glyph (b ∷ []) s writes all off some room =
-    print-step Kind glyph s b writes (all 0 0 (omega arith)) off
-    ∙ rw (
-      runs.one s.grid s.cursor.row s.cursor.col (glyph b) (cell_of space s.brush),
-      next_place-one s (omega arith),
-    ) refl
-prints-run runs Kind glyph (b ∷ next ∷ rest) s writes all off some room =
-    let like : Cell = cell_of space s.brush in
-    let glyphs : List ℕ = map glyph (next ∷ rest) in
-    let t : Display = record s {
-      grid = put s.grid s.cursor.row s.cursor.col (cell_of (glyph b) s.brush);
-      cursor =
-          at_place s.cursor.row (s.cursor.col + 1);
-    } in
-    let first : print b s ≡ t =
-    print-step Kind glyph s b writes (all 0 0 (omega arith)) off ∙ rw (next_place-near s (omega arith)) refl in
-    let goes_on : after_events (map Print (next ∷ rest)) t ≡ with_run glyphs t =
-    prints-run runs Kind glyph (next ∷ rest) t
-    (record { glyph = writes.glyph; sets = writes.sets; replaces = writes.replaces }) (λ k d h. all (suc k) d (omega arith))
-    refl (omega arith) (omega arith) in
-    let column : s.cursor.col + 1 + length glyphs ≡ s.cursor.col + length (glyph b ∷ glyphs) = omega arith in
-    let grid : put_run t.grid s.cursor.row (s.cursor.col + 1) glyphs like
-    ≡ put_run s.grid s.cursor.row s.cursor.col (glyph b ∷ glyphs) like =
-    rw (← runs.one s.grid s.cursor.row s.cursor.col (glyph b) like)
-    (sym (runs.append s.grid s.cursor.row s.cursor.col (glyph b ∷ []) glyphs like)) in
-    ap (λ (u : Display). after_events (map Print (next ∷ rest)) u) first ∙ goes_on ∙ rw (grid, column) refl
+prints-run runs Kind glyph bytes s writes all off some room =
+    let count : length (map glyph bytes) ≡ length bytes = length-map bytes glyph in
+    prints-glyphs Kind glyph bytes s writes all
+    ∙ writes-run runs (map glyph bytes) s writes.replaces off (omega (arith, count)) (omega (arith, count))
 
 -- the display after a wrap
 after_wrap-off : (s : Display) → (after_wrap s).cursor.wrap ≡ false

@@ -1,5 +1,5 @@
 -- Writing glyphs. (EK-VT220-RM, chapter 4: DECAWM and IRM; the moment of the wrap is this profile's)
-use Rattle.std.specs.Prelude.{ℕ, ◌+◌, Option, Some, None, nat_lt, if◌then◌else◌}
+use Rattle.std.specs.Prelude.{◌≡◌, ℕ, ◌+◌, List, fold, Option, Some, None, nat_lt, if◌then◌else◌}
 use Rattle.vt_glyph.specs.Invocation.{glyph_read, after_read}
 use Rattle.vt_screen.specs.Cells.{cell_of}
 use Rattle.vt_screen.specs.Grid.{Grid, put, put_inserting}
@@ -31,6 +31,10 @@ put_glyph glyph s = record s { grid = with_glyph glyph s; cursor = next_place s 
 abbrev pub write_glyph : ℕ → Display → Display
 write_glyph glyph s = put_glyph glyph (after_wrap s)
 
+-- glyphs are written one after another
+abbrev pub write_glyphs : List ℕ → Display → Display
+write_glyphs glyphs s = fold (λ t glyph. write_glyph glyph t) s glyphs
+
 abbrev pub write_if_read : Option ℕ → Display → Display
 write_if_read None s = s
 write_if_read (Some glyph) s = write_glyph glyph s
@@ -38,3 +42,11 @@ write_if_read (Some glyph) s = write_glyph glyph s
 -- a graphic byte: it is read through the sets
 abbrev pub print : ℕ → Display → Display
 print b s = write_if_read (glyph_read s.sets b) (record s { sets = after_read s.sets b })
+
+-- ---- for laws
+
+-- glyphs before the last column leave all but the cells and the cursor, which goes on without a wrap
+pub record IsAfterGlyphs (count : ℕ) (s t : Display) : Type 0 where
+  pub cursor : t.cursor ≡ at_place s.cursor.row (s.cursor.col + count)
+  pub width : t.grid.width ≡ s.grid.width
+  pub sets : t.sets ≡ s.sets

@@ -1,6 +1,6 @@
 //! Calls for a front: a caller that reads the host's bytes by the terminal's syntax, and has functions that a VT220 lacks.
 //! All but `next_event` leave what is held.
-ghost use Rattle.std.specs.Prelude.{◌≡◌, ◌≤◌, ◌+◌, ◌++◌, IfSome, IfNone, true, false, length, take, vec_len, vec_capacity};
+ghost use Rattle.std.specs.Prelude.{◌≡◌, ◌≤◌, ◌+◌, ◌++◌, IfSome, IfNone, All, true, false, length, map, take, vec_len, vec_capacity};
 ghost use Rattle.vt_syntax.specs.Event.{event_of, event_in};
 ghost use Rattle.vt_syntax.specs.Held.{events_from, held_from};
 ghost use Rattle.vt_syntax.specs.Spelling.{IsEvent};
@@ -8,7 +8,8 @@ ghost use Rattle.vt_screen.specs.Grid.{scroll_up, scroll_down};
 ghost use Rattle.vt_term.specs.State.{at_place};
 ghost use Rattle.vt_term.specs.Functions.{effect};
 ghost use Rattle.vt_term.specs.Reports.{report};
-ghost use Rattle.vt_term.specs.Writing.{write_glyph};
+ghost use Rattle.vt_glyph.specs.Encoding.{IsEncoding, encoded_glyph};
+ghost use Rattle.vt_term.specs.Writing.{write_glyph, write_glyphs};
 ghost use Rattle.vt_term.specs.Editing.{erase_in_display};
 ghost use Rattle.vt_term.specs.Rendition.{select_graphic_rendition};
 ghost use Rattle.vt_term.specs.Modes.{change_modes, private_modes};
@@ -89,6 +90,18 @@ impl SizedTerminal {
         ensures { self.new ≡ record self.old { display = write_glyph glyph self.old.display } }
     {
         self.display.write_glyph(glyph);
+    }
+
+    /// Writes the glyphs with these codes (`Glyph::code`) at the cursor, one after another, as `write_glyph` does. Speed: glyphs
+    /// that end in the cursor's row are written at once.
+    #[inline(always)]
+    pub fn write_codes(&mut self, codes: &[u8])
+        requires codes { All IsEncoding codes.now }
+        ensures { self.new ≡ record self.old {
+          display = write_glyphs (map encoded_glyph codes.now) self.old.display;
+        } }
+    {
+        self.display.write_codes(codes);
     }
 
     /// Carries out DECSC: saves the cursor.

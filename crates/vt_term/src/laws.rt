@@ -9,7 +9,7 @@ ghost use Rattle.vt_screen.specs.Sizes.{IsSize};
 ghost use Rattle.vt_screen.specs.Grid.{scroll_up, cell_at};
 ghost use Rattle.vt_term.specs.State.{Display, at_place};
 ghost use Rattle.vt_term.specs.Functions.{effect};
-ghost use Rattle.vt_term.specs.Writing.{put_glyph, write_if_read};
+ghost use Rattle.vt_term.specs.Writing.{put_glyph, write_glyphs, write_if_read, IsAfterGlyphs};
 ghost use Rattle.vt_term.specs.Scrolling.{is_line_feed, is_at_end, scrolls_off};
 ghost use Rattle.vt_term.specs.State.{State, power_up, state_of};
 ghost use Rattle.vt_term.specs.Sound.{IsSoundAt, IsSound, IsSoundSized};
@@ -132,6 +132,15 @@ pub fn scrolls()
           grid = scroll_up s.grid 1 s.margins.bottom 1;
           cursor = at_place s.cursor.row 1;
         }) }
+{}
+
+/// States what glyphs do that are written one after another. They may be written in parts. Before the last column they leave the
+/// graphic sets and the width, and the cursor goes on without a wrap.
+pub fn glyph_runs()
+    ensures two { (a b : List ℕ) (s : Display) → write_glyphs (a ++ b) s ≡ write_glyphs b (write_glyphs a s) }
+    ensures leaves { (glyphs : List ℕ) (s : Display) → s.cursor.wrap ≡ false
+        → s.cursor.col + length glyphs ≤ s.grid.width
+        → IsAfterGlyphs (length glyphs) s (write_glyphs glyphs s) }
 {}
 
 /// States what a change of the screen's size keeps. At its own size a state stays as it is, and nothing goes to the

@@ -5,7 +5,8 @@ ghost use Rattle.vt_syntax.specs.Class.{IsPlain};
 ghost use Rattle.vt_syntax.specs.declared.event.Event.TheVariants.{Print};
 ghost use Rattle.vt_term.specs.Play.{after_events};
 ghost use Rattle.vt_glyph.specs.Invocation.{HasGlyph, in_use, glyph_in_use};
-ghost use Rattle.vt_term.specs.Writing.{after_wrap, put_glyph, write_glyph, print};
+ghost use Rattle.vt_term.specs.Writing.{after_wrap, put_glyph, write_glyph, write_glyphs, print};
+ghost use Rattle.vt_glyph.specs.Encoding.{IsEncoding, encoded_glyph};
 ghost use Rattle.vt_term.specs.Runs.{WritesAscii, WritesInUse, with_run, advanced_by};
 
 use crate::display::Display;
@@ -70,6 +71,54 @@ impl Display {
         ensures { IsTrue result ↔ ((self.now.sets.pending ≡ None) × (self.now.modes.irm ≡ false)) }
     {
         !self.modes.irm && self.sets.pending().is_none()
+    }
+
+    /// Writes the glyphs with these codes at the cursor, one after another. Speed: glyphs that end in the cursor's row are written
+    /// at once.
+    #[inline(always)]
+    pub(crate) fn write_codes(&mut self, codes: &[u8])
+        requires codes { All IsEncoding codes.now }
+        ensures { self.new ≡ write_glyphs (map encoded_glyph codes.now) self.old }
+    {
+        runs();
+        if self.takes(codes) {
+            self.put_codes(codes);
+        } else {
+            self.write_each(codes);
+        }
+    }
+
+    /// Returns whether a run, of at least one glyph, replaces cells before the last column.
+    #[inline(always)]
+    fn takes(&self, run: &[u8]) -> bool
+        ensures { OnTrue result ((1 ≤ length run.now) × ((self.now.modes.irm ≡ false)
+            × ((self.now.cursor.wrap ≡ false) × (self.now.cursor.col + length run.now ≤ self.now.grid.width)))) }
+    {
+        !run.is_empty() && !self.modes.irm && self.fits(run)
+    }
+
+    /// Writes the glyphs with these codes, one by one.
+    #[inline(never)]
+    fn write_each(&mut self, codes: &[u8])
+        requires codes { All IsEncoding codes.now }
+        ensures { self.new ≡ write_glyphs (map encoded_glyph codes.now) self.old }
+    {
+        for code in codes.iter() {
+            self.write_glyph(Glyph::encoded(*code));
+        }
+    }
+
+    /// Writes the glyphs with these codes, which end in the cursor's row.
+    #[inline(always)]
+    fn put_codes(&mut self, codes: &[u8])
+        requires codes { All IsEncoding codes.now }
+        requires some { 1 ≤ length codes.now }
+        requires room { self.old.cursor.col + length codes.now ≤ self.old.grid.width + 1 }
+        ensures { self.new ≡ with_run (map encoded_glyph codes.now) self.old }
+    {
+        let Cursor { row, col, .. } = self.cursor;
+        self.advance(codes.len());
+        self.screen.put_codes(row, col, codes, self.pen);
     }
 
     /// Writes a run of plain bytes if GL is ASCII. Speed: a run that ends in the cursor's row is written at once. Most

@@ -12,11 +12,11 @@ use Rattle.vt_screen.proofs.line.fill_line.Goals as goal
 -- the first 80 cells are written, and then the rest
 pub returns-then-line-gt80 : goal.returns-then-line-gt80
 returns-then-line-gt80 c = λ k below.
-    let front : List Cell = c.fill_cells-2.new.cells in
+    let front : List Cell = c.fill_cells.new.cells in
     let line : List Cell = front ++ drop 80 c.args.line.now in
     let end : List Cell = c.fill_cells-then-line-gt80.new.cells in
     let taken : length (take 80 c.args.line.now) ≡ 80 = rw length-take (omega arith) in
-    let long : length front ≡ 80 = omega (arith, taken, c.fill_cells-2.auto.cells) in
+    let long : length front ≡ 80 = omega (arith, taken, c.fill_cells.auto.cells) in
     let whole : length line ≡ length c.args.line.now =
     omega (arith, long, length-append front (drop 80 c.args.line.now), length-drop 80 c.args.line.now) in
     let rest : length end ≡ length line - 80 = omega (
@@ -28,7 +28,7 @@ returns-then-line-gt80 c = λ k below.
     elim (cases_lt k 80) [
       | inl low ↦ before-put_mid 80 (length line - 80) line end k blank (omega (arith, whole)) low
           ∙ get_or-append front (drop 80 c.args.line.now) blank k (omega (arith, long))
-          ∙ c.fill_cells-2.ensures k (omega (arith, long))
+          ∙ c.fill_cells.ensures k (omega (arith, long))
       | inr high ↦ within-put_mid 80 (length line - 80) line end k blank (omega (arith, whole)) rest (omega arith)
           (omega (arith, whole))
           ∙ c.fill_cells-then-line-gt80.ensures (k - 80) (omega (arith, whole))
@@ -37,11 +37,11 @@ returns-then-line-gt80 c = λ k below.
 -- there are no others
 pub returns-else-line-gt80 : goal.returns-else-line-gt80
 returns-else-line-gt80 c = λ k below.
-    let front : List Cell = c.fill_cells-2.new.cells in
+    let front : List Cell = c.fill_cells.new.cells in
     let line : List Cell = front ++ drop 80 c.args.line.now in
     let taken : length (take 80 c.args.line.now) ≡ 80 = rw length-take (omega arith) in
-    let long : length front ≡ 80 = omega (arith, taken, c.fill_cells-2.auto.cells) in
+    let long : length front ≡ 80 = omega (arith, taken, c.fill_cells.auto.cells) in
     let whole : length line ≡ length c.args.line.now =
     omega (arith, long, length-append front (drop 80 c.args.line.now), length-drop 80 c.args.line.now) in
     get_or-append front (drop 80 c.args.line.now) blank k (omega (arith, long, whole))
-    ∙ c.fill_cells-2.ensures k (omega (arith, long, whole))
+    ∙ c.fill_cells.ensures k (omega (arith, long, whole))

@@ -1,4 +1,6 @@
 mod Tables
+pub mod Texts
+mod Encodes
 mod Reading
 mod Firsts
 pub mod Sizes

@@ -10,7 +10,7 @@ use Rattle.vt_glyph.specs.Tables.{glyph_of, substitute_glyph}
 use Rattle.vt_glyph.specs.Spell.{spelling_of}
 use Rattle.vt_glyph.specs.Encoding.{encoded_spelling, encoded_glyph}
 use Rattle.vt_utf8.specs.Similar.{latin, lines, letters, signs, shown, in_rows, in_chart, ascii_of_fullwidth}
-use Rattle.vt_utf8.specs.Private.Codes.{code_by, is_code, sign_of}
+use Rattle.vt_utf8.specs.Private.Codes.{code_by, sign_of}
 use Rattle.vt_utf8.specs.declared.similar.TheConstants.{SUBSTITUTE, LATIN, LINES, LETTERS, SIGNS}
 
 -- a row with its entry changed
@@ -174,38 +174,3 @@ code_by-glyph c =
     (λ _. either encoded_glyph (λ n. n) (nat_le 0xFF01 c && nat_le c 0xFF5E) _ _ _ _
     (λ is. fullwidth-glyph (ascii_of_fullwidth c) (grind (arith, nat_tests)) (grind (arith, nat_tests)))
     (λ _. substitute-glyph)))))
-
--- each code is the code of a glyph: the test, as a function to true
-latin-codes : map is_code LATIN ≡ map (λ n. true) latin
-unfolding latin
-latin-codes = refl
-
-lines-codes : map is_code LINES ≡ map (λ n. true) lines
-unfolding lines
-lines-codes = refl
-
-letters-codes : map (on_row is_code) LETTERS ≡ map (on_row (λ n. true)) letters
-unfolding letters
-letters-codes = refl
-
-signs-codes : map (λ c. is_code (sign_of c)) (range_with_len 0x2000 0x1100) ≡ map (λ c. true) (range_with_len 0x2000 0x1100)
-unfolding sign_of
-signs-codes = refl
-
-fullwidth-code : (n : ℕ) → 0x20 ≤ n → n ≤ 0x7E → is_code n ≡ true
-fullwidth-code n low high = grind (arith, nat_tests)
-
-pub code_by-code : (c : ℕ) → is_code (code_by c) ≡ true
-code_by-code c =
-    either is_code (λ n. true) (nat_lt c 0x180) _ 0 _ 0
-    (λ _. chart is_code (λ n. true) SUBSTITUTE substitute_glyph LATIN latin 0xA0 c refl latin-codes)
-    (λ _. either is_code (λ n. true) (nat_lt c 0x2000) _ 0 _ 0
-    (λ _. rows is_code (λ n. true) SUBSTITUTE substitute_glyph LETTERS letters c refl letters-codes)
-    (λ low. either is_code (λ n. true) (nat_le 0x2500 c && nat_le c 0x257F) _ 0 _ 0
-    (λ _. chart is_code (λ n. true) SUBSTITUTE substitute_glyph LINES lines 0x2500 c refl lines-codes)
-    (λ _. either is_code (λ n. true) (nat_lt c 0x3100) _ 0 _ 0
-    (λ high. within (λ k. is_code (sign_of k)) (λ k. true) 0x2000 0x1100 c signs-codes (grind (arith, nat_tests))
-    (grind (arith, nat_tests)))
-    (λ _. either is_code (λ n. true) (nat_le 0xFF01 c && nat_le c 0xFF5E) _ 0 _ 0
-    (λ is. fullwidth-code (ascii_of_fullwidth c) (grind (arith, nat_tests)) (grind (arith, nat_tests)))
-    (λ _. refl)))))

@@ -15,18 +15,19 @@ ghost use Rattle.vt_utf8.specs.Cells.{cells};
 ghost use Rattle.vt_utf8.specs.Similar.{shown};
 ghost use Rattle.vt_utf8.specs.Decoding.{pending_after};
 ghost use Rattle.vt_utf8.specs.Limits.{lines_limit, utf8_lines_limit};
-ghost use Rattle.vt_utf8.specs.Translation.{glyph_off, reads_ascii, translation};
+ghost use Rattle.vt_utf8.specs.Translation.{glyph_off, translation};
 ghost use Rattle.vt_utf8.specs.Play.{translated_all, translated, play_utf8};
 ghost use Rattle.vt_utf8.specs.Private.Cut.{IsCut};
-ghost use Rattle.vt_utf8.specs.Private.Feeds.{FeedsUtf8, IsPlayedAs, utf8_off};
+ghost use Rattle.vt_utf8.specs.Private.Feeds.{FeedsUtf8, utf8_off};
 
 use crate::ascii::ascii_run;
 use crate::decoder::{Decoder, whole_character};
-use crate::laws::{ascii, sized_cuts, sized_one_byte, sized_silence, sized_writes};
+use crate::laws::{ascii, sized_cuts, sized_one_byte, sized_silence, sized_text, sized_writes};
 use crate::log::BytesLog;
-use crate::similar::{code_of, glyph_of_code};
+use crate::similar::code_of;
+use crate::text::write_text;
 use crate::translation::{
-    BYTE_LIMIT, TRANSLATION_LIMIT, is_at_end, is_wide, narrow_code, reads_ascii, translation,
+    BYTE_LIMIT, TRANSLATION_LIMIT, is_at_end, is_wide, narrow_code, translation,
 };
 use std::alloc::AllocError;
 use vt_syntax::Held;
@@ -308,42 +309,9 @@ fn feed_ascii<L: BytesLog>(
     log.feed(terminal, run, out)
 }
 
-/// Returns whether a chunk begins with a space, and a byte beyond ASCII follows it.
-#[inline(always)]
-fn is_single_space(piece: &[u8]) -> bool
-    ensures { OnTrue result ((2 ≤ length piece.now) × (slice_index piece.now 0 ≡ space)) }
-{
-    piece.len() >= 2 && piece[0] == b' ' && piece[1] >= 0x80
-}
-
-/// Returns the character beyond ASCII as which the front of a chunk is played with nothing pending, and how many bytes it takes: a
-/// whole character, or U+00A0 for a single space. Speed: a run of ASCII costs more than a character.
-#[inline(always)]
-fn next_character(terminal: &SizedTerminal, piece: &[u8]) -> Option<(char, usize)>
-    ensures { IfSome result (λ found. (0x80 ≤ found.0) × IsPlayedAs terminal.now piece.now found.0 found.1) }
-{
-    if let Some((c, size)) = whole_character(piece) {
-        return Some((c, size));
-    }
-    if is_single_space(piece) && reads_spaces(terminal) {
-        return Some(('\u{A0}', 1));
-    }
-    None
-}
-
-/// Returns whether a space is read as one of ASCII, between sequences.
-#[inline(always)]
-fn reads_spaces(terminal: &SizedTerminal) -> bool
-    ensures { OnTrue result ((terminal.now.held ≡ Nothing) × (reads_ascii terminal.now.display.sets ≡ true)) }
-{
-    match terminal.held() {
-        Held::Nothing => reads_ascii(terminal.sets()),
-        _ => false,
-    }
-}
-
-/// Plays the whole characters beyond ASCII at the front of a chunk, with nothing pending, until the log is full. Returns how many
-/// bytes they take. Speed: a byte at a time leaves the same.
+/// Plays the text at the front of a chunk that begins with a character beyond ASCII, or that character if it isn't text, with nothing
+/// pending. Returns how many bytes it played: 0 if no whole character is there, or the log is full. Speed: a byte at a time
+/// leaves the same.
 #[inline(always)]
 fn feed_whole<L: BytesLog>(
     terminal: &mut SizedTerminal,
@@ -363,18 +331,22 @@ fn feed_whole<L: BytesLog>(
     let _ = terminal.width();
     sized_cuts();
     one_split();
-    let mut at = 0;
-    while let Some((c, size)) = next_character(terminal, &piece[at..]) {
-        if log.is_full(limit) {
-            return at;
-        }
-        log.character(terminal, c, out);
-        at += size;
+    sized_text();
+    let text = write_text(terminal, piece);
+    if text > 0 {
+        return text;
     }
-    at
+    if log.is_full(limit) {
+        return 0;
+    }
+    if let Some((c, size)) = whole_character(piece) {
+        log.character(terminal, c, out);
+        return size;
+    }
+    0
 }
 
-/// Plays the whole characters beyond ASCII at the front of a chunk, or a byte if none is there, with nothing pending.
+/// Plays the text or the character at the front of a chunk, or a byte if neither is there, with nothing pending.
 /// Returns how many bytes it played: none if the log is full.
 #[inline(always)]
 fn feed_beyond<L: BytesLog>(
@@ -541,7 +513,7 @@ fn feed_character<L: BytesLog>(
 
 /// Returns whether a glyph is written as it is: between sequences, if no single shift is pending.
 #[inline(always)]
-fn writes_glyphs(terminal: &SizedTerminal) -> bool
+pub(crate) fn writes_glyphs(terminal: &SizedTerminal) -> bool
     ensures { OnTrue result ((terminal.now.held ≡ Nothing) × (terminal.now.display.sets.pending ≡ None)) }
 {
     match terminal.held() {
@@ -566,7 +538,7 @@ pub fn feed_beyond_ascii(terminal: &mut SizedTerminal, c: char, out: &mut Vec<u8
     sized_writes();
     if writes_glyphs(terminal) {
         if let Some(code) = narrow_code(c) {
-            terminal.write_glyph(glyph_of_code(code));
+            terminal.write_glyph(Glyph::encoded(code));
             return;
         }
         if is_wide(c) && !is_at_end(terminal) {
@@ -584,7 +556,7 @@ fn write_both(terminal: &mut SizedTerminal, c: char)
       display = write_glyph space (write_glyph (shown c) terminal.old.display);
     } }
 {
-    terminal.write_glyph(glyph_of_code(code_of(c)));
+    terminal.write_glyph(Glyph::encoded(code_of(c)));
     terminal.write_glyph(Glyph::blank());
 }
 
@@ -655,7 +627,7 @@ pub fn feed_beyond_ascii_log(
     sized_writes();
     if writes_glyphs(terminal) {
         if let Some(code) = narrow_code(c) {
-            write_logged(terminal, glyph_of_code(code), lines);
+            write_logged(terminal, Glyph::encoded(code), lines);
             return;
         }
         if is_wide(c) && !is_at_end(terminal) {
@@ -692,7 +664,7 @@ fn write_both_logged(terminal: &mut SizedTerminal, c: char, lines: &mut Vec<u8>)
       display = write_glyph space (write_glyph (shown c) terminal.old.display);
     } }
 {
-    write_logged(terminal, glyph_of_code(code_of(c)), lines);
+    write_logged(terminal, Glyph::encoded(code_of(c)), lines);
     terminal.write_glyph(Glyph::blank());
 }
 

@@ -1,5 +1,5 @@
 //! Laws over the definitions alone. A caller cites a law by a call of its function.
-ghost use Rattle.std.specs.Prelude.{◌≡◌, ◌<◌, ◌≤◌, ℕ, List, [], ◌∷◌, ◌++◌, All, None, false};
+ghost use Rattle.std.specs.Prelude.{◌≡◌, ◌<◌, ◌≤◌, ◌+◌, ℕ, List, [], ◌∷◌, ◌++◌, All, None, false, length, flat_map};
 ghost use Rattle.vt_term.specs.State.{State};
 ghost use Rattle.vt_screen.specs.declared.size.Size.{Size};
 ghost use Rattle.vt_term.specs.Sound.{IsSoundAt, IsSound};
@@ -7,16 +7,17 @@ ghost use Rattle.vt_term.specs.Play.{play, both, joined};
 ghost use Rattle.vt_glyph.specs.Tables.{IsGlyph};
 ghost use Rattle.vt_utf8.specs.Similar.{shown};
 ghost use Rattle.vt_syntax.specs.declared.held.Held.TheVariants.{Nothing};
-ghost use Rattle.vt_term.specs.Writing.{write_glyph};
+ghost use Rattle.vt_term.specs.Writing.{write_glyph, write_glyphs};
 ghost use Rattle.vt_term.specs.Scrolling.{scrolled_off};
 ghost use Rattle.vt_utf8.specs.Cells.{cells};
-ghost use Rattle.vt_utf8.specs.Translation.{written, unshifted, translation, glyph_off, is_at_end, write_wide, IsPlain};
+ghost use Rattle.vt_utf8.specs.Translation.{written, unshifted, translation, glyph_off, is_at_end, write_wide, reads_ascii, IsPlain};
+ghost use Rattle.vt_utf8.specs.Text.{glyphs_of, IsInText, IsReady};
 ghost use Rattle.vt_utf8.specs.Decoding.{read, pending_after};
 ghost use Rattle.vt_utf8.specs.Play.{translated_all, translated, play_utf8, play_utf8_all};
 
-use vt_glyph::laws::{glyphs as all_glyphs, spelling};
+use vt_glyph::laws::{ascii_codes, glyphs as all_glyphs, spelling};
 use vt_syntax::laws::{one_split, spelled};
-use vt_term::laws::{sized_cuts as played_cuts, sized_soundness as played_soundness};
+use vt_term::laws::{glyph_runs, sized_cuts as played_cuts, sized_soundness as played_soundness};
 
 /// States at any size that each state that UTF-8 leaves is sound: it is one that the terminal's bytes leave.
 pub fn sized_soundness()
@@ -178,4 +179,29 @@ pub fn writes()
     ensures none { (s : State) (c : ℕ) → s.held ≡ Nothing → 0x80 ≤ c → cells c ≡ 0 → translation s c ≡ [] }
 {
     sized_writes();
+}
+
+/// States at any size that text before the last column is its glyphs, written one after another. It scrolls nothing off and causes no
+/// report.
+pub fn sized_text()
+    ensures plays { (size : Size) (s : State) (cs : List ℕ) → IsSoundAt size s → IsReady s
+        → All (IsInText (reads_ascii s.display.sets)) cs
+        → s.display.cursor.col + length (flat_map glyphs_of cs) ≤ s.display.grid.width
+        → play s (translated_all s cs) ≡ record {
+          state = record s { display = write_glyphs (flat_map glyphs_of cs) s.display };
+          reports = [];
+        } }
+    ensures off { (size : Size) (s : State) (cs : List ℕ) → IsSoundAt size s → IsReady s
+        → All (IsInText (reads_ascii s.display.sets)) cs
+        → s.display.cursor.col + length (flat_map glyphs_of cs) ≤ s.display.grid.width
+        → scrolled_off s (translated_all s cs) ≡ [] }
+{
+    all_glyphs();
+    ascii_codes();
+    spelling();
+    spelled();
+    one_split();
+    played_cuts();
+    played_soundness();
+    glyph_runs();
 }

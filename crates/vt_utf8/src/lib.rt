@@ -10,6 +10,7 @@ mod log;
 mod showing;
 mod similar;
 pub mod sized;
+mod text;
 mod translation;
 
 pub use ascii::ascii_run;
@@ -20,4 +21,5 @@ pub use feeds::{
 };
 pub use log::Log;
 pub use showing::shown_as;
+pub use text::write_text;
 pub use translation::{BYTE_LIMIT, Bytes, TRANSLATION_LIMIT, cells};

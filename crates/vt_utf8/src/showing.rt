@@ -2,7 +2,7 @@
 ghost use Rattle.std.specs.Prelude.{◌≡◌};
 ghost use Rattle.vt_utf8.specs.Showing.{shown_as};
 
-use crate::similar::{code_of, glyph_of_code};
+use crate::similar::code_of;
 use crate::translation::cells;
 use vt_glyph::Glyph;
 
@@ -19,6 +19,6 @@ pub fn shown_as(c: char) -> Option<Glyph>
     } else if cells(c) == 0 {
         None
     } else {
-        Some(glyph_of_code(code_of(c)))
+        Some(Glyph::encoded(code_of(c)))
     }
 }

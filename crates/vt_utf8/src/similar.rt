@@ -3,12 +3,13 @@
 //! A glyph's code is one byte. An ASCII glyph is its own code. A glyph that is spelled by G2 has the code of its
 //! spelling with the high bit set. A glyph that is spelled by G3 has the code less 60 (hexadecimal).
 ghost use Rattle.std.specs.Prelude.{◌≡◌, ◌≤◌, ◌&&◌, nat_le, true};
-ghost use Rattle.vt_glyph.specs.Encoding.{encoded_spelling, encoded_glyph};
+ghost use Rattle.vt_glyph.specs.Encoding.{encoded_spelling, encoded_glyph, IsEncoding};
 ghost use Rattle.vt_glyph.specs.Spell.{spelling_of};
-ghost use Rattle.vt_utf8.specs.Private.Codes.{code_by, is_code, sign_of};
+ghost use Rattle.vt_utf8.specs.Private.Codes.{code_by, sign_of};
 ghost use Rattle.vt_utf8.specs.Similar.{shown, in_rows, in_chart};
 
-use vt_glyph::{Glyph, Set, Spelling};
+use vt_glyph::Spelling;
+use vt_glyph::laws::glyphs;
 
 /// The code of U+2426.
 const SUBSTITUTE: u8 = 0xA4;
@@ -304,8 +305,9 @@ pub(crate) fn braille_code(c: u32) -> u8
 pub(crate) fn code_of(c: char) -> u8
     ensures spelling { encoded_spelling result ≡ spelling_of (shown c) }
     ensures glyph { encoded_glyph result ≡ shown c }
-    ensures is_code { is_code result ≡ true }
+    ensures code { IsEncoding result }
 {
+    glyphs();
     code_by(c as u32)
 }
 
@@ -318,22 +320,5 @@ pub(crate) fn spelling_of_code(code: u8) -> Spelling
         0x00..=0x1F => Spelling::Third(code + 0x60),
         0x20..=0x7F => Spelling::Plain(code),
         _ => Spelling::Second(code - 0x80),
-    }
-}
-
-/// Returns the glyph with this code.
-#[inline]
-pub(crate) fn glyph_of_code(code: u8) -> Glyph
-    requires { is_code code ≡ true }
-    ensures { result ≡ encoded_glyph code }
-{
-    if code < 0x20 {
-        Set::Special.glyph(code + 0x60)
-    } else if code == 0x20 {
-        Glyph::blank()
-    } else if code < 0x80 {
-        Set::Ascii.glyph(code)
-    } else {
-        Set::Supplemental.glyph(code - 0x80)
     }
 }

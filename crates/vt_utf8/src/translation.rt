@@ -1,14 +1,13 @@
 //! Translation: the terminal's own bytes for a character, in the terminal's state.
-ghost use Rattle.std.specs.Prelude.{◌≡◌, ◌+◌, ◌<◌, ◌≤◌, ◌++◌, [], ◌∷◌, true, IfSome, length};
+ghost use Rattle.std.specs.Prelude.{◌≡◌, ◌+◌, ◌<◌, ◌≤◌, ◌++◌, [], ◌∷◌, IfSome, length};
 ghost use Rattle.std.specs.Bool.{OnTrue};
 ghost use Rattle.std.specs.Option.{option_to_list};
 ghost use Rattle.arrayvec.specs.ArrayVec.{array_vec_len};
-ghost use Rattle.vt_glyph.specs.Encoding.{encoded_glyph};
+ghost use Rattle.vt_glyph.specs.Encoding.{encoded_glyph, IsEncoding};
 ghost use Rattle.vt_glyph.specs.Spell.{spelling_of};
 ghost use Rattle.vt_glyph.specs.Designation.{final_of};
 ghost use Rattle.vt_utf8.specs.Similar.{shown};
 ghost use Rattle.vt_utf8.specs.Cells.{cells};
-ghost use Rattle.vt_utf8.specs.Private.Codes.{is_code};
 ghost use Rattle.vt_utf8.specs.Translation.{reads_ascii, while_designated, spelled_in, both_halves, is_at_end};
 ghost use Rattle.vt_utf8.specs.Translation.{written_wide, in_cells, put, translation};
 ghost use Rattle.vt_utf8.specs.Play.{translated_all};
@@ -16,6 +15,7 @@ ghost use Rattle.vt_utf8.specs.Play.{translated_all};
 use crate::similar::{braille_code, code_of, element_code, is_in, spelling_of_code};
 use arrayvec::ArrayVec;
 use unicode_width::UnicodeWidthChar;
+use vt_glyph::laws::glyphs;
 use vt_glyph::{Glyph, Set, Sets, Spelling};
 use vt_syntax::Held;
 use vt_term::SizedTerminal;
@@ -49,8 +49,9 @@ pub fn cells(c: char) -> usize
 /// six ranges all characters have one cell, so one test is enough.
 #[inline(always)]
 pub(crate) fn narrow_code(c: char) -> Option<u8>
-    ensures { IfSome result (λ code. (cells c ≡ 1) × (encoded_glyph code ≡ shown c) × (is_code code ≡ true)) }
+    ensures { IfSome result (λ code. (cells c ≡ 1) × (encoded_glyph code ≡ shown c) × IsEncoding code) }
 {
+    glyphs();
     if is_in(0xA0, 0x17F, c as u32) {
         return Some(code_of(c));
     }

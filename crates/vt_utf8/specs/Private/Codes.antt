@@ -1,5 +1,5 @@
 -- The code of the glyph that is shown for a character, by the tables of the code.
-use Rattle.std.specs.Prelude.{ℕ, ◌+◌, ◌*◌, ◌/◌, ◌%◌, Bool, ◌&&◌, ◌||◌, nat_lt, nat_le, if◌then◌else◌}
+use Rattle.std.specs.Prelude.{ℕ, ◌+◌, ◌*◌, ◌/◌, ◌%◌, ◌&&◌, nat_lt, nat_le, if◌then◌else◌}
 use Rattle.vt_utf8.specs.Similar.{in_rows, in_chart, ascii_of_fullwidth}
 use Rattle.vt_utf8.specs.declared.similar.TheConstants.{SUBSTITUTE, LATIN, LINES, LETTERS, SIGN_BLOCKS, SIGNS}
 
@@ -14,7 +14,3 @@ code_by c =
     if nat_le 0x2500 c && nat_le c 0x257F then in_chart SUBSTITUTE LINES 0x2500 c else (
     if nat_lt c 0x3100 then sign_of c else (
     if nat_le 0xFF01 c && nat_le c 0xFF5E then ascii_of_fullwidth c else SUBSTITUTE))))
-
--- a code of the space, or of a glyph in Special Graphics, ASCII or Supplemental
-abbrev pub is_code : ℕ → Bool
-is_code code = nat_le code 0x1E || ((nat_le 0x20 code && nat_le code 0x7E) || (nat_le 0xA1 code && nat_le code 0xFE))

@@ -1,10 +1,9 @@
 -- The result of feeding UTF-8: the state, the pending part, the reports appended, and the rows that it scrolls off.
-use Rattle.std.specs.Prelude.{◌≡◌, ◌≤◌, ℕ, List, [], ◌++◌, length, take}
+use Rattle.std.specs.Prelude.{◌≡◌, ℕ, List, ◌++◌}
 use Rattle.vt_screen.specs.declared.cell.Cell.{Cell}
 use Rattle.vt_term.specs.State.{State}
 use Rattle.vt_utf8.specs.Decoding.{pending_after}
 use Rattle.vt_term.specs.Scrolling.{scrolled_off}
-use Rattle.vt_utf8.specs.Translation.{translation}
 use Rattle.vt_utf8.specs.Play.{translated, play_utf8}
 
 pub record FeedsUtf8 (s : State) (pending bytes : List ℕ) (t : State) (after before out : List ℕ) : Type 0 where
@@ -14,10 +13,3 @@ pub record FeedsUtf8 (s : State) (pending bytes : List ℕ) (t : State) (after b
 
 abbrev pub utf8_off : State → List ℕ → List ℕ → List (List Cell)
 utf8_off s pending bytes = scrolled_off s (translated s pending bytes)
-
--- with nothing pending, the first n bytes of these are played as the character c is
-pub record IsPlayedAs (s : State) (bytes : List ℕ) (c n : ℕ) : Type 0 where
-  pub some : 1 ≤ n
-  pub within : n ≤ length bytes
-  pub same : translated s [] (take n bytes) ≡ translation s c
-  pub pending : pending_after [] (take n bytes) ≡ []

@@ -10,10 +10,10 @@ returns-clause-silent c =
 pub returns-in-Some-clause-state : goal.returns-in-Some-clause-state
 returns-in-Some-clause-state c =
     let is = c.if-writes_glyphs.ensures in
-    written-itself c.args.terminal.now c.write_glyph.new.self c.args.c c.glyph_of_code.result is.1
+    written-itself c.args.terminal.now c.write_glyph.new.self c.args.c c.encoded.result is.1
     (c.sized_writes.ensures.one c.args.terminal.now.display.grid.size c.args.terminal.now c.args.c c.width.ensures.sound is.0 c.requires.beyond
     c.in-Some.ensures.0)
-    (c.glyph_of_code.ensures ∙ c.in-Some.ensures.1) c.write_glyph.ensures
+    (c.encoded.ensures ∙ c.in-Some.ensures.1) c.write_glyph.ensures
 
 pub returns-then-not-is_at_end-clause-state : goal.returns-then-not-is_at_end-clause-state
 returns-then-not-is_at_end-clause-state c =

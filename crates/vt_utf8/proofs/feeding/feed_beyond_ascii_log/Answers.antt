@@ -18,10 +18,10 @@ returns-in-Some-clause-silent c =
 pub returns-in-Some-clause-state : goal.returns-in-Some-clause-state
 returns-in-Some-clause-state c =
     let is = c.if-writes_glyphs.ensures in
-    written-itself c.args.terminal.now c.write_logged.new.terminal c.args.c c.glyph_of_code.result is.1
+    written-itself c.args.terminal.now c.write_logged.new.terminal c.args.c c.encoded.result is.1
     (c.sized_writes.ensures.one c.args.terminal.now.display.grid.size c.args.terminal.now c.args.c c.width.ensures.sound is.0 c.requires.beyond
     c.in-Some.ensures.0)
-    (c.glyph_of_code.ensures ∙ c.in-Some.ensures.1) c.write_logged.ensures.terminal
+    (c.encoded.ensures ∙ c.in-Some.ensures.1) c.write_logged.ensures.terminal
 
 pub returns-in-Some-clause-lines : goal.returns-in-Some-clause-lines
 unfolding log

@@ -1,54 +1,91 @@
-use Rattle.std.proofs.Common.{◌≡◌, ◌∙◌, ℕ, List, [], arith, ap, refl, length, length-drop, vec_len}
+use Rattle.std.proofs.Common.{◌≡◌, ℕ, [], take, arith, ap, sym, subst}
+use Rattle.vt_screen.specs.declared.size.Size.{Size}
+use Rattle.vt_term.specs.State.{State}
 use Rattle.vt_utf8.specs.Limits.{lines_limit}
-use Rattle.vt_utf8.proofs.Fed.{rest-of, feeds-nothing, feeds-more}
-use Rattle.vt_utf8.proofs.Sizes.{fed-size, limit-stays, character-fits}
-use Rattle.vt_utf8.proofs.Logged.{keeps-none, keeps-more}
+use Rattle.vt_utf8.specs.Private.Feeds.{FeedsUtf8, utf8_off}
+use Rattle.vt_utf8.proofs.Sizes.{limit-stays, character-fits}
+use Rattle.vt_utf8.proofs.Fed.{feeds-nothing}
+use Rattle.vt_utf8.proofs.Logged.{keeps-nothing, keeps-none}
 use Rattle.vt_utf8.proofs.PlayedAs.{feeds-as, keeps-as}
+use Rattle.vt_utf8.proofs.Texts.{feeds-text, text-off, text-stays}
 use Rattle.vt_utf8.proofs.feeding.feed_whole.Goals as goal
 
-pub loop-c-init : goal.loop-c-init
-loop-c-init g c = record {
-  within = omega arith;
-  fed = feeds-nothing (c.sized_cuts.ensures.none c.args.terminal.now.display.grid.size) (c.sized_cuts.ensures.two c.args.terminal.now.display.grid.size) c.sized_cuts.ensures.pending c.args.terminal.now [] c.args.out.now.items
-      c.width.ensures.sound;
-  keeps = keeps-none g.L.Log.Keeps g.L.Log.HasRoom g.L.Log.IsFull g.met.L.Log.kept c.one_split.ensures c.args.terminal.now []
-      c.args.log.now c.width.ensures.sound;
-  items = refl;
-  room = omega arith;
-  capacity = omega arith;
-}
+pub returns-then-text-gt0-clause-fed : goal.returns-then-text-gt0-clause-fed
+returns-then-text-gt0-clause-fed g c =
+    let s = c.args.terminal.now in
+    let text = c.write_text-text in
+    feeds-text (c.sized_text.ensures.plays s.display.grid.size) s text.new.terminal c.args.piece.now c.args.out.now.items
+    text.result c.width.ensures.sound c.if-text-gt0.true text.ensures.within text.ensures.text
 
-pub loop-c-preserved : goal.loop-c-preserved
-loop-c-preserved g c =
-    let piece = c.args.piece.now in
-    let at = c.loop-c.at in
-    let before = c.loop-c.invariant in
-    let fed = c.character.ensures in
-    let whole = rw (rest-of piece at) at c.in-Some.ensures.1 in
-    let inside = simp length-drop at whole.within in
-    let same : length c.character.new.out.items ≡ length c.loop-c.out.items = ap (λ (xs : List ℕ). length xs) fed.out in
-    let same_len : vec_len c.character.new.out ≡ vec_len c.loop-c.out =
-    omega (arith, same, c.character.new.out.ok, c.loop-c.out.ok) in
-    record {
-      within = omega (arith, inside, before.within);
-      fed = feeds-more (c.sized_cuts.ensures.none c.args.terminal.now.display.grid.size) (c.sized_cuts.ensures.two c.args.terminal.now.display.grid.size) c.sized_cuts.ensures.pending c.args.terminal.now c.loop-c.terminal
-          c.character.new.terminal [] [] [] piece c.args.out.now.items c.loop-c.out.items
-          c.character.new.out.items at c.in-Some.size c.width.ensures.sound before.fed
-          (feeds-as _ _ _ c.in-Some.c c.in-Some.size _ _ whole fed.state fed.silent fed.out);
-      keeps = keeps-more g.L.Log.Keeps g.L.Log.HasRoom g.L.Log.IsFull g.met.L.Log.kept c.one_split.ensures
-          (c.sized_cuts.ensures.translated c.args.terminal.now.display.grid.size) c.args.terminal.now c.loop-c.terminal [] [] piece at c.in-Some.size c.args.log.now
-          c.loop-c.log c.character.new.self c.width.ensures.sound before.fed.state before.fed.left before.keeps
-          (keeps-as g.L.Log.Keeps c.loop-c.terminal _ c.in-Some.c c.in-Some.size c.loop-c.log c.character.new.self
-          whole fed.keeps);
-      items = fed.out ∙ before.items;
-      room = omega (arith, same_len, before.room, fed.capacity);
-      capacity = omega (arith, before.capacity, fed.capacity);
-    }
+pub returns-then-text-gt0-clause-keeps : goal.returns-then-text-gt0-clause-keeps
+returns-then-text-gt0-clause-keeps g c =
+    let s = c.args.terminal.now in
+    let text = c.write_text-text in
+    keeps-nothing g.L.Log.Keeps g.L.Log.HasRoom g.L.Log.IsFull g.met.L.Log.kept c.args.log.now
+    (utf8_off s [] (take text.result c.args.piece.now))
+    (text-off (c.sized_text.ensures.off s.display.grid.size) s text.new.terminal c.args.piece.now text.result
+    c.width.ensures.sound c.if-text-gt0.true text.ensures.within text.ensures.text)
 
 pub character-requires-clause-lines_room : goal.character-requires-clause-lines_room
 character-requires-clause-lines_room g c =
-    let size = c.loop-c.terminal.display.grid.size in
-    let is = limit-stays c.args.terminal.now.display.grid.size size c.args.limit
-    (fed-size _ _ _ _ _ _ _ c.loop-c.invariant.fed) c.requires.limit in
-    g.met.L.Log.kept.less c.loop-c.log (lines_limit size) c.args.limit (character-fits size c.args.limit is)
-    c.if-is_full.ensures.room
+    let s = c.args.terminal.now in
+    let text = c.write_text-text in
+    let t = text.new.terminal in
+    let stays : t ≡ s = text-stays s t c.args.piece.now text.result (omega (arith, c.if-text-gt0.false)) text.ensures.text in
+    let size : t.display.grid.size ≡ s.display.grid.size = ap (λ (u : State). u.display.grid.size) stays in
+    let is = limit-stays s.display.grid.size t.display.grid.size c.args.limit size c.requires.limit in
+    g.met.L.Log.kept.less c.args.log.now (lines_limit t.display.grid.size) c.args.limit
+    (character-fits t.display.grid.size c.args.limit is) c.if-is_full.ensures.room
+
+pub returns-in-Some-clause-fed : goal.returns-in-Some-clause-fed
+returns-in-Some-clause-fed g c =
+    let s = c.args.terminal.now in
+    let text = c.write_text-text in
+    let t = text.new.terminal in
+    let stays : t ≡ s = text-stays s t c.args.piece.now text.result (omega (arith, c.if-text-gt0.false)) text.ensures.text in
+    subst (λ (u : State). FeedsUtf8 u [] (take c.in-Some.size c.args.piece.now) c.character.new.terminal []
+    c.args.out.now.items c.character.new.out.items) stays
+    (feeds-as t c.character.new.terminal c.args.piece.now c.in-Some.c c.in-Some.size c.args.out.now.items
+    c.character.new.out.items c.in-Some.ensures.1 c.character.ensures.state c.character.ensures.silent
+    c.character.ensures.out)
+
+pub returns-in-Some-clause-keeps : goal.returns-in-Some-clause-keeps
+returns-in-Some-clause-keeps g c =
+    let s = c.args.terminal.now in
+    let text = c.write_text-text in
+    let t = text.new.terminal in
+    let stays : t ≡ s = text-stays s t c.args.piece.now text.result (omega (arith, c.if-text-gt0.false)) text.ensures.text in
+    subst (λ (u : State). g.L.Log.Keeps c.args.log.now (utf8_off u [] (take c.in-Some.size c.args.piece.now))
+    c.character.new.self) stays
+    (keeps-as g.L.Log.Keeps t c.args.piece.now c.in-Some.c c.in-Some.size c.args.log.now c.character.new.self
+    c.in-Some.ensures.1 c.character.ensures.keeps)
+
+pub returns-then-is_full-clause-fed : goal.returns-then-is_full-clause-fed
+returns-then-is_full-clause-fed g c =
+    let s = c.args.terminal.now in
+    let text = c.write_text-text in
+    let t = text.new.terminal in
+    let stays : t ≡ s = text-stays s t c.args.piece.now text.result (omega (arith, c.if-text-gt0.false)) text.ensures.text in
+    subst (λ (u : State). FeedsUtf8 s [] [] u [] c.args.out.now.items c.args.out.now.items) (sym stays)
+    (feeds-nothing (c.sized_cuts.ensures.none s.display.grid.size) (c.sized_cuts.ensures.two s.display.grid.size)
+    c.sized_cuts.ensures.pending s [] c.args.out.now.items c.width.ensures.sound)
+
+pub returns-then-is_full-clause-keeps : goal.returns-then-is_full-clause-keeps
+returns-then-is_full-clause-keeps g c =
+    keeps-none g.L.Log.Keeps g.L.Log.HasRoom g.L.Log.IsFull g.met.L.Log.kept c.one_split.ensures c.args.terminal.now []
+    c.args.log.now c.width.ensures.sound
+
+pub returns-clause-fed : goal.returns-clause-fed
+returns-clause-fed g c =
+    let s = c.args.terminal.now in
+    let text = c.write_text-text in
+    let t = text.new.terminal in
+    let stays : t ≡ s = text-stays s t c.args.piece.now text.result (omega (arith, c.if-text-gt0.false)) text.ensures.text in
+    subst (λ (u : State). FeedsUtf8 s [] [] u [] c.args.out.now.items c.args.out.now.items) (sym stays)
+    (feeds-nothing (c.sized_cuts.ensures.none s.display.grid.size) (c.sized_cuts.ensures.two s.display.grid.size)
+    c.sized_cuts.ensures.pending s [] c.args.out.now.items c.width.ensures.sound)
+
+pub returns-clause-keeps : goal.returns-clause-keeps
+returns-clause-keeps g c =
+    keeps-none g.L.Log.Keeps g.L.Log.HasRoom g.L.Log.IsFull g.met.L.Log.kept c.one_split.ensures c.args.terminal.now []
+    c.args.log.now c.width.ensures.sound

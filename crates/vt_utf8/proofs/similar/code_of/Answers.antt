@@ -1,7 +1,7 @@
-use Rattle.std.proofs.Common.{◌∙◌, ap}
-use Rattle.vt_glyph.specs.Encoding.{encoded_spelling, encoded_glyph}
-use Rattle.vt_utf8.specs.Private.Codes.{is_code}
-use Rattle.vt_utf8.proofs.Tables.{code_by-shown, code_by-glyph, code_by-code}
+use Rattle.std.proofs.Common.{◌∙◌, ap, sym, subst}
+use Rattle.vt_glyph.specs.Encoding.{encoded_spelling, encoded_glyph, IsEncoding}
+use Rattle.vt_utf8.proofs.Tables.{code_by-shown, code_by-glyph}
+use Rattle.vt_utf8.proofs.Encodes.{code_by-encodes}
 use Rattle.vt_utf8.proofs.similar.code_of.Goals as goal
 
 pub returns-clause-spelling : goal.returns-clause-spelling
@@ -10,5 +10,5 @@ returns-clause-spelling c = ap encoded_spelling c.code_by.ensures ∙ code_by-sh
 pub returns-clause-glyph : goal.returns-clause-glyph
 returns-clause-glyph c = ap encoded_glyph c.code_by.ensures ∙ code_by-glyph c.args.c
 
-pub returns-clause-is_code : goal.returns-clause-is_code
-returns-clause-is_code c = ap is_code c.code_by.ensures ∙ code_by-code c.args.c
+pub returns-clause-code : goal.returns-clause-code
+returns-clause-code c = subst IsEncoding (sym c.code_by.ensures) (code_by-encodes c.glyphs.ensures c.args.c)

@@ -19,3 +19,4 @@ mod Limits
 mod Logged
 mod Unseen
 pub mod OfOneSize
+mod TextPlayed

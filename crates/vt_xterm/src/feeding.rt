@@ -10,7 +10,7 @@ ghost use Rattle.vt_utf8.specs.Limits.{lines_limit as utf8_lines_limit};
 ghost use Rattle.vt_xterm.specs.Limits.{lines_limit, xterm_lines_limit};
 ghost use Rattle.vt_xterm.specs.Pages.{screens, bounds_of};
 ghost use Rattle.vt_xterm.specs.Log.{xterm_line_off};
-ghost use Rattle.vt_xterm.specs.Play.{behind, play_bytes, play_characters, play_xterm, xterm_log, whole_of};
+ghost use Rattle.vt_xterm.specs.Play.{behind, nothing_played, play_bytes, play_characters, play_xterm, xterm_log, whole_of};
 ghost use Rattle.vt_xterm.specs.Private.Feeds.{Leaves, FeedsBytes, FeedsXterm, KeepSizes};
 
 use crate::bounded::character_between;
@@ -20,11 +20,13 @@ use crate::laws::cuts;
 use crate::log::{LineLog, PageLog, feed_terminals};
 use crate::playing::carry_out_whole;
 use std::alloc::AllocError;
-use vt_syntax::laws::one_split;
+use vt_syntax::laws::{one_split, spelled};
 use vt_syntax::{EventKind, Taken, Values};
+use vt_term::laws::{glyph_runs, sized_soundness as played_soundness};
 use vt_term::{Lines, Nobody, REPORT_LIMIT, SizedTerminal};
+use vt_utf8::laws::sized_text;
 use vt_utf8::sized::feed_beyond_ascii;
-use vt_utf8::{TRANSLATION_LIMIT, ascii_run, whole_character};
+use vt_utf8::{TRANSLATION_LIMIT, ascii_run, whole_character, write_text};
 
 /// Plays a chunk of a host's bytes, in UTF-8 and with the functions of xterm, and appends the reports to `out`. `front` keeps
 /// what is pending between chunks, and the page that isn't shown.
@@ -220,7 +222,7 @@ fn feed_next<L: PageLog>(
     1
 }
 
-/// Plays the front of a chunk that isn't empty, with nothing pending: ASCII bytes, a whole character or a byte. Returns how many
+/// Plays the front of a chunk that isn't empty, with nothing pending: ASCII bytes, text, a whole character or a byte. Returns how many
 /// bytes it played: none if the log is full.
 #[inline(always)]
 fn feed_first<L: PageLog>(
@@ -252,6 +254,39 @@ fn feed_first<L: PageLog>(
             return feed_ascii(terminal, front, &piece[..run], limit, log, out);
         }
     }
+    let text = feed_text(terminal, &front.pages, piece);
+    if text > 0 {
+        return text;
+    }
+    feed_one(terminal, front, piece, limit, log, out)
+}
+
+/// Plays a whole character at the front of a chunk that isn't empty, or a byte if none is there, with nothing pending. Returns how many
+/// bytes it played: none if the log is full.
+#[inline(always)]
+fn feed_one<L: PageLog>(
+    terminal: &mut SizedTerminal,
+    front: &mut SizedFront,
+    piece: &[u8],
+    limit: usize,
+    log: &mut L,
+    out: &mut Vec<u8>,
+) -> usize
+    requires nothing { front.old.pending ≡ [] }
+    requires some { 1 ≤ length piece.now }
+    requires room { vec_len out.old + 10 * length piece.now ≤ vec_capacity out.old }
+    requires one_size { front.old.pages.other.grid.size ≡ terminal.old.display.grid.size }
+    requires limit { limit ≡ xterm_lines_limit terminal.old.display.grid.size }
+    ensures none { result ≡ 0 → L.IsFull log.new (xterm_lines_limit terminal.old.display.grid.size) }
+    ensures within { result ≤ length piece.now }
+    ensures sizes { KeepSizes terminal.old front.old.pages terminal.new front.new.pages }
+    ensures fed { FeedsXterm terminal.old front.old (take result piece.now) terminal.new front.new
+        out.old.items out.new.items }
+    ensures keeps { L.Keeps log.old (play_xterm (behind terminal.old front.old) front.old.pending
+        (take result piece.now)).lines log.new }
+    ensures bounded { vec_len out.new ≤ vec_len out.old + 10 * result }
+    ensures capacity { vec_capacity out.old ≤ vec_capacity out.new }
+{
     if log.is_full(limit) {
         return 0;
     }
@@ -265,6 +300,28 @@ fn feed_first<L: PageLog>(
             1
         }
     }
+}
+
+/// Writes the text at the front of a chunk, with nothing pending, while DECLRMM is reset. Returns how many bytes it takes: 0 if there is
+/// none, or no room before the last column.
+#[inline(always)]
+fn feed_text(terminal: &mut SizedTerminal, pages: &SizedPages, piece: &[u8]) -> usize
+    ensures within { result ≤ length piece.now }
+    ensures size { terminal.new.display.grid.size ≡ terminal.old.display.grid.size }
+    ensures played { play_xterm (whole_of terminal.old pages.now) [] (take result piece.now)
+        ≡ nothing_played (whole_of terminal.new pages.now) }
+    ensures pending { pending_after [] (take result piece.now) ≡ [] }
+    ensures none { result ≡ 0 → terminal.new ≡ terminal.old }
+{
+    let _ = terminal.width();
+    spelled();
+    glyph_runs();
+    played_soundness();
+    sized_text();
+    if pages.has_sides() {
+        return 0;
+    }
+    write_text(terminal, piece)
 }
 
 /// Plays ASCII bytes with nothing pending. Returns how many it played: fewer if the log is full.

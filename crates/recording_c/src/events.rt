@@ -1,7 +1,6 @@
 //! The events of a recording in the form that C sees.
 ghost use Rattle.std.specs.Prelude.{◌≡◌, ◌≤◌, ◌<◌, ◌⊎◌, length, option_map};
-ghost use Rattle.recording_c.specs.Events.{number_of_kind, c_event, events_over, bytes_over, number_of_part, c_extent, timing_if, IsTold};
-ghost use Rattle.recording_c.specs.Headings.{format_in};
+ghost use Rattle.recording_c.specs.Events.{number_of_kind, c_event, events_over, bytes_over, c_extent, timing_if, IsTold};
 ghost use Rattle.recording_c.specs.Status.{read_ok, read_memory, read_room};
 
 use crate::heading::format_by;

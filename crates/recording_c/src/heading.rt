@@ -1,6 +1,5 @@
 //! The format of a recording, and what its first line names, in the form that C sees.
 ghost use Rattle.std.specs.Prelude.{◌≡◌, ◌⊎◌};
-ghost use Rattle.vt_recording.specs.Detection.{detected};
 ghost use Rattle.vt_recording.specs.Heading.{heading_of};
 ghost use Rattle.recording_c.specs.Headings.{format_by, number_of_format, c_heading, heading_in};
 ghost use Rattle.recording_c.specs.Status.{read_ok, read_memory};

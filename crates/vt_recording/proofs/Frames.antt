@@ -76,9 +76,8 @@ module _ {A : Type 0} (encoding : Encoding) (until : Option Moment) (frames : Li
 
 -- ---- the events of frames
 
-module _ {A : Type 0} (frames : List (Value A)) (clock i : ℕ) (whole : Timeline) (marks : List declared.Event) (bytes : List ℕ)
-    (g : IsGathered whole (frame_events clock (items_view (drop i frames))) marks bytes) where
-  told : (frame : Value A) (time : Option ℕ) → drop i frames ≡ frame ∷ drop (i + 1) frames
+module _ {A : Type 0} (frames : List (Value A)) (clock i : ℕ) where
+  pub told : (frame : Value A) (time : Option ℕ) → drop i frames ≡ frame ∷ drop (i + 1) frames
       → time ≡ time_behind false (frame_of (value_view frame)) 1 clock
       → frame_events clock (items_view (drop i frames))
       ≡ timeline.and_then time (told_in false (frame_of (value_view frame)) 1 clock) 0
@@ -86,6 +85,8 @@ module _ {A : Type 0} (frames : List (Value A)) (clock i : ℕ) (whole : Timelin
   unfolding frame_events
   told frame time e t = rw (t, e) refl
 
+module _ {A : Type 0} (frames : List (Value A)) (clock i : ℕ) (whole : Timeline) (marks : List declared.Event) (bytes : List ℕ)
+    (g : IsGathered whole (frame_events clock (items_view (drop i frames))) marks bytes) where
   pub frame_gathered : (frame : Value A) (now : ℕ) (more_marks : List declared.Event) (more : List ℕ)
       → drop i frames ≡ frame ∷ drop (i + 1) frames
       → Some now ≡ time_behind false (frame_of (value_view frame)) 1 clock
@@ -96,7 +97,7 @@ module _ {A : Type 0} (frames : List (Value A)) (clock i : ℕ) (whole : Timelin
       let rest = frame_events now (items_view (drop (i + 1) frames)) in
       let events = told_in false (frame_of (value_view frame)) 1 clock in
       gathered_more whole rest events marks more_marks bytes more
-      (subst (λ (r : Timeline). IsGathered whole r marks bytes) (told frame (Some now) e t) g) w
+      (subst (λ (r : Timeline). IsGathered whole r marks bytes) (told frames clock i frame (Some now) e t) g) w
 
   pub gathering_breaks : (frame : Value A) (more_marks : List declared.Event) (more : List ℕ) → drop i frames ≡ frame ∷ drop (i + 1) frames
       → None ≡ time_behind false (frame_of (value_view frame)) 1 clock
@@ -106,7 +107,7 @@ module _ {A : Type 0} (frames : List (Value A)) (clock i : ℕ) (whole : Timelin
   gathering_breaks frame more_marks more e t w =
       let none = nothing_told false (frame_of (value_view frame)) 1 clock t in
       let here : IsGathered whole (timeline.ends_at (in_recording (Some 0))) marks bytes =
-      subst (λ (r : Timeline). IsGathered whole r marks bytes) (told frame None e t) g in
+      subst (λ (r : Timeline). IsGathered whole r marks bytes) (told frames clock i frame None e t) g in
       let same : (front : List Event) → AreGathered front marks bytes → AreGathered front more_marks more =
       λ (front : List Event) (are : AreGathered front marks bytes). rw (none, append-nil) at (w front are) in
       gathered_all whole (in_recording (Some 0)) more_marks more

@@ -100,10 +100,10 @@ unfolding cast_events lines_of
 cast_first version clock at xs = lines_first Timeline (cast_events version clock at) (λ line. refl) xs
 
 -- what comes after a line of n bytes that begins at this byte
-abbrev cast_behind : (version at n : ℕ) → List ℕ → ℕ → Timeline
+abbrev pub cast_behind : (version at n : ℕ) → List ℕ → ℕ → Timeline
 cast_behind version at n xs now = cast_events version now (at + (n + 1)) (lines_of (drop (n + 1) xs))
 
-cast_step : (version clock at : ℕ) (xs line : List ℕ) (time : Option ℕ) → line ≡ front_line xs
+pub cast_step : (version clock at : ℕ) (xs line : List ℕ) (time : Option ℕ) → line ≡ front_line xs
     → time ≡ time_behind (is_silent version line) (event_in line) version clock
     → cast_events version clock at (lines_of xs)
     ≡ and_then time (told_in (is_silent version line) (event_in line) version clock) at

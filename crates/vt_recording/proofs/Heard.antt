@@ -127,7 +127,7 @@ module _ (until : Option ℕ) where
   kind_heard false false false false true micros text = refl
   kind_heard false false false false false micros text = refl
 
-  told_heard : (silent : Bool) (event : Option cast.Event) (version clock : ℕ)
+  pub told_heard : (silent : Bool) (event : Option cast.Event) (version clock : ℕ)
       → characters_by until (told_in silent event version clock) ≡ cast.heard_in silent event version until clock
   told_heard true event version clock = refl
   told_heard false None version clock = refl

@@ -12,6 +12,7 @@ mod Fronts
 mod OutputEnds
 mod Frames
 mod Heard
+mod Sizing
 mod Replays
 mod Values
 mod Versions

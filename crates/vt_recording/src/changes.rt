@@ -1,17 +1,21 @@
 //! The changes of the window's size in a recording.
-ghost use Rattle.std.specs.Prelude.{◌≡◌, ◌≤◌, ◌<◌, ◌+◌, ◌^◌, ◌++◌, length, codes, nat_eq, option_map, IfOk, IfSome, OnOk};
+ghost use Rattle.std.specs.Prelude.{◌≡◌, ◌≤◌, ◌<◌, ◌+◌, ◌^◌, ◌++◌, ℕ, List, Option, None, length, codes, nat_eq, true, option_map, IfOk, IfSome, IsTrue, OnOk};
 ghost use Rattle.std.specs.List.{position};
 ghost use Rattle.vt_recording.specs.Changes.{window_of, window_by, window_after, place, window_in, is_over, is_size, passed_with, change_to, change_of, changes_in};
 ghost use Rattle.vt_recording.specs.Gathered.{events_of};
 ghost use Rattle.vt_recording.specs.Moment.{micros_of};
-ghost use Rattle.vt_recording.specs.Reached.{has_characters, nothing_passed};
+ghost use Rattle.vt_recording.specs.Reached.{has_characters, nothing_passed, IsAmong, IsTakenBetween};
+ghost use Rattle.vt_recording.specs.declared.format.Format.TheVariants.{Asciicast};
+ghost use Rattle.vt_recording.specs.Private.Sizes.{is_whole};
 
 use crate::asciicast::in_time;
-use crate::format::{Encoding, Format, Moment};
+use crate::casting::asciicast_played;
+use crate::format::{Encoding, Format, Moment, Taken};
 use crate::lines::stripped;
 use crate::moment::micros_of;
-use crate::reached::{NOTHING_PASSED, Passed, event_at, has_characters};
+use crate::reached::{NOTHING_PASSED, Passed, event_at, has_characters, take_between};
 use crate::seconds::number;
+use crate::taking::timeline_of;
 use crate::timeline::{Event, EventKind, Timeline};
 use std::alloc::{AllocError, Global};
 
@@ -74,7 +78,7 @@ fn window_after(text: &[u8]) -> Option<Window>
 }
 
 /// Returns the size that a text writes, as asciinema or as script(1) does.
-fn window_in(text: &[u8]) -> Option<Window>
+pub(crate) fn window_in(text: &[u8]) -> Option<Window>
     ensures { result ≡ window_in text.now }
 {
     match stripped(b"ROWS=", text) {
@@ -129,7 +133,7 @@ fn passed_with(
 }
 
 /// Appends a change after so much of the content, if there is a size.
-fn push_change_to(
+pub(crate) fn push_change_to(
     content: u64,
     window: Option<Window>,
     changes: &mut Vec<Change>,
@@ -221,4 +225,92 @@ pub fn changes_of(
         &mut changes,
     )?;
     Ok(changes)
+}
+
+/// The content of a recording up to a moment, and the changes of the window's size in it.
+#[derive(Debug, PartialEq, Eq, Drop)]
+pub struct TakenWithChanges {
+    /// The content.
+    pub taken: Taken,
+    /// The changes, each with its place in the content.
+    pub changes: Vec<Change>,
+}
+
+/// Returns whether the content up to a moment has all bytes of the output up to a time, in UTF-8.
+fn has_all(encoding: Encoding, until: Option<Moment>) -> bool
+    ensures { result ≡ is_whole encoding until }
+{
+    match encoding {
+        Encoding::Utf8 => match until {
+            None => true,
+            Some(Moment::Micros(_)) => true,
+            Some(Moment::Bytes(_) | Moment::Event(_) | Moment::Marker(_)) => false,
+        },
+        Encoding::Dec => false,
+    }
+}
+
+/// Returns whether the format is asciinema's.
+fn is_cast(format: Format) -> bool
+    ensures { IsTrue result → format ≡ Asciicast }
+{
+    matches!(format, Format::Asciicast)
+}
+
+/// Returns the content of a recording by asciinema and the changes in it. The recording is read once.
+fn cast_with_changes(
+    alloc: Global,
+    bytes: &[u8],
+    encoding: Encoding,
+    until: Option<Moment>,
+) -> Result<TakenWithChanges, AllocError>
+    requires { is_whole encoding until ≡ true }
+    ensures taken { IfOk result (λ t. (timing : Option (List ℕ)) → IsTakenBetween Asciicast encoding None until timing bytes.now t.taken.content.items t.taken.broken t.taken.replaced) }
+    ensures changes { IfOk result (λ t. (timing : Option (List ℕ)) → IsAmong Asciicast timing bytes.now (λ events. t.changes.items
+        ≡ changes_in (has_characters Asciicast encoding) until nothing_passed events)) }
+{
+    let played = asciicast_played(alloc, bytes, encoding, until)?;
+    Ok(TakenWithChanges {
+        taken: played.taken,
+        changes: played.changes,
+    })
+}
+
+/// Returns the changes in a recording up to a moment.
+fn changes_taken(
+    alloc: Global,
+    bytes: &[u8],
+    timing: Option<&[u8]>,
+    format: Format,
+    encoding: Encoding,
+    until: Option<Moment>,
+) -> Result<Vec<Change>, AllocError>
+    ensures { IfOk result (λ changes. IsAmong format (option_map (λ b. b.now) timing.entry) bytes.now (λ events. changes.items
+        ≡ changes_in (has_characters format encoding) until nothing_passed events)) }
+{
+    let timeline = timeline_of(alloc, bytes, timing, format)?;
+    changes_of(alloc, &timeline, format, encoding, until)
+}
+
+/// Returns the content of a recording up to a moment, as `take_between` does, and the changes of the window's size among its events,
+/// as `changes_of` does. A recording by asciinema is read once, if the content is UTF-8 and is up to no number. Returns `Err` if
+/// allocation fails.
+pub fn take_with_changes(
+    alloc: Global,
+    bytes: &[u8],
+    timing: Option<&[u8]>,
+    format: Format,
+    encoding: Encoding,
+    until: Option<Moment>,
+) -> Result<TakenWithChanges, AllocError>
+    ensures taken { IfOk result (λ t. IsTakenBetween format encoding None until (option_map (λ b. b.now) timing.entry) bytes.now t.taken.content.items t.taken.broken t.taken.replaced) }
+    ensures changes { IfOk result (λ t. IsAmong format (option_map (λ b. b.now) timing.entry) bytes.now (λ events. t.changes.items
+        ≡ changes_in (has_characters format encoding) until nothing_passed events)) }
+{
+    if is_cast(format) && has_all(encoding, until) {
+        return cast_with_changes(alloc, bytes, encoding, until);
+    }
+    let changes = changes_taken(alloc, bytes, timing, format, encoding, until)?;
+    let taken = take_between(alloc, bytes, timing, format, encoding, None, until)?;
+    Ok(TakenWithChanges { taken, changes })
 }

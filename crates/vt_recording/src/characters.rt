@@ -1,8 +1,9 @@
 //! The bytes of characters.
-ghost use Rattle.std.specs.Prelude.{◌≡◌, ◌≤◌, ◌++◌, ◌∷◌, [], ℕ, List, length, IfOk, OnOk, chars};
+ghost use Rattle.std.specs.Prelude.{◌≡◌, ◌≤◌, ◌++◌, ◌∷◌, [], ℕ, List, length, true, IfOk, OnOk, chars};
 ghost use Rattle.vt_recording.specs.Moment as moment;
 ghost use Rattle.vt_recording.specs.declared.format.Encoding.TheVariants.{Dec, Utf8};
 ghost use Rattle.vt_recording.specs.Characters.{byte_of, AreWritten};
+ghost use Rattle.vt_recording.specs.Private.Sizes.{is_whole};
 
 use crate::format::{Encoding, Moment};
 use crate::moment::wanted_after;
@@ -98,6 +99,8 @@ impl Written {
         ensures written { OnOk result ((front : List ℕ)
             → AreWritten Utf8 until front self.old.bytes.items self.old.replaced
             → AreWritten Utf8 until (front ++ chars text.now) self.new.bytes.items self.new.replaced) }
+        ensures added { OnOk result (self.new.bytes.items
+            ≡ self.old.bytes.items ++ moment.wanted_after until (length self.old.bytes.items) text.now) }
     {
         let wanted = wanted_after(until, self.bytes.len(), text.as_bytes());
         self.bytes.extend_from_slice(wanted)?;
@@ -116,6 +119,7 @@ impl Written {
         ensures written { OnOk result ((front : List ℕ)
             → AreWritten encoding until front self.old.bytes.items self.old.replaced
             → AreWritten encoding until (front ++ chars text.now) self.new.bytes.items self.new.replaced) }
+        ensures added { OnOk result (is_whole encoding until ≡ true → self.new.bytes.items ≡ self.old.bytes.items ++ text.now) }
     {
         match encoding {
             Encoding::Dec => self.push_converted(text, until),

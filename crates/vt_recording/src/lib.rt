@@ -15,6 +15,7 @@ pub mod laws;
 mod lines;
 mod moment;
 mod places;
+mod played;
 mod reached;
 mod reading;
 mod script;
@@ -26,7 +27,7 @@ mod ttyrec;
 mod usual;
 
 pub use asciicast::json_text;
-pub use changes::{Change, Window, changes_of};
+pub use changes::{Change, TakenWithChanges, Window, changes_of, take_with_changes};
 pub use content::Content;
 pub use detection::{Compression, DETECTION_LENGTH, Detected, detect};
 pub use format::{Encoding, Format, Moment, Taken, TerminalType};

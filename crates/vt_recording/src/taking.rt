@@ -7,7 +7,7 @@ ghost use Rattle.vt_recording.specs.Moment.{cut};
 ghost use Rattle.vt_recording.specs.Timeline.{IsTimelineOf, IsOfScriptBy, AreFrames};
 ghost use Rattle.vt_recording.specs.Gathered.{IsRead, timeline_view};
 
-use crate::casting::{asciicast_content, asciicast_timeline};
+use crate::casting::{asciicast_played, asciicast_timeline};
 use crate::format::{Encoding, Format, Moment, Taken};
 use crate::moment::{cut, micros_of};
 use crate::script::session_in;
@@ -51,7 +51,7 @@ pub fn take_apart(
             let whole = ttyrec_content(alloc, bytes, micros_of(until))?;
             Ok(taken_of(whole, until))
         }
-        Format::Asciicast => asciicast_content(alloc, bytes, encoding, until),
+        Format::Asciicast => Ok(asciicast_played(alloc, bytes, encoding, until)?.taken),
     }
 }
 

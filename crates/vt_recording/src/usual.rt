@@ -99,6 +99,11 @@ fn last_string<'a>(rest: &'a [u8], buffer: &'a mut Vec<u8>) -> Result<Option<&'a
     }
 }
 
+/// Returns whether a text ends with an escape of one letter, as that of LF. The whole text need not be looked at then.
+fn ends_with_escape(text: &[u8]) -> bool {
+    text.len() >= 2 && text[text.len() - 2] == b'\\'
+}
+
 /// Returns the text of a string without escapes, if the array ends after it. The opening quote comes before these bytes.
 fn plain_string(rest: &[u8]) -> Option<&str>
     ensures { IfSome result (λ text. IsLastString rest.now text.now) }
@@ -107,6 +112,9 @@ fn plain_string(rest: &[u8]) -> Option<&str>
         return None;
     }
     let text = &rest[..rest.len() - 2];
+    if ends_with_escape(text) {
+        return None;
+    }
     if !is_plain(text) {
         return None;
     }

@@ -28,8 +28,8 @@ use std::io::{Read, Write};
 use vt_cli::{Encoding, Format, Moment, Request, TerminalType, What, Word, size_of};
 use vt_device::{Source, Watched, write_by};
 use vt_recording::{
-    Break, Change, Content, Detected, Fault, Taken, changes_of, detect, heading_of, read_recording,
-    take_between, timeline_of,
+    Break, Change, Content, Detected, Fault, Taken, detect, heading_of, read_recording,
+    take_between, take_with_changes,
 };
 
 /// Carries out a request's word on the reader's bytes, as a host sent them. Neither device has failed before, and the reader hasn't
@@ -360,27 +360,6 @@ fn first_changes(changes: &[Change]) -> &[Change]
     &changes[..MOST_CHANGES.min(changes.len())]
 }
 
-/// Returns the changes of the screen's size that a request carries out of a recording.
-fn resizes_for(
-    alloc: Global,
-    bytes: &[u8],
-    timing: Option<&[u8]>,
-    format: Format,
-    host: Host,
-    request: &Request,
-) -> Result<Vec<Resize>, AllocError>
-    ensures resizes { IfOk result (λ resizes. AreResizes (keeps_size request.now format) request.now format (option_map (λ b. b.now) timing.entry) bytes.now host resizes.items) }
-    ensures sizes { IfOk result (λ resizes. All (λ r. IsSize r.size) resizes.items) }
-{
-    if keeps_size(request, format) {
-        return Ok(Vec::new(alloc));
-    }
-    let timeline = timeline_of(alloc, bytes, timing, format)?;
-    let changes = changes_of(alloc, &timeline, format, host.encoding, request.until)?;
-    let first = first_changes(&changes);
-    resizes_of(alloc, opening(request.word, host).len(), first)
-}
-
 /// Takes out of a recording what the word of a request needs: the table of its events, a picture that moves, the spans
 /// of a search, an index, or its content.
 fn taken_for(
@@ -422,6 +401,45 @@ fn taken_for(
     }
 }
 
+/// What a request needs of a recording.
+#[derive(Drop)]
+struct Needed {
+    /// What the word needs.
+    taken: Taken,
+    /// The changes of the screen's size.
+    resizes: Vec<Resize>,
+}
+
+/// Takes out of a recording what a request needs.
+fn needed_for(
+    alloc: Global,
+    bytes: &[u8],
+    timing: Option<&[u8]>,
+    format: Format,
+    host: Host,
+    request: &Request,
+) -> Result<Needed, AllocError>
+    requires { IsSize host.size }
+    ensures taken { IfOk result (λ n. IsTakenBy request.now.word request.now format host (option_map (λ b. b.now) timing.entry) bytes.now n.taken.content.items n.taken.broken n.taken.replaced) }
+    ensures resizes { IfOk result (λ n. AreResizes (keeps_size request.now format) request.now format (option_map (λ b. b.now) timing.entry) bytes.now host n.resizes.items) }
+    ensures sizes { IfOk result (λ n. All (λ r. IsSize r.size) n.resizes.items) }
+{
+    if keeps_size(request, format) {
+        let taken = taken_for(alloc, bytes, timing, format, host, request)?;
+        return Ok(Needed {
+            taken,
+            resizes: Vec::new(alloc),
+        });
+    }
+    let found = take_with_changes(alloc, bytes, timing, format, host.encoding, request.until)?;
+    let first = first_changes(&found.changes);
+    let resizes = resizes_of(alloc, opening(request.word, host).len(), first)?;
+    Ok(Needed {
+        taken: found.taken,
+        resizes,
+    })
+}
+
 /// Takes a recording apart as a request asks for it. Returns `Err` if allocation fails.
 fn prepare(
     alloc: Global,
@@ -433,14 +451,14 @@ fn prepare(
     ensures { IfOk result (λ p. IsPrepared request.now format (option_map (λ t. t.now) timing.entry) bytes.now p.host p.resizes.items p.bytes.items p.broken p.replaced) }
 {
     let host = host_for(request, format, heading_of(alloc, bytes, format)?);
-    let resizes = resizes_for(alloc, bytes, timing, format, host, request)?;
-    let taken = taken_for(alloc, bytes, timing, format, host, request)?;
-    let broken = taken.broken;
-    let replaced = taken.replaced;
+    let needed = needed_for(alloc, bytes, timing, format, host, request)?;
+    let broken = needed.taken.broken;
+    let replaced = needed.taken.replaced;
+    let resizes = needed.resizes;
     Ok(Prepared {
         host,
         resizes,
-        bytes: opened(alloc, opening(request.word, host), taken.content)?,
+        bytes: opened(alloc, opening(request.word, host), needed.taken.content)?,
         broken,
         replaced,
     })

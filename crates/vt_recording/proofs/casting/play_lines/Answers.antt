@@ -1,6 +1,7 @@
 use Rattle.std.proofs.Common.{◌∙◌, sym, arith, length-drop}
 use Rattle.std.proofs.lemmas.List.{take_rest}
 use Rattle.vt_recording.proofs.Casts.{played_more, played_break, played_end}
+use Rattle.vt_recording.proofs.Sizing.{cast_more, cast_break, cast_end}
 use Rattle.vt_recording.proofs.casting.play_lines.Goals as goal
 
 pub returns-in-None-clause-broken : goal.returns-in-None-clause-broken
@@ -15,6 +16,12 @@ returns-in-None-clause-written c =
     (played_break _ _ _ _ _ _ _ _ _ c.loop-at.invariant.played _ _ _ line
     (sym c.in-None.is ∙ c.in_ok-now.ensures.time) c.in_ok-now.ensures.written).1
 
+pub returns-in-None-clause-sizes : goal.returns-in-None-clause-sizes
+returns-in-None-clause-sizes c =
+    let line = rw take_rest at c.front_line-line.ensures.line in
+    λ is. cast_break _ _ _ _ _ _ _ _ (c.loop-at.invariant.sized is) _ _ _ line
+    (sym c.in-None.is ∙ c.in_ok-now.ensures.time) (c.in_ok-now.ensures.sizes is)
+
 pub loop-at-preserved : goal.loop-at-preserved
 loop-at-preserved c =
     let line = rw take_rest at c.front_line-line.ensures.line in
@@ -26,6 +33,8 @@ loop-at-preserved c =
       played =
           played_more _ _ _ _ _ _ _ _ _ c.loop-at.invariant.played _ _ _ _ line
           (sym c.in-Some.is ∙ c.in_ok-now.ensures.time) c.in_ok-now.ensures.written;
+      sized = λ is. cast_more _ _ _ _ _ _ _ _ (c.loop-at.invariant.sized is) _ _ _ _ line
+          (sym c.in-Some.is ∙ c.in_ok-now.ensures.time) (c.in_ok-now.ensures.sizes is);
     }
 
 pub returns-clause-broken : goal.returns-clause-broken
@@ -33,3 +42,6 @@ returns-clause-broken c = sym (played_end _ _ _ _ _ _ _ _ _ c.loop-at.invariant.
 
 pub returns-clause-written : goal.returns-clause-written
 returns-clause-written c = (played_end _ _ _ _ _ _ _ _ _ c.loop-at.invariant.played c.loop-at-test.false).1
+
+pub returns-clause-sizes : goal.returns-clause-sizes
+returns-clause-sizes c = λ is. cast_end _ _ _ _ _ _ _ _ (c.loop-at.invariant.sized is) c.loop-at-test.false

@@ -5,4 +5,5 @@ pub mod feeding;
 pub mod feeds;
 pub mod laws;
 pub mod showing;
+pub mod text;
 pub mod translation;

@@ -1,7 +1,7 @@
 pub mod Tables
-pub mod Encoding
 pub mod LookUp
 pub mod Spell
+pub mod Encoding
 pub mod Invocation
 pub mod GraphicSets
 pub mod Laws

@@ -4,5 +4,6 @@ pub mod Cells
 pub mod Similar
 pub mod Play
 pub mod Limits
+pub mod Text
 pub mod Showing
 pub mod Placing

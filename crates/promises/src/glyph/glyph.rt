@@ -3,6 +3,7 @@ ghost use Rattle.promises.specs.v0_4.glyph.Encoding.{encoded_glyph, encoded_spel
 ghost use Rattle.promises.specs.v0_4.glyph.Spell.{spelling_of};
 ghost use Rattle.promises.specs.v0_4.glyph.Tables.{IsGlyph, space, substitute_glyph};
 ghost use Rattle.std.specs.Prelude.{◌<◌, ◌≡◌, ◌≤◌};
+ghost use Rattle.vt_glyph.specs.Encoding.{IsEncoding};
 
 use vt_glyph::{Glyph, Spelling};
 
@@ -26,6 +27,14 @@ pub fn glyph_ascii(code: u8) -> Glyph
     ensures { result ≡ code }
 {
     Glyph::ascii(code)
+}
+
+/// Promises what `Glyph::encoded` promises.
+pub fn glyph_encoded(byte: u8) -> Glyph
+    requires { IsEncoding byte }
+    ensures { result ≡ encoded_glyph byte }
+{
+    Glyph::encoded(byte)
 }
 
 /// Promises what `glyph.code` promises.

@@ -1,10 +1,12 @@
 //! The calls of vt_screen/src/screen.
+ghost use Rattle.promises.specs.v0_4.glyph.Encoding.{encoded_glyph};
 ghost use Rattle.promises.specs.v0_4.glyph.Invocation.{glyph_in_use, HasGlyph};
 ghost use Rattle.promises.specs.v0_4.screen.Grid.{blank_grid, cell_at, delete_cells, erase, fill, grid_on};
 ghost use Rattle.promises.specs.v0_4.screen.Grid.{insert_cells, put, put_inserting, put_run, row_of, scroll_down};
 ghost use Rattle.promises.specs.v0_4.screen.Grid.{scroll_up, width_on};
 ghost use Rattle.promises.specs.v0_4.screen.Sizes.{vt220_size};
 ghost use Rattle.std.specs.Prelude.{All, false, IfOk, IsTrue, length, map, ◌+◌, ◌↔◌, ◌≡◌, ◌≤◌};
+ghost use Rattle.vt_glyph.specs.Encoding.{IsEncoding};
 ghost use Rattle.vt_screen.specs.Grid.{IsGrid, IsSoundGrid};
 ghost use Rattle.vt_screen.specs.Sizes.{IsSize};
 
@@ -144,6 +146,18 @@ pub fn screen_put_graphics(
     ensures sound { IsSoundGrid screen.new }
 {
     screen.put_graphics(row, column, bytes, table, like)
+}
+
+/// Promises what `screen.put_codes` promises.
+pub fn screen_put_codes(screen: &mut Screen, row: usize, column: usize, codes: &[u8], like: Cell)
+    requires row { (1 ≤ row) × (row ≤ screen.old.size.rows) }
+    requires column { (1 ≤ column) × (column ≤ screen.old.width) }
+    requires codes { All IsEncoding codes.now }
+    requires room { column + length codes.now ≤ screen.old.width + 1 }
+    ensures grid { screen.new ≡ put_run screen.old row column (map encoded_glyph codes.now) like }
+    ensures sound { IsSoundGrid screen.new }
+{
+    screen.put_codes(row, column, codes, like)
 }
 
 /// Promises what `screen.erase` promises.

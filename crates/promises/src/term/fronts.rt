@@ -1,4 +1,5 @@
 //! The calls of vt_term/src/fronts.
+ghost use Rattle.promises.specs.v0_4.glyph.Encoding.{encoded_glyph};
 ghost use Rattle.promises.specs.v0_4.screen.Grid.{scroll_down, scroll_up};
 ghost use Rattle.promises.specs.v0_4.syntax.Event.{event_in, event_of};
 ghost use Rattle.promises.specs.v0_4.syntax.Held.{events_from, held_from};
@@ -11,9 +12,10 @@ ghost use Rattle.promises.specs.v0_4.term.Reports.{report};
 ghost use Rattle.promises.specs.v0_4.term.Resets.{soft_reset};
 ghost use Rattle.promises.specs.v0_4.term.Saving.{restore_cursor, save_cursor};
 ghost use Rattle.promises.specs.v0_4.term.State.{at_place};
-ghost use Rattle.promises.specs.v0_4.term.Writing.{write_glyph};
-ghost use Rattle.std.specs.Prelude.{false, IfNone, IfSome, length, take, true, vec_capacity, vec_len, ◌++◌, ◌+◌, ◌≡◌};
-ghost use Rattle.std.specs.Prelude.{◌≤◌};
+ghost use Rattle.promises.specs.v0_4.term.Writing.{write_glyph, write_glyphs};
+ghost use Rattle.std.specs.Prelude.{All, false, IfNone, IfSome, length, map, take, true, vec_capacity, vec_len, ◌++◌};
+ghost use Rattle.std.specs.Prelude.{◌+◌, ◌≡◌, ◌≤◌};
+ghost use Rattle.vt_glyph.specs.Encoding.{IsEncoding};
 
 use vt_glyph::Glyph;
 use vt_syntax::{EventKind, Taken, Values};
@@ -90,6 +92,16 @@ pub fn sized_terminal_write_glyph(sized_terminal: &mut SizedTerminal, glyph: Gly
     ensures { sized_terminal.new ≡ record sized_terminal.old { display = write_glyph glyph sized_terminal.old.display } }
 {
     sized_terminal.write_glyph(glyph)
+}
+
+/// Promises what `sized_terminal.write_codes` promises.
+pub fn sized_terminal_write_codes(sized_terminal: &mut SizedTerminal, codes: &[u8])
+    requires codes { All IsEncoding codes.now }
+    ensures { sized_terminal.new ≡ record sized_terminal.old {
+      display = write_glyphs (map encoded_glyph codes.now) sized_terminal.old.display;
+    } }
+{
+    sized_terminal.write_codes(codes)
 }
 
 /// Promises what `sized_terminal.save_cursor` promises.

@@ -11,7 +11,7 @@ ghost use Rattle.promises.specs.v0_4.term.Resizing.{count_off, log_on, page_on, 
 ghost use Rattle.promises.specs.v0_4.term.Scrolling.{is_at_end, is_line_feed, log, scrolled_off, scrolls_off};
 ghost use Rattle.promises.specs.v0_4.term.Sound.{IsSound, IsSoundSized};
 ghost use Rattle.promises.specs.v0_4.term.State.{at_place, power_up, state_of};
-ghost use Rattle.promises.specs.v0_4.term.Writing.{put_glyph, write_if_read};
+ghost use Rattle.promises.specs.v0_4.term.Writing.{put_glyph, write_glyphs, write_if_read};
 ghost use Rattle.std.specs.Prelude.{[], All, false, length, List, true, ℕ, ◌++◌, ◌+◌, ◌==◌, ◌≡◌, ◌≤◌};
 ghost use Rattle.vt_screen.specs.Sizes.{IsSize};
 ghost use Rattle.vt_screen.specs.declared.size.Size.{Size};
@@ -19,6 +19,7 @@ ghost use Rattle.vt_syntax.specs.declared.event.Event.TheVariants.{Control, Prin
 ghost use Rattle.vt_term.specs.Pages.{IsSoundPageAt, PageState};
 ghost use Rattle.vt_term.specs.Sound.{IsSoundAt};
 ghost use Rattle.vt_term.specs.State.{Display, State};
+ghost use Rattle.vt_term.specs.Writing.{IsAfterGlyphs};
 
 /// Promises what `vt_term::laws::sized_soundness` promises.
 pub fn sized_soundness()
@@ -122,6 +123,16 @@ pub fn scrolls()
         }) }
 {
     vt_term::laws::scrolls()
+}
+
+/// Promises what `vt_term::laws::glyph_runs` promises.
+pub fn glyph_runs()
+    ensures two { (a b : List ℕ) (s : Display) → write_glyphs (a ++ b) s ≡ write_glyphs b (write_glyphs a s) }
+    ensures leaves { (glyphs : List ℕ) (s : Display) → s.cursor.wrap ≡ false
+        → s.cursor.col + length glyphs ≤ s.grid.width
+        → IsAfterGlyphs (length glyphs) s (write_glyphs glyphs s) }
+{
+    vt_term::laws::glyph_runs()
 }
 
 /// Promises what `vt_term::laws::resizes` promises.

@@ -3,18 +3,20 @@ ghost use Rattle.promises.specs.v0_4.glyph.Tables.{IsGlyph};
 ghost use Rattle.promises.specs.v0_4.term.Play.{both, joined, play};
 ghost use Rattle.promises.specs.v0_4.term.Scrolling.{scrolled_off};
 ghost use Rattle.promises.specs.v0_4.term.Sound.{IsSound};
-ghost use Rattle.promises.specs.v0_4.term.Writing.{write_glyph};
+ghost use Rattle.promises.specs.v0_4.term.Writing.{write_glyph, write_glyphs};
 ghost use Rattle.promises.specs.v0_4.utf8.Cells.{cells};
 ghost use Rattle.promises.specs.v0_4.utf8.Decoding.{pending_after, read};
 ghost use Rattle.promises.specs.v0_4.utf8.Play.{play_utf8, play_utf8_all, translated, translated_all};
 ghost use Rattle.promises.specs.v0_4.utf8.Similar.{shown};
-ghost use Rattle.promises.specs.v0_4.utf8.Translation.{glyph_off, is_at_end, IsPlain, translation, unshifted};
-ghost use Rattle.promises.specs.v0_4.utf8.Translation.{write_wide, written};
-ghost use Rattle.std.specs.Prelude.{[], All, false, List, None, ℕ, ◌++◌, ◌<◌, ◌∷◌, ◌≡◌, ◌≤◌};
+ghost use Rattle.promises.specs.v0_4.utf8.Text.{glyphs_of, IsInText};
+ghost use Rattle.promises.specs.v0_4.utf8.Translation.{glyph_off, is_at_end, IsPlain, reads_ascii, translation};
+ghost use Rattle.promises.specs.v0_4.utf8.Translation.{unshifted, write_wide, written};
+ghost use Rattle.std.specs.Prelude.{[], All, false, flat_map, length, List, None, ℕ, ◌++◌, ◌+◌, ◌<◌, ◌∷◌, ◌≡◌, ◌≤◌};
 ghost use Rattle.vt_screen.specs.declared.size.Size.{Size};
 ghost use Rattle.vt_syntax.specs.declared.held.Held.TheVariants.{Nothing};
 ghost use Rattle.vt_term.specs.Sound.{IsSoundAt};
 ghost use Rattle.vt_term.specs.State.{State};
+ghost use Rattle.vt_utf8.specs.Text.{IsReady};
 
 /// Promises what `vt_utf8::laws::sized_soundness` promises.
 pub fn sized_soundness()
@@ -153,4 +155,21 @@ pub fn writes()
     ensures none { (s : State) (c : ℕ) → s.held ≡ Nothing → 0x80 ≤ c → cells c ≡ 0 → translation s c ≡ [] }
 {
     vt_utf8::laws::writes()
+}
+
+/// Promises what `vt_utf8::laws::sized_text` promises.
+pub fn sized_text()
+    ensures plays { (size : Size) (s : State) (cs : List ℕ) → IsSoundAt size s → IsReady s
+        → All (IsInText (reads_ascii s.display.sets)) cs
+        → s.display.cursor.col + length (flat_map glyphs_of cs) ≤ s.display.grid.width
+        → play s (translated_all s cs) ≡ record {
+          state = record s { display = write_glyphs (flat_map glyphs_of cs) s.display };
+          reports = [];
+        } }
+    ensures off { (size : Size) (s : State) (cs : List ℕ) → IsSoundAt size s → IsReady s
+        → All (IsInText (reads_ascii s.display.sets)) cs
+        → s.display.cursor.col + length (flat_map glyphs_of cs) ≤ s.display.grid.width
+        → scrolled_off s (translated_all s cs) ≡ [] }
+{
+    vt_utf8::laws::sized_text()
 }

@@ -51,20 +51,20 @@ spoken_escapes-same = refl
 
 pub spoken_sequences-same : frozen.spoken_sequences ≡ today.spoken_sequences
 spoken_sequences-same = λ ι.
-    (codes "C", are_numbers)  -- CUF
-    ∷ (codes "D", are_numbers)  -- CUB
-    ∷ (codes "H", are_numbers)  -- CUP
-    ∷ (codes "L", are_numbers)  -- IL
-    ∷ (codes "M", are_numbers)  -- DL
-    ∷ (codes "r", are_numbers)  -- DECSTBM
-    ∷ (codes "m", are_attributes)  -- SGR
-    ∷ (codes "J", is_among ([] ∷ []))  -- ED starting at the cursor
-    ∷ (codes "K", is_among ([] ∷ []))  -- EL starting at the cursor
-    ∷ (codes "g", is_among (codes "3" ∷ []))  -- TBC of all stops
-    ∷ (codes "h", is_among (mode_numbers-same ι))  -- SM
-    ∷ (codes "l", is_among (mode_numbers-same ι))  -- RM
-    ∷ (0x22 ∷ codes "q", is_among ([] ∷ codes "0" ∷ codes "1" ∷ []))  -- DECSCA
-    ∷ (codes "!p", is_among (codes "0" ∷ []))  -- DECSTR
+    (codes "C", are_numbers)
+    ∷ (codes "D", are_numbers)
+    ∷ (codes "H", are_numbers)
+    ∷ (codes "L", are_numbers)
+    ∷ (codes "M", are_numbers)
+    ∷ (codes "r", are_numbers)
+    ∷ (codes "m", are_attributes)
+    ∷ (codes "J", is_among ([] ∷ []))
+    ∷ (codes "K", is_among ([] ∷ []))
+    ∷ (codes "g", is_among (codes "3" ∷ []))
+    ∷ (codes "h", is_among (mode_numbers-same ι))
+    ∷ (codes "l", is_among (mode_numbers-same ι))
+    ∷ (0x22 ∷ codes "q", is_among ([] ∷ codes "0" ∷ codes "1" ∷ []))
+    ∷ (codes "!p", is_among (codes "0" ∷ []))
     ∷ []
 
 pub is_spoken-at : (x0 : Element) → frozen.is_spoken x0 ≡ today.is_spoken x0

@@ -93,36 +93,36 @@ BoundedTable-same = refl
 
 pub bounded_controls-same : frozen.bounded_controls ≡ today.bounded_controls
 bounded_controls-same = λ ι.
-    (0x08, λ params. between.cursor_backward 1)  -- BS
-    ∷ (0x09, λ params. between.horizontal_tab)  -- HT
-    ∷ (0x0A, λ params. (line_feed-same ι))  -- LF
-    ∷ (0x0B, λ params. (line_feed-same ι))  -- VT
-    ∷ (0x0C, λ params. (line_feed-same ι))  -- FF
-    ∷ (0x0D, λ params. between.carriage_return)  -- CR
-    ∷ (0x84, λ params. (index-same ι))  -- IND
-    ∷ (0x85, λ params. (next_line-same ι))  -- NEL
-    ∷ (0x8D, λ params. (reverse_index-same ι))  -- RI
+    (0x08, λ params. between.cursor_backward 1)
+    ∷ (0x09, λ params. between.horizontal_tab)
+    ∷ (0x0A, λ params. (line_feed-same ι))
+    ∷ (0x0B, λ params. (line_feed-same ι))
+    ∷ (0x0C, λ params. (line_feed-same ι))
+    ∷ (0x0D, λ params. between.carriage_return)
+    ∷ (0x84, λ params. (index-same ι))
+    ∷ (0x85, λ params. (next_line-same ι))
+    ∷ (0x8D, λ params. (reverse_index-same ι))
     ∷ []
 
 pub bounded_plain-same : frozen.bounded_plain ≡ today.bounded_plain
 bounded_plain-same = λ ι.
-    (byte (codes "@"), λ params. (insert_character-same ι) (count params))  -- ICH
-    ∷ (byte (codes "C"), λ params. between.cursor_forward (count params))  -- CUF
-    ∷ (byte (codes "D"), λ params. between.cursor_backward (count params))  -- CUB
-    ∷ (byte (codes "E"), λ params. between.cursor_next_line (count params))  -- CNL
-    ∷ (byte (codes "F"), λ params. between.cursor_preceding_line (count params))  -- CPL
-    ∷ (byte (codes "G"), λ params. between.cursor_character_absolute (count params))  -- CHA
-    ∷ (byte (codes "H"), λ params. between.cursor_position (first params) (second params))  -- CUP
-    ∷ (byte (codes "I"), λ params. (cursor_forward_tabulation-same ι) (count params))  -- CHT
-    ∷ (byte (codes "L"), λ params. (insert_line-same ι) (count params))  -- IL
-    ∷ (byte (codes "M"), λ params. (delete_line-same ι) (count params))  -- DL
-    ∷ (byte (codes "P"), λ params. (delete_character-same ι) (count params))  -- DCH
-    ∷ (byte (codes "Z"), λ params. (cursor_backward_tabulation-same ι) (count params))  -- CBT
-    ∷ (byte (codes "`"), λ params. between.cursor_character_absolute (count params))  -- HPA
-    ∷ (byte (codes "a"), λ params. between.character_position_forward (count params))  -- HPR
-    ∷ (byte (codes "d"), λ params m. line_position_absolute (count params))  -- VPA
-    ∷ (byte (codes "e"), λ params m. line_position_forward (count params))  -- VPR
-    ∷ (byte (codes "f"), λ params. between.cursor_position (first params) (second params))  -- HVP
+    (byte (codes "@"), λ params. (insert_character-same ι) (count params))
+    ∷ (byte (codes "C"), λ params. between.cursor_forward (count params))
+    ∷ (byte (codes "D"), λ params. between.cursor_backward (count params))
+    ∷ (byte (codes "E"), λ params. between.cursor_next_line (count params))
+    ∷ (byte (codes "F"), λ params. between.cursor_preceding_line (count params))
+    ∷ (byte (codes "G"), λ params. between.cursor_character_absolute (count params))
+    ∷ (byte (codes "H"), λ params. between.cursor_position (first params) (second params))
+    ∷ (byte (codes "I"), λ params. (cursor_forward_tabulation-same ι) (count params))
+    ∷ (byte (codes "L"), λ params. (insert_line-same ι) (count params))
+    ∷ (byte (codes "M"), λ params. (delete_line-same ι) (count params))
+    ∷ (byte (codes "P"), λ params. (delete_character-same ι) (count params))
+    ∷ (byte (codes "Z"), λ params. (cursor_backward_tabulation-same ι) (count params))
+    ∷ (byte (codes "`"), λ params. between.cursor_character_absolute (count params))
+    ∷ (byte (codes "a"), λ params. between.character_position_forward (count params))
+    ∷ (byte (codes "d"), λ params m. line_position_absolute (count params))
+    ∷ (byte (codes "e"), λ params m. line_position_forward (count params))
+    ∷ (byte (codes "f"), λ params. between.cursor_position (first params) (second params))
     ∷ []
 
 pub bounded_in-same : frozen.bounded_in ≡ today.bounded_in
@@ -135,11 +135,11 @@ has_row-same = λ ι table last. is_some ((look_up-same ι) table last)
 
 pub other_plain-same : frozen.other_plain ≡ today.other_plain
 other_plain-same = λ ι.
-    (byte (codes "S"), λ params. leaving ((rows_up-same ι) (count params)))  -- SU
+    (byte (codes "S"), λ params. leaving ((rows_up-same ι) (count params)))
     ∷ (byte (codes "T"), λ params m s. if length params == 1 then leaving ((rows_down-same ι) (count params)) m s else s)
-    ∷ (byte (codes "^"), λ params. leaving ((rows_down-same ι) (count params)))  -- SD (xterm)
-    ∷ (byte (codes "b"), λ params. (repeating-same ι) (count params))  -- REP
-    ∷ (byte (codes "r"), λ params. margins_set (first params) (second params))  -- DECSTBM
+    ∷ (byte (codes "^"), λ params. leaving ((rows_down-same ι) (count params)))
+    ∷ (byte (codes "b"), λ params. (repeating-same ι) (count params))
+    ∷ (byte (codes "r"), λ params. margins_set (first params) (second params))
     ∷ []
 
 pub erases-same : frozen.erases ≡ today.erases

@@ -36,22 +36,22 @@ restore_if_bare-same = λ ι params s. if is_bare params then (restore_screens-s
 
 pub plain_functions-same : frozen.plain_functions ≡ today.plain_functions
 plain_functions-same = λ ι.
-    (byte (codes "E"), λ params. on_display (cursor_next_line (count params)))  -- CNL
-    ∷ (byte (codes "F"), λ params. on_display (cursor_preceding_line (count params)))  -- CPL
-    ∷ (byte (codes "G"), λ params. on_display (cursor_character_absolute (count params)))  -- CHA
-    ∷ (byte (codes "I"), λ params. on_display ((cursor_forward_tabulation-same ι) (count params)))  -- CHT
-    ∷ (byte (codes "S"), λ params. on_display ((rows_up-same ι) (count params)))  -- SU
-    ∷ (byte (codes "T"), λ params. on_display ((rows_down_by-same ι) params))  -- SD
-    ∷ (byte (codes "Z"), λ params. on_display ((cursor_backward_tabulation-same ι) (count params)))  -- CBT
-    ∷ (byte (codes "^"), λ params. on_display ((rows_down-same ι) (count params)))  -- SD (xterm)
-    ∷ (byte (codes "`"), λ params. on_display (cursor_character_absolute (count params)))  -- HPA
-    ∷ (byte (codes "a"), λ params. on_display (cursor_forward (count params)))  -- HPR
-    ∷ (byte (codes "b"), λ params. on_display ((repeat-same ι) (count params)))  -- REP
-    ∷ (byte (codes "d"), λ params. on_display (line_position_absolute (count params)))  -- VPA
-    ∷ (byte (codes "e"), λ params. on_display (line_position_forward (count params)))  -- VPR
-    ∷ (byte (codes "m"), λ params. on_display ((select_attributes-same ι) params))  -- SGR
-    ∷ (byte (codes "s"), λ params s. save_or_set_sides params s.pages.sides s)  -- SCP, DECSLRM
-    ∷ (byte (codes "u"), (restore_if_bare-same ι))  -- RCP
+    (byte (codes "E"), λ params. on_display (cursor_next_line (count params)))
+    ∷ (byte (codes "F"), λ params. on_display (cursor_preceding_line (count params)))
+    ∷ (byte (codes "G"), λ params. on_display (cursor_character_absolute (count params)))
+    ∷ (byte (codes "I"), λ params. on_display ((cursor_forward_tabulation-same ι) (count params)))
+    ∷ (byte (codes "S"), λ params. on_display ((rows_up-same ι) (count params)))
+    ∷ (byte (codes "T"), λ params. on_display ((rows_down_by-same ι) params))
+    ∷ (byte (codes "Z"), λ params. on_display ((cursor_backward_tabulation-same ι) (count params)))
+    ∷ (byte (codes "^"), λ params. on_display ((rows_down-same ι) (count params)))
+    ∷ (byte (codes "`"), λ params. on_display (cursor_character_absolute (count params)))
+    ∷ (byte (codes "a"), λ params. on_display (cursor_forward (count params)))
+    ∷ (byte (codes "b"), λ params. on_display ((repeat-same ι) (count params)))
+    ∷ (byte (codes "d"), λ params. on_display (line_position_absolute (count params)))
+    ∷ (byte (codes "e"), λ params. on_display (line_position_forward (count params)))
+    ∷ (byte (codes "m"), λ params. on_display ((select_attributes-same ι) params))
+    ∷ (byte (codes "s"), λ params s. save_or_set_sides params s.pages.sides s)
+    ∷ (byte (codes "u"), (restore_if_bare-same ι))
     ∷ []
 
 pub private_functions-same : frozen.private_functions ≡ today.private_functions

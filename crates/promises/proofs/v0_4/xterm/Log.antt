@@ -28,8 +28,8 @@ rows_off-same = λ ι n s. if s.margins.top == 1 then (first_rows-same ι) (min 
 
 pub scrolling_functions-same : frozen.scrolling_functions ≡ today.scrolling_functions
 scrolling_functions-same = λ ι.
-    (byte (codes "S"), λ params. (rows_off-same ι) (count params))  -- SU
-    ∷ (byte (codes "b"), λ params. (glyph_off-same ι))  -- REP
+    (byte (codes "S"), λ params. (rows_off-same ι) (count params))
+    ∷ (byte (codes "b"), λ params. (glyph_off-same ι))
     ∷ []
 
 pub function_off-at : (x0 : Option ℕ) (x1 : Option ℕ) (x2 : ℕ) → frozen.function_off x0 x1 x2 ≡ today.function_off x0 x1 x2

@@ -133,16 +133,16 @@ allowed_column_mode-same = λ ι wide s. if s.pages.resizes then with_full_sides
 
 pub page_modes-same : frozen.page_modes ≡ today.page_modes
 page_modes-same = λ ι.
-    (3, (allowed_column_mode-same ι))  -- DECCOLM
-    ∷ (6, (origin_mode_between-same ι))  -- DECOM
-    ∷ (7, autowrap_mode_between)  -- DECAWM
-    ∷ (40, allow_column_mode)  -- xterm: DECCOLM is allowed
-    ∷ (47, (show_page-same ι))  -- xterm: the alternate screen buffer
-    ∷ (69, side_mode)  -- DECLRMM
-    ∷ (1047, (show_or_clear-same ι))  -- xterm: the alternate screen buffer, cleared
-    ∷ (1048, (save_or_restore-same ι))  -- xterm: the saved cursor
-    ∷ (1049, (show_and_save-same ι))  -- xterm: the saved cursor, and the alternate screen buffer
-    ∷ (2004, bracket_pastes)  -- xterm: bracketed paste
+    (3, (allowed_column_mode-same ι))
+    ∷ (6, (origin_mode_between-same ι))
+    ∷ (7, autowrap_mode_between)
+    ∷ (40, allow_column_mode)
+    ∷ (47, (show_page-same ι))
+    ∷ (69, side_mode)
+    ∷ (1047, (show_or_clear-same ι))
+    ∷ (1048, (save_or_restore-same ι))
+    ∷ (1049, (show_and_save-same ι))
+    ∷ (2004, bracket_pastes)
     ∷ []
 
 pub with_page_mode-same : frozen.with_page_mode ≡ today.with_page_mode

@@ -1,6 +1,7 @@
 -- 0.4: vt_glyph/specs/Encoding.
 use Rattle.promises.specs.v0_4.glyph.Spell.{spelled_glyph, spelling_of}
-use Rattle.std.specs.Prelude.{if◌then◌else◌, nat_lt, ℕ, ◌+◌, ◌-◌}
+use Rattle.promises.specs.v0_4.glyph.Tables.{IsGlyph}
+use Rattle.std.specs.Prelude.{if◌then◌else◌, nat_lt, ℕ, ◌+◌, ◌-◌, ◌≡◌}
 use Rattle.vt_glyph.specs.declared.glyph.Spelling.TheVariants.{Plain, Second, Third}
 use Rattle.vt_glyph.specs.declared.glyph.Spelling.{Spelling}
 
@@ -23,3 +24,8 @@ encoded_glyph byte = spelled_glyph (encoded_spelling byte)
 -- the byte of a glyph
 unfoldable pub encoding_of : ℕ → ℕ
 encoding_of n = spelling_byte (spelling_of n)
+
+-- the byte encodes a glyph, by the one spelling of it
+pub record IsEncoding' (byte : ℕ) : Type 0 where
+  pub glyph : IsGlyph (encoded_glyph byte)
+  pub spelling : spelling_of (encoded_glyph byte) ≡ encoded_spelling byte

@@ -4,7 +4,7 @@ use Rattle.promises.specs.v0_4.screen.Cells.{cell_of}
 use Rattle.promises.specs.v0_4.screen.Grid.{put, put_inserting}
 use Rattle.promises.specs.v0_4.term.Moving.{next_line}
 use Rattle.promises.specs.v0_4.term.State.{at_place, last_column}
-use Rattle.std.specs.Prelude.{if◌then◌else◌, nat_lt, None, Option, Some, ℕ, ◌+◌}
+use Rattle.std.specs.Prelude.{fold, if◌then◌else◌, List, nat_lt, None, Option, Some, ℕ, ◌+◌, ◌≡◌}
 use Rattle.vt_screen.specs.Grid.{Grid}
 use Rattle.vt_term.specs.State.{Display}
 use Rattle.vt_term.specs.declared.state.Cursor.{Cursor}
@@ -33,6 +33,10 @@ put_glyph glyph s = record s { grid = with_glyph glyph s; cursor = next_place s 
 abbrev pub write_glyph : ℕ → Display → Display
 write_glyph glyph s = put_glyph glyph (after_wrap s)
 
+-- glyphs are written one after another
+abbrev pub write_glyphs : List ℕ → Display → Display
+write_glyphs glyphs s = fold (λ t glyph. write_glyph glyph t) s glyphs
+
 abbrev pub write_if_read : Option ℕ → Display → Display
 write_if_read None s = s
 write_if_read (Some glyph) s = write_glyph glyph s
@@ -40,3 +44,9 @@ write_if_read (Some glyph) s = write_glyph glyph s
 -- a graphic byte: it is read through the sets
 abbrev pub print : ℕ → Display → Display
 print b s = write_if_read (glyph_read s.sets b) (record s { sets = after_read s.sets b })
+
+-- glyphs before the last column leave all but the cells and the cursor, which goes on without a wrap
+pub record IsAfterGlyphs' (count : ℕ) (s t : Display) : Type 0 where
+  pub cursor : t.cursor ≡ at_place s.cursor.row (s.cursor.col + count)
+  pub width : t.grid.width ≡ s.grid.width
+  pub sets : t.sets ≡ s.sets

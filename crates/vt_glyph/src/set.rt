@@ -25,7 +25,7 @@ impl Set {
     ghost use Rattle.vt_glyph.specs.Encoding.{encodings};
 
     /// Returns the set that a designating escape sequence with this final byte names, or `None` if it names none.
-    /// (VT220 manual, chapter 4: SCS)
+    /// (EK-VT220-RM, chapter 4: SCS; ECMA-35 14)
     pub fn of_final(last: u8) -> Option<Set>
         ensures { result ≡ set_of_final last }
     {

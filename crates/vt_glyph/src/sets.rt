@@ -7,7 +7,7 @@ use crate::set::Set;
 use std::marker::Model;
 
 /// The sets designated as G0 to G3, those in GL and GR, and a pending single shift. A slot is the number of one of G0
-/// to G3. (VT220 manual, chapter 4; ECMA-35)
+/// to G3. (EK-VT220-RM, chapters 2 and 4; ECMA-35)
 #[derive(Clone, Copy)]
 pub struct Sets {
     g: [Set; 4],
@@ -84,8 +84,9 @@ impl Sets {
     }
 
     /// Returns the glyph of a graphic byte, 20 to 7E or A0 to FF. A pending single shift is then no longer pending.
+    /// (SS2 and SS3)
     ///
-    /// Returns `None` for A0 and FF, which leave a single shift pending. 20 is the space in every set.
+    /// Returns `None` for A0 and FF, which leave a single shift pending (this profile). 20 is the space in every set.
     #[tactic(auto, unfolding(crate::specs::Invocation::glyph_read, crate::specs::Invocation::after_read))]
     pub fn read(&mut self, b: u8) -> Option<Glyph>
         requires { ((0x20 ≤ b) × (b ≤ 0x7E)) ⊎ (0xA0 ≤ b) }
@@ -109,7 +110,7 @@ impl Sets {
         Some(self.g[slot as usize].glyph(b % 0x80))
     }
 
-    /// Designates a set as G0, G1, G2 or G3: `slot` is 0 to 3. (SCS)
+    /// Designates a set as G0, G1, G2 or G3: `slot` is 0 to 3. (SCS, ECMA-35 14)
     pub fn designate(&mut self, slot: u8, set: Set)
         requires { slot < 4 }
         ensures after { self.new ≡ designated slot set self.old }
@@ -118,7 +119,8 @@ impl Sets {
         self.g[slot as usize] = set;
     }
 
-    /// Locks one of G0 to G3 into GL: `slot` is 0 to 3. (SI and SO, which are LS0 and LS1; LS2, LS3)
+    /// Locks one of G0 to G3 into GL: `slot` is 0 to 3. (SI and SO, which are LS0 and LS1; LS2, LS3;
+    /// ECMA-48 8.3.75, 8.3.76, 8.3.78, 8.3.80)
     pub fn lock_left(&mut self, slot: u8)
         requires { slot < 4 }
         ensures after { self.new ≡ locked_left slot self.old }
@@ -127,7 +129,7 @@ impl Sets {
         self.left = slot;
     }
 
-    /// Locks one of G1 to G3 into GR: `slot` is 1 to 3. (LS1R, LS2R, LS3R)
+    /// Locks one of G1 to G3 into GR: `slot` is 1 to 3. (LS1R, LS2R, LS3R, ECMA-48 8.3.77, 8.3.79, 8.3.81)
     pub fn lock_right(&mut self, slot: u8)
         requires { (1 ≤ slot) × (slot < 4) }
         ensures after { self.new ≡ locked_right slot self.old }
@@ -136,7 +138,8 @@ impl Sets {
         self.right = slot;
     }
 
-    /// Shifts the next graphic byte to G2 or G3: `slot` is 2 or 3. It replaces a pending single shift. (SS2, SS3)
+    /// Shifts the next graphic byte to G2 or G3: `slot` is 2 or 3. It replaces a pending single shift. (SS2, SS3,
+    /// ECMA-48 8.3.141, 8.3.142)
     pub fn shift_once(&mut self, slot: u8)
         requires { (2 ≤ slot) × (slot < 4) }
         ensures after { self.new ≡ shifted_once slot self.old }
@@ -145,7 +148,8 @@ impl Sets {
         self.pending = Some(slot);
     }
 
-    /// Restores saved designations and locking shifts. A pending single shift stays. (DECRC)
+    /// Restores saved designations and locking shifts. A pending single shift stays. (EK-VT220-RM,
+    /// chapter 4: DECRC; the single shift is this profile's)
     pub fn restore(&mut self, g: [Set; 4], left: u8, right: u8)
         requires left { left < 4 }
         requires right { (1 ≤ right) × (right < 4) }
@@ -198,7 +202,7 @@ impl Sets {
     }
 
     /// Returns the table of the sets in GL and GR. A run of bytes may be read through it while no single shift is
-    /// pending. ([`laws::in_use`](crate::laws::in_use))
+    /// pending. (EK-VT220-RM, chapter 4: the in-use table; [`laws::in_use`](crate::laws::in_use))
     pub fn in_use(&self) -> InUse
         ensures { result ≡ in_use self.now }
     {

@@ -210,7 +210,7 @@ impl Screen {
     }
 
     /// Inserts a cell at a row and a column. The cells starting there move right by one, and the last cell of the row
-    /// is lost. (VT220 manual: insert mode, IRM)
+    /// is lost. (IRM, ECMA-48 7.2)
     #[inline(never)]
     pub fn put_inserting(&mut self, row: usize, column: usize, cell: Cell)
         requires row { (1 ≤ row) × (row ≤ self.old.size.rows) }
@@ -286,8 +286,8 @@ impl Screen {
         write_codes(&mut self.cells[start..start + codes.len()], codes, like);
     }
 
-    /// Erases the columns `from` to `to` of a row, both included. (VT220 manual: ED, EL, ECH; selectively DECSED,
-    /// DECSEL)
+    /// Erases the columns `from` to `to` of a row, both included. (ED, EL, ECH, ECMA-48 8.3.39, 8.3.41, 8.3.38;
+    /// selectively DECSED, DECSEL)
     ///
     /// Erased cells are blank, even if they were protected. A selective erase leaves protected cells unchanged. It
     /// clears the glyph of the other cells, and their attributes stay.
@@ -302,7 +302,7 @@ impl Screen {
     }
 
     /// Inserts `n` blank cells at a row and a column. The cells starting there move right, and those that pass the last
-    /// column are lost. (VT220 manual: ICH)
+    /// column are lost. (ICH, ECMA-48 8.3.64)
     pub fn insert_cells(&mut self, row: usize, column: usize, n: u16)
         requires row { (1 ≤ row) × (row ≤ self.old.size.rows) }
         requires column { (1 ≤ column) × (column ≤ self.old.width) }
@@ -319,7 +319,7 @@ impl Screen {
     }
 
     /// Deletes `n` cells starting at a row and a column. The cells after them move left, and blank cells are added at
-    /// the end of the row. (VT220 manual: DCH)
+    /// the end of the row. (DCH, ECMA-48 8.3.26)
     pub fn delete_cells(&mut self, row: usize, column: usize, n: u16)
         requires row { (1 ≤ row) × (row ≤ self.old.size.rows) }
         requires column { (1 ≤ column) × (column ≤ self.old.width) }
@@ -336,7 +336,7 @@ impl Screen {
     }
 
     /// Moves the rows `top` to `bottom` up by `n`. The first `n` are lost, and blank rows are added at the bottom.
-    /// (VT220 manual: IND, DL)
+    /// (IND; DL, ECMA-48 8.3.32)
     #[inline(always)]
     pub fn scroll_up(&mut self, top: usize, bottom: usize, n: u16)
         requires { (1 ≤ top) × (top ≤ bottom) × (bottom ≤ self.old.size.rows) }
@@ -363,8 +363,8 @@ impl Screen {
         );
     }
 
-    /// Moves the rows `top` to `bottom` down by `n`. The last `n` are lost, and blank rows are added at the top. (VT220
-    /// manual: RI, IL)
+    /// Moves the rows `top` to `bottom` down by `n`. The last `n` are lost, and blank rows are added at the top. (RI,
+    /// IL, ECMA-48 8.3.104, 8.3.67)
     #[inline(always)]
     pub fn scroll_down(&mut self, top: usize, bottom: usize, n: u16)
         requires { (1 ≤ top) × (top ≤ bottom) × (bottom ≤ self.old.size.rows) }

@@ -60,7 +60,7 @@ pub struct FrontValues {
 }
 
 impl Front {
-    /// Returns what a chunk begins with.
+    /// Returns what a chunk begins with. (ECMA-35 6.2, ECMA-48 5.2)
     #[inline(always)]
     #[tactic(auto, using(crate::proofs::Fronts::front_single))]
     pub fn of(piece: &[u8]) -> Front
@@ -152,8 +152,8 @@ pub fn is_final(b: u8) -> bool
     0x40 <= b && b < 0x7F
 }
 
-/// Returns the intermediate and the final byte of an escape sequence of three bytes. Returns `None` if and only if no
-/// such sequence is whole at the front.
+/// Returns the intermediate and the final byte of an escape sequence of three bytes (ECMA-35 13). Returns `None` if and
+/// only if no such sequence is whole at the front.
 #[inline(always)]
 #[tactic(auto, using(crate::proofs::Fronts::front_with))]
 pub fn front_escape(piece: &[u8]) -> Option<(u8, u8)>
@@ -171,8 +171,8 @@ pub fn front_escape(piece: &[u8]) -> Option<(u8, u8)>
     None
 }
 
-/// Returns the event of an escape sequence of two bytes, which may be the 7-bit form of a C1 control. Returns `None` if
-/// and only if no such sequence is whole at the front.
+/// Returns the event of an escape sequence of two bytes (ECMA-35 13), which may be the 7-bit form of a C1 control
+/// (ECMA-48 5.3). Returns `None` if and only if no such sequence is whole at the front.
 #[inline(always)]
 #[tactic(auto, using(crate::proofs::Fronts::front_short))]
 pub fn front_short_escape(piece: &[u8]) -> Option<EventKind>

@@ -43,7 +43,7 @@ fn is_in_areas(byte: u8) -> bool
     (0x20 <= byte && byte <= 0x7E) || (0xA1 <= byte && byte <= 0xFE)
 }
 
-/// Returns how many bytes at the front of `piece` are of the graphic areas, 20..7E or A1..FE.
+/// Returns how many bytes at the front of `piece` are of the graphic areas, 20..7E or A1..FE (ECMA-35 6.2).
 #[inline(always)]
 #[tactic(auto, using(crate::proofs::Runs::run_tests))]
 pub fn graphic_run(piece: &[u8]) -> usize

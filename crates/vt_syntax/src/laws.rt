@@ -20,7 +20,7 @@ pub fn spelled()
 {}
 
 /// States that a C0 control below CAN is carried out once, at its byte, unless a control string is held. No other byte
-/// gives it.
+/// gives it. (ECMA-48 5.4; that it is carried out inside a sequence is this profile)
 pub fn controls()
     ensures { ControlLaw }
 {}

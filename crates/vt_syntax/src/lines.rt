@@ -45,8 +45,8 @@ fn ends_64(lanes: u8x64) -> u64
     (not_graphic & not_control).to_bitmask()
 }
 
-/// Returns how many bytes at the front of `piece` are of lines: BS to CR, 20..7F or A0..FF. Speed: such runs are long, so it
-/// searches 64 bytes at a time.
+/// Returns how many bytes at the front of `piece` are of lines: BS to CR, 20..7F or A0..FF (this profile). Speed: such runs
+/// are long, so it searches 64 bytes at a time.
 #[inline(never)]
 #[tactic(auto, using(crate::proofs::Runs::run_tests))]
 pub fn lines_run(piece: &[u8]) -> usize

@@ -32,7 +32,7 @@ impl ByteClass for Plain {
     }
 }
 
-/// Returns how many bytes at the front of `piece` are plain, 20..7E.
+/// Returns how many bytes at the front of `piece` are plain, 20..7E (ECMA-35 6.2).
 #[tactic(auto, using(crate::proofs::Runs::run_tests))]
 pub fn plain_run(piece: &[u8]) -> usize
     ensures within { result ≤ length piece.now }

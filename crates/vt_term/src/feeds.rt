@@ -294,7 +294,7 @@ impl Terminal {
         self.sized.write_glyph(glyph);
     }
 
-    /// Carries out DECSC: saves the cursor.
+    /// Carries out DECSC: saves the cursor. (EK-VT220-RM, chapter 4)
     #[inline(always)]
     pub fn save_cursor(&mut self)
         ensures { self.new ≡ record self.old { display = save_cursor self.old.display } }
@@ -302,7 +302,7 @@ impl Terminal {
         self.sized.save_cursor();
     }
 
-    /// Carries out DECRC: restores the saved cursor.
+    /// Carries out DECRC: restores the saved cursor. (EK-VT220-RM, chapter 4)
     #[inline(always)]
     pub fn restore_cursor(&mut self)
         ensures { self.new ≡ record self.old { display = restore_cursor self.old.display } }
@@ -310,7 +310,7 @@ impl Terminal {
         self.sized.restore_cursor();
     }
 
-    /// Carries out DECSTR: a soft reset.
+    /// Carries out DECSTR: a soft reset. (EK-VT220-RM, chapter 4; the list of it is this profile's)
     #[inline(always)]
     pub fn soft_reset(&mut self)
         ensures { self.new ≡ record self.old { display = soft_reset self.old.display } }
@@ -318,7 +318,7 @@ impl Terminal {
         self.sized.soft_reset();
     }
 
-    /// Carries out ED: erases the part of the screen that the parameter names.
+    /// Carries out ED: erases the part of the screen that the parameter names. (ECMA-48 8.3.39)
     #[inline(always)]
     #[tactic(auto, using(crate::proofs::Staying::erase_stays))]
     pub fn erase_in_display(&mut self, p: u16)
@@ -327,7 +327,7 @@ impl Terminal {
         self.sized.erase_in_display(p);
     }
 
-    /// Carries out SGR: changes the attributes of the brush, by each parameter in order.
+    /// Carries out SGR: changes the attributes of the brush, by each parameter in order. (ECMA-48 8.3.117)
     #[inline(always)]
     pub fn select_graphic_rendition(&mut self, params: &[u16])
         ensures { self.new ≡ record self.old { display = select_graphic_rendition params.now self.old.display } }
@@ -335,7 +335,7 @@ impl Terminal {
         self.sized.select_graphic_rendition(params);
     }
 
-    /// Carries out SM and RM of private modes: each parameter in order.
+    /// Carries out SM and RM of private modes: each parameter in order. (ECMA-48 8.3.125, 8.3.106)
     #[inline(always)]
     #[tactic(auto, using(crate::proofs::Staying::modes_stay))]
     pub fn change_private_modes(&mut self, params: &[u16], on: bool)

@@ -104,42 +104,42 @@ impl SizedTerminal {
         self.display.write_codes(codes);
     }
 
-    /// Carries out DECSC: saves the cursor.
+    /// Carries out DECSC: saves the cursor. (EK-VT220-RM, chapter 4)
     pub fn save_cursor(&mut self)
         ensures { self.new ≡ record self.old { display = save_cursor self.old.display } }
     {
         self.display.save_cursor();
     }
 
-    /// Carries out DECRC: restores the saved cursor.
+    /// Carries out DECRC: restores the saved cursor. (EK-VT220-RM, chapter 4)
     pub fn restore_cursor(&mut self)
         ensures { self.new ≡ record self.old { display = restore_cursor self.old.display } }
     {
         self.display.restore_cursor();
     }
 
-    /// Carries out DECSTR: a soft reset.
+    /// Carries out DECSTR: a soft reset. (EK-VT220-RM, chapter 4; the list of it is this profile's)
     pub fn soft_reset(&mut self)
         ensures { self.new ≡ record self.old { display = soft_reset self.old.display } }
     {
         self.display.soft_reset();
     }
 
-    /// Carries out ED: erases the part of the screen that the parameter names.
+    /// Carries out ED: erases the part of the screen that the parameter names. (ECMA-48 8.3.39)
     pub fn erase_in_display(&mut self, p: u16)
         ensures { self.new ≡ record self.old { display = erase_in_display false p self.old.display } }
     {
         self.display.erase_in_display(false, p);
     }
 
-    /// Carries out SGR: changes the attributes of the brush, by each parameter in order.
+    /// Carries out SGR: changes the attributes of the brush, by each parameter in order. (ECMA-48 8.3.117)
     pub fn select_graphic_rendition(&mut self, params: &[u16])
         ensures { self.new ≡ record self.old { display = select_graphic_rendition params.now self.old.display } }
     {
         self.display.select_graphic_rendition(params);
     }
 
-    /// Carries out SM and RM of private modes: each parameter in order.
+    /// Carries out SM and RM of private modes: each parameter in order. (ECMA-48 8.3.125, 8.3.106)
     pub fn change_private_modes(&mut self, params: &[u16], on: bool)
         ensures { self.new ≡ record self.old { display = change_modes private_modes on params.now self.old.display } }
     {

@@ -32,7 +32,7 @@ fn second(params: &[u16]) -> u16
     params.get(1).copied().unwrap_or(0)
 }
 
-/// Returns the first parameter as a count: 0 means 1.
+/// Returns the first parameter as a count: 0 means 1. (EK-VT220-RM, chapter 4)
 pub fn count(params: &[u16]) -> u16
     ensures { result ≡ count params.now }
 {

@@ -1,6 +1,7 @@
 -- U+FFFD for one byte that ASCII cuts off, and the ASCII.
 use Rattle.std.proofs.Common.{◌≡◌, ℕ, zero, suc, ◌<◌, ◌≤◌, List, [], ◌∷◌, ◌++◌, All, take, length, refl, sym, ap, ◌∙◌, arith, subst}
 use Rattle.std.specs.Prelude.{slice_index}
+use Rattle.std.proofs.lemmas.List.{take-take}
 use Rattle.std.proofs.lemmas.List.Elements.{All-take}
 use Rattle.bstr.specs.Utf8.{replacement}
 use Rattle.vt_syntax.specs.Laws.{SplitLaw}
@@ -20,16 +21,9 @@ use Rattle.vt_utf8.proofs.Logged.{Rows, keeps-both}
 
 -- ---- a front
 
-take-take : (m n : ℕ) (xs : List ℕ) → m ≤ n → take m (take n xs) ≡ take m xs
-take-take zero n xs less = refl
-take-take (suc m) zero xs less = absurd (omega (arith, less))
-take-take (suc m) (suc n) [] less = refl
-take-take (suc m) (suc n) (x ∷ xs) less =
-    ap (λ (t : List ℕ). x ∷ t) (take-take m n xs (omega (arith, less)))
-
-pub shorter-ascii : (m n : ℕ) (xs : List ℕ) → m ≤ n → All (λ b. b < 0x80) (take n xs) → All (λ b. b < 0x80) (take m xs)
-shorter-ascii m n xs less all =
-    subst (λ (ys : List ℕ). All (λ b. b < 0x80) ys) (take-take m n xs less) (All-take (λ b. b < 0x80) m (take n xs) all)
+pub shorter : (P : ℕ → Type 0) (m n : ℕ) (xs : List ℕ) → m ≤ n → All P (take n xs) → All P (take m xs)
+shorter P m n xs less all =
+    subst (λ (ys : List ℕ). All P ys) (take-take m n xs less) (All-take P m (take n xs) all)
 
 pub front-cut : (pending piece : List ℕ) (n : ℕ) → 1 ≤ n → 1 ≤ length piece → IsCut pending (slice_index piece 0)
     → IsCut pending (slice_index (take n piece) 0)
@@ -40,11 +34,11 @@ front-cut pending (b ∷ piece) (suc n) many some cut = cut
 -- ---- the characters
 
 module _ (pending : List ℕ) (b : ℕ) (cut : IsCut pending b) (low : b < 0x80) where
-  told : (read pending b).characters ≡ replacement ∷ b ∷ []
+  pub told : (read pending b).characters ≡ replacement ∷ b ∷ []
   told = sym ((when-cut pending b cut).told (replacement ∷ []) (b ∷ []) (cut-lost pending b cut)
       (sym (ap (λ (r : Read). r.characters) (first-ascii b low))))
 
-  left : (read pending b).pending ≡ []
+  pub left : (read pending b).pending ≡ []
   left = sym ((when-cut pending b cut).left [] (sym (ap (λ (r : Read). r.pending) (first-ascii b low))))
 
 module _ (s : State) (pending : List ℕ) where

@@ -1,11 +1,13 @@
 -- Text is its glyphs, written one after another.
 use Rattle.std.proofs.Common.{◌≡◌, ℕ, suc, ◌+◌, ◌≤◌, ◌<◌, Bool, true, false, List, [], ◌∷◌, ◌++◌, All, None, inl, inr, refl, sym, ap, subst, ◌∙◌, arith, append-nil, append_assoc, length, map, take, drop}
-use Rattle.std.specs.Prelude.{nat_lt, ◌==◌, flat_map}
+use Rattle.std.specs.Prelude.{nat_lt, ◌==◌, ◌⊎◌, flat_map, slice_index}
 use Rattle.std.proofs.Math.Seq.{take-add}
 use Rattle.std.proofs.lemmas.Bool.Decides.{nat_tests}
 use Rattle.std.proofs.lemmas.Grind.{flat_map-append}
 use Rattle.std.proofs.lemmas.List.{length-append, length-take, length-map, map-append}
 use Rattle.std.proofs.lemmas.List.Elements.{All-nil, All-cons, All-append}
+use Rattle.bstr.specs.Utf8.{replacement}
+use Rattle.vt_syntax.specs.Class.{IsPlain}
 use Rattle.vt_syntax.specs.declared.held.Held.TheVariants.{Nothing}
 use Rattle.vt_syntax.specs.Laws.{SplitLaw, SpellingLaw}
 use Rattle.vt_glyph.specs.declared.glyph.Spelling.TheVariants.{Plain}
@@ -24,11 +26,14 @@ use Rattle.vt_term.specs.Writing.{write_glyph, write_glyphs, IsAfterGlyphs}
 use Rattle.vt_term.specs.Play.{Played, play, both}
 use Rattle.vt_utf8.specs.Cells.{cells}
 use Rattle.vt_utf8.specs.Similar.{shown}
-use Rattle.vt_utf8.specs.Decoding.{characters, pending_after, IsWhole}
+use Rattle.vt_utf8.specs.Decoding.{Read, read, read_first, characters, pending_after, IsWhole}
 use Rattle.vt_utf8.specs.Translation.{written, unshifted, translation, glyph_off, is_at_end, reads_ascii, write_wide}
 use Rattle.vt_utf8.specs.Play.{translated_all, translated, play_utf8}
+use Rattle.vt_utf8.specs.Private.Cut.{IsCut}
 use Rattle.vt_utf8.specs.Private.Feeds.{FeedsUtf8, utf8_off}
 use Rattle.vt_utf8.specs.Text.{glyphs_of, IsInText, IsReady, ReadsText, WritesCharacter, WritesText}
+use Rattle.vt_utf8.proofs.CutOff.{told, left}
+use Rattle.vt_utf8.proofs.Firsts.{first-none, first-over, first-begun, read-nothing}
 use Rattle.vt_utf8.proofs.Cuts.{characters-append, pending-append, translation-ascii, ascii-characters, ascii-pending}
 use Rattle.vt_utf8.proofs.Written.{off-written, writes-one, off-one, unshifted-same}
 use Rattle.vt_utf8.proofs.Wide.{silently, KeepsSoundAt, PlaysTwo, plays-glyph, plays-wide, off-wide}
@@ -221,6 +226,15 @@ reads-ascii ascii b codes after low high is =
       codes = λ before. All-append IsEncoding codes (b ∷ []) before (All-cons IsEncoding b [] code.0 (All-nil IsEncoding));
     })
 
+pub reads-run : AsciiCodes → (run codes after : List ℕ) → All IsPlain run → after ≡ codes ++ run → ReadsText true run codes after
+reads-run ascii [] codes after all is = subst (ReadsText true [] codes) (sym (is ∙ append-nil codes)) (reads-none true codes)
+reads-run ascii (b ∷ run) codes after all is =
+    let first = all 0 0 (omega arith) in
+    reads-append true (b ∷ []) run codes (codes ++ b ∷ []) after
+    (reads-ascii ascii b codes (codes ++ b ∷ []) first.0 first.1 refl)
+    (reads-run ascii run (codes ++ b ∷ []) after (λ k e h. all (suc k) e (omega (arith, h)))
+    (is ∙ sym (append_assoc codes (b ∷ []) run)))
+
 any-text : (ascii : Bool) (c : ℕ) → IsInText false c → IsInText ascii c
 any-text ascii c (inl is) = let wrong : false ≡ true = is.0 in absurd cc
 any-text ascii c (inr is) = inr is
@@ -235,6 +249,70 @@ reads-whole ascii piece c n codes after whole writes = record {
       (sym (append-nil (glyphs_of c)) ∙ ap (λ (xs : List ℕ). flat_map glyphs_of xs) (sym whole.characters));
   codes = writes.codes;
 }
+
+-- ---- ill-formed bytes
+
+lone : (b : ℕ) → 0x80 ≤ b → (b < 0xC2) ⊎ (0xF4 < b) → read_first b ≡ record { characters = replacement ∷ []; pending = [] }
+lone b beyond (inl low) = first-none b beyond low
+lone b beyond (inr over) = first-over b over
+
+-- a byte that begins no character is U+FFFD
+pub lone-whole : (piece : List ℕ) → 1 ≤ length piece → 0x80 ≤ slice_index piece 0
+    → (slice_index piece 0 < 0xC2) ⊎ (0xF4 < slice_index piece 0) → IsWhole piece replacement 1
+lone-whole [] some beyond is = absurd (omega (arith, some))
+lone-whole (b ∷ rest) some beyond is =
+    let own : read [] b ≡ record { characters = replacement ∷ []; pending = [] } = read-nothing b ∙ lone b beyond is in
+    record {
+      some = omega arith;
+      within = omega arith;
+      characters = ap (λ (r : Read). r.characters ++ []) own;
+      pending = ap (λ (r : Read). r.pending) own;
+    }
+
+-- a first byte that ASCII cuts off is U+FFFD, and the ASCII comes after it
+module _ (b x : ℕ) (from : 0xC2 ≤ b) (to : b ≤ 0xF4) (low : 0x20 ≤ x) (high : x ≤ 0x7E) where
+  first-read : read [] b ≡ record { characters = []; pending = b ∷ [] }
+  first-read = read-nothing b ∙ first-begun b from to
+
+  first-cut : IsCut (b ∷ []) x
+  first-cut = record { one = refl; beyond = omega (arith, from); apart = grind (arith, nat_tests) }
+
+  both-characters : characters [] (b ∷ x ∷ []) ≡ replacement ∷ x ∷ []
+  both-characters = ap (λ (r : Read). r.characters ++ characters r.pending (x ∷ [])) first-read
+      ∙ ap (λ (cs : List ℕ). cs ++ []) (told (b ∷ []) x first-cut (omega (arith, high)))
+
+  both-left : pending_after [] (b ∷ x ∷ []) ≡ []
+  both-left = ap (λ (r : Read). pending_after r.pending (x ∷ [])) first-read ∙ left (b ∷ []) x first-cut (omega (arith, high))
+
+  reads-both : AsciiCodes → (codes middle after : List ℕ) → WritesCharacter replacement codes middle → after ≡ middle ++ x ∷ []
+      → ReadsText true (b ∷ x ∷ []) codes after
+  reads-both ascii codes middle after writes is =
+      let code = ascii x low high in
+      let glyphs : flat_map glyphs_of (replacement ∷ x ∷ []) ≡ glyphs_of replacement ++ x ∷ [] =
+      ap (λ (g : List ℕ). glyphs_of replacement ++ (g ++ [])) (ascii-glyphs x high) in
+      rw is (record {
+        is_text = subst (All (IsInText true)) (sym both-characters)
+            (All-cons (IsInText true) replacement (x ∷ []) (any-text true replacement writes.is_text)
+            (All-cons (IsInText true) x [] (inl (refl, (low, high))) (All-nil (IsInText true))));
+        pending = both-left;
+        glyphs = map-append encoded_glyph middle (x ∷ [])
+            ∙ ap (λ (g : List ℕ). g ++ encoded_glyph x ∷ []) writes.glyphs
+            ∙ ap (λ (n : ℕ). (map encoded_glyph codes ++ glyphs_of replacement) ++ n ∷ []) code.1
+            ∙ append_assoc (map encoded_glyph codes) (glyphs_of replacement) (x ∷ [])
+            ∙ ap (λ (g : List ℕ). map encoded_glyph codes ++ g)
+            (sym glyphs ∙ ap (λ (xs : List ℕ). flat_map glyphs_of xs) (sym both-characters));
+        codes = λ before. All-append IsEncoding middle (x ∷ []) (writes.codes before)
+            (All-cons IsEncoding x [] code.0 (All-nil IsEncoding));
+      })
+
+pub reads-cut : AsciiCodes → (piece codes middle after : List ℕ) → 2 ≤ length piece
+    → 0xC2 ≤ slice_index piece 0 → slice_index piece 0 ≤ 0xF4 → 0x20 ≤ slice_index piece 1 → slice_index piece 1 ≤ 0x7E
+    → WritesCharacter replacement codes middle → after ≡ middle ++ slice_index piece 1 ∷ []
+    → ReadsText true (take 2 piece) codes after
+reads-cut ascii [] codes middle after some from to low high writes is = absurd (omega (arith, some))
+reads-cut ascii (b ∷ []) codes middle after some from to low high writes is = absurd (omega (arith, some))
+reads-cut ascii (b ∷ x ∷ rest) codes middle after some from to low high writes is =
+    reads-both b x from to low high ascii codes middle after writes is
 
 -- ---- the codes of a character
 

@@ -1,5 +1,5 @@
 //! Text: characters whose glyphs are written one after another, before the last column. Speed: they are written at once.
-ghost use Rattle.std.specs.Prelude.{◌≡◌, ◌≤◌, ◌<◌, ◌+◌, [], ◌∷◌, false, length, take};
+ghost use Rattle.std.specs.Prelude.{◌≡◌, ◌≤◌, ◌<◌, ◌+◌, [], ◌∷◌, false, length, take, slice_index};
 ghost use Rattle.std.specs.Bool.{OnTrue};
 ghost use Rattle.arrayvec.specs.ArrayVec.{array_vec_len};
 ghost use Rattle.vt_utf8.specs.Text.{IsReady, ReadsText, WritesCharacter, WritesText};
@@ -10,6 +10,7 @@ use crate::similar::code_of;
 use crate::translation::{is_wide, narrow_code, reads_ascii};
 use arrayvec::ArrayVec;
 use vt_glyph::laws::ascii_codes;
+use vt_syntax::plain_run;
 use vt_term::SizedTerminal;
 
 /// The most glyphs of text that are written at a time.
@@ -68,30 +69,79 @@ fn read_character(piece: &[u8], room: usize, ascii: bool, text: &mut Text) -> us
     ensures room { array_vec_len text.new ≤ room }
     ensures text { ReadsText ascii (take result piece.now) text.old.items text.new.items }
 {
-    let b = piece[0];
-    if b < 0x80 {
-        return read_ascii(b, room, ascii, text);
+    if piece[0] < 0x80 {
+        return read_ascii(piece, room, ascii, text);
     }
     match whole_character(piece) {
         Some((c, size)) if append_codes(c, room, text) => size,
-        _ => 0,
+        Some(_) => 0,
+        None => read_ill_formed(piece, room, ascii, text),
     }
 }
 
-/// Appends an ASCII code, if it has a glyph, ASCII is read as itself, and there is room. Returns how many bytes it takes: 1 or 0.
+/// Appends the ASCII codes at the front of a chunk that have glyphs, if ASCII is read as itself, until there are `room`. Returns how
+/// many bytes they take.
 #[inline(always)]
-fn read_ascii(b: u8, room: usize, ascii: bool, text: &mut Text) -> usize
+fn read_ascii(piece: &[u8], room: usize, ascii: bool, text: &mut Text) -> usize
     requires few { room ≤ 64 }
     requires before { array_vec_len text.old ≤ room }
-    requires ascii { b < 0x80 }
-    ensures one { result ≤ 1 }
+    ensures within { result ≤ length piece.now }
     ensures room { array_vec_len text.new ≤ room }
-    ensures text { ReadsText ascii (take result (b ∷ [])) text.old.items text.new.items }
+    ensures text { ReadsText ascii (take result piece.now) text.old.items text.new.items }
 {
     ascii_codes();
-    if ascii && b >= 0x20 && b < 0x7F && text.len() < room {
-        text.push(b);
+    if !ascii {
+        return 0;
+    }
+    let run = plain_run(piece).min(room - text.len());
+    match text.try_extend_from_slice(&piece[..run]) {
+        Ok(()) => run,
+        Err(_) => 0,
+    }
+}
+
+/// Appends the code of U+FFFD for an ill-formed byte at the front of a chunk, with nothing pending, if there is room. If ASCII cuts the
+/// byte off, the ASCII code comes after it. Returns how many bytes they take.
+#[inline(always)]
+fn read_ill_formed(piece: &[u8], room: usize, ascii: bool, text: &mut Text) -> usize
+    requires some { 1 ≤ length piece.now }
+    requires beyond { 0x80 ≤ slice_index piece.now 0 }
+    requires few { room ≤ 64 }
+    requires before { array_vec_len text.old ≤ room }
+    ensures within { result ≤ length piece.now }
+    ensures room { array_vec_len text.new ≤ room }
+    ensures text { ReadsText ascii (take result piece.now) text.old.items text.new.items }
+{
+    let b = piece[0];
+    if 0xC2 <= b && b <= 0xF4 {
+        return read_cut_off(piece, room, ascii, text);
+    }
+    if append_codes('\u{FFFD}', room, text) {
         return 1;
+    }
+    0
+}
+
+/// Appends the code of U+FFFD for the first byte of a character, which ASCII cuts off, and the ASCII code. It does so if that code has
+/// a glyph, ASCII is read as itself, and there is room. Returns how many bytes they take: 2 or 0.
+#[inline(always)]
+fn read_cut_off(piece: &[u8], room: usize, ascii: bool, text: &mut Text) -> usize
+    requires some { 1 ≤ length piece.now }
+    requires first { (0xC2 ≤ slice_index piece.now 0) × (slice_index piece.now 0 ≤ 0xF4) }
+    requires few { room ≤ 64 }
+    requires before { array_vec_len text.old ≤ room }
+    ensures within { result ≤ length piece.now }
+    ensures room { array_vec_len text.new ≤ room }
+    ensures text { ReadsText ascii (take result piece.now) text.old.items text.new.items }
+{
+    ascii_codes();
+    if !ascii || piece.len() < 2 || text.len() == room {
+        return 0;
+    }
+    let b = piece[1];
+    if 0x20 <= b && b <= 0x7E && append_codes('\u{FFFD}', room - 1, text) {
+        text.push(b);
+        return 2;
     }
     0
 }
@@ -135,6 +185,9 @@ pub fn write_text(terminal: &mut SizedTerminal, piece: &[u8]) -> usize
     }
     let mut text = ArrayVec::new();
     let taken = read_text(piece, room, reads_ascii(terminal.sets()), &mut text);
+    if taken == 0 {
+        return 0;
+    }
     terminal.write_codes(text.as_slice());
     taken
 }

@@ -140,7 +140,7 @@ def lines_of(path):
         if line.startswith("--") or line.startswith("abbrev"):
             after = re.search(r"after `(.)`", line)
             sign = after[1] if after else sign if line.startswith("abbrev") else ""
-        elif "(byte (codes" in line or "(0x" in line:
+        elif "(0x" in line or 'row "' in line:
             found.append((sign, re.sub(r"^\w+ = ", "", line).strip(" ∷").strip()))
     return found
 
@@ -151,7 +151,7 @@ def is_row_of(rule, sign, line):
         return any(re.search(rf'\(codes "{name}[ "]', line) for name in rule.names)
     after = re.search(r"after `(.)`", rule.cells[1])
     finals = re.findall(r"`(?:ESC )?(\S)`|`` (\S) ``", rule.cells[1].partition(" after ")[0])
-    return sign == (after[1] if after else "") and any(line.startswith(f'(byte (codes "{one or other}"), λ') or line.startswith(f'(byte (codes "{one or other}"), change') for one, other in finals)
+    return sign == (after[1] if after else "") and any(line.startswith(f'row "{one or other}" ({word}') for one, other in finals for word in ("λ", "change"))
 
 
 def rows_in_tables(rule):
@@ -164,7 +164,7 @@ def rows_in_tables(rule):
     for word in dict.fromkeys(word for row in rows for word in WORD.findall(re.sub(r'"[^"]*"', "", row))):
         module, _ = names.get(word, (module_of(path), word))
         at = ROOT / module.split(".")[1] / "specs" / f"{module.split('.')[-1]}.antt"
-        if at.exists() and word in chunks(at) and word not in ("byte", "count", "first", "second", "on_display"):
+        if at.exists() and word in chunks(at) and word not in ("byte", "row", "count", "first", "second", "on_display"):
             places.append((at, word))
     return rows, [place for place in places if place[0] != path] or places
 
@@ -206,7 +206,7 @@ def arms(rule):
     if rule.section not in TABLES:
         return []
     rows = [line for sign, line in lines_of(ROOT / TABLES[rule.section]) if not sign and is_row_of(rule, sign, line)]
-    finals = [found[1] for line in rows if (found := re.match(r'\(byte \(codes "(.)"\)', line))]
+    finals = [found[1] for line in rows if (found := re.match(r'row "(.)"', line))]
     text = (ROOT / SECTIONS[rule.section] / "src/functions.rt").read_text()
     plain = re.search(r"^ *(?:pub\(crate\) )?fn plain_sequence\(.*?^ *\}\n\n", text, re.M | re.S)[0]
     return [arm.strip() for final in finals for arm in re.findall(rf"^ *b'{re.escape(final)}' => .*$", plain, re.M)]

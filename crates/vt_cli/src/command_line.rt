@@ -7,7 +7,7 @@ ghost use Rattle.clap.specs.declared.builder.command.Command.TheViews.{out-Comma
 ghost use Rattle.vt_cli.specs.declared.what.What.{What};
 ghost use Rattle.vt_cli.specs.CommandLine.{rule_for, required_argument, flag_option, every_option, arguments, subcommand, subcommand_with, with_name, as_program};
 ghost use Rattle.vt_cli.specs.CommandLine.{vt220, faults_in, found_in, name_of, status_for, is_true, is_set, is_whole, is_plain};
-ghost use Rattle.vt_cli.specs.CommandLine.{IsNumberOf, AreSettings, IsMemory, IsFault, IsStray, IsRefusal};
+ghost use Rattle.vt_cli.specs.CommandLine.{IsNumberOf, AreSettings, IsMemory, IsRefusal};
 ghost use Rattle.vt_cli.specs.CommandLine.{HasNoSettings};
 ghost use Rattle.vt_cli.specs.Request.{AreOptions, HasNoOptions};
 

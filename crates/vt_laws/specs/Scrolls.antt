@@ -1,5 +1,5 @@
 -- The functions of xterm that scroll lines off, and the lines of glyphs that are written one after another. (this profile)
-use Rattle.std.specs.Prelude.{ℕ, List, [], ◌++◌, Bool, false, min, None, Some, codes, ◌==◌, ◌||◌, if◌then◌else◌}
+use Rattle.std.specs.Prelude.{ℕ, List, [], ◌++◌, Bool, false, min, None, Some, ◌==◌, ◌||◌, if◌then◌else◌}
 use Rattle.std.proofs.Common.{zero, suc}
 use Rattle.arrayvec.specs.ArrayVec.{ArrayVec}
 use Rattle.vt_syntax.specs.declared.event.Event.{Event}
@@ -12,17 +12,17 @@ use Rattle.vt_utf8.specs.Translation.{glyph_off}
 use Rattle.vt_xterm.specs.Repeating.{times, column_before, glyph_before, room}
 
 abbrev pub scroll_up_event : ArrayVec ℕ → Event
-scroll_up_event params = Sequence None params None (byte (codes "S"))
+scroll_up_event params = Sequence None params None (byte "S")
 
 abbrev pub repeat_event : ArrayVec ℕ → Event
-repeat_event params = Sequence None params None (byte (codes "b"))
+repeat_event params = Sequence None params None (byte "b")
 
 -- the event is SU or REP
 abbrev pub is_scrolling : Event → Bool
 is_scrolling (Print b) = false
 is_scrolling (Control b) = false
 is_scrolling (Escape inter last) = false
-is_scrolling (Sequence None params None last) = last == byte (codes "S") || last == byte (codes "b")
+is_scrolling (Sequence None params None last) = last == byte "S" || last == byte "b"
 is_scrolling (Sequence None params (Some inter) last) = false
 is_scrolling (Sequence (Some marker) params None last) = false
 is_scrolling (Sequence (Some marker) params (Some inter) last) = false

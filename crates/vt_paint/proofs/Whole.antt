@@ -1,5 +1,5 @@
 -- The whole repaint and all changes: what is made of any display, and how the bytes are played.
-use Rattle.std.proofs.Common.{Bool, true, false, List, [], refl, ap, ◌∙◌, ◌≡◌, ◌+◌, ◌*◌, ◌≤◌, ℕ, ◌∷◌, ◌++◌, length}
+use Rattle.std.proofs.Common.{Bool, true, false, List, [], refl, ap, ◌∙◌, ◌≡◌, ◌+◌, ◌≤◌, ℕ, ◌∷◌, ◌++◌, length}
 use Rattle.std.proofs.Common.{length-append, drop, sym, subst, arith, None}
 use Rattle.vt_glyph.specs.GraphicSets.{GraphicSets}
 use Rattle.vt_glyph.specs.Invocation.{sets_at_power_up}
@@ -36,7 +36,7 @@ use Rattle.vt_syntax.proofs.Cutting.{read, escape}
 use Rattle.vt_screen.specs.declared.size.Size.{Size}
 use Rattle.vt_term.specs.Play.{after_events, play}
 use Rattle.vt_paint.specs.Controls.{reset_to_initial_state}
-use Rattle.vt_paint.specs.Limits.{paint_limit, changes_limit, row_digits}
+use Rattle.vt_paint.specs.Limits.{paint_limit, changes_limit}
 use Rattle.vt_paint.specs.Items.{stops_item, cells_item, first_items}
 use Rattle.vt_paint.specs.Repaint.{made_events, paint}
 use Rattle.vt_paint.specs.Spoken.{Speaks}

@@ -13,14 +13,14 @@ use Rattle.vt_glyph.proofs.Spelled.{spelling_code}
 use Rattle.vt_paint.specs.Pieces.{is_blank_grid, piece, needs_header, left_of, header, glyph_events}
 use Rattle.vt_paint.specs.Pieces.{piece_of, pieces}
 use Rattle.vt_paint.specs.Private.Parts.{row_pieces}
-use Rattle.vt_paint.specs.Private.ChangeEvents.{changed_row, changed_rows, change, short_brush_events, change_of, changed_cells}
+use Rattle.vt_paint.specs.Private.ChangeEvents.{changed_row, change, short_brush_events, change_of, changed_cells}
 use Rattle.vt_paint.specs.Private.ChangeEvents.{start_item, saved_cursor, record_item, change_events}
 use Rattle.vt_paint.specs.Spoken.{are_numbers, is_one_of, Speaks}
 use Rattle.vt_term.specs.State.{has_stop_at, stops_of, saved_at_power_up, Display, last_column, saved_sets}
 use Rattle.vt_term.specs.State.{modes_at_power_up}
 use Rattle.std.proofs.Common.{◌≡◌, Bool, true, false, not, cond, eqb, leb, ltb, ◌&&◌, ℕ, zero, suc, ◌+◌, ◌-◌, ◌*◌, ◌≤◌}
 use Rattle.std.proofs.Common.{◌<◌, List, [], ◌∷◌, ◌++◌, length, length-append, append_assoc, append-nil, Option, Some}
-use Rattle.std.proofs.Common.{None, decimal, codes, refl, sym, ap, subst, ◌∙◌, arith}
+use Rattle.std.proofs.Common.{None, decimal, codes, refl, sym, ap, ◌∙◌, arith}
 use Rattle.std.specs.Prelude.{All}
 use Rattle.std.specs.Fmt.{digits}
 use Rattle.std.specs.List.{range_with_len, flat_map, list_all, sum_by}

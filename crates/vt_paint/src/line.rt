@@ -1,7 +1,7 @@
 //! Speed: the bytes of a row, written one after another into a line that is appended at once. Each call begins at a
 //! position of the line, and returns the position after the bytes that it wrote.
-ghost use Rattle.std.specs.Prelude.{◌≡◌, ◌+◌, ◌≤◌, ◌<◌, ◌++◌, ◌∷◌, [], take, length};
-ghost use Rattle.vt_syntax.specs.Spelling.{spell_event, spell_events};
+ghost use Rattle.std.specs.Prelude.{◌≡◌, ◌+◌, ◌≤◌, ◌<◌, ◌++◌, ◌∷◌, [], take};
+ghost use Rattle.vt_syntax.specs.Spelling.{spell_events};
 ghost use Rattle.vt_glyph.specs.Spell.{spelling_of};
 ghost use Rattle.vt_screen.specs.declared.cell.Brush.{Brush};
 ghost use Rattle.vt_paint.specs.Controls.{cursor_position, brush_events, spelling_events};

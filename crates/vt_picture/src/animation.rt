@@ -1,5 +1,5 @@
 //! The screen as a picture that moves: an SVG document without a script.
-ghost use Rattle.std.specs.Prelude.{◌≡◌, ◌+◌, ◌*◌, ◌≤◌, ◌++◌, ◌∷◌, [], if◌then◌else◌, nat_lt, ℕ, ◌<◌, List, length, flat_map, vec_len, vec_capacity, OnOk, OnErr, IsOk, slice_index_or};
+ghost use Rattle.std.specs.Prelude.{◌≡◌, ◌+◌, ◌*◌, ◌≤◌, ◌++◌, ◌∷◌, [], if◌then◌else◌, nat_lt, ℕ, ◌<◌, length, flat_map, vec_len, vec_capacity, OnOk, OnErr, IsOk, slice_index_or};
 ghost use Rattle.vt_screen.specs.Sizes.{IsSize};
 ghost use Rattle.vt_picture.specs.Animation.{rows_drawn, screen_drawn, rows_changed, same_paper, changes_drawn, number_then, AreNumbered};
 ghost use Rattle.vt_picture.specs.Animation.{narrow_screens, whole_paper, frame_start, frame, number_on_screen, number_after};

@@ -1,6 +1,5 @@
 //! The screen as a picture: an SVG document.
 ghost use Rattle.std.specs.Prelude.{◌≡◌, ◌+◌, ◌*◌, ◌≤◌, ◌++◌, length, vec_len, vec_capacity, OnOk, OnErr, IsOk};
-ghost use Rattle.vt_term.specs.State.{Display};
 ghost use Rattle.vt_picture.specs.Picture.{alternative, alternative_line, cursor_picture, document_start};
 ghost use Rattle.vt_picture.specs.Picture.{group, group_start, picture, rows_picture, style, title_end};
 ghost use Rattle.vt_picture.specs.Limits.{alternative_limit, picture_limit, rows_limit};

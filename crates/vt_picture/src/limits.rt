@@ -1,7 +1,7 @@
 //! The most bytes of what is made of a screen of a size.
 ghost use Rattle.std.specs.Prelude.{◌≡◌, ◌≤◌};
 ghost use Rattle.vt_screen.specs.Sizes.{IsSize};
-ghost use Rattle.vt_picture.specs.Limits.{alternative_limit, animation_limit, drawn_row_limit, frame_limit};
+ghost use Rattle.vt_picture.specs.Limits.{alternative_limit, animation_limit, frame_limit};
 ghost use Rattle.vt_paint.specs.Limits.{row_digits};
 ghost use Rattle.vt_picture.specs.Limits.{draw_limit, picture_limit, places_limit, show_limit};
 

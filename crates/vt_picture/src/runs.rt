@@ -4,7 +4,7 @@ ghost use Rattle.vt_screen.specs.Same.{when};
 ghost use Rattle.vt_picture.specs.Looks.{is_blank as is_blank_cell};
 ghost use Rattle.vt_picture.specs.Picture.{left_of, width_of, height_of, top_of, baseline_of, rectangle, goes_on as goes_on_with};
 ghost use Rattle.vt_picture.specs.Picture.{run_length as run_length_of, is_followed as is_followed_by, fill};
-ghost use Rattle.vt_picture.specs.Picture.{run_attributes, run_start, shown_cell, cells_picture, row_picture};
+ghost use Rattle.vt_picture.specs.Picture.{run_attributes, run_start, shown_cell, row_picture};
 
 use crate::bytes::push_escaped;
 use vt_glyph::Glyph;

@@ -1,7 +1,7 @@
 -- The events that blank the screen leave a blank cell at each place.
 use Rattle.std.proofs.Common.{◌≡◌, ℕ, ◌+◌, ◌≤◌, Bool, true, false, List, [], ◌∷◌, eqb, Some, None, refl, sym, ap}
 use Rattle.std.proofs.Common.{subst, ◌∙◌, arith, inl, inr, nat_le}
-use Rattle.std.specs.Prelude.{◌==◌, ◌||◌, ◌&&◌, codes}
+use Rattle.std.specs.Prelude.{◌==◌, ◌||◌, ◌&&◌}
 use Rattle.std.proofs.lemmas.Bool.{and_parts, eqb-true, false≢true}
 use Rattle.std.proofs.lemmas.Bool.Decides.{eqb_tells, leb_tells, nat_tests}
 use Rattle.vt_syntax.specs.declared.event.Event.{Event}
@@ -99,28 +99,28 @@ module _ (places : PlaceLaws) where
   unfolding plain_escape sequence_in sequences_of
   blanked-some (Print b) s some is = absurd (false≢true is)
   blanked-some (Control b) s some is = absurd (false≢true is)
-  blanked-some (Escape None last) s some is = rw (eqb-true last (byte (codes "c")) is) (new-blank s.grid.size false)
+  blanked-some (Escape None last) s some is = rw (eqb-true last (byte "c") is) (new-blank s.grid.size false)
   blanked-some (Escape (Some inter) last) s some is = absurd (false≢true is)
   blanked-some (Sequence None params None last) s some is =
       let P : Type 0 = IsBlank (effect (Sequence None params None last) s).grid in
-      either P (last == byte (codes "J") && erases_all (first params.items) s) _ is
+      either P (last == byte "J" && erases_all (first params.items) s) _ is
       (λ e.
       let parts = and_parts _ _ e in
-      rw (eqb-true last (byte (codes "J")) parts.0) (erased-all (first params.items) s parts.1))
+      rw (eqb-true last (byte "J") parts.0) (erased-all (first params.items) s parts.1))
       (λ e.
       let parts = and_parts _ _ e in
-      either P (last == byte (codes "L")) (last == byte (codes "M")) parts.0
-      (λ l. rw (eqb-true last (byte (codes "L")) l) (moved-down params.items s some parts.1))
-      (λ m. rw (eqb-true last (byte (codes "M")) m) (moved-up params.items s some parts.1)))
+      either P (last == byte "L") (last == byte "M") parts.0
+      (λ l. rw (eqb-true last (byte "L") l) (moved-down params.items s some parts.1))
+      (λ m. rw (eqb-true last (byte "M") m) (moved-up params.items s some parts.1)))
   blanked-some (Sequence (Some marker) params None last) s some is =
       let P : Type 0 = IsBlank (effect (Sequence (Some marker) params None last) s).grid in
-      let ends : Bool = last == byte (codes "h") || last == byte (codes "l") in
-      let parts = and_parts (marker == byte (codes "?") && ends) (contains params.items 3) is in
-      let front = and_parts (marker == byte (codes "?")) ends parts.0 in
-      let mark = eqb-true marker (byte (codes "?")) front.0 in
-      either P (last == byte (codes "h")) (last == byte (codes "l")) front.1
-      (λ h. rw (mark, eqb-true last (byte (codes "h")) h) (column-changed true params.items s parts.1))
-      (λ l. rw (mark, eqb-true last (byte (codes "l")) l) (column-changed false params.items s parts.1))
+      let ends : Bool = last == byte "h" || last == byte "l" in
+      let parts = and_parts (marker == byte "?" && ends) (contains params.items 3) is in
+      let front = and_parts (marker == byte "?") ends parts.0 in
+      let mark = eqb-true marker (byte "?") front.0 in
+      either P (last == byte "h") (last == byte "l") front.1
+      (λ h. rw (mark, eqb-true last (byte "h") h) (column-changed true params.items s parts.1))
+      (λ l. rw (mark, eqb-true last (byte "l") l) (column-changed false params.items s parts.1))
   blanked-some (Sequence None params (Some inter) last) s some is = absurd (false≢true is)
   blanked-some (Sequence (Some marker) params (Some inter) last) s some is = absurd (false≢true is)
 

@@ -1,6 +1,6 @@
 -- The pages: the lines of the screen before each event that blanks all of it. (EK-VT220-RM, chapter 4: ED, IL, DL, RIS
 -- and DECCOLM; that their lines are written is this profile's)
-use Rattle.std.specs.Prelude.{◌≡◌, ◌≤◌, ℕ, List, [], ◌∷◌, ◌++◌, Bool, false, Option, Some, None, length, codes}
+use Rattle.std.specs.Prelude.{◌≡◌, ◌≤◌, ℕ, List, [], ◌∷◌, ◌++◌, Bool, false, Option, Some, None, length}
 use Rattle.std.specs.Prelude.{◌==◌, ◌||◌, ◌&&◌, nat_le, if◌then◌else◌, flat_map}
 use Rattle.vt_syntax.specs.declared.event.Event.{Event}
 use Rattle.vt_syntax.specs.declared.event.Event.TheVariants.{Print, Control, Escape, Sequence}
@@ -28,16 +28,16 @@ moves_all params s =
 -- a control sequence blanks the screen, by its marker and its intermediate: ED, IL or DL, or DECCOLM set or reset
 abbrev pub blanks_by : Option ℕ → Option ℕ → List ℕ → ℕ → Display → Bool
 blanks_by None None params last s =
-    (last == byte (codes "J") && erases_all (first params) s)
-    || ((last == byte (codes "L") || last == byte (codes "M")) && moves_all params s)
+    (last == byte "J" && erases_all (first params) s)
+    || ((last == byte "L" || last == byte "M") && moves_all params s)
 blanks_by (Some marker) None params last s =
-    marker == byte (codes "?") && (last == byte (codes "h") || last == byte (codes "l")) && contains params 3
+    marker == byte "?" && (last == byte "h" || last == byte "l") && contains params 3
 blanks_by None (Some inter) params last s = false
 blanks_by (Some marker) (Some inter) params last s = false
 
 -- the escape sequence is RIS
 abbrev pub is_reset : Option ℕ → ℕ → Bool
-is_reset None last = last == byte (codes "c")
+is_reset None last = last == byte "c"
 is_reset (Some inter) last = false
 
 -- the event blanks the whole screen

@@ -1,5 +1,5 @@
 //! The summary of UTF-8 that comes in chunks: its characters are counted.
-ghost use Rattle.std.specs.Prelude.{◌≡◌, ◌≤◌, ◌++◌, List, ℕ, [], length, map, take};
+ghost use Rattle.std.specs.Prelude.{◌≡◌, ◌≤◌, ◌++◌, List, ℕ, length, map, take};
 ghost use Rattle.std.specs.Option.{option_to_list};
 ghost use Rattle.vt_utf8.specs.Decoding.{pending_after};
 ghost use Rattle.vt_trace.specs.Counted.{HasCountedBy, HasCountedOn};

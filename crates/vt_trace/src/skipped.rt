@@ -1,5 +1,5 @@
 //! The lines of items that are no event, since they have no function.
-ghost use Rattle.std.specs.Prelude.{◌≡◌, ◌+◌, ◌*◌, ◌^◌, ◌≤◌, ◌<◌, ◌++◌, [], ◌∷◌, ◌&&◌, ◌||◌, not, ℕ, List, All, length, take, drop, true};
+ghost use Rattle.std.specs.Prelude.{◌≡◌, ◌+◌, ◌*◌, ◌^◌, ◌≤◌, ◌<◌, ◌++◌, [], ◌∷◌, ◌&&◌, ◌||◌, ℕ, List, All, length, take, drop, true};
 ghost use Rattle.std.specs.Prelude.{if◌then◌else◌, IfSome, option_copied, vec_len, vec_capacity};
 ghost use Rattle.std.specs.Option.{option_to_list};
 ghost use Rattle.vt_syntax.specs.Event.{event_in, event_of};

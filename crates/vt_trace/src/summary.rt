@@ -2,7 +2,6 @@
 //! ignored.
 ghost use Rattle.std.specs.Prelude.{◌≡◌, ℕ, List, Option, ◌+◌, ◌-◌, ◌*◌, ◌^◌, ◌<◌, ◌≤◌, ◌++◌, [], ◌∷◌, length, take, min, set, get_or};
 ghost use Rattle.std.specs.Prelude.{IfOk, IfSome, vec_len, vec_capacity, if◌then◌else◌};
-ghost use Rattle.std.specs.Bool.{OnTrue};
 ghost use Rattle.std.specs.Option.{option_to_list};
 ghost use Rattle.vt_syntax.specs.declared.event.Event.{Event};
 ghost use Rattle.vt_syntax.specs.Event.{event_in, event_of};

@@ -9,7 +9,7 @@ ghost use Rattle.vt_term.specs.Play.{play};
 ghost use Rattle.vt_term.specs.Reports.{report};
 ghost use Rattle.vt_trace.specs.Trace.{begins, place_of, is_text, text_begin, text_end, text_of, report_line, written};
 ghost use Rattle.vt_trace.specs.Trace.{tracer_at_start, between, trace, tracer_all, end_lines};
-ghost use Rattle.vt_trace.specs.Lines.{shown, event_line_by};
+ghost use Rattle.vt_trace.specs.Lines.{event_line_by};
 
 use crate::bytes::{push_all_shown, push_bytes, push_number, push_shown};
 use crate::laws::sized_cuts;

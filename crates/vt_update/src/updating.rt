@@ -13,7 +13,7 @@ ghost use Rattle.vt_paint.specs.Repaint.{paint};
 ghost use Rattle.vt_paint.specs.Limits.{paint_limit, changes_limit};
 ghost use Rattle.vt_paint.specs.Changes.{differing_at, AreChangesAt};
 ghost use Rattle.vt_paint.specs.Spoken.{Speaks};
-ghost use Rattle.vt_update.specs.Leads.{Leads, Updates, HasOtherColumns};
+ghost use Rattle.vt_update.specs.Leads.{Updates, HasOtherColumns};
 ghost use Rattle.vt_update.specs.Limits.{update_limit};
 
 use crate::choice::push_choice;

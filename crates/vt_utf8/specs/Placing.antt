@@ -1,6 +1,6 @@
 -- The text of a screen as UTF-8 that places it, row by row. (EK-VT220-RM, chapter 4: CUP, IRM and DECOM; the form is
 -- this profile's)
-use Rattle.std.specs.Prelude.{◌≡◌, ℕ, List, [], ◌∷◌, ◌++◌, Bool, true, false, None, ◌==◌, codes, flat_map, encode_utf8_all}
+use Rattle.std.specs.Prelude.{◌≡◌, ℕ, List, [], ◌∷◌, ◌++◌, Bool, true, false, None, ◌==◌, flat_map, encode_utf8_all}
 use Rattle.std.specs.List.{range_with_len}
 use Rattle.vt_syntax.specs.declared.event.Event.{Event}
 use Rattle.vt_syntax.specs.declared.event.Event.TheVariants.{Sequence}
@@ -16,7 +16,7 @@ use Rattle.vt_utf8.specs.Translation.{reads_ascii}
 
 -- CUP to the first column of a row
 abbrev pub to_row : ℕ → Event
-to_row row = Sequence None (record { items = row ∷ 1 ∷ [] }) None (byte (codes "H"))
+to_row row = Sequence None (record { items = row ∷ 1 ∷ [] }) None (byte "H")
 
 -- the characters of a row that its line of the text has, after CUP in place of the LF
 abbrev pub placed_row : Grid → ℕ → List ℕ

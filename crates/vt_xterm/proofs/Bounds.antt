@@ -7,7 +7,7 @@ use Rattle.vt_glyph.specs.Tables.{IsGlyph, is_glyph}
 use Rattle.vt_screen.specs.declared.cell.Cell.{Cell}
 use Rattle.vt_screen.specs.declared.size.Size.{Size}
 use Rattle.vt_screen.specs.Cells.{blank, cell_of}
-use Rattle.vt_screen.specs.Grid.{Grid, IsSoundGrid, cell_at, is_within, put}
+use Rattle.vt_screen.specs.Grid.{Grid, IsSoundGrid, cell_at, put}
 use Rattle.vt_screen.specs.Between.{changed, rectangle, from_below, from_above, from_left, from_right}
 use Rattle.vt_screen.specs.Between.{columns_up, columns_down, insert_between, delete_between, put_between}
 use Rattle.vt_screen.proofs.Places.{IsGrid-grid_of}

@@ -1,6 +1,6 @@
 -- The result of feeding.
 use Rattle.std.proofs.Common.{◌≡◌, ℕ, ◌+◌, List, [], ◌∷◌, ◌++◌, All, ◌<◌, take, drop, length, refl, sym, ap, ◌∙◌, append_assoc, subst, false, arith, None, Option, Some}
-use Rattle.std.specs.Prelude.{◌≤◌, nat_lt, if◌then◌else◌}
+use Rattle.std.specs.Prelude.{◌≤◌, nat_lt}
 use Rattle.std.proofs.lemmas.Bool.Decides.{nat_tests}
 use Rattle.std.proofs.Common.{append-nil}
 use Rattle.std.proofs.Math.Seq.{take-add, take-length}

@@ -1,7 +1,7 @@
 -- The left and right margins still fit after every function, and after characters.
-use Rattle.std.proofs.Common.{rules, arith, ◌≡◌, ℕ, ◌≤◌, ◌<◌, ◌+◌, ◌-◌, Bool, true, false, List, [], ◌∷◌, Option, Some, None}
+use Rattle.std.proofs.Common.{rules, arith, ◌≡◌, ℕ, ◌≤◌, ◌<◌, ◌-◌, Bool, true, false, List, [], ◌∷◌, Option, Some, None}
 use Rattle.std.proofs.Common.{refl, subst, sym, ap, ◌∙◌}
-use Rattle.std.specs.Prelude.{◌==◌, ◌&&◌, ◌||◌, not, nat_le, nat_lt, min, max, is_some, unwrap_or, codes, if◌then◌else◌}
+use Rattle.std.specs.Prelude.{◌==◌, ◌&&◌, not, nat_le, nat_lt, min, max, is_some, unwrap_or, if◌then◌else◌}
 use Rattle.std.proofs.lemmas.Bool.{false≢true}
 use Rattle.std.proofs.lemmas.Bool.Decides.{nat_tests}
 use Rattle.vt_syntax.specs.declared.event.Event.{Event}
@@ -431,7 +431,7 @@ module _ (glyphs : GlyphLaws) (sets : SetsLaws) (rows : RowLaws) (tests : TestLa
   unfolding AllRows
   escape_with-fit inter last =
       looked_up-or (λ key table. KeepsFit (function_in table (Escape (Some key) last) last []))
-      ((byte (codes "#"), alignments) ∷ []) inter []
+      ((byte "#", alignments) ∷ []) inter []
       (λ none. function_in-fit [] (Escape (Some inter) last) last []
       (λ h. escape_with-place inter last (not-both (inter == 0x23) (last == 0x38) (missed (inter == 0x23) alignments none))) tt) (
         function_in-fit alignments (Escape (Some 0x23) last) last []
@@ -451,9 +451,9 @@ module _ (glyphs : GlyphLaws) (sets : SetsLaws) (rows : RowLaws) (tests : TestLa
   unfolding functions_of AllRows
   marked-fit marker last params =
       looked_up-or (λ key table. KeepsFit (function_in table (Sequence (Some key) (record { items = params }) None last) last params))
-      ((byte (codes "?"), private_functions) ∷ []) marker []
+      ((byte "?", private_functions) ∷ []) marker []
       (λ none. function_in-fit [] (Sequence (Some marker) (record { items = params }) None last) last params
-      (λ h. marked-place marker last params (none-after (look_up ((byte (codes "?"), private_functions) ∷ []) marker) last none)) tt)
+      (λ h. marked-place marker last params (none-after (look_up ((byte "?", private_functions) ∷ []) marker) last none)) tt)
       (private-fit (Sequence (Some 0x3F) (record { items = params }) None last) last params (marked-place 0x3F last params), tt)
 
   level-place : (params : List ℕ) (s : Display) → is_level (first params) (second params) ≡ false

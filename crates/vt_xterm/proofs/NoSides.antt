@@ -1,6 +1,6 @@
 -- While DECLRMM is reset, events have the effect that they have without left and right margins.
 use Rattle.std.proofs.Common.{rules, ◌≡◌, ℕ, Bool, true, false, List, [], ◌∷◌, ◌++◌, Option, Some, None, All, map, refl, sym, ap, ◌∙◌, subst}
-use Rattle.std.specs.Prelude.{◌==◌, ◌||◌, ◌&&◌, codes, if◌then◌else◌}
+use Rattle.std.specs.Prelude.{◌==◌, ◌||◌, ◌&&◌, if◌then◌else◌}
 use Rattle.std.specs.List.{list_any}
 use Rattle.vt_syntax.specs.declared.event.Event.{Event}
 use Rattle.vt_syntax.specs.declared.event.Event.TheVariants.{Print, Control, Escape, Sequence}
@@ -172,12 +172,12 @@ own-none event last params =
     (λ s none. none) (search (rules, s-none, restore_if_bare-none))
 
 private-none : (event : Event) (last : ℕ) (params : List ℕ)
-    → (last == byte (codes "h") && list_any (is_side_mode true) params) ≡ false
+    → (last == byte "h" && list_any (is_side_mode true) params) ≡ false
     → KeepNone (function_in private_functions event last params)
 unfolding function_in AllRows
 private-none event last params =
     looked_up-holds
-    (λ key f. (key == byte (codes "h") && list_any (is_side_mode true) params) ≡ false → KeepNone (f params))
+    (λ key f. (key == byte "h" && list_any (is_side_mode true) params) ≡ false → KeepNone (f params))
     private_functions last (λ params. on_display (effect event)) (λ h s none. none)
     (λ h. page_modes-none true params h, (λ h. page_modes-none false params (never params), tt))
 
@@ -186,7 +186,7 @@ marked-none : (event : Event) (marker last : ℕ) (params : List ℕ) → sets_s
 unfolding functions_of function_in AllRows
 marked-none event marker last params =
     looked_up-holds (λ key table. sets_sides key last params ≡ false → KeepNone (function_in table event last params))
-    ((byte (codes "?"), private_functions) ∷ []) marker [] (λ h s none. none)
+    ((byte "?", private_functions) ∷ []) marker [] (λ h s none. none)
     (λ h. private-none event last params h, tt)
 
 level-none : (params : List ℕ) → KeepNone (set_level_without_sides params)
@@ -219,7 +219,7 @@ escapes_with-none : (inter last : ℕ) → KeepNone (function_in (escapes_with i
 unfolding function_in AllRows
 escapes_with-none inter last =
     looked_up-holds (λ key table. KeepNone (function_in table (Escape (Some inter) last) last []))
-    ((byte (codes "#"), alignments) ∷ []) inter [] (λ s none. none) (
+    ((byte "#", alignments) ∷ []) inter [] (λ s none. none) (
       looked_up-holds (λ key f. KeepNone (f [])) alignments last (λ params. on_display (effect (Escape (Some inter) last)))
           (λ s none. none) (λ s none. changed-none _ s.pages.sides none, tt),
       tt,

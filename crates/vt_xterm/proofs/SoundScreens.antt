@@ -1,7 +1,7 @@
 -- Every function keeps the display and the page that isn't shown sound.
 use Rattle.std.proofs.Common.{rules, arith, ◌≡◌, ℕ, ◌≤◌, Bool, true, false, zero, suc, List, [], ◌∷◌, Option, Some, None}
 use Rattle.std.proofs.Common.{refl, subst, sym, ap, ◌∙◌}
-use Rattle.std.specs.Prelude.{◌++◌, length, ◌==◌, ◌-◌, ◌&&◌, min, if◌then◌else◌, codes, IfSome}
+use Rattle.std.specs.Prelude.{length, ◌==◌, ◌-◌, ◌&&◌, min, if◌then◌else◌, IfSome}
 use Rattle.std.proofs.lemmas.Bool.Decides.{nat_tests}
 use Rattle.vt_syntax.specs.declared.event.Event.{Event}
 use Rattle.vt_syntax.specs.declared.event.Event.TheVariants.{Print, Control, Escape, Sequence}
@@ -510,7 +510,7 @@ module _ (glyphs : GlyphLaws) (sets : SetsLaws) (rows : RowLaws) (tests : TestLa
   unfolding functions_of AllRows AllFunctionsKeep
   functions_of-keep params None None = plain_functions-keep params
   functions_of-keep params (Some marker) None =
-      looked_up-holds (λ key table. AllFunctionsKeep params table) ((byte (codes "?"), private_functions) ∷ []) marker [] tt
+      looked_up-holds (λ key table. AllFunctionsKeep params table) ((byte "?", private_functions) ∷ []) marker [] tt
       ((change_page_modes-keeps glyphs sets true params, (change_page_modes-keeps glyphs sets false params, tt)), tt)
   functions_of-keep params None (Some inter) =
       looked_up-holds (λ key table. AllFunctionsKeep params table) intermediate_functions inter [] tt (
@@ -547,7 +547,7 @@ module _ (glyphs : GlyphLaws) (sets : SetsLaws) (rows : RowLaws) (tests : TestLa
   escapes_with-keep : (inter : ℕ) → AllFunctionsKeep [] (escapes_with inter)
   unfolding AllRows AllFunctionsKeep
   escapes_with-keep inter =
-      looked_up-holds (λ key table. AllFunctionsKeep [] table) ((byte (codes "#"), alignments) ∷ []) inter [] tt
+      looked_up-holds (λ key table. AllFunctionsKeep [] table) ((byte "#", alignments) ∷ []) inter [] tt
       ((display-keeps screen_alignment screen_alignment-keeps, tt), tt)
 
   pub screen-event-keeps : (event : Event) → Keeps (screen_effect event)
@@ -709,7 +709,7 @@ module _ (glyphs : GlyphLaws) (sets : SetsLaws) (rows : RowLaws) (tests : TestLa
       (other_between-keeps event last params.items size m s fits i)
   bounded-keeps (Sequence (Some marker) params None last) size m s fits i =
       let event = Sequence (Some marker) params None last in
-      one-screen size (marker == byte (codes "?") && erases last params.items) (resetting (λ x. effect event) m s)
+      one-screen size (marker == byte "?" && erases last params.items) (resetting (λ x. effect event) m s)
       (screen_effect event s) (effect-fixed glyphs sets event size s.display i.0, i.1) (screen-event-keeps event size s i)
   bounded-keeps (Sequence None params (Some inter) last) size m s fits i =
       screen-event-keeps (Sequence None params (Some inter) last) size s i

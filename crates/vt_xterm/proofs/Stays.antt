@@ -1,6 +1,6 @@
 -- Which functions leave the pages and the width.
 use Rattle.std.proofs.Common.{rules, ◌≡◌, ℕ, Bool, true, false, zero, suc, List, [], ◌∷◌, Option, Some, None, refl, sym, ap, ◌∙◌}
-use Rattle.std.specs.Prelude.{◌==◌, ◌||◌, ◌&&◌, min, length, if◌then◌else◌, codes}
+use Rattle.std.specs.Prelude.{◌==◌, ◌||◌, ◌&&◌, min, length, if◌then◌else◌}
 use Rattle.std.specs.List.{list_any}
 use Rattle.vt_syntax.specs.declared.event.Event.{Event}
 use Rattle.vt_syntax.specs.declared.event.Event.TheVariants.{Print, Control, Escape, Sequence}
@@ -427,7 +427,7 @@ sequence-stays event (Some marker) None last params fits h k =
     looked_up-holds
     (λ key table. sets_page_mode key last params ≡ false → sets_mode is_paste_mode key last params ≡ false
     → Stays (function_in table event last params))
-    ((byte (codes "?"), private_functions) ∷ []) marker [] (λ h k. none-stays event last params fits)
+    ((byte "?", private_functions) ∷ []) marker [] (λ h k. none-stays event last params fits)
     (λ h k. private-stays event last params fits h k, tt) h k
 sequence-stays event None (Some inter) last params fits h k =
     looked_up-holds (λ key table. Stays (function_in table event last params))
@@ -448,7 +448,7 @@ unfolding function_in AllRows
 escapes_with-stays inter last =
     let own = display-stays (effect (Escape (Some inter) last)) (escape_with-fits inter last) in
     looked_up-holds (λ key table. Stays (function_in table (Escape (Some inter) last) last []))
-    ((byte (codes "#"), alignments) ∷ []) inter [] own (
+    ((byte "#", alignments) ∷ []) inter [] own (
       looked_up-holds (λ key f. Stays (f [])) alignments last (λ params. on_display (effect (Escape (Some inter) last))) own
           (λ s. (refl, refl), tt),
       tt,
@@ -546,7 +546,7 @@ bounded-stays (Sequence None params None last) fits stays m s =
     (other_between-stays event last params.items stays m s)
 bounded-stays (Sequence (Some marker) params None last) fits stays m s =
     let event = Sequence (Some marker) params None last in
-    one-stays (marker == byte (codes "?") && erases last params.items) s (resetting (λ x. effect event) m s)
+    one-stays (marker == byte "?" && erases last params.items) s (resetting (λ x. effect event) m s)
     (screen_effect event s) (refl, fits s.display) (stays s)
 bounded-stays (Sequence None params (Some inter) last) fits stays m s = stays s
 bounded-stays (Sequence (Some marker) params (Some inter) last) fits stays m s = stays s
@@ -635,7 +635,7 @@ marked-but : (event : Event) (marker last : ℕ) (params : List ℕ) → Fits (e
 unfolding functions_of AllRows
 marked-but event marker last params fits =
     looked_up-holds (λ key table. sets_page_mode key last params ≡ false → StaysBut (function_in table event last params))
-    ((byte (codes "?"), private_functions) ∷ []) marker []
+    ((byte "?", private_functions) ∷ []) marker []
     (λ h. but (function_in [] event last params) (none-stays event last params fits))
     (λ h. private-but event last params fits h, tt)
 
@@ -659,7 +659,7 @@ marked-xterm marker last params h None s =
 marked-xterm marker last params h (Some m) s =
     let event = Sequence (Some marker) (record { items = params }) None last in
     let fits : Fits (effect event) = sequence-fits (Some marker) None last params h in
-    one-but (marker == byte (codes "?") && erases last params) s (resetting (λ x. effect event) m s) (screen_effect event s)
+    one-but (marker == byte "?" && erases last params) s (resetting (λ x. effect event) m s) (screen_effect event s)
     (refl, fits s.display) (marked-but event marker last params fits h s)
 
 pub event-but : (event : Event) → is_page_function event ≡ false → StaysBut (xterm_effect event)

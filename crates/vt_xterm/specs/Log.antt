@@ -1,6 +1,6 @@
 -- The lines that scroll off the top of the main page. On the alternate page none do. (xterm's control sequences: SU;
 -- ECMA-48 8.3.147. All else is this profile's)
-use Rattle.std.specs.Prelude.{ℕ, List, [], ◌∷◌, ◌++◌, map, min, unwrap_or, ◌==◌, codes, if◌then◌else◌, Option, Some, None}
+use Rattle.std.specs.Prelude.{ℕ, List, [], ◌∷◌, ◌++◌, map, min, unwrap_or, ◌==◌, if◌then◌else◌, Option, Some, None}
 use Rattle.std.specs.List.{range_with_len}
 use Rattle.vt_syntax.specs.declared.event.Event.{Event}
 use Rattle.vt_syntax.specs.declared.event.Event.TheVariants.{Print, Control, Escape, Sequence}
@@ -9,7 +9,7 @@ use Rattle.vt_screen.specs.declared.cell.Cell.{Cell}
 use Rattle.vt_screen.specs.Grid.{Grid, row_of}
 use Rattle.vt_term.specs.State.{Display}
 use Rattle.vt_term.specs.Parameters.{count}
-use Rattle.vt_term.specs.Functions.{byte}
+use Rattle.vt_term.specs.Functions.{row}
 use Rattle.vt_term.specs.Scrolling.{line_off}
 use Rattle.vt_utf8.specs.Translation.{glyph_off}
 use Rattle.vt_xterm.specs.declared.sides.Sides.{Sides}
@@ -28,8 +28,8 @@ rows_off n s = if s.margins.top == 1 then first_rows (min s.margins.bottom n) s.
 -- line off and the others stay in its row
 abbrev pub scrolling_functions : List (ℕ × (List ℕ → Display → List (List Cell)))
 scrolling_functions =
-    (byte (codes "S"), λ params. rows_off (count params))  -- SU
-    ∷ (byte (codes "b"), λ params. glyph_off)  -- REP
+    row "S" (λ params. rows_off (count params))  -- SU
+    ∷ row "b" (λ params. glyph_off)  -- REP
     ∷ []
 
 unfoldable pub function_off : Option ℕ → Option ℕ → ℕ → List ℕ → Display → List (List Cell)

@@ -1,5 +1,5 @@
 //! SGR with colours, which have no effect.
-ghost use Rattle.std.specs.Prelude.{◌≡◌, ◌≤◌, length};
+ghost use Rattle.std.specs.Prelude.{◌≡◌};
 ghost use Rattle.std.specs.List.{list_any};
 ghost use Rattle.vt_xterm.specs.Attributes.{begins_colour, colour_length, select_attributes};
 

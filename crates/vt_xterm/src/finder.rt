@@ -1,6 +1,6 @@
 //! The observers that find the functions of a front: a feed stops before each event that isn't a VT220's, or before those that set
 //! DECLRMM.
-ghost use Rattle.std.specs.Prelude.{◌≡◌, ◌≤◌, ◌∷◌, ◌==◌, [], false, true, length, Some, None};
+ghost use Rattle.std.specs.Prelude.{◌≡◌, ◌==◌, false, true, Some, None};
 ghost use Rattle.std.specs.List.{list_any};
 ghost use Rattle.std.specs.Bool.{OnFalse};
 ghost use Rattle.vt_syntax.specs.Event.{event_of};

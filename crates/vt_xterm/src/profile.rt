@@ -1,5 +1,4 @@
 //! TERM=xterm as a profile of the terminal, whose left and right margins bound nothing.
-ghost use Rattle.std.specs.Prelude.{◌≡◌};
 
 use crate::finder::{is_own, is_own_plain};
 use crate::front::SizedPages;

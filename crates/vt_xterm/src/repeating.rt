@@ -1,5 +1,5 @@
 //! REP, which repeats a glyph.
-ghost use Rattle.std.specs.Prelude.{◌≡◌, ◌≤◌, true, length};
+ghost use Rattle.std.specs.Prelude.{◌≡◌, ◌≤◌};
 ghost use Rattle.vt_term.specs.Writing.{write_glyph};
 ghost use Rattle.vt_xterm.specs.Repeating.{times, column_before, glyph_before, room, repeat};
 

@@ -15,23 +15,21 @@ use Rattle.vt_glyph.proofs.Spelled.{spelling_writes, spelling_leaves}
 use Rattle.vt_screen.specs.declared.cell.Brush.{Brush}
 use Rattle.vt_screen.specs.declared.cell.Cell.{Cell}
 use Rattle.vt_screen.specs.Cells.{brush_of, cell_of}
-use Rattle.vt_screen.specs.Grid.{Grid, IsGrid, cell_at, put}
+use Rattle.vt_screen.specs.Grid.{Grid, cell_at, put}
 use Rattle.vt_term.specs.declared.state.Cursor.{Cursor}
-use Rattle.vt_term.specs.declared.state.Modes.{Modes}
-use Rattle.vt_term.specs.State.{Display, at_place, last_column, modes_at_power_up}
+use Rattle.vt_term.specs.State.{Display, at_place, modes_at_power_up}
 use Rattle.vt_term.specs.Sound.{IsSoundSizedDisplay}
 use Rattle.vt_term.specs.Pages.{PageState}
 use Rattle.vt_term.specs.Writing.{write_glyph}
-use Rattle.vt_term.specs.Functions.{control, effect, sequences_of, sequence_in}
+use Rattle.vt_term.specs.Functions.{control, effect, sequences_of}
 use Rattle.vt_term.specs.Reports.{report, control_report, sequence_report}
 use Rattle.vt_term.specs.Answers.{line_of_cursor}
 use Rattle.vt_paint.specs.Controls.{private_mode, cursor_position, brush_events, sets_events, spelling_events}
 use Rattle.vt_paint.specs.Pieces.{glyph_events}
 use Rattle.vt_paint.specs.Items.{origin_item, wrap_item, modes_item, shift_item, placed_items}
 use Rattle.vt_paint.proofs.Equality.{or_false}
-use Rattle.vt_paint.proofs.AfterEvents.{Makes}
 use Rattle.vt_paint.proofs.Brushes.{brush_leaves}
-use Rattle.vt_paint.proofs.Painting.{put_same, put_again, cursor_leaves, AreGlyphs}
+use Rattle.vt_paint.proofs.Painting.{put_same, put_again, cursor_leaves}
 use Rattle.vt_paint.proofs.Chain.{part, line_back, rest_leaves}
 use Rattle.vt_paint.proofs.Within.{brush_within, rest_within, sound_glyphs}
 use Rattle.vt_xterm.specs.declared.sides.Sides.{Sides}
@@ -41,7 +39,7 @@ use Rattle.vt_xterm.specs.Bounded.{bounded_effect, bounded_in, has_row, other_be
 use Rattle.vt_xterm.specs.Front.{functions_of, function_in, effect_between, xterm_effect}
 use Rattle.vt_xterm.specs.Play.{after_events, reports_of}
 use Rattle.vt_xterm_paint.specs.Repaint.{sides_item, sides_to, column_named}
-use Rattle.vt_xterm_paint.proofs.Painted.{AreEach, IsOn, on_pages, on_sides, brush-quiet, single-quiet, quiet-effect, quiets-between, rest-between}
+use Rattle.vt_xterm_paint.proofs.Painted.{on_pages, on_sides, brush-quiet, single-quiet, quiet-effect, quiets-between, rest-between}
 use Rattle.vt_xterm_paint.proofs.Leading.{Leads, then-leads, one-leads, none-leads, on-leads}
 
 -- ---- margins that leave a column out, or none

@@ -1,6 +1,6 @@
 -- The items of a repaint have a VT220's effect under TERM=xterm, if DECCOLM has an effect there: all of them while DECLRMM is reset, and
 -- those from the brush on also while it is set.
-use Rattle.std.proofs.Common.{◌≡◌, Bool, true, false, not, cond, ◌&&◌, ℕ, List, [], ◌∷◌, ◌++◌, Option, Some, None, eqb, refl, ap, sym, ◌∙◌}
+use Rattle.std.proofs.Common.{◌≡◌, Bool, true, false, not, cond, ◌&&◌, ℕ, List, [], ◌∷◌, ◌++◌, Option, Some, None, eqb, refl, ap}
 use Rattle.std.specs.Bool.{⊤}
 use Rattle.std.specs.List.{flat_map, list_any, range_with_len}
 use Rattle.std.specs.Cmp.Lexicographic.{pointwise}
@@ -21,7 +21,7 @@ use Rattle.vt_term.specs.declared.state.Cursor.{Cursor}
 use Rattle.vt_term.specs.declared.state.Margins.{Margins}
 use Rattle.vt_term.specs.declared.state.Modes.{Modes}
 use Rattle.vt_term.specs.declared.state.Saved.{Saved}
-use Rattle.vt_term.specs.State.{Display, last_column, has_stop_at, stops_of, saved_sets, saved_at_power_up, modes_at_power_up}
+use Rattle.vt_term.specs.State.{Display, has_stop_at, stops_of, saved_sets, saved_at_power_up, modes_at_power_up}
 use Rattle.vt_term.specs.Modes.{with_mode}
 use Rattle.vt_term.specs.Pages.{PageState}
 use Rattle.vt_term.specs.Rendition.{select_graphic_rendition}

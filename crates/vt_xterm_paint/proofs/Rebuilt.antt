@@ -15,7 +15,7 @@ use Rattle.vt_syntax.proofs.Steps.{same_held, same_events}
 use Rattle.vt_syntax.proofs.Spelled.{ascii_bytes, events_steps}
 use Rattle.vt_syntax.proofs.Cutting.{read, escape}
 use Rattle.vt_screen.specs.declared.size.Size.{Size}
-use Rattle.vt_screen.specs.Sizes.{vt220_size, IsSize}
+use Rattle.vt_screen.specs.Sizes.{IsSize}
 use Rattle.vt_screen.specs.Grid.{Grid}
 use Rattle.vt_term.specs.declared.state.Saved.{Saved}
 use Rattle.vt_screen.proofs.Places.{width-bounds}

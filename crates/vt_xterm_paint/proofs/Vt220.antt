@@ -1,5 +1,5 @@
 -- What holds of a VT220's size.
-use Rattle.std.proofs.Common.{◌≡◌, ◌+◌, ◌*◌, ◌≤◌, arith, subst}
+use Rattle.std.proofs.Common.{◌≡◌, ◌*◌, ◌≤◌, arith, subst}
 use Rattle.std.proofs.lemmas.Nat.{mul-le}
 use Rattle.vt_screen.specs.declared.size.Size.{Size}
 use Rattle.vt_screen.specs.Sizes.{vt220_size, IsSize}

@@ -1,5 +1,5 @@
 -- The repaint under TERM=xterm: one byte string for each session, which rebuilds it on any terminal and front. (this profile)
-use Rattle.std.specs.Prelude.{◌≡◌, ◌≤◌, ◌+◌, ◌-◌, ◌*◌, ℕ, List, [], ◌∷◌, ◌++◌, Bool, true, false, not, All, codes}
+use Rattle.std.specs.Prelude.{◌≡◌, ◌≤◌, ◌+◌, ◌-◌, ◌*◌, ℕ, List, [], ◌∷◌, ◌++◌, Bool, true, false, not, All}
 use Rattle.std.specs.Prelude.{Option, Some, None, nat_le, nat_lt, ◌&&◌, if◌then◌else◌}
 use Rattle.vt_syntax.specs.declared.event.Event.{Event}
 use Rattle.vt_syntax.specs.Spelling.{spell_events}
@@ -44,7 +44,7 @@ sent_sides width (Some m) = if are_sent width m then Some m else None
 
 -- DECSLRM
 abbrev pub sides_to : ℕ → ℕ → Event
-sides_to left right = sequence_of (left ∷ right ∷ []) (byte (codes "s"))
+sides_to left right = sequence_of (left ∷ right ∷ []) (byte "s")
 
 -- ?69, and the margins
 abbrev pub sides_item : Option Sides → List Event

@@ -1,14 +1,9 @@
 //! The names of xterm's functions.
 ghost use Rattle.std.specs.Prelude.{◌≡◌, ◌≤◌, ◌<◌, [], Some, None, ◌==◌, length, map, get_or, IfSome, option_map, if◌then◌else◌};
-ghost use Rattle.std.specs.List.{list_any};
-ghost use Rattle.vt_glyph.specs.LookUp.{contains};
 ghost use Rattle.vt_syntax.specs.Event.{event_of};
-ghost use Rattle.vt_term.specs.Modes.{private_modes};
-ghost use Rattle.vt_term.specs.Functions.{numbers_of};
 ghost use Rattle.vt_term.specs.Names.{name_on, sequence_name_on};
 ghost use Rattle.vt_trace.specs.Names.{numbered_in};
 ghost use Rattle.vt_xterm.specs.Bounded.{is_bare};
-ghost use Rattle.vt_xterm.specs.Pages.{page_modes};
 ghost use Rattle.vt_xterm_trace.specs.Names.{plain_names, private_names, own_names, name_in, is_one, has_mode, saves_or_sets, xterm_sequence_name, xterm_listing};
 ghost use Rattle.vt_xterm_trace.specs.declared.names.TheConstants.{NAMES};
 

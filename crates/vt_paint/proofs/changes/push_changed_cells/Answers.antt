@@ -1,4 +1,4 @@
-use Rattle.std.proofs.Common.{◌≡◌, ◌+◌, ◌-◌, ◌≤◌, ◌<◌, [], length, refl, ap, arith, rules}
+use Rattle.std.proofs.Common.{◌≡◌, ◌+◌, ◌-◌, ◌≤◌, [], length, refl, ap, arith, rules}
 use Rattle.std.proofs.lemmas.List.{get_or_default}
 use Rattle.vt_screen.specs.declared.size.Size.{Size}
 use Rattle.vt_paint.specs.Limits.{row_limit}

@@ -1,4 +1,4 @@
-use Rattle.std.proofs.Common.{true, false, ap, ◌∙◌}
+use Rattle.std.proofs.Common.{true, false, ap}
 use Rattle.vt_paint.specs.Controls.{private_mode, soft_reset, spelling_sets_events}
 use Rattle.vt_paint.specs.Items.{last_items}
 use Rattle.vt_paint.specs.Private.ChangeEvents.{start_item, changed_cells, record_item, change_events}

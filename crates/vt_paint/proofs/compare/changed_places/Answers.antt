@@ -1,4 +1,4 @@
-use Rattle.std.proofs.Common.{◌≡◌, ◌+◌, ◌≤◌, ◌<◌, arith, rules, ap, ◌-◌, ◌∙◌}
+use Rattle.std.proofs.Common.{◌≡◌, ◌+◌, ◌<◌, arith, rules, ap, ◌-◌, ◌∙◌}
 use Rattle.std.proofs.Math.ListN.{length-set}
 use Rattle.vt_screen.specs.declared.size.Size.{Size}
 use Rattle.vt_paint.specs.Changes.{differing_from, differing_at}

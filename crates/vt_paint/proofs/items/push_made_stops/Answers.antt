@@ -1,4 +1,4 @@
-use Rattle.std.proofs.Common.{◌∷◌, [], true, false, not, ap}
+use Rattle.std.proofs.Common.{true, false, not, ap}
 use Rattle.vt_screen.specs.Same.{when}
 use Rattle.vt_paint.specs.Controls.{clear_all_tabs}
 use Rattle.vt_paint.specs.Items.{width_events, made_stops}

@@ -1,6 +1,4 @@
-use Rattle.std.proofs.Common.{◌≡◌, ◌++◌, ◌∙◌, ap, subst, arith, List, ℕ}
-use Rattle.std.specs.Prelude.{OnOk}
-use Rattle.vt_screen.specs.declared.size.Size.{Size}
+use Rattle.std.proofs.Common.{◌++◌, ◌∙◌, ap, arith, List, ℕ}
 use Rattle.vt_picture.proofs.RowLimits.{vt220_drawn}
 use Rattle.vt_picture.proofs.Shows.{vt220-drawn_from}
 use Rattle.vt_picture.proofs.views.draw_from_reserved.Goals as goal

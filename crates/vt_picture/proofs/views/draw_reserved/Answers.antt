@@ -1,5 +1,4 @@
-use Rattle.std.proofs.Common.{◌≡◌, ◌++◌, ◌∙◌, ap, subst, arith, List, ℕ}
-use Rattle.std.specs.Prelude.{OnOk}
+use Rattle.std.proofs.Common.{◌≡◌, ◌++◌, arith}
 use Rattle.vt_paint.proofs.Vt220.{of_vt220}
 use Rattle.vt_picture.specs.Draw.{draw_at}
 use Rattle.vt_picture.proofs.RowLimits.{vt220_drawn}

@@ -1,4 +1,4 @@
-use Rattle.std.proofs.Common.{◌≡◌, [], length, arith}
+use Rattle.std.proofs.Common.{◌≡◌, length, arith}
 use Rattle.std.proofs.lemmas.Bool.Decides.{nat_tests}
 use Rattle.vt_trace.proofs.TracedBytes.{no_items}
 use Rattle.vt_trace.proofs.utf8.trace_next.Goals as goal

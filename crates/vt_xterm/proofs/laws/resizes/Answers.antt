@@ -1,7 +1,6 @@
 use Rattle.std.proofs.Common.{◌≡◌, ◌∙◌, ◌-◌, ℕ, Option, Bool, true, false, List, [], if◌then◌else◌, arith, ap, sym, subst, refl}
 use Rattle.vt_screen.specs.declared.size.Size.{Size}
 use Rattle.vt_term.specs.State.{State}
-use Rattle.vt_term.specs.Sound.{IsSoundSized}
 use Rattle.vt_term.specs.Pages.{PageState, IsSoundPageAt, IsSoundSizedPage}
 use Rattle.vt_term.specs.Resizing.{count_off, page_on, log_on}
 use Rattle.vt_xterm.specs.Play.{Whole}

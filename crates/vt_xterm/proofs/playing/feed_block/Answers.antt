@@ -1,5 +1,4 @@
 -- The lines, and what is after them.
-use Rattle.std.proofs.Common.{sym}
 use Rattle.vt_term.proofs.Bytes.{rest-of}
 use Rattle.vt_xterm.specs.Play.{whole_of}
 use Rattle.vt_xterm.proofs.Fed.{feeds-more}

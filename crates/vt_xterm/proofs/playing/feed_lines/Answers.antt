@@ -1,7 +1,6 @@
 -- The lines that nobody sees, and the others.
-use Rattle.std.proofs.Common.{ap, ◌∙◌, sym}
-use Rattle.vt_term.specs.State.{State}
-use Rattle.vt_xterm.proofs.OfOneSize.{played-size, unseen-size}
+use Rattle.std.proofs.Common.{◌∙◌}
+use Rattle.vt_xterm.proofs.OfOneSize.{played-size}
 use Rattle.vt_xterm.proofs.Unseen.{block-fed}
 use Rattle.vt_xterm.proofs.playing.feed_lines.Goals as goal
 

@@ -1,4 +1,4 @@
-use Rattle.std.proofs.Common.{◌∙◌, ap, sym}
+use Rattle.std.proofs.Common.{◌∙◌, sym}
 use Rattle.vt_xterm_trace.proofs.Played.{beyond-silent, beyond-out}
 use Rattle.vt_xterm_trace.proofs.tracing.SizedPagesTraceableXtermNames.feed_beyond.Goals as goal
 

@@ -5,7 +5,7 @@ use crate::reasons::{hint_of, name_of};
 use std::alloc::Global;
 use vt_recording::{changes_of, timeline_of};
 use vt_replay::{
-    Encoding, Format, Heading, Host, Part, Request, TerminalType, What, Word, detect, heading_of,
+    Encoding, Format, Heading, Host, Part, Request, TerminalType, Word, detect, heading_of,
     host_for, keeps_size, size_of,
 };
 
@@ -52,7 +52,7 @@ pub(crate) fn print_notes<R: Eprint + AllocGlobal>(
         }
     }
     if format == Format::Asciicast && has_any(beginning, b'"', &[RESIZE_CODE]) {
-        if keeps_size(request, format) || is_session(request, host) {
+        if keeps_size(request, format) {
             let _ = eprintln!(rt;
                 "vt220: {name}: the window changes its size, and the screen stays at {width}x{height}"
             );
@@ -62,11 +62,6 @@ pub(crate) fn print_notes<R: Eprint + AllocGlobal>(
             );
         }
     }
-}
-
-/// Returns whether a repaint of a session under TERM=xterm is asked for. Its screen keeps its size.
-fn is_session(request: &Request, host: Host) -> bool {
-    host.terminal == TerminalType::Xterm && matches!(request.word, Word::Replay(What::Repaint))
 }
 
 /// Returns whether a recording that begins so changes its window to a size that no screen may have.

@@ -13,9 +13,7 @@ use Rattle.vt_recording.specs.declared.format.Encoding.{Encoding}
 use Rattle.vt_recording.specs.declared.format.Encoding.TheVariants.{Dec, Utf8}
 use Rattle.vt_recording.specs.declared.format.TerminalType.TheVariants.{Vt220}
 use Rattle.vt_replay.specs.Encoding.{decoded}
-use Rattle.vt_device.specs.Output.{IsAfter, always, nothing}
-use Rattle.vt_xterm_paint.specs.Repaint.{xterm_repaint}
-use Rattle.vt_replay.specs.Session.{is_between}
+use Rattle.vt_device.specs.Output.{IsAfter, always}
 use Rattle.vt_replay.specs.Playing.{language_of, on_terminal, played_as}
 use Rattle.vt_replay.specs.Resizes.{Utf8Kept, XtermKept, utf8_session, xterm_session}
 
@@ -110,30 +108,6 @@ xterm_log_after s t front after chunk two log_two log_none state pages left = re
       (ap (λ (p : WholePlayed). text p.whole.state) (two (behind s front) front.pending chunk more));
   there_on = λ more. refl;
   none = log_none (behind t after) after.pending;
-}
-
--- the repaint of a session, and whether it is there
-pub session_after : (s t : State) (front after : FrontState) (chunk : List ℕ)
-    → ((w : Whole) (pending a b : List ℕ) → play_xterm w pending (a ++ b)
-    ≡ both_whole (play_xterm w pending a) (play_xterm (play_xterm w pending a).whole (pending_after pending a) b))
-    → ((pending a b : List ℕ) → pending_after pending (a ++ b) ≡ pending_after (pending_after pending a) b)
-    → t ≡ (play_xterm (behind s front) front.pending chunk).whole.state
-    → after.pages ≡ (play_xterm (behind s front) front.pending chunk).whole.pages
-    → after.pending ≡ pending_after front.pending chunk
-    → IsAfter nothing (λ x. xterm_repaint (play_xterm (behind s front) front.pending x).whole)
-    (λ x. is_between (play_xterm (behind s front) front.pending x).whole (pending_after front.pending x)) chunk
-    nothing (λ x. xterm_repaint (play_xterm (behind t after) after.pending x).whole)
-    (λ x. is_between (play_xterm (behind t after) after.pending x).whole (pending_after after.pending x))
-session_after s t front after chunk two parts state pages left = record {
-  on = λ more. refl;
-  end_on = λ more. rw (state, pages, left)
-      (ap (λ (p : WholePlayed). xterm_repaint p.whole) (two (behind s front) front.pending chunk more));
-  there_on = λ more. rw (state, pages, left)
-      (ap (λ (p : WholePlayed). is_between p.whole (pending_after front.pending (chunk ++ more)))
-      (two (behind s front) front.pending chunk more)
-      ∙ ap (λ (part : List ℕ). is_between (play_xterm (play_xterm (behind s front) front.pending chunk).whole
-      (pending_after front.pending chunk) more).whole part) (parts front.pending chunk more));
-  none = refl;
 }
 
 -- the log, and its screen

@@ -10,7 +10,7 @@ use Rattle.vt_screen.specs.declared.size.Size.{Size}
 use Rattle.vt_term.specs.State.{State}
 use Rattle.vt_term.specs.Play.{Played, both}
 use Rattle.vt_replay.specs.declared.resized.Resize.{Resize}
-use Rattle.vt_replay.specs.Resizes.{Session, played_on, due, coming, is_settled, is_before, sizes_of}
+use Rattle.vt_replay.specs.Resizes.{Session, played_on, kept_on, due, coming, is_settled, is_before, sizes_of}
 
 abbrev told : State → List ℕ → Played
 told s l = record { state = s; reports = l }
@@ -49,6 +49,25 @@ module _ {K : Type 0} (m : Session K) (k next : K) (chunk : List ℕ)
       ap (λ (n : ℕ). played_on m k (record { after = n; size = r.size } ∷ resizes) (chunk ++ more)) whole
       ∙ waits_by more (left - length chunk) r.size resizes (nat_lt (length more) (left - length chunk)) refl
 
+module _ {K : Type 0} (m : Session K) (k next : K) (chunk : List ℕ)
+    (after : (more : List ℕ) → m.after k (chunk ++ more) ≡ m.after next more) where
+  keeps_by : (more : List ℕ) (n : ℕ) (size : Size) (resizes : List Resize) (b : Bool) → nat_lt (length more) n ≡ b
+      → kept_on m k (record { after = length chunk + n; size = size } ∷ resizes) (chunk ++ more)
+      ≡ kept_on m next (record { after = n; size = size } ∷ resizes) more
+  keeps_by more n size resizes true is =
+      rw (few chunk more n true is, is) (after more)
+  keeps_by more n size resizes false is =
+      rw (few chunk more n false is, is, take-append-add chunk more n, drop-append-add chunk more n, after (take n more)) refl
+
+  -- and of what is kept
+  pub keeps : (left : ℕ) (resizes : List Resize) (more : List ℕ) → length chunk ≤ left
+      → kept_on m k (due left resizes) (chunk ++ more) ≡ kept_on m next (due (left - length chunk) resizes) more
+  keeps left [] more within = after more
+  keeps left (r ∷ resizes) more within =
+      let whole : left ≡ length chunk + (left - length chunk) = omega (arith, within) in
+      ap (λ (n : ℕ). kept_on m k (record { after = n; size = r.size } ∷ resizes) (chunk ++ more)) whole
+      ∙ keeps_by more (left - length chunk) r.size resizes (nat_lt (length more) (left - length chunk)) refl
+
 -- a change that waits for no bytes is carried out
 pub now : {K : Type 0} (m : Session K) (k : K) (state : State) (r : Resize) (resizes : List Resize) (bytes : List ℕ)
     → m.played k [] ≡ record { state = state; reports = [] } → m.after k [] ≡ k
@@ -56,6 +75,12 @@ pub now : {K : Type 0} (m : Session K) (k : K) (state : State) (r : Resize) (res
 now m k state r resizes bytes none kept =
     let never : nat_lt (length bytes) 0 ≡ false = grind (arith, nat_tests) in
     rw (never, none, kept) refl
+
+pub now_kept : {K : Type 0} (m : Session K) (k : K) (r : Resize) (resizes : List Resize) (bytes : List ℕ) → m.after k [] ≡ k
+    → kept_on m k (due 0 (r ∷ resizes)) bytes ≡ kept_on m (m.on r.size k) resizes bytes
+now_kept m k r resizes bytes kept =
+    let never : nat_lt (length bytes) 0 ≡ false = grind (arith, nat_tests) in
+    rw (never, kept) refl
 
 -- ---- changes that are still to come, in a list
 
@@ -106,6 +131,23 @@ module _ {L : Type 0} (items : List L) (after : L → ℕ) (size : L → Size) w
           rw (first, zero, is, on l more refl)
           (now m k state (record { after = after l; size = size l }) (coming more after size) bytes none kept)
 
+  pub carried_out_kept : {K : Type 0} (m : Session K) (k next : K) (left then : ℕ) (rest : List L) (bytes : List ℕ)
+      → is_settled left items ≡ false → m.after k [] ≡ k
+      → ((l : L) (more : List L) → items ≡ l ∷ more → next ≡ m.on (size l) k)
+      → rest ≡ drop 1 items
+      → due then (coming rest after size) ≡ coming rest after size
+      → kept_on m k (due left (coming items after size)) bytes ≡ kept_on m next (due then (coming rest after size)) bytes
+  carried_out_kept m k next left then rest bytes comes kept on is first = by items comes on is
+    where
+      by : (items : List L) → is_settled left items ≡ false → ((l : L) (more : List L) → items ≡ l ∷ more → next ≡ m.on (size l) k)
+          → rest ≡ drop 1 items
+          → kept_on m k (due left (coming items after size)) bytes ≡ kept_on m next (due then (coming rest after size)) bytes
+      by [] comes on is = absurd (cc comes)
+      by (l ∷ more) comes on is =
+          let zero : left ≡ 0 = grind (arith, nat_tests, comes) in
+          rw (first, zero, is, on l more refl)
+          (now_kept m k (record { after = after l; size = size l }) (coming more after size) bytes kept)
+
   -- the screen has its size then
   pub sizes_then : (holds : Size → Bool) (old next : Size) (left : ℕ) (rest : List L) → is_settled left items ≡ false
       → ((l : L) (more : List L) → items ≡ l ∷ more → next ≡ size l) → rest ≡ drop 1 items
@@ -142,6 +184,14 @@ module _ {L : Type 0} (items : List L) (after : L → ℕ) (size : L → Size) w
   settled_none m k left settled = by items settled
     where
       by : (items : List L) → is_settled left items ≡ true → played_on m k (due left (coming items after size)) [] ≡ m.played k []
+      by [] settled = refl
+      by (l ∷ more) settled = rw settled refl
+
+  pub settled_kept : {K : Type 0} (m : Session K) (k : K) (left : ℕ) → is_settled left items ≡ true
+      → kept_on m k (due left (coming items after size)) [] ≡ m.after k []
+  settled_kept m k left settled = by items settled
+    where
+      by : (items : List L) → is_settled left items ≡ true → kept_on m k (due left (coming items after size)) [] ≡ m.after k []
       by [] settled = refl
       by (l ∷ more) settled = rw settled refl
 
@@ -191,6 +241,28 @@ module _ {L K : Type 0} (items rest : List L) (after : L → ℕ) (size : L → 
       fed more
       ∙ ap (λ (l : List ℕ). told (played_on m last (due then (coming rest after size)) more).state
       (l ++ (played_on m last (due then (coming rest after size)) more).reports)) (sym fed_reports)
+
+-- and what is kept then
+module _ {L K : Type 0} (items rest : List L) (after : L → ℕ) (size : L → Size) (m : Session K) (k next last : K)
+    (chunk : List ℕ) (left then : ℕ)
+    (kept : (more : List ℕ) → m.after k (chunk ++ more) ≡ m.after next more)
+    (takes : is_before (length chunk) left items ≡ true)
+    (less : ℕ) (is_less : less ≡ left - length chunk)
+    (settles : (bytes : List ℕ) → kept_on m next (due less (coming items after size)) bytes
+    ≡ kept_on m last (due then (coming rest after size)) bytes) where
+  keeps_before : (items : List L) → is_before (length chunk) left items ≡ true → (more : List ℕ)
+      → kept_on m k (due left (coming items after size)) (chunk ++ more)
+      ≡ kept_on m next (due (left - length chunk) (coming items after size)) more
+  keeps_before [] takes more = kept more
+  keeps_before (l ∷ items) takes more =
+      keeps m k next chunk kept left (coming (l ∷ items) after size) more (grind (arith, nat_tests, takes))
+
+  pub fed_kept : (more : List ℕ) → kept_on m k (due left (coming items after size)) (chunk ++ more)
+      ≡ kept_on m last (due then (coming rest after size)) more
+  fed_kept more =
+      keeps_before items takes more
+      ∙ ap (λ (n : ℕ). kept_on m next (due n (coming items after size)) more) (sym is_less)
+      ∙ settles more
 
 -- ---- the most bytes that are due
 

@@ -6,13 +6,15 @@ use Rattle.vt_term.specs.Play.{Played}
 use Rattle.vt_cli.specs.declared.what.What.{What}
 use Rattle.vt_cli.specs.declared.what.What.TheVariants.{Text, Reports, Repaint, Status, Show, Picture}
 use Rattle.vt_device.specs.Runs.{Flags, Moves}
-use Rattle.vt_device.specs.Output.{OutputTable}
+use Rattle.vt_device.specs.Output.{OutputTable, nothing}
 use Rattle.vt_device.specs.declared.fault.Fault.{Fault}
 use Rattle.vt_replay.specs.declared.language.Language.{Language}
 use Rattle.vt_replay.specs.declared.language.Language.TheVariants.{Dec, Utf8, Xterm}
 use Rattle.vt_replay.specs.Due.{sent_by, there_by, due_at_end, PlayedTable}
 use Rattle.vt_replay.specs.Playing.{Due, due_by, played_at, repainted, replayed_at, ReplayTable}
-use Rattle.vt_replay.specs.Resizes.{played_with, repainted_with, replayed_with, ResizedReplayTable}
+use Rattle.vt_xterm_paint.specs.Repaint.{xterm_repaint}
+use Rattle.vt_replay.specs.Session.{is_between}
+use Rattle.vt_replay.specs.Resizes.{XtermKept, played_with, repainted_with, replayed_with, ResizedReplayTable}
 
 pub played : (size : Size) (language : Language) → played_with size [] language ≡ played_at size language
 played size Dec = refl
@@ -76,3 +78,18 @@ pub of_player : {R : Type 0} (player begun : R) (played : R → List ℕ → Pla
 of_player player begun played due wanted what reported left left_after held held_after result piece f limit same plays asked none moves =
     let is : played player ≡ due = ap played same ∙ plays in
     coe 0 1 (ι. moves_as left left_after held held_after result piece f limit (asked ι) (is ι) (counts_from reported none ι)) moves
+
+-- ---- the repaint of a session, by what is kept after bytes
+
+abbrev moves_kept : (left left_after held held_after : Option (List ℕ)) (result : Result (Unit {0}) Fault) (piece : ℕ) (f : Flags) (limit : ℕ)
+    → (List ℕ → XtermKept) → Type 0
+moves_kept left left_after held held_after result piece f limit kept =
+    Moves left left_after held held_after (λ b w. OutputTable nothing (λ bytes. xterm_repaint (kept bytes).whole)
+    (λ bytes. is_between (kept bytes).whole (kept bytes).pending) result piece b w f limit)
+
+pub of_session : (kept due : List ℕ → XtermKept) (left left_after held held_after : Option (List ℕ)) (result : Result (Unit {0}) Fault)
+    (piece : ℕ) (f : Flags) (limit : ℕ) → kept ≡ due
+    → moves_kept left left_after held held_after result piece f limit kept
+    → moves_kept left left_after held held_after result piece f limit due
+of_session kept due left left_after held held_after result piece f limit is moves =
+    coe 0 1 (ι. moves_kept left left_after held held_after result piece f limit (is ι)) moves

@@ -18,11 +18,13 @@ use Rattle.vt_xterm.specs.Resizing.{whole_on}
 use Rattle.vt_replay.specs.declared.language.Language.{Language}
 use Rattle.vt_replay.specs.declared.language.Language.TheVariants.{Dec, Utf8, Xterm}
 use Rattle.vt_replay.specs.declared.resized.Resize.{Resize}
-use Rattle.vt_replay.specs.Playing.{on_terminal, Due, due_by, repainted}
+use Rattle.vt_replay.specs.Playing.{on_terminal, Due, due_by}
+use Rattle.vt_replay.specs.Session.{is_between}
 use Rattle.vt_cli.specs.declared.what.What.{What}
 use Rattle.vt_cli.specs.declared.what.What.TheVariants.{Repaint}
 use Rattle.vt_device.specs.Runs.{Flags}
-use Rattle.vt_device.specs.Output.{OutputTable}
+use Rattle.vt_device.specs.Output.{OutputTable, nothing}
+use Rattle.vt_xterm_paint.specs.Repaint.{xterm_repaint}
 use Rattle.vt_device.specs.declared.fault.Fault.{Fault}
 
 -- ---- what is kept between a host's bytes, in each language
@@ -81,6 +83,13 @@ played_on m k (r ∷ resizes) bytes =
     (both (m.played k (take r.after bytes))
     (played_on m (m.on r.size (m.after k (take r.after bytes))) resizes (drop r.after bytes)))
 
+-- what bytes leave to be kept, with changes between them
+abbrev pub kept_on : {K : Type 0} → Session K → K → List Resize → List ℕ → K
+kept_on m k [] bytes = m.after k bytes
+kept_on m k (r ∷ resizes) bytes =
+    cond (nat_lt (length bytes) r.after) (m.after k bytes)
+    (kept_on m (m.on r.size (m.after k (take r.after bytes))) resizes (drop r.after bytes))
+
 -- what all the bytes of a host leave and report, from power-up of a terminal of a size
 abbrev pub played_with : Size → List Resize → Language → List ℕ → Played
 played_with size resizes Dec bytes = played_on plain_session (state_of size) resizes bytes
@@ -89,9 +98,17 @@ played_with size resizes Xterm bytes = played_on xterm_session (xterm_begun size
 
 -- ---- what is written
 
--- what is due of a repaint: under TERM=xterm it is of the session on a screen of the first size
+-- the session that all the bytes of a host leave under TERM=xterm, and what is pending
+abbrev pub session_with : Size → List Resize → List ℕ → XtermKept
+session_with size resizes bytes = kept_on xterm_session (xterm_begun size) resizes bytes
+
+-- what is due of a repaint: under TERM=xterm it is of the whole session, otherwise of the terminal
 abbrev pub repainted_with : Size → List Resize → Language → Due
-repainted_with size resizes Xterm = repainted size Xterm
+repainted_with size resizes Xterm = record {
+  written = nothing;
+  ending = λ bytes. xterm_repaint (session_with size resizes bytes).whole;
+  there = λ bytes. is_between (session_with size resizes bytes).whole (session_with size resizes bytes).pending;
+}
 repainted_with size resizes language = due_by (played_with size resizes language) Repaint
 
 -- what is due of a replay on a screen that changes its size

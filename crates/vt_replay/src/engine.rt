@@ -6,7 +6,7 @@ ghost use Rattle.vt_term.specs.Play.{play};
 ghost use Rattle.vt_replay.specs.Due.{PlayedTable};
 ghost use Rattle.vt_cli.specs.declared.what.What.TheVariants.{Repaint};
 ghost use Rattle.vt_device.specs.Runs.{Moves};
-ghost use Rattle.vt_replay.specs.Playing.{ReplayTable, SizedReplayTable};
+ghost use Rattle.vt_replay.specs.Playing.{ReplayTable};
 ghost use Rattle.vt_replay.specs.Resizes.{ResizedReplayTable, played_on, played_with};
 ghost use Rattle.vt_replay.specs.declared.language.Language.TheVariants.{Xterm};
 ghost use Rattle.vt_screen.specs.Sizes.{IsSize};
@@ -133,16 +133,18 @@ fn run_repaint<S: Source, W: Write>(
         Language::Utf8 => run_by::<Utf8Player, S, W>(
             alloc, reader, writer, what, size, resizes, piece, limit,
         ),
-        Language::Xterm => run_session(alloc, reader, writer, size, piece, limit),
+        Language::Xterm => run_session(alloc, reader, writer, size, resizes, piece, limit),
     }
 }
 
-/// Plays a source's bytes under TERM=xterm on a new terminal of a size, and writes the repaint of the session.
+/// Plays a source's bytes under TERM=xterm on a new terminal of a size, whose screen has these changes. Writes the
+/// repaint of the session.
 fn run_session<S: Source, W: Write>(
     alloc: Global,
     reader: &mut S,
     writer: &mut Watched<W>,
     size: Size,
+    resizes: &[Resize],
     piece: usize,
     limit: u64,
 ) -> Result<(), Fault>
@@ -152,12 +154,13 @@ fn run_session<S: Source, W: Write>(
     requires piece_in_range { (1 ≤ piece) × (piece ≤ 65536) }
     requires limit_in_range { limit ≤ 1099511627776 }
     requires size_in_range { IsSize size }
+    requires sizes_in_range { All (λ r. IsSize r.size) resizes.now }
     ensures answer { Moves (S.remaining reader.old) (S.remaining reader.new) (W.contents writer.old.device)
         (W.contents writer.new.device)
-        (λ b w. SizedReplayTable size Xterm Repaint result piece b w (record { reader_failed = S.failed reader.new; reader_ended = S.ended reader.new; writer_failed = writer.new.failed }) limit) }
+        (λ b w. ResizedReplayTable size resizes.now Xterm Repaint result piece b w (record { reader_failed = S.failed reader.new; reader_ended = S.ended reader.new; writer_failed = writer.new.failed }) limit) }
     ensures whole { S.ended reader.new ≡ true → IsAtEnd (S.remaining reader.new) }
 {
-    let mut output = SessionOutput::new(alloc, size, piece)?;
+    let mut output = SessionOutput::new(alloc, size, resizes, piece)?;
     write_output_from(
         alloc,
         &mut output,

@@ -192,8 +192,8 @@ pub fn lacks_times(format: Format, timed: bool, until: Option<Moment>) -> bool
 ///
 /// A replay carries out the changes of the size that a recording has up to the moment, each after the content that
 /// comes before it. It doesn't if a size or a width is asked for, or if it begins in the middle. DECCOLM leaves the
-/// width of a screen after a change. A change to a size that no screen may have is passed over. Under TERM=xterm a
-/// repaint is of the first size, and so are all other words.
+/// width of a screen after a change. A change to a size that no screen may have is passed over. All other words are of
+/// the first size.
 ///
 /// The word is carried out on the bytes of raw input as they come, if all of it is wanted and 132 columns weren't asked
 /// for. Otherwise the input is read whole, and the word is carried out on its content between the moments. If the

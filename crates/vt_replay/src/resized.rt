@@ -4,16 +4,15 @@ ghost use Rattle.std.specs.List.{list_all};
 ghost use Rattle.vt_screen.specs.declared.size.Size.{Size};
 ghost use Rattle.vt_screen.specs.Sizes.{IsSize};
 ghost use Rattle.vt_term.specs.Play.{Played, both};
-ghost use Rattle.vt_replay.specs.Resizes.{played_on, due, is_settled, is_before, sizes_of, coming};
-ghost use Rattle.vt_replay.specs.Sized.{room_at};
+ghost use Rattle.vt_replay.specs.Resizes.{played_on, kept_on, due, is_settled, is_before, sizes_of, coming};
+ghost use Rattle.vt_replay.specs.Sized.{room_of};
 ghost use Rattle.vt_replay.specs.declared.resized.Later.{Later};
 
 use crate::player::Player;
-use crate::sized::room_at;
+use crate::sized::{Ending, room_of};
 use std::alloc::{AllocError, Global};
 use std::collections::VecDeque;
 use std::mem;
-use vt_cli::What;
 use vt_term::{Size, SizedTerminal};
 
 /// A change of the screen's size.
@@ -29,15 +28,24 @@ pub struct Resize {
 #[derive(Drop)]
 pub(crate) struct Later<P: Drop> {
     /// The number of the host's bytes between the change before it and this one.
-    after: usize,
+    pub(crate) after: usize,
     /// A player of the new size.
-    target: P,
+    pub(crate) target: P,
 }
 
 /// A player of a host's bytes on a terminal whose screen changes its size.
 pub(crate) trait Playing: Drop {
     /// The state and the reports that bytes leave as they come.
     ghost played: { Self → List ℕ → Played };
+
+    /// What is kept between bytes.
+    ghost Kept: { Type 0 };
+
+    /// What is kept now.
+    ghost kept: { Self → Kept };
+
+    /// What bytes leave to be kept.
+    ghost after: { Self → List ℕ → Kept };
 
     /// Whether so many bytes come before the next change.
     ghost takes: { Self → (count : ℕ) → Bool };
@@ -59,27 +67,29 @@ pub(crate) trait Playing: Drop {
         ensures reports { out.new.items ≡ out.old.items ++ (played self.old chunk.now).reports }
         ensures on { (more : List ℕ) → played self.old (chunk.now ++ more)
             ≡ both (played self.old chunk.now) (played self.new more) }
+        ensures after { (more : List ℕ) → after self.old (chunk.now ++ more) ≡ after self.new more }
         ensures sizes { (holds : Size → Bool) → list_all holds (sizes self.old) ≡ true → list_all holds (sizes self.new) ≡ true }
         ensures bounded { vec_len out.new ≤ vec_len out.old + 10 * length chunk.now }
         ensures capacity { vec_capacity out.old ≤ vec_capacity out.new };
 
     /// Returns the most bytes that are due at the end at one of the sizes.
-    fn most(&self, what: What) -> usize
-        ensures { list_all (λ size. nat_le (room_at what size) result) (sizes self.now) ≡ true };
+    fn most(&self, ending: Ending) -> usize
+        ensures { list_all (λ size. nat_le (room_of ending size) result) (sizes self.now) ≡ true };
 
     /// Returns the terminal, as the bytes and the changes that came leave it.
     fn sized(&self) -> &SizedTerminal
         ensures state { played self.now [] ≡ record { state = result.now; reports = [] } }
+        ensures kept { after self.now [] ≡ kept self.now }
         ensures sizes { (holds : Size → Bool) → list_all holds (sizes self.now) ≡ true → holds result.now.display.grid.size ≡ true };
 }
 
 /// A player, and the changes that are still to come.
 #[derive(Drop)]
 pub(crate) struct Resized<P: Drop> {
-    player: P,
+    pub(crate) player: P,
     /// The number of bytes before the next change, if one is to come.
-    left: usize,
-    later: VecDeque<Later<P>>,
+    pub(crate) left: usize,
+    pub(crate) later: VecDeque<Later<P>>,
     ghost settled: { is_settled left later.items ≡ true },
 }
 
@@ -123,6 +133,9 @@ fn settle<P: Player>(player: &mut P, left: &mut usize, later: &mut VecDeque<Late
     ensures on { (bytes : List ℕ)
         → played_on P.session (P.kept player.old) (due left.old (coming later.old.items (λ l. l.after) (λ l. P.screen l.target))) bytes
         ≡ played_on P.session (P.kept player.new) (due left.new (coming later.new.items (λ l. l.after) (λ l. P.screen l.target))) bytes }
+    ensures kept { (bytes : List ℕ)
+        → kept_on P.session (P.kept player.old) (due left.old (coming later.old.items (λ l. l.after) (λ l. P.screen l.target))) bytes
+        ≡ kept_on P.session (P.kept player.new) (due left.new (coming later.new.items (λ l. l.after) (λ l. P.screen l.target))) bytes }
     ensures settled { is_settled left.new later.new.items ≡ true }
     ensures sizes { (holds : Size → Bool)
         → list_all holds (sizes_of (P.screen player.old) (coming later.old.items (λ l. l.after) (λ l. P.screen l.target))) ≡ true
@@ -163,9 +176,12 @@ impl<P: Player> Resized<P> {
     ) -> Result<Resized<P>, AllocError>
         requires size { IsSize size }
         requires sizes { All (λ r. IsSize r.size) resizes.now }
-        ensures { IfOk result (λ r. ◌≡◌ {A = List ℕ → Played} (λ bytes. played_on P.session (P.kept r.player)
+        ensures played { IfOk result (λ r. ◌≡◌ {A = List ℕ → Played} (λ bytes. played_on P.session (P.kept r.player)
             (due r.left (coming r.later.items (λ l. l.after) (λ l. P.screen l.target))) bytes)
             (λ bytes. played_on P.session (P.begun size) resizes.now bytes)) }
+        ensures kept { IfOk result (λ r. ◌≡◌ {A = List ℕ → P.Kept} (λ bytes. kept_on P.session (P.kept r.player)
+            (due r.left (coming r.later.items (λ l. l.after) (λ l. P.screen l.target))) bytes)
+            (λ bytes. kept_on P.session (P.begun size) resizes.now bytes)) }
     {
         let mut player = P::new(alloc, size)?;
         let mut later = later_for(alloc, resizes)?;
@@ -183,6 +199,13 @@ impl<P: Player> Playing for Resized<P> {
     ghost played = { λ r bytes. played_on P.session (P.kept r.player)
         (due r.left (coming r.later.items (λ l. l.after) (λ l. P.screen l.target))) bytes };
 
+    ghost Kept = { P.Kept };
+
+    ghost kept = { λ r. P.kept r.player };
+
+    ghost after = { λ r bytes. kept_on P.session (P.kept r.player)
+        (due r.left (coming r.later.items (λ l. l.after) (λ l. P.screen l.target))) bytes };
+
     ghost takes = { λ r count. is_before count r.left r.later.items };
 
     ghost sizes = { λ r. sizes_of (P.screen r.player) (coming r.later.items (λ l. l.after) (λ l. P.screen l.target)) };
@@ -194,11 +217,11 @@ impl<P: Player> Playing for Resized<P> {
         }
     }
 
-    fn most(&self, what: What) -> usize {
-        let mut most = room_at(self.player.sized(), what);
+    fn most(&self, ending: Ending) -> usize {
+        let mut most = room_of(self.player.sized(), ending);
         let mut i = 0;
         while i < self.later.len() {
-            most = most.max(room_at(self.later[i].target.sized(), what));
+            most = most.max(room_of(self.later[i].target.sized(), ending));
             i += 1;
         }
         most

@@ -2,7 +2,7 @@
 ghost use Rattle.std.specs.Prelude.{◌≡◌, ⊤, ◌+◌, ◌*◌, ◌≤◌, ◌++◌, [], true, false, length, max, vec_len, vec_capacity, nat_le};
 ghost use Rattle.vt_syntax.specs.declared.held.Held.TheVariants.{Nothing};
 ghost use Rattle.vt_replay.specs.Due.{due_at_end, is_sent, is_there, sent_by, there_by};
-ghost use Rattle.vt_replay.specs.Sized.{room_at};
+ghost use Rattle.vt_replay.specs.Sized.{room_at, room_of};
 ghost use Rattle.std.specs.List.{list_all};
 
 use crate::output::front_for;
@@ -13,6 +13,16 @@ use vt_device::Output;
 use vt_paint::sized::{paint_limit, repaint_reserved};
 use vt_picture::sized::{picture_limit, picture_reserved, show_limit, show_reserved};
 use vt_term::{REPORT_LIMIT, SizedTerminal};
+use vt_xterm_paint::sized::xterm_paint_limit;
+
+/// What is due at the end of the input.
+#[derive(Clone, Copy)]
+pub(crate) enum Ending {
+    /// What is due of a terminal.
+    Terminal(What),
+    /// The repaint of a session under TERM=xterm.
+    Session,
+}
 
 /// The output that is due of a player on a terminal of any size: its reports as they come, or its text, its repaint, its status, its
 /// text with attributes or its picture at the end.
@@ -39,7 +49,7 @@ impl<P: Playing> SizedOutput<P> {
         ensures none { (P.played player []).reports ≡ [] }
     {
         let _ = player.sized();
-        let most = player.most(what);
+        let most = player.most(Ending::Terminal(what));
         SizedOutput {
             what,
             player,
@@ -107,8 +117,18 @@ fn is_sent(what: What) -> bool
     }
 }
 
-/// Returns the most bytes that are due after the whole input.
-pub(crate) fn room_at(terminal: &SizedTerminal, what: What) -> usize
+/// Returns the most bytes that are due after the whole input on the screen of a terminal.
+pub(crate) fn room_of(terminal: &SizedTerminal, ending: Ending) -> usize
+    ensures { result ≡ room_of ending terminal.now.display.grid.size }
+{
+    match ending {
+        Ending::Terminal(what) => room_at(terminal, what),
+        Ending::Session => xterm_paint_limit(terminal.size()),
+    }
+}
+
+/// Returns the most bytes that are due of a terminal after the whole input.
+fn room_at(terminal: &SizedTerminal, what: What) -> usize
     ensures { result ≡ room_at what terminal.now.display.grid.size }
 {
     match what {

@@ -19,4 +19,4 @@ returns-clause-answer g c =
     of_player _ c.in_ok-new.field-0
     (λ r bytes. played_on g.P.Player.session (g.P.Player.kept r.player) (due r.left (coming r.later.items (λ l. l.after) (λ l. g.P.Player.screen l.target))) bytes)
     (λ bytes. played_on g.P.Player.session (g.P.Player.begun c.args.size) c.args.resizes.now bytes) _ c.args.what _ _ _ _ _ _ _ _ _
-    c.new-output.ensures.player c.in_ok-new.ensures c.new-output.ensures.what c.new-output.ensures.reported c.write_output_from.ensures.answer
+    c.new-output.ensures.player c.in_ok-new.ensures.played c.new-output.ensures.what c.new-output.ensures.reported c.write_output_from.ensures.answer

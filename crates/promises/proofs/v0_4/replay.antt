@@ -1,9 +1,9 @@
 pub mod Showing
 pub mod Playing
 pub mod Session
+pub mod Resizes
 pub mod Due
 pub mod Status
-pub mod Resizes
 pub mod Encoding
 pub mod Words
 pub mod Log

@@ -1,7 +1,7 @@
 -- 0.4: vt_paint/specs/Controls is today's.
 use Rattle.promises.specs.v0_4.paint.Controls as frozen
 use Rattle.std.proofs.Common.{refl, ◌≡◌}
-use Rattle.std.specs.Prelude.{[], codes, ◌∷◌}
+use Rattle.std.specs.Prelude.{[], ◌∷◌}
 use Rattle.vt_glyph.specs.Invocation.{set_at}
 use Rattle.vt_paint.specs.Controls as today
 use Rattle.vt_paint.specs.Controls.{designation, left_event, protection_to, rendition_to, right_event}
@@ -76,8 +76,8 @@ right_event-same = refl
 pub sets_events-same : frozen.sets_events ≡ today.sets_events
 unfolding frozen.sets_events today.sets_events
 sets_events-same = λ ι sets.
-    designation (codes "(") (set_at sets 0) ∷ designation (codes ")") (set_at sets 1)
-    ∷ designation (codes "*") (set_at sets 2) ∷ designation (codes "+") (set_at sets 3)
+    designation "(" (set_at sets 0) ∷ designation ")" (set_at sets 1)
+    ∷ designation "*" (set_at sets 2) ∷ designation "+" (set_at sets 3)
     ∷ left_event sets.left ∷ right_event sets.right ∷ []
 
 pub spelling_sets_events-same : frozen.spelling_sets_events ≡ today.spelling_sets_events

@@ -8,8 +8,8 @@ use Rattle.promises.proofs.v0_4.xterm.Pages.{is_bounded-same}
 use Rattle.promises.proofs.v0_4.xterm.Play.{play_character-same}
 use Rattle.promises.specs.v0_4.replay.MainPage as frozen
 use Rattle.std.proofs.Common.{refl, ◌≡◌}
-use Rattle.std.specs.Prelude.{[], Bool, codes, false, flat_map, if◌then◌else◌, List, nat_lt, None, not, Option, Some}
-use Rattle.std.specs.Prelude.{true, ℕ, ◌&&◌, ◌++◌, ◌==◌, ◌||◌, ◌∷◌}
+use Rattle.std.specs.Prelude.{[], Bool, false, flat_map, if◌then◌else◌, List, nat_lt, None, not, Option, Some, true}
+use Rattle.std.specs.Prelude.{ℕ, ◌&&◌, ◌++◌, ◌==◌, ◌||◌, ◌∷◌}
 use Rattle.vt_replay.specs.MainPage as today
 use Rattle.vt_replay.specs.MainPage.{is_down, moves_down, resizes_after, shows_alternate}
 use Rattle.vt_replay.specs.Pages.{blanks_by, erases_all, is_reset}
@@ -42,16 +42,16 @@ changes_columns-same = λ ι x0 x1 x2. changes_columns-at x0 x1 x2 ι
 
 pub blanks_by_mode-same : frozen.blanks_by_mode ≡ today.blanks_by_mode
 blanks_by_mode-same = λ ι resizes last params.
-    (last == byte (codes "h") && (changes_columns-same ι) true resizes params) || (last == byte (codes "l") && (changes_columns-same ι) false resizes params)
+    (last == byte "h" && (changes_columns-same ι) true resizes params) || (last == byte "l" && (changes_columns-same ι) false resizes params)
 
 pub blanks_plain-same : frozen.blanks_plain ≡ today.blanks_plain
 blanks_plain-same = λ ι params last s.
-    if (is_bounded-same ι) s then last == byte (codes "J") && erases_all (first params) s.display
+    if (is_bounded-same ι) s then last == byte "J" && erases_all (first params) s.display
     else blanks_by None None params last s.display || (is_down last params && moves_down params s.display)
 
 pub blanks_main_by-at : (x0 : Option ℕ) (x1 : Option ℕ) (x2 : List ℕ) (x3 : ℕ) (x4 : Screens) → frozen.blanks_main_by x0 x1 x2 x3 x4 ≡ today.blanks_main_by x0 x1 x2 x3 x4
 blanks_main_by-at None None params last s = λ ι. (blanks_plain-same ι) params last s
-blanks_main_by-at (Some marker) None params last s = λ ι. marker == byte (codes "?") && (blanks_by_mode-same ι) s.pages.resizes last params
+blanks_main_by-at (Some marker) None params last s = λ ι. marker == byte "?" && (blanks_by_mode-same ι) s.pages.resizes last params
 blanks_main_by-at None (Some inter) params last s = λ ι. false
 blanks_main_by-at (Some marker) (Some inter) params last s = λ ι. false
 

@@ -1,5 +1,5 @@
 -- 0.4: vt_replay/specs/Resizes is today's.
-use Rattle.promises.proofs.v0_4.replay.Playing.{due_by-same, repainted-same}
+use Rattle.promises.proofs.v0_4.replay.Playing.{due_by-same}
 use Rattle.promises.proofs.v0_4.term.Play.{play-same}
 use Rattle.promises.proofs.v0_4.term.Resizing.{state_on-same}
 use Rattle.promises.proofs.v0_4.term.State.{state_of-same}
@@ -7,14 +7,17 @@ use Rattle.promises.proofs.v0_4.utf8.Decoding.{pending_after-same}
 use Rattle.promises.proofs.v0_4.utf8.Play.{play_utf8-same}
 use Rattle.promises.proofs.v0_4.xterm.Play.{front_of-same, play_xterm-same}
 use Rattle.promises.proofs.v0_4.xterm.Resizing.{whole_on-same}
+use Rattle.promises.proofs.v0_4.xterm_paint.Repaint.{xterm_repaint-same}
 use Rattle.promises.specs.v0_4.replay.Resizes as frozen
 use Rattle.std.proofs.Common.{◌≡◌}
 use Rattle.std.specs.Prelude.{[], cond, drop, length, List, nat_lt, take, ℕ, ◌∷◌}
 use Rattle.vt_cli.specs.declared.what.What.TheVariants.{Repaint}
 use Rattle.vt_cli.specs.declared.what.What.{What}
+use Rattle.vt_device.specs.Output.{nothing}
 use Rattle.vt_replay.specs.Playing.{on_terminal}
 use Rattle.vt_replay.specs.Resizes as today
 use Rattle.vt_replay.specs.Resizes.{Session}
+use Rattle.vt_replay.specs.Session.{is_between}
 use Rattle.vt_replay.specs.declared.language.Language.TheVariants.{Dec, Utf8, Xterm}
 use Rattle.vt_replay.specs.declared.language.Language.{Language}
 use Rattle.vt_replay.specs.declared.resized.Resize.{Resize}
@@ -97,6 +100,15 @@ played_on-at m k (r ∷ resizes) bytes = λ ι.
 pub played_on-same : {K : Type 0} → frozen.played_on {K = K} ≡ today.played_on {K = K}
 played_on-same = λ ι x1 x2 x3 x4. played_on-at x1 x2 x3 x4 ι
 
+pub kept_on-at : {K : Type 0} (x1 : Session K) (x2 : K) (x3 : List Resize) (x4 : List ℕ) → frozen.kept_on x1 x2 x3 x4 ≡ today.kept_on x1 x2 x3 x4
+kept_on-at m k [] bytes = λ ι. m.after k bytes
+kept_on-at m k (r ∷ resizes) bytes = λ ι.
+    cond (nat_lt (length bytes) r.after) (m.after k bytes)
+    ((kept_on-at m (m.on r.size (m.after k (take r.after bytes))) resizes (drop r.after bytes) ι))
+
+pub kept_on-same : {K : Type 0} → frozen.kept_on {K = K} ≡ today.kept_on {K = K}
+kept_on-same = λ ι x1 x2 x3 x4. kept_on-at x1 x2 x3 x4 ι
+
 pub played_with-at : (x0 : Size) (x1 : List Resize) (x2 : Language) (x3 : List ℕ) → frozen.played_with x0 x1 x2 x3 ≡ today.played_with x0 x1 x2 x3
 played_with-at size resizes Dec bytes = λ ι. (played_on-same ι) (plain_session-same ι) ((state_of-same ι) size) resizes bytes
 played_with-at size resizes Utf8 bytes = λ ι. (played_on-same ι) (utf8_session-same ι) ((utf8_begun-same ι) size) resizes bytes
@@ -105,8 +117,15 @@ played_with-at size resizes Xterm bytes = λ ι. (played_on-same ι) (xterm_sess
 pub played_with-same : frozen.played_with ≡ today.played_with
 played_with-same = λ ι x0 x1 x2 x3. played_with-at x0 x1 x2 x3 ι
 
+pub session_with-same : frozen.session_with ≡ today.session_with
+session_with-same = λ ι size resizes bytes. (kept_on-same ι) (xterm_session-same ι) ((xterm_begun-same ι) size) resizes bytes
+
 pub repainted_with-at : (x0 : Size) (x1 : List Resize) (x2 : Language) → frozen.repainted_with x0 x1 x2 ≡ today.repainted_with x0 x1 x2
-repainted_with-at size resizes Xterm = λ ι. (repainted-same ι) size Xterm
+repainted_with-at size resizes Xterm = λ ι. record {
+  written = nothing;
+  ending = λ bytes. (xterm_repaint-same ι) ((session_with-same ι) size resizes bytes).whole;
+  there = λ bytes. is_between ((session_with-same ι) size resizes bytes).whole ((session_with-same ι) size resizes bytes).pending;
+}
 repainted_with-at size resizes language = λ ι. (due_by-same ι) ((played_with-same ι) size resizes language) Repaint
 
 pub repainted_with-same : frozen.repainted_with ≡ today.repainted_with

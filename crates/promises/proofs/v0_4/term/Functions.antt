@@ -22,9 +22,9 @@ use Rattle.vt_syntax.specs.declared.event.Event.TheVariants.{Control, Escape, Pr
 use Rattle.vt_syntax.specs.declared.event.Event.{Event}
 use Rattle.vt_term.specs.Answers.{primary_reports, private_reports, secondary_reports, silent, status_reports}
 use Rattle.vt_term.specs.Functions as today
-use Rattle.vt_term.specs.Functions.{byte, changing, counted, designate_to, erasing, intermediate_tables}
-use Rattle.vt_term.specs.Functions.{no_function, numbers_of, of_any, of_first, of_margins, paired, plain, selected}
-use Rattle.vt_term.specs.Functions.{set_name, space_escapes, with_sets}
+use Rattle.vt_term.specs.Functions.{changing, counted, designate_to, erasing, intermediate_tables}
+use Rattle.vt_term.specs.Functions.{no_function, numbers_of, of_any, of_first, of_margins, paired, plain, row}
+use Rattle.vt_term.specs.Functions.{selected, set_name, space_escapes, with_sets}
 use Rattle.vt_term.specs.Modes.{ansi_modes, keypad_mode}
 use Rattle.vt_term.specs.Moving.{backspace, carriage_return, cursor_backward, cursor_down, cursor_forward}
 use Rattle.vt_term.specs.Moving.{cursor_position, cursor_up, set_margins}
@@ -35,6 +35,9 @@ use Rattle.vt_term.specs.Tabs.{horizontal_tab, set_tab}
 
 pub byte-same : frozen.byte ≡ today.byte
 byte-same = refl
+
+pub row-same : {A : Type 0} → frozen.row {A = A} ≡ today.row {A = A}
+row-same = refl
 
 pub Function-made : frozen.Function' → today.Function
 Function-made ρ = record {
@@ -137,23 +140,23 @@ control-same = λ ι b. ((function_in-same ι) (controls-same ι) b).effect []
 
 pub plain_escapes-same : frozen.plain_escapes ≡ today.plain_escapes
 plain_escapes-same = λ ι.
-    (byte (codes "7"), plain (codes "DECSC") save_cursor)
-    ∷ (byte (codes "8"), plain (codes "DECRC") restore_cursor)
-    ∷ (byte (codes "="), plain (codes "DECKPAM") (keypad_mode true))
-    ∷ (byte (codes ">"), plain (codes "DECKPNM") (keypad_mode false))
-    ∷ (byte (codes "c"), plain (codes "RIS") (reset_to_initial_state-same ι))
-    ∷ (byte (codes "n"), plain (codes "LS2") (with_sets (locked_left 2)))
-    ∷ (byte (codes "o"), plain (codes "LS3") (with_sets (locked_left 3)))
-    ∷ (byte (codes "~"), plain (codes "LS1R") (with_sets (locked_right 1)))
-    ∷ (byte (codes "}"), plain (codes "LS2R") (with_sets (locked_right 2)))
-    ∷ (byte (codes "|"), plain (codes "LS3R") (with_sets (locked_right 3)))
+    row "7" (plain (codes "DECSC") save_cursor)
+    ∷ row "8" (plain (codes "DECRC") restore_cursor)
+    ∷ row "=" (plain (codes "DECKPAM") (keypad_mode true))
+    ∷ row ">" (plain (codes "DECKPNM") (keypad_mode false))
+    ∷ row "c" (plain (codes "RIS") (reset_to_initial_state-same ι))
+    ∷ row "n" (plain (codes "LS2") (with_sets (locked_left 2)))
+    ∷ row "o" (plain (codes "LS3") (with_sets (locked_left 3)))
+    ∷ row "~" (plain (codes "LS1R") (with_sets (locked_right 1)))
+    ∷ row "}" (plain (codes "LS2R") (with_sets (locked_right 2)))
+    ∷ row "|" (plain (codes "LS3R") (with_sets (locked_right 3)))
     ∷ []
 
 pub space_escapes-same : frozen.space_escapes ≡ today.space_escapes
 space_escapes-same = refl
 
 pub number_sign_escapes-same : frozen.number_sign_escapes ≡ today.number_sign_escapes
-number_sign_escapes-same = λ ι. (byte (codes "8"), plain (codes "DECALN") (screen_alignment-same ι)) ∷ []
+number_sign_escapes-same = λ ι. row "8" (plain (codes "DECALN") (screen_alignment-same ι)) ∷ []
 
 pub set_name-same : frozen.set_name ≡ today.set_name
 set_name-same = refl
@@ -174,12 +177,12 @@ designation-same = λ ι slot name last. record {
 
 pub escape_tables-same : frozen.escape_tables ≡ today.escape_tables
 escape_tables-same = λ ι.
-    (byte (codes " "), (function_in-same ι) space_escapes)
-    ∷ (byte (codes "#"), (function_in-same ι) (number_sign_escapes-same ι))
-    ∷ (byte (codes "("), (designation-same ι) 0 (codes "SCS G0 "))
-    ∷ (byte (codes ")"), (designation-same ι) 1 (codes "SCS G1 "))
-    ∷ (byte (codes "*"), (designation-same ι) 2 (codes "SCS G2 "))
-    ∷ (byte (codes "+"), (designation-same ι) 3 (codes "SCS G3 "))
+    row " " ((function_in-same ι) space_escapes)
+    ∷ row "#" ((function_in-same ι) (number_sign_escapes-same ι))
+    ∷ row "(" ((designation-same ι) 0 (codes "SCS G0 "))
+    ∷ row ")" ((designation-same ι) 1 (codes "SCS G1 "))
+    ∷ row "*" ((designation-same ι) 2 (codes "SCS G2 "))
+    ∷ row "+" ((designation-same ι) 3 (codes "SCS G3 "))
     ∷ []
 
 pub escape_function-same : frozen.escape_function ≡ today.escape_function
@@ -195,39 +198,39 @@ escape_with-same = λ ι inter last. ((escape_function-same ι) inter last).effe
 
 pub plain_sequences-same : frozen.plain_sequences ≡ today.plain_sequences
 plain_sequences-same = λ ι.
-    (byte (codes "@"), counted (codes "ICH") (insert_character-same ι))
-    ∷ (byte (codes "A"), counted (codes "CUU") cursor_up)
-    ∷ (byte (codes "B"), counted (codes "CUD") cursor_down)
-    ∷ (byte (codes "C"), counted (codes "CUF") cursor_forward)
-    ∷ (byte (codes "D"), counted (codes "CUB") cursor_backward)
-    ∷ (byte (codes "H"), paired (codes "CUP") cursor_position)
-    ∷ (byte (codes "J"), erasing (codes "ED") ((erase_in_display-same ι) false))
-    ∷ (byte (codes "K"), erasing (codes "EL") ((erase_in_line-same ι) false))
-    ∷ (byte (codes "L"), counted (codes "IL") (insert_line-same ι))
-    ∷ (byte (codes "M"), counted (codes "DL") (delete_line-same ι))
-    ∷ (byte (codes "P"), counted (codes "DCH") (delete_character-same ι))
-    ∷ (byte (codes "X"), counted (codes "ECH") (erase_character-same ι))
-    ∷ (byte (codes "c"), (reporting-same ι) (codes "DA") primary_reports)
-    ∷ (byte (codes "f"), paired (codes "HVP") cursor_position)
-    ∷ (byte (codes "g"), of_first (0 ∷ 3 ∷ []) (selected (codes "TBC") (clear_tabs-same ι)))
-    ∷ (byte (codes "h"), (modal-same ι) (codes "SM") ansi_modes true)
-    ∷ (byte (codes "l"), (modal-same ι) (codes "RM") ansi_modes false)
-    ∷ (byte (codes "m"), of_any (numbers_of rendition_changes) (changing (codes "SGR") (select_graphic_rendition-same ι)))
-    ∷ (byte (codes "n"), (reporting-same ι) (codes "DSR") status_reports)
-    ∷ (byte (codes "r"), of_margins (paired (codes "DECSTBM") set_margins))
+    row "@" (counted (codes "ICH") (insert_character-same ι))
+    ∷ row "A" (counted (codes "CUU") cursor_up)
+    ∷ row "B" (counted (codes "CUD") cursor_down)
+    ∷ row "C" (counted (codes "CUF") cursor_forward)
+    ∷ row "D" (counted (codes "CUB") cursor_backward)
+    ∷ row "H" (paired (codes "CUP") cursor_position)
+    ∷ row "J" (erasing (codes "ED") ((erase_in_display-same ι) false))
+    ∷ row "K" (erasing (codes "EL") ((erase_in_line-same ι) false))
+    ∷ row "L" (counted (codes "IL") (insert_line-same ι))
+    ∷ row "M" (counted (codes "DL") (delete_line-same ι))
+    ∷ row "P" (counted (codes "DCH") (delete_character-same ι))
+    ∷ row "X" (counted (codes "ECH") (erase_character-same ι))
+    ∷ row "c" ((reporting-same ι) (codes "DA") primary_reports)
+    ∷ row "f" (paired (codes "HVP") cursor_position)
+    ∷ row "g" (of_first (0 ∷ 3 ∷ []) (selected (codes "TBC") (clear_tabs-same ι)))
+    ∷ row "h" ((modal-same ι) (codes "SM") ansi_modes true)
+    ∷ row "l" ((modal-same ι) (codes "RM") ansi_modes false)
+    ∷ row "m" (of_any (numbers_of rendition_changes) (changing (codes "SGR") (select_graphic_rendition-same ι)))
+    ∷ row "n" ((reporting-same ι) (codes "DSR") status_reports)
+    ∷ row "r" (of_margins (paired (codes "DECSTBM") set_margins))
     ∷ []
 
 pub private_sequences-same : frozen.private_sequences ≡ today.private_sequences
 private_sequences-same = λ ι.
-    (byte (codes "J"), erasing (codes "DECSED") ((erase_in_display-same ι) true))
-    ∷ (byte (codes "K"), erasing (codes "DECSEL") ((erase_in_line-same ι) true))
-    ∷ (byte (codes "h"), (modal-same ι) (codes "SM") (private_modes-same ι) true)
-    ∷ (byte (codes "l"), (modal-same ι) (codes "RM") (private_modes-same ι) false)
-    ∷ (byte (codes "n"), (reporting-same ι) (codes "DSR") private_reports)
+    row "J" (erasing (codes "DECSED") ((erase_in_display-same ι) true))
+    ∷ row "K" (erasing (codes "DECSEL") ((erase_in_line-same ι) true))
+    ∷ row "h" ((modal-same ι) (codes "SM") (private_modes-same ι) true)
+    ∷ row "l" ((modal-same ι) (codes "RM") (private_modes-same ι) false)
+    ∷ row "n" ((reporting-same ι) (codes "DSR") private_reports)
     ∷ []
 
 pub greater_sequences-same : frozen.greater_sequences ≡ today.greater_sequences
-greater_sequences-same = λ ι. (byte (codes "c"), (reporting-same ι) (codes "DA") secondary_reports) ∷ []
+greater_sequences-same = λ ι. row "c" ((reporting-same ι) (codes "DA") secondary_reports) ∷ []
 
 pub quote_sequences-same : frozen.quote_sequences ≡ today.quote_sequences
 quote_sequences-same = refl
@@ -239,7 +242,7 @@ pub table_after-same : frozen.table_after ≡ today.table_after
 table_after-same = λ ι tables b. unwrap_or ((look_up-same ι) tables b) []
 
 pub marker_tables-same : frozen.marker_tables ≡ today.marker_tables
-marker_tables-same = λ ι. (byte (codes "?"), (private_sequences-same ι)) ∷ (byte (codes ">"), (greater_sequences-same ι)) ∷ []
+marker_tables-same = λ ι. row "?" (private_sequences-same ι) ∷ row ">" (greater_sequences-same ι) ∷ []
 
 pub intermediate_tables-same : frozen.intermediate_tables ≡ today.intermediate_tables
 intermediate_tables-same = refl

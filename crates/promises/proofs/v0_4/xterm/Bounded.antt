@@ -11,12 +11,12 @@ use Rattle.promises.proofs.v0_4.xterm.Sides.{reverse_index-same, rows_down-same,
 use Rattle.promises.proofs.v0_4.xterm.Sides.{write_glyph-same}
 use Rattle.promises.specs.v0_4.xterm.Bounded as frozen
 use Rattle.std.proofs.Common.{refl, suc, zero, ◌≡◌}
-use Rattle.std.specs.Prelude.{[], codes, if◌then◌else◌, is_some, length, min, None, not, Option, Some}
-use Rattle.std.specs.Prelude.{unwrap_or, ℕ, ◌&&◌, ◌==◌, ◌||◌, ◌∷◌}
+use Rattle.std.specs.Prelude.{[], if◌then◌else◌, is_some, length, min, None, not, Option, Some, unwrap_or, ℕ}
+use Rattle.std.specs.Prelude.{◌&&◌, ◌==◌, ◌||◌, ◌∷◌}
 use Rattle.vt_glyph.specs.Tables.{space, substitute_glyph}
 use Rattle.vt_syntax.specs.declared.event.Event.TheVariants.{Control, Escape, Print, Sequence}
 use Rattle.vt_syntax.specs.declared.event.Event.{Event}
-use Rattle.vt_term.specs.Functions.{byte}
+use Rattle.vt_term.specs.Functions.{byte, row}
 use Rattle.vt_term.specs.Parameters.{count, first, second}
 use Rattle.vt_utf8.specs.Translation.{unshifted}
 use Rattle.vt_xterm.specs.Bounded as today
@@ -106,23 +106,23 @@ bounded_controls-same = λ ι.
 
 pub bounded_plain-same : frozen.bounded_plain ≡ today.bounded_plain
 bounded_plain-same = λ ι.
-    (byte (codes "@"), λ params. (insert_character-same ι) (count params))
-    ∷ (byte (codes "C"), λ params. between.cursor_forward (count params))
-    ∷ (byte (codes "D"), λ params. between.cursor_backward (count params))
-    ∷ (byte (codes "E"), λ params. between.cursor_next_line (count params))
-    ∷ (byte (codes "F"), λ params. between.cursor_preceding_line (count params))
-    ∷ (byte (codes "G"), λ params. between.cursor_character_absolute (count params))
-    ∷ (byte (codes "H"), λ params. between.cursor_position (first params) (second params))
-    ∷ (byte (codes "I"), λ params. (cursor_forward_tabulation-same ι) (count params))
-    ∷ (byte (codes "L"), λ params. (insert_line-same ι) (count params))
-    ∷ (byte (codes "M"), λ params. (delete_line-same ι) (count params))
-    ∷ (byte (codes "P"), λ params. (delete_character-same ι) (count params))
-    ∷ (byte (codes "Z"), λ params. (cursor_backward_tabulation-same ι) (count params))
-    ∷ (byte (codes "`"), λ params. between.cursor_character_absolute (count params))
-    ∷ (byte (codes "a"), λ params. between.character_position_forward (count params))
-    ∷ (byte (codes "d"), λ params m. line_position_absolute (count params))
-    ∷ (byte (codes "e"), λ params m. line_position_forward (count params))
-    ∷ (byte (codes "f"), λ params. between.cursor_position (first params) (second params))
+    row "@" (λ params. (insert_character-same ι) (count params))
+    ∷ row "C" (λ params. between.cursor_forward (count params))
+    ∷ row "D" (λ params. between.cursor_backward (count params))
+    ∷ row "E" (λ params. between.cursor_next_line (count params))
+    ∷ row "F" (λ params. between.cursor_preceding_line (count params))
+    ∷ row "G" (λ params. between.cursor_character_absolute (count params))
+    ∷ row "H" (λ params. between.cursor_position (first params) (second params))
+    ∷ row "I" (λ params. (cursor_forward_tabulation-same ι) (count params))
+    ∷ row "L" (λ params. (insert_line-same ι) (count params))
+    ∷ row "M" (λ params. (delete_line-same ι) (count params))
+    ∷ row "P" (λ params. (delete_character-same ι) (count params))
+    ∷ row "Z" (λ params. (cursor_backward_tabulation-same ι) (count params))
+    ∷ row "`" (λ params. between.cursor_character_absolute (count params))
+    ∷ row "a" (λ params. between.character_position_forward (count params))
+    ∷ row "d" (λ params m. line_position_absolute (count params))
+    ∷ row "e" (λ params m. line_position_forward (count params))
+    ∷ row "f" (λ params. between.cursor_position (first params) (second params))
     ∷ []
 
 pub bounded_in-same : frozen.bounded_in ≡ today.bounded_in
@@ -135,11 +135,11 @@ has_row-same = λ ι table last. is_some ((look_up-same ι) table last)
 
 pub other_plain-same : frozen.other_plain ≡ today.other_plain
 other_plain-same = λ ι.
-    (byte (codes "S"), λ params. leaving ((rows_up-same ι) (count params)))
-    ∷ (byte (codes "T"), λ params m s. if length params == 1 then leaving ((rows_down-same ι) (count params)) m s else s)
-    ∷ (byte (codes "^"), λ params. leaving ((rows_down-same ι) (count params)))
-    ∷ (byte (codes "b"), λ params. (repeating-same ι) (count params))
-    ∷ (byte (codes "r"), λ params. margins_set (first params) (second params))
+    row "S" (λ params. leaving ((rows_up-same ι) (count params)))
+    ∷ row "T" (λ params m s. if length params == 1 then leaving ((rows_down-same ι) (count params)) m s else s)
+    ∷ row "^" (λ params. leaving ((rows_down-same ι) (count params)))
+    ∷ row "b" (λ params. (repeating-same ι) (count params))
+    ∷ row "r" (λ params. margins_set (first params) (second params))
     ∷ []
 
 pub erases-same : frozen.erases ≡ today.erases
@@ -167,7 +167,7 @@ plain_between-same = λ ι other event last params m s.
 
 pub marked_between-same : frozen.marked_between ≡ today.marked_between
 marked_between-same = λ ι other event marker last params m s.
-    if marker == byte (codes "?") && erases last params then resetting (λ m. (effect-same ι) event) m s else other event s
+    if marker == byte "?" && erases last params then resetting (λ m. (effect-same ι) event) m s else other event s
 
 pub bounded_effect-at : (x0 : (Event → Screens → Screens)) (x1 : Event) (x2 : Sides) (x3 : Screens) → frozen.bounded_effect x0 x1 x2 x3 ≡ today.bounded_effect x0 x1 x2 x3
 unfolding frozen.bounded_effect today.bounded_effect

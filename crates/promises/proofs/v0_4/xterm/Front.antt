@@ -11,10 +11,10 @@ use Rattle.promises.proofs.v0_4.xterm.Scroll.{rows_down-same, rows_down_by-same,
 use Rattle.promises.proofs.v0_4.xterm.Tabs.{cursor_backward_tabulation-same, cursor_forward_tabulation-same}
 use Rattle.promises.specs.v0_4.xterm.Front as frozen
 use Rattle.std.proofs.Common.{refl, ◌≡◌}
-use Rattle.std.specs.Prelude.{[], codes, false, if◌then◌else◌, None, Option, Some, true, unwrap_or, ℕ, ◌∷◌}
+use Rattle.std.specs.Prelude.{[], false, if◌then◌else◌, None, Option, Some, true, unwrap_or, ℕ, ◌∷◌}
 use Rattle.vt_syntax.specs.declared.event.Event.TheVariants.{Control, Escape, Print, Sequence}
 use Rattle.vt_syntax.specs.declared.event.Event.{Event}
-use Rattle.vt_term.specs.Functions.{byte}
+use Rattle.vt_term.specs.Functions.{row}
 use Rattle.vt_term.specs.Moving.{cursor_forward}
 use Rattle.vt_term.specs.Parameters.{count}
 use Rattle.vt_xterm.specs.Bounded.{is_bare}
@@ -36,26 +36,26 @@ restore_if_bare-same = λ ι params s. if is_bare params then (restore_screens-s
 
 pub plain_functions-same : frozen.plain_functions ≡ today.plain_functions
 plain_functions-same = λ ι.
-    (byte (codes "E"), λ params. on_display (cursor_next_line (count params)))
-    ∷ (byte (codes "F"), λ params. on_display (cursor_preceding_line (count params)))
-    ∷ (byte (codes "G"), λ params. on_display (cursor_character_absolute (count params)))
-    ∷ (byte (codes "I"), λ params. on_display ((cursor_forward_tabulation-same ι) (count params)))
-    ∷ (byte (codes "S"), λ params. on_display ((rows_up-same ι) (count params)))
-    ∷ (byte (codes "T"), λ params. on_display ((rows_down_by-same ι) params))
-    ∷ (byte (codes "Z"), λ params. on_display ((cursor_backward_tabulation-same ι) (count params)))
-    ∷ (byte (codes "^"), λ params. on_display ((rows_down-same ι) (count params)))
-    ∷ (byte (codes "`"), λ params. on_display (cursor_character_absolute (count params)))
-    ∷ (byte (codes "a"), λ params. on_display (cursor_forward (count params)))
-    ∷ (byte (codes "b"), λ params. on_display ((repeat-same ι) (count params)))
-    ∷ (byte (codes "d"), λ params. on_display (line_position_absolute (count params)))
-    ∷ (byte (codes "e"), λ params. on_display (line_position_forward (count params)))
-    ∷ (byte (codes "m"), λ params. on_display ((select_attributes-same ι) params))
-    ∷ (byte (codes "s"), λ params s. save_or_set_sides params s.pages.sides s)
-    ∷ (byte (codes "u"), (restore_if_bare-same ι))
+    row "E" (λ params. on_display (cursor_next_line (count params)))
+    ∷ row "F" (λ params. on_display (cursor_preceding_line (count params)))
+    ∷ row "G" (λ params. on_display (cursor_character_absolute (count params)))
+    ∷ row "I" (λ params. on_display ((cursor_forward_tabulation-same ι) (count params)))
+    ∷ row "S" (λ params. on_display ((rows_up-same ι) (count params)))
+    ∷ row "T" (λ params. on_display ((rows_down_by-same ι) params))
+    ∷ row "Z" (λ params. on_display ((cursor_backward_tabulation-same ι) (count params)))
+    ∷ row "^" (λ params. on_display ((rows_down-same ι) (count params)))
+    ∷ row "`" (λ params. on_display (cursor_character_absolute (count params)))
+    ∷ row "a" (λ params. on_display (cursor_forward (count params)))
+    ∷ row "b" (λ params. on_display ((repeat-same ι) (count params)))
+    ∷ row "d" (λ params. on_display (line_position_absolute (count params)))
+    ∷ row "e" (λ params. on_display (line_position_forward (count params)))
+    ∷ row "m" (λ params. on_display ((select_attributes-same ι) params))
+    ∷ row "s" (λ params s. save_or_set_sides params s.pages.sides s)
+    ∷ row "u" (restore_if_bare-same ι)
     ∷ []
 
 pub private_functions-same : frozen.private_functions ≡ today.private_functions
-private_functions-same = λ ι. (byte (codes "h"), (change_page_modes-same ι) true) ∷ (byte (codes "l"), (change_page_modes-same ι) false) ∷ []
+private_functions-same = λ ι. row "h" ((change_page_modes-same ι) true) ∷ row "l" ((change_page_modes-same ι) false) ∷ []
 
 pub soft_reset_wrapping-same : frozen.soft_reset_wrapping ≡ today.soft_reset_wrapping
 soft_reset_wrapping-same = refl
@@ -81,7 +81,7 @@ table_after-same = λ ι tables b. unwrap_or ((look_up-same ι) tables b) []
 pub functions_of-at : (x0 : Option ℕ) (x1 : Option ℕ) → frozen.functions_of x0 x1 ≡ today.functions_of x0 x1
 unfolding frozen.functions_of today.functions_of
 functions_of-at None None = λ ι. (plain_functions-same ι)
-functions_of-at (Some marker) None = λ ι. (table_after-same ι) ((byte (codes "?"), (private_functions-same ι)) ∷ []) marker
+functions_of-at (Some marker) None = λ ι. (table_after-same ι) (row "?" (private_functions-same ι) ∷ []) marker
 functions_of-at None (Some inter) = λ ι. (table_after-same ι) intermediate_functions inter
 functions_of-at (Some marker) (Some inter) = λ ι. []
 
@@ -94,13 +94,13 @@ function_in-same = λ ι table event last params. unwrap_or ((look_up-same ι) t
 
 pub plain_escapes-same : frozen.plain_escapes ≡ today.plain_escapes
 plain_escapes-same = λ ι.
-    (byte (codes "8"), λ params. (restore_screens-same ι)) ∷ (byte (codes "c"), λ params. (reset_to_initial_state-same ι)) ∷ []
+    row "8" (λ params. (restore_screens-same ι)) ∷ row "c" (λ params. (reset_to_initial_state-same ι)) ∷ []
 
 pub alignments-same : frozen.alignments ≡ today.alignments
-alignments-same = λ ι. (byte (codes "8"), λ params s. with_full_sides (on_display (screen_alignment-same ι) s)) ∷ []
+alignments-same = λ ι. row "8" (λ params s. with_full_sides (on_display (screen_alignment-same ι) s)) ∷ []
 
 pub escapes_with-same : frozen.escapes_with ≡ today.escapes_with
-escapes_with-same = λ ι inter. (table_after-same ι) ((byte (codes "#"), (alignments-same ι)) ∷ []) inter
+escapes_with-same = λ ι inter. (table_after-same ι) (row "#" (alignments-same ι) ∷ []) inter
 
 pub screen_effect-at : (x0 : Event) → frozen.screen_effect x0 ≡ today.screen_effect x0
 screen_effect-at (Print b) = λ ι. on_display ((effect-same ι) (Print b))

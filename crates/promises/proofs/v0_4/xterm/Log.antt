@@ -8,11 +8,10 @@ use Rattle.promises.proofs.v0_4.xterm.Pages.{bounds_of-same}
 use Rattle.promises.specs.v0_4.xterm.Log as frozen
 use Rattle.std.proofs.Common.{◌≡◌}
 use Rattle.std.specs.List.{range_with_len}
-use Rattle.std.specs.Prelude.{[], codes, if◌then◌else◌, List, map, min, None, Option, Some, unwrap_or, ℕ, ◌++◌, ◌==◌}
-use Rattle.std.specs.Prelude.{◌∷◌}
+use Rattle.std.specs.Prelude.{[], if◌then◌else◌, List, map, min, None, Option, Some, unwrap_or, ℕ, ◌++◌, ◌==◌, ◌∷◌}
 use Rattle.vt_syntax.specs.declared.event.Event.TheVariants.{Control, Escape, Print, Sequence}
 use Rattle.vt_syntax.specs.declared.event.Event.{Event}
-use Rattle.vt_term.specs.Functions.{byte}
+use Rattle.vt_term.specs.Functions.{row}
 use Rattle.vt_term.specs.Parameters.{count}
 use Rattle.vt_term.specs.State.{Display}
 use Rattle.vt_xterm.specs.Log as today
@@ -28,8 +27,8 @@ rows_off-same = λ ι n s. if s.margins.top == 1 then (first_rows-same ι) (min 
 
 pub scrolling_functions-same : frozen.scrolling_functions ≡ today.scrolling_functions
 scrolling_functions-same = λ ι.
-    (byte (codes "S"), λ params. (rows_off-same ι) (count params))
-    ∷ (byte (codes "b"), λ params. (glyph_off-same ι))
+    row "S" (λ params. (rows_off-same ι) (count params))
+    ∷ row "b" (λ params. (glyph_off-same ι))
     ∷ []
 
 pub function_off-at : (x0 : Option ℕ) (x1 : Option ℕ) (x2 : ℕ) → frozen.function_off x0 x1 x2 ≡ today.function_off x0 x1 x2

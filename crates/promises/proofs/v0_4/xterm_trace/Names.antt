@@ -12,7 +12,7 @@ use Rattle.std.specs.Prelude.{[], codes, if◌then◌else◌, None, Option, Some
 use Rattle.vt_glyph.specs.LookUp.{contains}
 use Rattle.vt_syntax.specs.declared.event.Event.TheVariants.{Control, Escape, Print, Sequence}
 use Rattle.vt_syntax.specs.declared.event.Event.{Event}
-use Rattle.vt_term.specs.Functions.{byte, numbers_of}
+use Rattle.vt_term.specs.Functions.{byte, numbers_of, row}
 use Rattle.vt_term.specs.Rendition.{rendition_changes}
 use Rattle.vt_xterm.specs.Bounded.{is_bare}
 use Rattle.vt_xterm_trace.specs.Names as today
@@ -56,30 +56,30 @@ has_mode-same = λ ι values. list_any (contains (numbers_of (page_modes-same ι
 
 pub plain_names-same : frozen.plain_names ≡ today.plain_names
 plain_names-same = λ ι.
-    (byte (codes "E"), always (codes "CNL"))
-    ∷ (byte (codes "F"), always (codes "CPL"))
-    ∷ (byte (codes "G"), always (codes "CHA"))
-    ∷ (byte (codes "I"), always (codes "CHT"))
-    ∷ (byte (codes "S"), always (codes "SU"))
-    ∷ (byte (codes "T"), taking is_one (codes "SD"))
-    ∷ (byte (codes "Z"), always (codes "CBT"))
-    ∷ (byte (codes "^"), always (codes "SD"))
-    ∷ (byte (codes "`"), always (codes "HPA"))
-    ∷ (byte (codes "a"), always (codes "HPR"))
-    ∷ (byte (codes "b"), always (codes "REP"))
-    ∷ (byte (codes "d"), always (codes "VPA"))
-    ∷ (byte (codes "e"), always (codes "VPR"))
-    ∷ (byte (codes "m"), taking (has_attribute-same ι) (codes "SGR"))
-    ∷ (byte (codes "s"), naming saves_or_sets)
-    ∷ (byte (codes "u"), taking is_bare (codes "RCP"))
+    row "E" (always (codes "CNL"))
+    ∷ row "F" (always (codes "CPL"))
+    ∷ row "G" (always (codes "CHA"))
+    ∷ row "I" (always (codes "CHT"))
+    ∷ row "S" (always (codes "SU"))
+    ∷ row "T" (taking is_one (codes "SD"))
+    ∷ row "Z" (always (codes "CBT"))
+    ∷ row "^" (always (codes "SD"))
+    ∷ row "`" (always (codes "HPA"))
+    ∷ row "a" (always (codes "HPR"))
+    ∷ row "b" (always (codes "REP"))
+    ∷ row "d" (always (codes "VPA"))
+    ∷ row "e" (always (codes "VPR"))
+    ∷ row "m" (taking (has_attribute-same ι) (codes "SGR"))
+    ∷ row "s" (naming saves_or_sets)
+    ∷ row "u" (taking is_bare (codes "RCP"))
     ∷ []
 
 pub private_names-same : frozen.private_names ≡ today.private_names
-private_names-same = λ ι. (byte (codes "h"), taking (has_mode-same ι) (codes "SM")) ∷ (byte (codes "l"), taking (has_mode-same ι) (codes "RM")) ∷ []
+private_names-same = λ ι. row "h" (taking (has_mode-same ι) (codes "SM")) ∷ row "l" (taking (has_mode-same ι) (codes "RM")) ∷ []
 
 pub names_of-at : (x0 : Option ℕ) (x1 : Option ℕ) → frozen.names_of x0 x1 ≡ today.names_of x0 x1
 names_of-at None None = λ ι. (plain_names-same ι)
-names_of-at (Some marker) None = λ ι. if marker == byte (codes "?") then (private_names-same ι) else []
+names_of-at (Some marker) None = λ ι. if marker == byte "?" then (private_names-same ι) else []
 names_of-at None (Some inter) = λ ι. []
 names_of-at (Some marker) (Some inter) = λ ι. []
 

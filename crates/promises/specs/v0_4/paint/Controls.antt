@@ -1,12 +1,12 @@
 -- 0.4: vt_paint/specs/Controls.
+use Prim.Native.String.{String}
 use Rattle.promises.specs.v0_4.glyph.Designation.{final_of}
 use Rattle.promises.specs.v0_4.glyph.Invocation.{set_at}
 use Rattle.promises.specs.v0_4.screen.Same.{when}
 use Rattle.promises.specs.v0_4.term.Functions.{byte}
 use Rattle.promises.specs.v0_4.term.Modes.{ansi_values, private_values}
 use Rattle.std.specs.List.{filter}
-use Rattle.std.specs.Prelude.{[], Bool, codes, if◌then◌else◌, List, map, None, not, slice_index_or, Some, ℕ, ◌++◌}
-use Rattle.std.specs.Prelude.{◌==◌, ◌∷◌}
+use Rattle.std.specs.Prelude.{[], Bool, if◌then◌else◌, List, map, None, not, slice_index_or, Some, ℕ, ◌++◌, ◌==◌, ◌∷◌}
 use Rattle.vt_glyph.specs.GraphicSets.{GraphicSets}
 use Rattle.vt_glyph.specs.declared.glyph.Spelling.TheVariants.{Plain, Second, Third}
 use Rattle.vt_glyph.specs.declared.glyph.Spelling.{Spelling}
@@ -24,25 +24,25 @@ sequence_of values last = Sequence None (record { items = values }) None last
 
 -- SM and RM of an ANSI mode
 abbrev pub ansi_mode : ℕ → Bool → Event
-ansi_mode number on = sequence_of (number ∷ []) (if on then byte (codes "h") else byte (codes "l"))
+ansi_mode number on = sequence_of (number ∷ []) (if on then byte "h" else byte "l")
 
 -- SM and RM of a private mode: 3 is DECCOLM, 6 DECOM and 7 DECAWM
 abbrev pub private_mode : ℕ → Bool → Event
 private_mode number on =
-    Sequence (Some (byte (codes "?"))) (record { items = number ∷ [] }) None
-    (if on then byte (codes "h") else byte (codes "l"))
+    Sequence (Some (byte "?")) (record { items = number ∷ [] }) None
+    (if on then byte "h" else byte "l")
 
 -- CUP, always with both numbers
 abbrev pub cursor_position : ℕ → ℕ → Event
-cursor_position line col = sequence_of (line ∷ col ∷ []) (byte (codes "H"))
+cursor_position line col = sequence_of (line ∷ col ∷ []) (byte "H")
 
 -- DECSTBM
 abbrev pub margins_to : ℕ → ℕ → Event
-margins_to top bottom = sequence_of (top ∷ bottom ∷ []) (byte (codes "r"))
+margins_to top bottom = sequence_of (top ∷ bottom ∷ []) (byte "r")
 
 -- TBC of all stops
 abbrev pub clear_all_tabs : Event
-clear_all_tabs = sequence_of (3 ∷ []) (byte (codes "g"))
+clear_all_tabs = sequence_of (3 ∷ []) (byte "g")
 
 -- SGR: 0, and then the attributes that are set
 abbrev pub rendition_values : Rendition → List ℕ
@@ -51,16 +51,16 @@ rendition_values r =
     ++ (when r.underline (4 ∷ []) ++ (when r.blink (5 ∷ []) ++ when r.reverse (7 ∷ []))))
 
 abbrev pub rendition_to : Rendition → Event
-rendition_to r = sequence_of (rendition_values r) (byte (codes "m"))
+rendition_to r = sequence_of (rendition_values r) (byte "m")
 
 -- SGR, all four attributes
 abbrev pub all_attributes : Event
-all_attributes = sequence_of (1 ∷ 4 ∷ 5 ∷ 7 ∷ []) (byte (codes "m"))
+all_attributes = sequence_of (1 ∷ 4 ∷ 5 ∷ 7 ∷ []) (byte "m")
 
 -- DECSCA
 abbrev pub protection_to : Bool → Event
 protection_to protected =
-    Sequence None (record { items = (if protected then 1 else 0) ∷ [] }) (Some 0x22) (byte (codes "q"))
+    Sequence None (record { items = (if protected then 1 else 0) ∷ [] }) (Some 0x22) (byte "q")
 
 -- the attributes and the protection
 unfoldable pub brush_events : Brush → List Event
@@ -68,7 +68,7 @@ brush_events brush = rendition_to brush.rendition ∷ protection_to brush.protec
 
 -- DECSTR
 abbrev pub soft_reset : Event
-soft_reset = Sequence None (record { items = 0 ∷ [] }) (Some (byte (codes "!"))) (byte (codes "p"))
+soft_reset = Sequence None (record { items = 0 ∷ [] }) (Some (byte "!")) (byte "p")
 
 -- HTS
 abbrev pub set_tab : Event
@@ -80,55 +80,55 @@ shift_to slot = if slot == 2 then Control 0x8E else Control 0x8F
 
 -- RIS
 abbrev pub reset_to_initial_state : Event
-reset_to_initial_state = Escape None (byte (codes "c"))
+reset_to_initial_state = Escape None (byte "c")
 
 -- DECSC
 abbrev pub save_cursor : Event
-save_cursor = Escape None (byte (codes "7"))
+save_cursor = Escape None (byte "7")
 
 -- DECKPAM and DECKPNM
 abbrev pub keypad : Bool → Event
-keypad application = Escape None (if application then byte (codes "=") else byte (codes ">"))
+keypad application = Escape None (if application then byte "=" else byte ">")
 
 -- S8C1T and S7C1T
 abbrev pub report_form : Bool → Event
-report_form eight = Escape (Some (byte (codes " "))) (if eight then byte (codes "G") else byte (codes "F"))
+report_form eight = Escape (Some (byte " ")) (if eight then byte "G" else byte "F")
 
 -- SCS, by the intermediate of G0, G1, G2 or G3
-abbrev pub designation : List ℕ → Set → Event
+abbrev pub designation : String → Set → Event
 designation inter set = Escape (Some (byte inter)) (final_of set)
 
 -- SCS, by the slot
 abbrev pub designation_of : ℕ → Set → Event
 designation_of slot set =
-    if slot == 0 then designation (codes "(") set else (
-    if slot == 1 then designation (codes ")") set else (
-    if slot == 2 then designation (codes "*") set else designation (codes "+") set))
+    if slot == 0 then designation "(" set else (
+    if slot == 1 then designation ")" set else (
+    if slot == 2 then designation "*" set else designation "+" set))
 
 -- LS0 (SI), LS1 (SO), LS2, LS3
 abbrev pub left_event : ℕ → Event
 left_event slot =
     if slot == 0 then Control 0x0F else (
     if slot == 1 then Control 0x0E else (
-    if slot == 2 then Escape None (byte (codes "n")) else Escape None (byte (codes "o"))))
+    if slot == 2 then Escape None (byte "n") else Escape None (byte "o")))
 
 -- LS1R, LS2R, LS3R
 abbrev pub right_event : ℕ → Event
 right_event slot =
-    if slot == 1 then Escape None (byte (codes "~")) else (
-    if slot == 2 then Escape None (byte (codes "}")) else Escape None (byte (codes "|")))
+    if slot == 1 then Escape None (byte "~") else (
+    if slot == 2 then Escape None (byte "}") else Escape None (byte "|"))
 
 -- G0 to G3, then GL, then GR
 unfoldable pub sets_events : GraphicSets → List Event
 sets_events sets =
-    designation (codes "(") (set_at sets 0) ∷ designation (codes ")") (set_at sets 1)
-    ∷ designation (codes "*") (set_at sets 2) ∷ designation (codes "+") (set_at sets 3)
+    designation "(" (set_at sets 0) ∷ designation ")" (set_at sets 1)
+    ∷ designation "*" (set_at sets 2) ∷ designation "+" (set_at sets 3)
     ∷ left_event sets.left ∷ right_event sets.right ∷ []
 
 -- the sets that the spellings of glyphs are for
 abbrev pub spelling_sets_events : List Event
 spelling_sets_events =
-    designation (codes "(") Ascii ∷ designation (codes "*") Supplemental ∷ designation (codes "+") Special
+    designation "(" Ascii ∷ designation "*" Supplemental ∷ designation "+" Special
     ∷ left_event 0 ∷ []
 
 -- A mode: the event that sets or resets it, and its value.

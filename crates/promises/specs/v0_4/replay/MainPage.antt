@@ -8,8 +8,8 @@ use Rattle.promises.specs.v0_4.utf8.Decoding.{characters}
 use Rattle.promises.specs.v0_4.xterm.Front.{xterm_effect}
 use Rattle.promises.specs.v0_4.xterm.Pages.{is_bounded}
 use Rattle.promises.specs.v0_4.xterm.Play.{play_character, screens_of}
-use Rattle.std.specs.Prelude.{[], Bool, codes, false, flat_map, if◌then◌else◌, length, List, nat_le, nat_lt, None}
-use Rattle.std.specs.Prelude.{not, Option, Some, true, ℕ, ◌&&◌, ◌++◌, ◌==◌, ◌||◌, ◌∷◌}
+use Rattle.std.specs.Prelude.{Option, Some, true, ℕ, ◌&&◌, ◌++◌, ◌==◌, ◌||◌, ◌∷◌}
+use Rattle.std.specs.Prelude.{[], Bool, false, flat_map, if◌then◌else◌, length, List, nat_le, nat_lt, None, not}
 use Rattle.vt_syntax.specs.declared.event.Event.TheVariants.{Control, Escape, Print, Sequence}
 use Rattle.vt_syntax.specs.declared.event.Event.{Event}
 use Rattle.vt_term.specs.State.{Display}
@@ -22,7 +22,7 @@ moves_down params s = s.margins.top == 1 && s.margins.bottom == s.grid.size.rows
 
 -- the control sequence is SD: by `T` it has one parameter, since with more it is another function
 abbrev pub is_down : ℕ → List ℕ → Bool
-is_down last params = last == byte (codes "^") || (last == byte (codes "T") && length params == 1)
+is_down last params = last == byte "^" || (last == byte "T" && length params == 1)
 
 -- a mode shows the alternate page if it is set: ?47, ?1047 or ?1049
 abbrev pub shows_alternate : ℕ → Bool
@@ -41,19 +41,19 @@ changes_columns on resizes (p ∷ params) =
 -- a control sequence after `?` blanks the main page: SM or RM
 abbrev pub blanks_by_mode : Bool → ℕ → List ℕ → Bool
 blanks_by_mode resizes last params =
-    (last == byte (codes "h") && changes_columns true resizes params) || (last == byte (codes "l") && changes_columns false resizes params)
+    (last == byte "h" && changes_columns true resizes params) || (last == byte "l" && changes_columns false resizes params)
 
 -- a control sequence without a marker and an intermediate blanks the main page: ED, IL and DL as on a VT220, and SD.
 -- Between left and right margins no whole line moves, and then ED alone blanks it
 abbrev pub blanks_plain : List ℕ → ℕ → Screens → Bool
 blanks_plain params last s =
-    if is_bounded s then last == byte (codes "J") && erases_all (first params) s.display
+    if is_bounded s then last == byte "J" && erases_all (first params) s.display
     else blanks_by None None params last s.display || (is_down last params && moves_down params s.display)
 
 -- a control sequence blanks the main page, by its marker and its intermediate: one of these, or DECCOLM
 abbrev pub blanks_main_by : Option ℕ → Option ℕ → List ℕ → ℕ → Screens → Bool
 blanks_main_by None None params last s = blanks_plain params last s
-blanks_main_by (Some marker) None params last s = marker == byte (codes "?") && blanks_by_mode s.pages.resizes last params
+blanks_main_by (Some marker) None params last s = marker == byte "?" && blanks_by_mode s.pages.resizes last params
 blanks_main_by None (Some inter) params last s = false
 blanks_main_by (Some marker) (Some inter) params last s = false
 

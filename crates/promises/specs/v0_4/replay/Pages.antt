@@ -8,8 +8,8 @@ use Rattle.promises.specs.v0_4.term.Parameters.{count, first}
 use Rattle.promises.specs.v0_4.term.Scrolling.{line_off}
 use Rattle.promises.specs.v0_4.term.State.{last_column}
 use Rattle.promises.specs.v0_4.term.Text.{grid_text, line_text}
-use Rattle.std.specs.Prelude.{Some, ℕ, ◌&&◌, ◌++◌, ◌==◌, ◌||◌, ◌∷◌, ◌≡◌, ◌≤◌}
-use Rattle.std.specs.Prelude.{[], Bool, codes, false, flat_map, if◌then◌else◌, length, List, nat_le, None, Option}
+use Rattle.std.specs.Prelude.{[], Bool, false, flat_map, if◌then◌else◌, length, List, nat_le, None, Option, Some, ℕ}
+use Rattle.std.specs.Prelude.{◌&&◌, ◌++◌, ◌==◌, ◌||◌, ◌∷◌, ◌≡◌, ◌≤◌}
 use Rattle.vt_screen.specs.Grid.{Grid}
 use Rattle.vt_syntax.specs.declared.event.Event.TheVariants.{Control, Escape, Print, Sequence}
 use Rattle.vt_syntax.specs.declared.event.Event.{Event}
@@ -29,16 +29,16 @@ moves_all params s =
 -- a control sequence blanks the screen, by its marker and its intermediate: ED, IL or DL, or DECCOLM set or reset
 abbrev pub blanks_by : Option ℕ → Option ℕ → List ℕ → ℕ → Display → Bool
 blanks_by None None params last s =
-    (last == byte (codes "J") && erases_all (first params) s)
-    || ((last == byte (codes "L") || last == byte (codes "M")) && moves_all params s)
+    (last == byte "J" && erases_all (first params) s)
+    || ((last == byte "L" || last == byte "M") && moves_all params s)
 blanks_by (Some marker) None params last s =
-    marker == byte (codes "?") && (last == byte (codes "h") || last == byte (codes "l")) && contains params 3
+    marker == byte "?" && (last == byte "h" || last == byte "l") && contains params 3
 blanks_by None (Some inter) params last s = false
 blanks_by (Some marker) (Some inter) params last s = false
 
 -- the escape sequence is RIS
 abbrev pub is_reset : Option ℕ → ℕ → Bool
-is_reset None last = last == byte (codes "c")
+is_reset None last = last == byte "c"
 is_reset (Some inter) last = false
 
 -- the event blanks the whole screen

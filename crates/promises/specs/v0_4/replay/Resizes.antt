@@ -1,5 +1,7 @@
 -- 0.4: vt_replay/specs/Resizes.
-use Rattle.promises.specs.v0_4.replay.Playing.{due_by, on_terminal, repainted}
+use Rattle.promises.specs.v0_4.device.Output.{nothing}
+use Rattle.promises.specs.v0_4.replay.Playing.{due_by, on_terminal}
+use Rattle.promises.specs.v0_4.replay.Session.{is_between}
 use Rattle.promises.specs.v0_4.term.Play.{both, play}
 use Rattle.promises.specs.v0_4.term.Resizing.{state_on}
 use Rattle.promises.specs.v0_4.term.State.{state_of}
@@ -7,6 +9,7 @@ use Rattle.promises.specs.v0_4.utf8.Decoding.{pending_after}
 use Rattle.promises.specs.v0_4.utf8.Play.{play_utf8}
 use Rattle.promises.specs.v0_4.xterm.Play.{behind, front_of, play_xterm}
 use Rattle.promises.specs.v0_4.xterm.Resizing.{whole_on}
+use Rattle.promises.specs.v0_4.xterm_paint.Repaint.{xterm_repaint}
 use Rattle.std.specs.Prelude.{[], cond, drop, length, List, nat_lt, take, ℕ, ◌∷◌}
 use Rattle.vt_cli.specs.declared.what.What.TheVariants.{Repaint}
 use Rattle.vt_cli.specs.declared.what.What.{What}
@@ -72,15 +75,30 @@ played_on m k (r ∷ resizes) bytes =
     (both (m.played k (take r.after bytes))
     (played_on m (m.on r.size (m.after k (take r.after bytes))) resizes (drop r.after bytes)))
 
+-- what bytes leave to be kept, with changes between them
+abbrev pub kept_on : {K : Type 0} → Session K → K → List Resize → List ℕ → K
+kept_on m k [] bytes = m.after k bytes
+kept_on m k (r ∷ resizes) bytes =
+    cond (nat_lt (length bytes) r.after) (m.after k bytes)
+    (kept_on m (m.on r.size (m.after k (take r.after bytes))) resizes (drop r.after bytes))
+
 -- what all the bytes of a host leave and report, from power-up of a terminal of a size
 abbrev pub played_with : Size → List Resize → Language → List ℕ → Played
 played_with size resizes Dec bytes = played_on plain_session (state_of size) resizes bytes
 played_with size resizes Utf8 bytes = played_on utf8_session (utf8_begun size) resizes bytes
 played_with size resizes Xterm bytes = played_on xterm_session (xterm_begun size) resizes bytes
 
--- what is due of a repaint: under TERM=xterm it is of the session on a screen of the first size
+-- the session that all the bytes of a host leave under TERM=xterm, and what is pending
+abbrev pub session_with : Size → List Resize → List ℕ → XtermKept
+session_with size resizes bytes = kept_on xterm_session (xterm_begun size) resizes bytes
+
+-- what is due of a repaint: under TERM=xterm it is of the whole session, otherwise of the terminal
 abbrev pub repainted_with : Size → List Resize → Language → Due
-repainted_with size resizes Xterm = repainted size Xterm
+repainted_with size resizes Xterm = record {
+  written = nothing;
+  ending = λ bytes. xterm_repaint (session_with size resizes bytes).whole;
+  there = λ bytes. is_between (session_with size resizes bytes).whole (session_with size resizes bytes).pending;
+}
 repainted_with size resizes language = due_by (played_with size resizes language) Repaint
 
 -- what is due of a replay on a screen that changes its size

@@ -1,4 +1,5 @@
 -- 0.4: vt_term/specs/Functions.
+use Prim.Native.String.{String}
 use Rattle.promises.specs.v0_4.glyph.Designation.{set_of_final}
 use Rattle.promises.specs.v0_4.glyph.Invocation.{designated, locked_left, locked_right, shifted_once}
 use Rattle.promises.specs.v0_4.glyph.LookUp.{contains, look_up}
@@ -31,8 +32,12 @@ use Rattle.vt_term.specs.Functions.{Function}
 use Rattle.vt_term.specs.State.{Display}
 
 -- the byte of a letter, for tables
-abbrev pub byte : List ℕ → ℕ
-byte letter = slice_index_or letter 0 0
+abbrev pub byte : String → ℕ
+byte letter = slice_index_or (codes letter) 0 0
+
+-- a row of a table: the byte of a letter, and what the table has for it
+abbrev pub row : {A : Type 0} → String → A → ℕ × A
+row letter entry = (byte letter, entry)
 
 -- a control function. An event that asks for it with other values is ignored (EK-VT220-RM, chapter 4)
 pub record Function' : Type 0 where
@@ -147,28 +152,28 @@ control b = (function_in controls b).effect []
 -- escape sequences without an intermediate, by the final byte
 abbrev pub plain_escapes : FunctionTable
 plain_escapes =
-    (byte (codes "7"), plain (codes "DECSC") save_cursor)
-    ∷ (byte (codes "8"), plain (codes "DECRC") restore_cursor)
-    ∷ (byte (codes "="), plain (codes "DECKPAM") (keypad_mode true))
-    ∷ (byte (codes ">"), plain (codes "DECKPNM") (keypad_mode false))
-    ∷ (byte (codes "c"), plain (codes "RIS") reset_to_initial_state)
-    ∷ (byte (codes "n"), plain (codes "LS2") (with_sets (locked_left 2)))
-    ∷ (byte (codes "o"), plain (codes "LS3") (with_sets (locked_left 3)))
-    ∷ (byte (codes "~"), plain (codes "LS1R") (with_sets (locked_right 1)))
-    ∷ (byte (codes "}"), plain (codes "LS2R") (with_sets (locked_right 2)))
-    ∷ (byte (codes "|"), plain (codes "LS3R") (with_sets (locked_right 3)))
+    row "7" (plain (codes "DECSC") save_cursor)
+    ∷ row "8" (plain (codes "DECRC") restore_cursor)
+    ∷ row "=" (plain (codes "DECKPAM") (keypad_mode true))
+    ∷ row ">" (plain (codes "DECKPNM") (keypad_mode false))
+    ∷ row "c" (plain (codes "RIS") reset_to_initial_state)
+    ∷ row "n" (plain (codes "LS2") (with_sets (locked_left 2)))
+    ∷ row "o" (plain (codes "LS3") (with_sets (locked_left 3)))
+    ∷ row "~" (plain (codes "LS1R") (with_sets (locked_right 1)))
+    ∷ row "}" (plain (codes "LS2R") (with_sets (locked_right 2)))
+    ∷ row "|" (plain (codes "LS3R") (with_sets (locked_right 3)))
     ∷ []
 
 -- escape sequences with a space as their intermediate
 abbrev pub space_escapes : FunctionTable
 space_escapes =
-    (byte (codes "F"), plain (codes "S7C1T") (report_form false))
-    ∷ (byte (codes "G"), plain (codes "S8C1T") (report_form true))
+    row "F" (plain (codes "S7C1T") (report_form false))
+    ∷ row "G" (plain (codes "S8C1T") (report_form true))
     ∷ []
 
 -- escape sequences with the intermediate `#`
 abbrev pub number_sign_escapes : FunctionTable
-number_sign_escapes = (byte (codes "8"), plain (codes "DECALN") screen_alignment) ∷ []
+number_sign_escapes = row "8" (plain (codes "DECALN") screen_alignment) ∷ []
 
 abbrev pub set_name : Set → List ℕ
 set_name Ascii = codes "ASCII"
@@ -196,12 +201,12 @@ designation slot name last = record {
 -- escape sequences with an intermediate, by it and then by the final byte
 abbrev pub escape_tables : List (ℕ × (ℕ → Function))
 escape_tables =
-    (byte (codes " "), function_in space_escapes)
-    ∷ (byte (codes "#"), function_in number_sign_escapes)
-    ∷ (byte (codes "("), designation 0 (codes "SCS G0 "))
-    ∷ (byte (codes ")"), designation 1 (codes "SCS G1 "))
-    ∷ (byte (codes "*"), designation 2 (codes "SCS G2 "))
-    ∷ (byte (codes "+"), designation 3 (codes "SCS G3 "))
+    row " " (function_in space_escapes)
+    ∷ row "#" (function_in number_sign_escapes)
+    ∷ row "(" (designation 0 (codes "SCS G0 "))
+    ∷ row ")" (designation 1 (codes "SCS G1 "))
+    ∷ row "*" (designation 2 (codes "SCS G2 "))
+    ∷ row "+" (designation 3 (codes "SCS G3 "))
     ∷ []
 
 abbrev pub escape_function : ℕ → ℕ → Function
@@ -216,63 +221,63 @@ escape_with inter last = (escape_function inter last).effect []
 -- control sequences without marker and intermediate, by the final byte
 abbrev pub plain_sequences : FunctionTable
 plain_sequences =
-    (byte (codes "@"), counted (codes "ICH") insert_character)
-    ∷ (byte (codes "A"), counted (codes "CUU") cursor_up)
-    ∷ (byte (codes "B"), counted (codes "CUD") cursor_down)
-    ∷ (byte (codes "C"), counted (codes "CUF") cursor_forward)
-    ∷ (byte (codes "D"), counted (codes "CUB") cursor_backward)
-    ∷ (byte (codes "H"), paired (codes "CUP") cursor_position)
-    ∷ (byte (codes "J"), erasing (codes "ED") (erase_in_display false))
-    ∷ (byte (codes "K"), erasing (codes "EL") (erase_in_line false))
-    ∷ (byte (codes "L"), counted (codes "IL") insert_line)
-    ∷ (byte (codes "M"), counted (codes "DL") delete_line)
-    ∷ (byte (codes "P"), counted (codes "DCH") delete_character)
-    ∷ (byte (codes "X"), counted (codes "ECH") erase_character)
-    ∷ (byte (codes "c"), reporting (codes "DA") primary_reports)
-    ∷ (byte (codes "f"), paired (codes "HVP") cursor_position)
-    ∷ (byte (codes "g"), of_first (0 ∷ 3 ∷ []) (selected (codes "TBC") clear_tabs))
-    ∷ (byte (codes "h"), modal (codes "SM") ansi_modes true)
-    ∷ (byte (codes "l"), modal (codes "RM") ansi_modes false)
-    ∷ (byte (codes "m"), of_any (numbers_of rendition_changes) (changing (codes "SGR") select_graphic_rendition))
-    ∷ (byte (codes "n"), reporting (codes "DSR") status_reports)
-    ∷ (byte (codes "r"), of_margins (paired (codes "DECSTBM") set_margins))
+    row "@" (counted (codes "ICH") insert_character)
+    ∷ row "A" (counted (codes "CUU") cursor_up)
+    ∷ row "B" (counted (codes "CUD") cursor_down)
+    ∷ row "C" (counted (codes "CUF") cursor_forward)
+    ∷ row "D" (counted (codes "CUB") cursor_backward)
+    ∷ row "H" (paired (codes "CUP") cursor_position)
+    ∷ row "J" (erasing (codes "ED") (erase_in_display false))
+    ∷ row "K" (erasing (codes "EL") (erase_in_line false))
+    ∷ row "L" (counted (codes "IL") insert_line)
+    ∷ row "M" (counted (codes "DL") delete_line)
+    ∷ row "P" (counted (codes "DCH") delete_character)
+    ∷ row "X" (counted (codes "ECH") erase_character)
+    ∷ row "c" (reporting (codes "DA") primary_reports)
+    ∷ row "f" (paired (codes "HVP") cursor_position)
+    ∷ row "g" (of_first (0 ∷ 3 ∷ []) (selected (codes "TBC") clear_tabs))
+    ∷ row "h" (modal (codes "SM") ansi_modes true)
+    ∷ row "l" (modal (codes "RM") ansi_modes false)
+    ∷ row "m" (of_any (numbers_of rendition_changes) (changing (codes "SGR") select_graphic_rendition))
+    ∷ row "n" (reporting (codes "DSR") status_reports)
+    ∷ row "r" (of_margins (paired (codes "DECSTBM") set_margins))
     ∷ []
 
 -- control sequences with the marker `?`
 abbrev pub private_sequences : FunctionTable
 private_sequences =
-    (byte (codes "J"), erasing (codes "DECSED") (erase_in_display true))
-    ∷ (byte (codes "K"), erasing (codes "DECSEL") (erase_in_line true))
-    ∷ (byte (codes "h"), modal (codes "SM") private_modes true)
-    ∷ (byte (codes "l"), modal (codes "RM") private_modes false)
-    ∷ (byte (codes "n"), reporting (codes "DSR") private_reports)
+    row "J" (erasing (codes "DECSED") (erase_in_display true))
+    ∷ row "K" (erasing (codes "DECSEL") (erase_in_line true))
+    ∷ row "h" (modal (codes "SM") private_modes true)
+    ∷ row "l" (modal (codes "RM") private_modes false)
+    ∷ row "n" (reporting (codes "DSR") private_reports)
     ∷ []
 
 -- control sequences with the marker `>`
 abbrev pub greater_sequences : FunctionTable
-greater_sequences = (byte (codes "c"), reporting (codes "DA") secondary_reports) ∷ []
+greater_sequences = row "c" (reporting (codes "DA") secondary_reports) ∷ []
 
 -- control sequences with the intermediate `"`
 abbrev pub quote_sequences : FunctionTable
 quote_sequences =
-    (byte (codes "p"), of_pair is_level (paired (codes "DECSCL") set_conformance_level))
-    ∷ (byte (codes "q"), of_first (0 ∷ 1 ∷ 2 ∷ []) (selected (codes "DECSCA") select_character_attribute))
+    row "p" (of_pair is_level (paired (codes "DECSCL") set_conformance_level))
+    ∷ row "q" (of_first (0 ∷ 1 ∷ 2 ∷ []) (selected (codes "DECSCA") select_character_attribute))
     ∷ []
 
 -- control sequences with the intermediate `!`
 abbrev pub exclamation_sequences : FunctionTable
-exclamation_sequences = (byte (codes "p"), plain (codes "DECSTR") soft_reset) ∷ []
+exclamation_sequences = row "p" (plain (codes "DECSTR") soft_reset) ∷ []
 
 abbrev pub table_after : List (ℕ × FunctionTable) → ℕ → FunctionTable
 table_after tables b = unwrap_or (look_up tables b) []
 
 -- the tables by the marker
 abbrev pub marker_tables : List (ℕ × FunctionTable)
-marker_tables = (byte (codes "?"), private_sequences) ∷ (byte (codes ">"), greater_sequences) ∷ []
+marker_tables = row "?" private_sequences ∷ row ">" greater_sequences ∷ []
 
 -- the tables by the intermediate
 abbrev pub intermediate_tables : List (ℕ × FunctionTable)
-intermediate_tables = (0x22, quote_sequences) ∷ (byte (codes "!"), exclamation_sequences) ∷ []
+intermediate_tables = (0x22, quote_sequences) ∷ row "!" exclamation_sequences ∷ []
 
 -- the table by the marker and the intermediate (ECMA-48 5.4); no sequence with both has a function
 unfoldable pub sequences_of : Option ℕ → Option ℕ → FunctionTable

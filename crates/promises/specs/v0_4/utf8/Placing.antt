@@ -6,8 +6,7 @@ use Rattle.promises.specs.v0_4.term.Functions.{byte}
 use Rattle.promises.specs.v0_4.term.Text.{glyphs_of, trimmed}
 use Rattle.promises.specs.v0_4.utf8.Translation.{reads_ascii}
 use Rattle.std.specs.List.{range_with_len}
-use Rattle.std.specs.Prelude.{[], Bool, codes, encode_utf8_all, false, flat_map, List, None, true, ℕ, ◌++◌, ◌==◌, ◌∷◌}
-use Rattle.std.specs.Prelude.{◌≡◌}
+use Rattle.std.specs.Prelude.{[], Bool, encode_utf8_all, false, flat_map, List, None, true, ℕ, ◌++◌, ◌==◌, ◌∷◌, ◌≡◌}
 use Rattle.vt_screen.specs.Grid.{Grid}
 use Rattle.vt_screen.specs.declared.cell.Cell.{Cell}
 use Rattle.vt_syntax.specs.declared.event.Event.TheVariants.{Sequence}
@@ -17,7 +16,7 @@ use Rattle.vt_term.specs.State.{State}
 
 -- CUP to the first column of a row
 abbrev pub to_row : ℕ → Event
-to_row row = Sequence None (record { items = row ∷ 1 ∷ [] }) None (byte (codes "H"))
+to_row row = Sequence None (record { items = row ∷ 1 ∷ [] }) None (byte "H")
 
 -- the characters of a row that its line of the text has, after CUP in place of the LF
 abbrev pub placed_row : Grid → ℕ → List ℕ

@@ -3,7 +3,7 @@ use Rattle.promises.specs.v0_4.glyph.Invocation.{after_read, glyph_read}
 use Rattle.promises.specs.v0_4.glyph.LookUp.{look_up}
 use Rattle.promises.specs.v0_4.glyph.Tables.{space, substitute_glyph}
 use Rattle.promises.specs.v0_4.term.Editing.{names_area}
-use Rattle.promises.specs.v0_4.term.Functions.{byte, effect}
+use Rattle.promises.specs.v0_4.term.Functions.{byte, effect, row}
 use Rattle.promises.specs.v0_4.term.Moving.{are_margins}
 use Rattle.promises.specs.v0_4.term.Parameters.{count, first, second}
 use Rattle.promises.specs.v0_4.term.State.{bottom_row}
@@ -14,8 +14,8 @@ use Rattle.promises.specs.v0_4.xterm.Columns.{line_position_absolute, line_posit
 use Rattle.promises.specs.v0_4.xterm.Pages.{on_display, with_sides}
 use Rattle.promises.specs.v0_4.xterm.Sides as between
 use Rattle.std.proofs.Common.{suc, zero}
-use Rattle.std.specs.Prelude.{Some, unwrap_or, ℕ, ◌&&◌, ◌==◌, ◌||◌, ◌∷◌}
-use Rattle.std.specs.Prelude.{[], Bool, codes, false, if◌then◌else◌, is_some, length, List, min, None, not, Option}
+use Rattle.std.specs.Prelude.{[], Bool, false, if◌then◌else◌, is_some, length, List, min, None, not, Option, Some}
+use Rattle.std.specs.Prelude.{unwrap_or, ℕ, ◌&&◌, ◌==◌, ◌||◌, ◌∷◌}
 use Rattle.vt_syntax.specs.declared.event.Event.TheVariants.{Control, Escape, Print, Sequence}
 use Rattle.vt_syntax.specs.declared.event.Event.{Event}
 use Rattle.vt_syntax.specs.declared.held.Held.TheVariants.{Nothing, Text}
@@ -119,23 +119,23 @@ bounded_controls =
 -- control sequences without marker and intermediate; VPA and VPR are as without margins
 abbrev pub bounded_plain : BoundedTable
 bounded_plain =
-    (byte (codes "@"), λ params. between.insert_character (count params))  -- ICH
-    ∷ (byte (codes "C"), λ params. between.cursor_forward (count params))  -- CUF
-    ∷ (byte (codes "D"), λ params. between.cursor_backward (count params))  -- CUB
-    ∷ (byte (codes "E"), λ params. between.cursor_next_line (count params))  -- CNL
-    ∷ (byte (codes "F"), λ params. between.cursor_preceding_line (count params))  -- CPL
-    ∷ (byte (codes "G"), λ params. between.cursor_character_absolute (count params))  -- CHA
-    ∷ (byte (codes "H"), λ params. between.cursor_position (first params) (second params))  -- CUP
-    ∷ (byte (codes "I"), λ params. between.cursor_forward_tabulation (count params))  -- CHT
-    ∷ (byte (codes "L"), λ params. between.insert_line (count params))  -- IL
-    ∷ (byte (codes "M"), λ params. between.delete_line (count params))  -- DL
-    ∷ (byte (codes "P"), λ params. between.delete_character (count params))  -- DCH
-    ∷ (byte (codes "Z"), λ params. between.cursor_backward_tabulation (count params))  -- CBT
-    ∷ (byte (codes "`"), λ params. between.cursor_character_absolute (count params))  -- HPA
-    ∷ (byte (codes "a"), λ params. between.character_position_forward (count params))  -- HPR
-    ∷ (byte (codes "d"), λ params m. line_position_absolute (count params))  -- VPA
-    ∷ (byte (codes "e"), λ params m. line_position_forward (count params))  -- VPR
-    ∷ (byte (codes "f"), λ params. between.cursor_position (first params) (second params))  -- HVP
+    row "@" (λ params. between.insert_character (count params))  -- ICH
+    ∷ row "C" (λ params. between.cursor_forward (count params))  -- CUF
+    ∷ row "D" (λ params. between.cursor_backward (count params))  -- CUB
+    ∷ row "E" (λ params. between.cursor_next_line (count params))  -- CNL
+    ∷ row "F" (λ params. between.cursor_preceding_line (count params))  -- CPL
+    ∷ row "G" (λ params. between.cursor_character_absolute (count params))  -- CHA
+    ∷ row "H" (λ params. between.cursor_position (first params) (second params))  -- CUP
+    ∷ row "I" (λ params. between.cursor_forward_tabulation (count params))  -- CHT
+    ∷ row "L" (λ params. between.insert_line (count params))  -- IL
+    ∷ row "M" (λ params. between.delete_line (count params))  -- DL
+    ∷ row "P" (λ params. between.delete_character (count params))  -- DCH
+    ∷ row "Z" (λ params. between.cursor_backward_tabulation (count params))  -- CBT
+    ∷ row "`" (λ params. between.cursor_character_absolute (count params))  -- HPA
+    ∷ row "a" (λ params. between.character_position_forward (count params))  -- HPR
+    ∷ row "d" (λ params m. line_position_absolute (count params))  -- VPA
+    ∷ row "e" (λ params m. line_position_forward (count params))  -- VPR
+    ∷ row "f" (λ params. between.cursor_position (first params) (second params))  -- HVP
     ∷ []
 
 -- the table's function, otherwise the VT220's
@@ -148,21 +148,21 @@ has_row table last = is_some (look_up table last)
 -- functions that leave a pending wrap, or don't always reset it
 abbrev pub other_plain : List (ℕ × (List ℕ → Sides → Screens → Screens))
 other_plain =
-    (byte (codes "S"), λ params. leaving (between.rows_up (count params)))  -- SU
+    row "S" (λ params. leaving (between.rows_up (count params)))  -- SU
     -- SD
-    ∷ (byte (codes "T"), λ params m s. if length params == 1 then leaving (between.rows_down (count params)) m s else s)
-    ∷ (byte (codes "^"), λ params. leaving (between.rows_down (count params)))  -- SD (xterm)
-    ∷ (byte (codes "b"), λ params. repeating (count params))  -- REP
-    ∷ (byte (codes "r"), λ params. margins_set (first params) (second params))  -- DECSTBM
+    ∷ row "T" (λ params m s. if length params == 1 then leaving (between.rows_down (count params)) m s else s)
+    ∷ row "^" (λ params. leaving (between.rows_down (count params)))  -- SD (xterm)
+    ∷ row "b" (λ params. repeating (count params))  -- REP
+    ∷ row "r" (λ params. margins_set (first params) (second params))  -- DECSTBM
     ∷ []
 
 -- ED and EL that erase something
 abbrev pub erases : ℕ → List ℕ → Bool
-erases last params = (last == byte (codes "J") || last == byte (codes "K")) && names_area (first params)
+erases last params = (last == byte "J" || last == byte "K") && names_area (first params)
 
 -- CUU, CUD and ECH, which the margins don't bound
 abbrev pub is_unbounded : ℕ → Bool
-is_unbounded last = last == byte (codes "A") || (last == byte (codes "B") || last == byte (codes "X"))
+is_unbounded last = last == byte "A" || (last == byte "B" || last == byte "X")
 
 -- the functions that reset a pending wrap
 abbrev pub resets : ℕ → List ℕ → Bool
@@ -184,7 +184,7 @@ plain_between other event last params m s =
 -- control sequences with the marker `?`: the selective forms of ED and EL
 abbrev pub marked_between : (Event → Screens → Screens) → Event → ℕ → ℕ → List ℕ → Sides → Screens → Screens
 marked_between other event marker last params m s =
-    if marker == byte (codes "?") && erases last params then resetting (λ m. effect event) m s else other event s
+    if marker == byte "?" && erases last params then resetting (λ m. effect event) m s else other event s
 
 unfoldable pub bounded_effect : (Event → Screens → Screens) → Event → Sides → Screens → Screens
 bounded_effect other (Print b) m s = printing b m s

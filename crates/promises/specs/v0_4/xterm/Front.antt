@@ -1,7 +1,7 @@
 -- 0.4: vt_xterm/specs/Front.
 use Rattle.promises.specs.v0_4.glyph.LookUp.{look_up}
 use Rattle.promises.specs.v0_4.syntax.Spelling.{spell_event}
-use Rattle.promises.specs.v0_4.term.Functions.{byte, effect}
+use Rattle.promises.specs.v0_4.term.Functions.{byte, effect, row}
 use Rattle.promises.specs.v0_4.term.Modes.{autowrap_mode}
 use Rattle.promises.specs.v0_4.term.Moving.{cursor_forward}
 use Rattle.promises.specs.v0_4.term.Parameters.{count, first, second}
@@ -17,8 +17,8 @@ use Rattle.promises.specs.v0_4.xterm.Repeating.{repeat}
 use Rattle.promises.specs.v0_4.xterm.Scroll.{rows_down, rows_down_by, rows_up}
 use Rattle.promises.specs.v0_4.xterm.Tabs.{cursor_backward_tabulation, cursor_forward_tabulation}
 use Rattle.std.specs.List.{list_any}
-use Rattle.std.specs.Prelude.{[], Bool, codes, false, if◌then◌else◌, List, None, Option, Some, true, unwrap_or, ℕ}
-use Rattle.std.specs.Prelude.{◌&&◌, ◌++◌, ◌==◌, ◌||◌, ◌∷◌}
+use Rattle.std.specs.Prelude.{[], Bool, false, if◌then◌else◌, List, None, Option, Some, true, unwrap_or, ℕ, ◌&&◌}
+use Rattle.std.specs.Prelude.{◌++◌, ◌==◌, ◌||◌, ◌∷◌}
 use Rattle.vt_syntax.specs.declared.event.Event.TheVariants.{Control, Escape, Print, Sequence}
 use Rattle.vt_syntax.specs.declared.event.Event.{Event}
 use Rattle.vt_term.specs.State.{Display}
@@ -41,27 +41,27 @@ restore_if_bare params s = if is_bare params then restore_screens s else s
 -- control sequences without marker and intermediate, each row with its function
 abbrev pub plain_functions : FunctionTable
 plain_functions =
-    (byte (codes "E"), λ params. on_display (cursor_next_line (count params)))  -- CNL
-    ∷ (byte (codes "F"), λ params. on_display (cursor_preceding_line (count params)))  -- CPL
-    ∷ (byte (codes "G"), λ params. on_display (cursor_character_absolute (count params)))  -- CHA
-    ∷ (byte (codes "I"), λ params. on_display (cursor_forward_tabulation (count params)))  -- CHT
-    ∷ (byte (codes "S"), λ params. on_display (rows_up (count params)))  -- SU
-    ∷ (byte (codes "T"), λ params. on_display (rows_down_by params))  -- SD
-    ∷ (byte (codes "Z"), λ params. on_display (cursor_backward_tabulation (count params)))  -- CBT
-    ∷ (byte (codes "^"), λ params. on_display (rows_down (count params)))  -- SD (xterm)
-    ∷ (byte (codes "`"), λ params. on_display (cursor_character_absolute (count params)))  -- HPA
-    ∷ (byte (codes "a"), λ params. on_display (cursor_forward (count params)))  -- HPR
-    ∷ (byte (codes "b"), λ params. on_display (repeat (count params)))  -- REP
-    ∷ (byte (codes "d"), λ params. on_display (line_position_absolute (count params)))  -- VPA
-    ∷ (byte (codes "e"), λ params. on_display (line_position_forward (count params)))  -- VPR
-    ∷ (byte (codes "m"), λ params. on_display (select_attributes params))  -- SGR
-    ∷ (byte (codes "s"), λ params s. save_or_set_sides params s.pages.sides s)  -- SCP, DECSLRM
-    ∷ (byte (codes "u"), restore_if_bare)  -- RCP
+    row "E" (λ params. on_display (cursor_next_line (count params)))  -- CNL
+    ∷ row "F" (λ params. on_display (cursor_preceding_line (count params)))  -- CPL
+    ∷ row "G" (λ params. on_display (cursor_character_absolute (count params)))  -- CHA
+    ∷ row "I" (λ params. on_display (cursor_forward_tabulation (count params)))  -- CHT
+    ∷ row "S" (λ params. on_display (rows_up (count params)))  -- SU
+    ∷ row "T" (λ params. on_display (rows_down_by params))  -- SD
+    ∷ row "Z" (λ params. on_display (cursor_backward_tabulation (count params)))  -- CBT
+    ∷ row "^" (λ params. on_display (rows_down (count params)))  -- SD (xterm)
+    ∷ row "`" (λ params. on_display (cursor_character_absolute (count params)))  -- HPA
+    ∷ row "a" (λ params. on_display (cursor_forward (count params)))  -- HPR
+    ∷ row "b" (λ params. on_display (repeat (count params)))  -- REP
+    ∷ row "d" (λ params. on_display (line_position_absolute (count params)))  -- VPA
+    ∷ row "e" (λ params. on_display (line_position_forward (count params)))  -- VPR
+    ∷ row "m" (λ params. on_display (select_attributes params))  -- SGR
+    ∷ row "s" (λ params s. save_or_set_sides params s.pages.sides s)  -- SCP, DECSLRM
+    ∷ row "u" restore_if_bare  -- RCP
     ∷ []
 
 -- control sequences with the marker `?`: SM and RM of private modes
 abbrev pub private_functions : FunctionTable
-private_functions = (byte (codes "h"), change_page_modes true) ∷ (byte (codes "l"), change_page_modes false) ∷ []
+private_functions = row "h" (change_page_modes true) ∷ row "l" (change_page_modes false) ∷ []
 
 -- DECSTR: a soft reset that leaves DECAWM set, and resets DECLRMM (xterm)
 abbrev pub soft_reset_wrapping : Display → Display
@@ -69,7 +69,7 @@ soft_reset_wrapping s = autowrap_mode true (soft_reset s)
 
 -- control sequences with the intermediate `!`: DECSTR
 abbrev pub exclamation_functions : FunctionTable
-exclamation_functions = (byte (codes "p"), λ params s. sided None (on_display soft_reset_wrapping s)) ∷ []
+exclamation_functions = row "p" (λ params s. sided None (on_display soft_reset_wrapping s)) ∷ []
 
 -- DECSCL: its soft reset leaves DECAWM set, too (xterm)
 abbrev pub set_level_wrapping : List ℕ → Display → Display
@@ -84,11 +84,11 @@ set_level_without_sides params s =
 
 -- control sequences with the intermediate `"`: DECSCL
 abbrev pub quote_functions : FunctionTable
-quote_functions = (byte (codes "p"), set_level_without_sides) ∷ []
+quote_functions = row "p" set_level_without_sides ∷ []
 
 -- the tables by the intermediate
 abbrev pub intermediate_functions : List (ℕ × FunctionTable)
-intermediate_functions = (0x22, quote_functions) ∷ (byte (codes "!"), exclamation_functions) ∷ []
+intermediate_functions = (0x22, quote_functions) ∷ row "!" exclamation_functions ∷ []
 
 abbrev pub table_after : List (ℕ × FunctionTable) → ℕ → FunctionTable
 table_after tables b = unwrap_or (look_up tables b) []
@@ -96,7 +96,7 @@ table_after tables b = unwrap_or (look_up tables b) []
 -- the table by the marker and the intermediate (ECMA-48 5.4)
 unfoldable pub functions_of : Option ℕ → Option ℕ → FunctionTable
 functions_of None None = plain_functions
-functions_of (Some marker) None = table_after ((byte (codes "?"), private_functions) ∷ []) marker
+functions_of (Some marker) None = table_after (row "?" private_functions ∷ []) marker
 functions_of None (Some inter) = table_after intermediate_functions inter
 functions_of (Some marker) (Some inter) = []
 
@@ -107,14 +107,14 @@ function_in table event last params = unwrap_or (look_up table last) (λ params.
 -- escape sequences without intermediate: DECRC, and RIS, which also resets the pages
 abbrev pub plain_escapes : FunctionTable
 plain_escapes =
-    (byte (codes "8"), λ params. restore_screens) ∷ (byte (codes "c"), λ params. reset_to_initial_state) ∷ []
+    row "8" (λ params. restore_screens) ∷ row "c" (λ params. reset_to_initial_state) ∷ []
 
 -- DECALN: the margins are full (xterm 379)
 abbrev pub alignments : FunctionTable
-alignments = (byte (codes "8"), λ params s. with_full_sides (on_display screen_alignment s)) ∷ []
+alignments = row "8" (λ params s. with_full_sides (on_display screen_alignment s)) ∷ []
 
 abbrev pub escapes_with : ℕ → FunctionTable
-escapes_with inter = table_after ((byte (codes "#"), alignments) ∷ []) inter
+escapes_with inter = table_after (row "#" alignments ∷ []) inter
 
 -- the effect of an event if left and right margins leave no column out
 abbrev pub screen_effect : Event → Screens → Screens
@@ -144,12 +144,12 @@ is_paste_mode p = p == 2004
 
 -- ?69h, among other modes or not
 abbrev pub sets_sides : ℕ → ℕ → List ℕ → Bool
-sets_sides marker last params = marker == byte (codes "?") && (last == byte (codes "h") && list_any (λ p. p == 69) params)
+sets_sides marker last params = marker == byte "?" && (last == byte "h" && list_any (λ p. p == 69) params)
 
 -- a control sequence that is SM or RM of one of these modes
 abbrev pub sets_mode : (ℕ → Bool) → ℕ → ℕ → List ℕ → Bool
 sets_mode is_mode marker last params =
-    marker == byte (codes "?") && ((last == byte (codes "h") || last == byte (codes "l")) && list_any is_mode params)
+    marker == byte "?" && ((last == byte "h" || last == byte "l") && list_any is_mode params)
 
 abbrev pub sets_page_mode : ℕ → ℕ → List ℕ → Bool
 sets_page_mode = sets_mode is_page_mode
@@ -158,7 +158,7 @@ sets_page_mode = sets_mode is_page_mode
 abbrev pub is_page_function : Event → Bool
 is_page_function (Print b) = false
 is_page_function (Control b) = false
-is_page_function (Escape None last) = last == byte (codes "c")
+is_page_function (Escape None last) = last == byte "c"
 is_page_function (Escape (Some inter) last) = false
 is_page_function (Sequence None params inter last) = false
 is_page_function (Sequence (Some marker) params None last) = sets_page_mode marker last params.items
@@ -168,7 +168,7 @@ is_page_function (Sequence (Some marker) params (Some inter) last) = false
 abbrev pub is_paste_function : Event → Bool
 is_paste_function (Print b) = false
 is_paste_function (Control b) = false
-is_paste_function (Escape None last) = last == byte (codes "c")
+is_paste_function (Escape None last) = last == byte "c"
 is_paste_function (Escape (Some inter) last) = false
 is_paste_function (Sequence None params inter last) = false
 is_paste_function (Sequence (Some marker) params None last) = sets_mode is_paste_mode marker last params.items
@@ -186,7 +186,7 @@ is_side_function (Sequence (Some marker) params (Some inter) last) = false
 -- CSI ? 1049 h, and CSI ? 1049 l
 abbrev pub alternate_page : Bool → Event
 alternate_page shown =
-    Sequence (Some (byte (codes "?"))) (record { items = 1049 ∷ [] }) None (byte (codes (if shown then "h" else "l")))
+    Sequence (Some (byte "?")) (record { items = 1049 ∷ [] }) None (byte (if shown then "h" else "l"))
 
 -- ?1049h and then the bytes
 abbrev pub into_alternate : List ℕ → List ℕ

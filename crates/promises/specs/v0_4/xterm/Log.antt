@@ -1,15 +1,14 @@
 -- 0.4: vt_xterm/specs/Log.
 use Rattle.promises.specs.v0_4.glyph.LookUp.{look_up}
 use Rattle.promises.specs.v0_4.screen.Grid.{row_of}
-use Rattle.promises.specs.v0_4.term.Functions.{byte}
+use Rattle.promises.specs.v0_4.term.Functions.{row}
 use Rattle.promises.specs.v0_4.term.Parameters.{count}
 use Rattle.promises.specs.v0_4.term.Scrolling.{line_off}
 use Rattle.promises.specs.v0_4.utf8.Translation.{glyph_off}
 use Rattle.promises.specs.v0_4.xterm.Front.{xterm_effect}
 use Rattle.promises.specs.v0_4.xterm.Pages.{bounds_of}
 use Rattle.std.specs.List.{range_with_len}
-use Rattle.std.specs.Prelude.{[], codes, if◌then◌else◌, List, map, min, None, Option, Some, unwrap_or, ℕ, ◌++◌, ◌==◌}
-use Rattle.std.specs.Prelude.{◌∷◌}
+use Rattle.std.specs.Prelude.{[], if◌then◌else◌, List, map, min, None, Option, Some, unwrap_or, ℕ, ◌++◌, ◌==◌, ◌∷◌}
 use Rattle.vt_screen.specs.Grid.{Grid}
 use Rattle.vt_screen.specs.declared.cell.Cell.{Cell}
 use Rattle.vt_syntax.specs.declared.event.Event.TheVariants.{Control, Escape, Print, Sequence}
@@ -30,8 +29,8 @@ rows_off n s = if s.margins.top == 1 then first_rows (min s.margins.bottom n) s.
 -- line off and the others stay in its row
 abbrev pub scrolling_functions : List (ℕ × (List ℕ → Display → List (List Cell)))
 scrolling_functions =
-    (byte (codes "S"), λ params. rows_off (count params))  -- SU
-    ∷ (byte (codes "b"), λ params. glyph_off)  -- REP
+    row "S" (λ params. rows_off (count params))  -- SU
+    ∷ row "b" (λ params. glyph_off)  -- REP
     ∷ []
 
 unfoldable pub function_off : Option ℕ → Option ℕ → ℕ → List ℕ → Display → List (List Cell)

@@ -12,8 +12,8 @@ use Rattle.promises.specs.v0_4.term.State.{display_of, last_column, power_up, st
 use Rattle.promises.specs.v0_4.utf8.Decoding.{pending_after, pending_of}
 use Rattle.promises.specs.v0_4.xterm.Play.{behind, front_at_power_up, play_xterm}
 use Rattle.promises.specs.v0_4.xterm.Sides.{is_pending}
-use Rattle.std.specs.Prelude.{Some, true, ℕ, ◌&&◌, ◌*◌, ◌++◌, ◌+◌, ◌-◌, ◌∷◌, ◌≡◌, ◌≤◌}
-use Rattle.std.specs.Prelude.{[], All, Bool, codes, false, if◌then◌else◌, List, nat_le, nat_lt, None, not, Option}
+use Rattle.std.specs.Prelude.{[], All, Bool, false, if◌then◌else◌, List, nat_le, nat_lt, None, not, Option, Some}
+use Rattle.std.specs.Prelude.{true, ℕ, ◌&&◌, ◌*◌, ◌++◌, ◌+◌, ◌-◌, ◌∷◌, ◌≡◌, ◌≤◌}
 use Rattle.vt_screen.specs.declared.size.Size.{Size}
 use Rattle.vt_syntax.specs.declared.event.Event.{Event}
 use Rattle.vt_term.specs.Sound.{IsSoundAt}
@@ -45,7 +45,7 @@ sent_sides width (Some m) = if are_sent width m then Some m else None
 
 -- DECSLRM
 abbrev pub sides_to : ℕ → ℕ → Event
-sides_to left right = sequence_of (left ∷ right ∷ []) (byte (codes "s"))
+sides_to left right = sequence_of (left ∷ right ∷ []) (byte "s")
 
 -- ?69, and the margins
 abbrev pub sides_item : Option Sides → List Event

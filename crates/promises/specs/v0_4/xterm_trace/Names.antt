@@ -1,6 +1,6 @@
 -- 0.4: vt_xterm_trace/specs/Names.
 use Rattle.promises.specs.v0_4.glyph.LookUp.{contains, look_up}
-use Rattle.promises.specs.v0_4.term.Functions.{byte, numbers_of}
+use Rattle.promises.specs.v0_4.term.Functions.{byte, numbers_of, row}
 use Rattle.promises.specs.v0_4.term.Modes.{private_modes}
 use Rattle.promises.specs.v0_4.term.Names.{name_on, sequence_name_on}
 use Rattle.promises.specs.v0_4.term.Rendition.{rendition_changes}
@@ -57,32 +57,32 @@ has_mode values = list_any (contains (numbers_of page_modes ++ numbers_of privat
 
 abbrev pub plain_names : NameTable
 plain_names =
-    (byte (codes "E"), always (codes "CNL"))
-    ∷ (byte (codes "F"), always (codes "CPL"))
-    ∷ (byte (codes "G"), always (codes "CHA"))
-    ∷ (byte (codes "I"), always (codes "CHT"))
-    ∷ (byte (codes "S"), always (codes "SU"))
-    ∷ (byte (codes "T"), taking is_one (codes "SD"))
-    ∷ (byte (codes "Z"), always (codes "CBT"))
-    ∷ (byte (codes "^"), always (codes "SD"))
-    ∷ (byte (codes "`"), always (codes "HPA"))
-    ∷ (byte (codes "a"), always (codes "HPR"))
-    ∷ (byte (codes "b"), always (codes "REP"))
-    ∷ (byte (codes "d"), always (codes "VPA"))
-    ∷ (byte (codes "e"), always (codes "VPR"))
-    ∷ (byte (codes "m"), taking has_attribute (codes "SGR"))
-    ∷ (byte (codes "s"), naming saves_or_sets)
-    ∷ (byte (codes "u"), taking is_bare (codes "RCP"))
+    row "E" (always (codes "CNL"))
+    ∷ row "F" (always (codes "CPL"))
+    ∷ row "G" (always (codes "CHA"))
+    ∷ row "I" (always (codes "CHT"))
+    ∷ row "S" (always (codes "SU"))
+    ∷ row "T" (taking is_one (codes "SD"))
+    ∷ row "Z" (always (codes "CBT"))
+    ∷ row "^" (always (codes "SD"))
+    ∷ row "`" (always (codes "HPA"))
+    ∷ row "a" (always (codes "HPR"))
+    ∷ row "b" (always (codes "REP"))
+    ∷ row "d" (always (codes "VPA"))
+    ∷ row "e" (always (codes "VPR"))
+    ∷ row "m" (taking has_attribute (codes "SGR"))
+    ∷ row "s" (naming saves_or_sets)
+    ∷ row "u" (taking is_bare (codes "RCP"))
     ∷ []
 
 -- control sequences with the marker `?`
 abbrev pub private_names : NameTable
-private_names = (byte (codes "h"), taking has_mode (codes "SM")) ∷ (byte (codes "l"), taking has_mode (codes "RM")) ∷ []
+private_names = row "h" (taking has_mode (codes "SM")) ∷ row "l" (taking has_mode (codes "RM")) ∷ []
 
 -- the table by the marker and the intermediate
 abbrev pub names_of : Option ℕ → Option ℕ → NameTable
 names_of None None = plain_names
-names_of (Some marker) None = if marker == byte (codes "?") then private_names else []
+names_of (Some marker) None = if marker == byte "?" then private_names else []
 names_of None (Some inter) = []
 names_of (Some marker) (Some inter) = []
 

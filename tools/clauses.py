@@ -22,7 +22,7 @@ CLAUSE = re.compile(r"\n *((?:requires|ensures)(?: \w+)?) \{")
 def imports(text):
     """Returns the names that `use` lines import, each with its module and its name there."""
     names = {}
-    for module, group, alias in re.findall(r"use (Rattle\.[\w.]+?)(?:\.\{([^}]*)\})?(?: as (\w+))?;?\n", text):
+    for module, group, alias in re.findall(r"use ((?:Rattle|Prim)\.[\w.]+?)(?:\.\{([^}]*)\})?(?: as (\w+))?;?\n", text):
         for name in (group or "").split(","):
             old, _, new = name.strip().partition(" as ")
             names[new or old] = (module, old)

@@ -1,6 +1,6 @@
 -- The text of a row.
 use Rattle.std.proofs.Common.{◌≡◌, ◌≢◌, inl, inr, ℕ, zero, suc, ◌<◌, List, [], ◌∷◌, ◌++◌, length, take, get_or}
-use Rattle.std.proofs.Common.{◌+◌, ◌≤◌, All, map, drop, set, subst, refl, sym, ap, ◌∙◌, arith, add-one}
+use Rattle.std.proofs.Common.{◌+◌, ◌≤◌, append_assoc, All, map, drop, set, subst, refl, sym, ap, ◌∙◌, arith, add-one}
 use Rattle.std.proofs.Math.Seq.{take-suc}
 use Rattle.std.proofs.lemmas.Bool.Decides.{eqb_tells, nat_tests}
 use Rattle.std.proofs.lemmas.Grind.{same_number_lists}
@@ -151,6 +151,15 @@ plain-front cells codes run long within plain are =
     let inside : k < run = omega (arith, below, short) in
     are k (omega (arith, inside, within)) ∙ ap (λ (cell : Cell). cell.glyph) (sym (get_or-take run cells k blank inside))) in
     sym (plain-encoded (take run codes) plain) ∙ ap encode_utf8_all same
+
+-- elements appended one after another
+pub pushed-two : (o m n : List ℕ) (x y : ℕ) → m ≡ o ++ x ∷ [] → n ≡ m ++ y ∷ [] → n ≡ o ++ x ∷ y ∷ []
+pushed-two o m n x y first second = second ∙ ap (λ (t : List ℕ). t ++ y ∷ []) first ∙ append_assoc o (x ∷ []) (y ∷ [])
+
+pub pushed-three : (o l m n : List ℕ) (x y z : ℕ) → l ≡ o ++ x ∷ [] → m ≡ l ++ y ∷ [] → n ≡ m ++ z ∷ []
+    → n ≡ o ++ x ∷ y ∷ z ∷ []
+pushed-three o l m n x y z first second third =
+    third ∙ ap (λ (t : List ℕ). t ++ z ∷ []) (pushed-two o l m x y first second) ∙ append_assoc o (x ∷ y ∷ []) (z ∷ [])
 
 -- the text of a row whose codes are plain up to the spaces at its end: they, and LF in place of the code after them
 pub plain-line : (cells : List Cell) (codes : List ℕ) (end : ℕ) → length cells < length codes → end ≤ length cells

@@ -1,18 +1,24 @@
-//! The text of a row. Speed: ASCII is appended a run at a time, and a row that is all ASCII at once with its LF.
+//! The text of a row. Speed: it is appended at once, and the ASCII of it is gathered a run at a time.
 ghost use Rattle.std.specs.Prelude.{◌≡◌, ◌+◌, ◌*◌, ◌≤◌, ◌<◌, ◌++◌, ℕ, length, take, slice_index};
 ghost use Rattle.std.specs.Prelude.{slice_index_or, vec_len, vec_capacity, encode_utf8, encode_utf8_all};
 ghost use Rattle.std.specs.Bool.{OnTrue};
+ghost use Rattle.arrayvec.specs.ArrayVec.{array_vec_len};
 ghost use Rattle.vt_glyph.specs.Encoding.{encoded_glyph, encoding_of};
+ghost use Rattle.vt_syntax.specs.Class.{IsPlain};
 ghost use Rattle.vt_glyph.specs.Tables.{space};
 ghost use Rattle.vt_screen.specs.Cells.{blank};
 ghost use Rattle.vt_term.specs.Text.{glyphs_of, line_text, trimmed};
 
+use arrayvec::ArrayVec;
 use vt_glyph::Glyph;
 use vt_screen::{Cell, MOST};
 use vt_syntax::plain_run;
 
 /// The most bytes of the text of a row of ASCII glyphs: one for each cell, and LF.
 const LINE: usize = MOST + 1;
+
+/// The text of a row, three bytes for each cell at most, and LF.
+type RowText = ArrayVec<u8, 766>;
 
 /// The number of codes that are compared with spaces at a time, at the end of a row.
 const BLOCK: usize = 8;
@@ -32,8 +38,10 @@ pub(crate) fn push_line(cells: &[Cell], out: &mut Vec<u8>)
         codes[end] = b'\n';
         out.extend_from_slice(&codes[..end + 1]).unwrap();
     } else {
-        push_characters(&cells[..end], &codes[..end], out);
-        out.push(b'\n').unwrap();
+        let mut text = ArrayVec::new();
+        push_characters(&cells[..end], &codes[..end], &mut text);
+        text.push(b'\n');
+        out.extend_from_slice(text.as_slice()).unwrap();
     }
 }
 
@@ -51,69 +59,71 @@ fn put_codes(cells: &[Cell], codes: &mut [u8; LINE])
     }
 }
 
-/// Appends the characters of cells in UTF-8. `codes` has the codes of their glyphs, and `out` capacity for three bytes a cell.
+/// Appends the characters of cells in UTF-8. `codes` has the codes of their glyphs.
 #[inline(always)]
-fn push_characters(cells: &[Cell], codes: &[u8], out: &mut Vec<u8>)
+fn push_characters(cells: &[Cell], codes: &[u8], text: &mut RowText)
     requires long { length codes.now ≡ length cells.now }
     requires glyphs { (k : ℕ) → k < length cells.now
         → encoded_glyph (slice_index codes.now k) ≡ (slice_index_or cells.now k blank).glyph }
-    requires room { vec_len out.old + 3 * length cells.now ≤ vec_capacity out.old }
-    ensures items { out.new.items ≡ out.old.items ++ encode_utf8_all (glyphs_of cells.now) }
-    ensures bounded { vec_len out.new ≤ vec_len out.old + 3 * length cells.now }
-    ensures capacity { vec_capacity out.old ≤ vec_capacity out.new }
+    requires room { array_vec_len text.old + 3 * length cells.now ≤ 766 }
+    ensures items { text.new.items ≡ text.old.items ++ encode_utf8_all (glyphs_of cells.now) }
+    ensures bounded { array_vec_len text.new ≤ array_vec_len text.old + 3 * length cells.now }
 {
     let mut at = 0;
     while at < codes.len() {
-        at += push_next(&cells[at..], &codes[at..], out);
+        at += push_next(&cells[at..], &codes[at..], text);
     }
 }
 
 /// Appends the characters of the first cells: a run of ASCII, or one character. Returns the number of these cells.
 #[inline(always)]
-fn push_next(cells: &[Cell], codes: &[u8], out: &mut Vec<u8>) -> usize
+fn push_next(cells: &[Cell], codes: &[u8], text: &mut RowText) -> usize
     requires some { 1 ≤ length cells.now }
     requires long { length codes.now ≡ length cells.now }
     requires glyphs { (k : ℕ) → k < length cells.now
         → encoded_glyph (slice_index codes.now k) ≡ (slice_index_or cells.now k blank).glyph }
-    requires room { vec_len out.old + 3 * length cells.now ≤ vec_capacity out.old }
+    requires room { array_vec_len text.old + 3 * length cells.now ≤ 766 }
     ensures some { 1 ≤ result }
     ensures within { result ≤ length cells.now }
-    ensures items { out.new.items ≡ out.old.items ++ encode_utf8_all (glyphs_of (take result cells.now)) }
-    ensures bounded { vec_len out.new ≤ vec_len out.old + 3 * result }
-    ensures capacity { vec_capacity out.old ≤ vec_capacity out.new }
+    ensures items { text.new.items ≡ text.old.items ++ encode_utf8_all (glyphs_of (take result cells.now)) }
+    ensures bounded { array_vec_len text.new ≤ array_vec_len text.old + 3 * result }
 {
-    if (b' '..=b'~').contains(&codes[0]) {
+    if are_plain(codes) {
         let run = plain_run(codes);
-        out.extend_from_slice(&codes[..run]).unwrap();
-        return run;
+        if let Ok(()) = text.try_extend_from_slice(&codes[..run]) {
+            return run;
+        }
     }
-    push_glyph(cells[0].glyph, out);
+    push_glyph(cells[0].glyph, text);
     1
 }
 
-/// Appends a glyph's character in UTF-8, at most three bytes, for which `out` has capacity.
+/// Returns whether the first two codes are ASCII.
+#[inline(always)]
+fn are_plain(codes: &[u8]) -> bool
+    ensures { OnTrue result ((1 ≤ length codes.now) × IsPlain (slice_index codes.now 0)) }
+{
+    codes.len() >= 2 && (b' '..=b'~').contains(&codes[0]) && (b' '..=b'~').contains(&codes[1])
+}
+
+/// Appends a glyph's character in UTF-8, at most three bytes.
 #[inline(always)]
 #[tactic(auto, using(crate::proofs::GlyphSizes::glyph_short))]
-fn push_glyph(glyph: Glyph, out: &mut Vec<u8>)
-    requires { vec_len out.old + 3 ≤ vec_capacity out.old }
-    ensures items { out.new.items ≡ out.old.items ++ encode_utf8 glyph }
-    ensures bounded { vec_len out.new ≤ vec_len out.old + 3 }
-    ensures capacity { vec_capacity out.old ≤ vec_capacity out.new }
+fn push_glyph(glyph: Glyph, text: &mut RowText)
+    requires { array_vec_len text.old + 3 ≤ 766 }
+    ensures items { text.new.items ≡ text.old.items ++ encode_utf8 glyph }
+    ensures bounded { array_vec_len text.new ≤ array_vec_len text.old + 3 }
 {
     let c = glyph.to_char() as u32;
     if c < 0x80 {
-        out.push(c as u8).unwrap();
+        text.push(c as u8);
     } else if c < 0x800 {
-        let bytes = [(0xC0 + c / 0x40) as u8, (0x80 + c % 0x40) as u8];
-        out.extend_from_slice(&bytes).unwrap();
+        text.push((0xC0 + c / 0x40) as u8);
+        text.push((0x80 + c % 0x40) as u8);
     } else {
-        let first = (0xE0 + c / 0x1000) as u8;
-        let bytes = [
-            first,
-            (0x80 + c / 0x40 % 0x40) as u8,
-            (0x80 + c % 0x40) as u8,
-        ];
-        out.extend_from_slice(&bytes).unwrap();
+        text.push((0xE0 + c / 0x1000) as u8);
+        text.push((0x80 + c / 0x40 % 0x40) as u8);
+        text.push((0x80 + c % 0x40) as u8);
     }
 }
 

@@ -16,11 +16,10 @@ loop-at-preserved c =
       within = omega (arith, c.push_next-at.ensures.within, c.requires.long, c.loop-at.invariant.within);
       shown = ap (λ (t : List ℕ). t ++ rest)
           (c.push_next-at.ensures.items
-          ∙ ap (λ (t : List Cell). c.loop-at.out.items ++ encode_utf8_all (glyphs_of (take n t)))
+          ∙ ap (λ (t : List Cell). c.loop-at.text.items ++ encode_utf8_all (glyphs_of (take n t)))
           (take_all (length cells - at) (drop at cells) (omega (arith, length-drop at cells))))
-          ∙ append_assoc c.loop-at.out.items front rest
-          ∙ ap (λ (t : List ℕ). c.loop-at.out.items ++ t) (sym (encoded-parts cells at n))
+          ∙ append_assoc c.loop-at.text.items front rest
+          ∙ ap (λ (t : List ℕ). c.loop-at.text.items ++ t) (sym (encoded-parts cells at n))
           ∙ c.loop-at.invariant.shown;
       bounded = omega (arith, c.push_next-at.ensures.bounded, c.loop-at.invariant.bounded);
-      capacity = omega (arith, c.push_next-at.ensures.capacity, c.loop-at.invariant.capacity);
     }

@@ -1,5 +1,6 @@
-use Rattle.std.proofs.Common.{◌≡◌, ◌+◌, ◌*◌, ◌≤◌, ◌++◌, ◌-◌, drop, length, vec_len, vec_capacity}
+use Rattle.std.proofs.Common.{◌≡◌, ◌+◌, ◌*◌, ◌≤◌, ◌++◌, ◌-◌, drop, length}
 use Rattle.std.specs.Prelude.{encode_utf8_all}
+use Rattle.arrayvec.specs.ArrayVec.{array_vec_len}
 use Rattle.vt_term.specs.Text.{glyphs_of}
 use Rattle.vt_term.proofs.line.push_characters.Given as goal
 
@@ -7,10 +8,9 @@ use Rattle.vt_term.proofs.line.push_characters.Given as goal
 abbrev pub invariant-loop-at : goal.invariant-loop-at
 invariant-loop-at l = record {
   within : l.at ≤ length l.codes;
-  shown : l.out.items ++ encode_utf8_all (glyphs_of (drop l.at l.cells))
-      ≡ l.initial.out.items ++ encode_utf8_all (glyphs_of l.cells);
-  bounded : vec_len l.out ≤ vec_len l.initial.out + 3 * l.at;
-  capacity : vec_capacity l.initial.out ≤ vec_capacity l.out;
+  shown : l.text.items ++ encode_utf8_all (glyphs_of (drop l.at l.cells))
+      ≡ l.initial.text.items ++ encode_utf8_all (glyphs_of l.cells);
+  bounded : array_vec_len l.text ≤ array_vec_len l.initial.text + 3 * l.at;
 }
 
 abbrev pub decreases-loop-at : goal.decreases-loop-at

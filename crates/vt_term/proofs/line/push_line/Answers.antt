@@ -3,6 +3,7 @@ use Rattle.std.proofs.Math.Seq.{take-length}
 use Rattle.std.proofs.lemmas.List.{length-take-le}
 use Rattle.std.specs.Prelude.{encode_utf8_all}
 use Rattle.vt_syntax.specs.Class.{IsPlain}
+use Rattle.vt_term.specs.Text.{glyphs_of}
 use Rattle.vt_term.proofs.RowTexts.{plain-line, trimmed-glyphs}
 use Rattle.vt_term.proofs.line.push_line.Goals as goal
 
@@ -30,9 +31,11 @@ returns-then-plain_run-end-clause-items c =
 pub returns-else-plain_run-end-clause-items : goal.returns-else-plain_run-end-clause-items
 returns-else-plain_run-end-clause-items c =
     let long = c.put_codes.array_long in
-    rw c.unwrap-else-plain_run-end.ensures at c.push.ensures.items
-    ∙ ap (λ (t : List ℕ). t ++ 0x0A ∷ []) c.push_characters.ensures.items
-    ∙ append_assoc c.args.out.now.items _ (0x0A ∷ [])
-    ∙ ap (λ (t : List ℕ). c.args.out.now.items ++ (encode_utf8_all t ++ 0x0A ∷ []))
+    let shown = encode_utf8_all (glyphs_of (take c.end_of_text-end.result c.args.cells.now)) in
+    rw c.unwrap-else-plain_run-end.ensures at c.extend_from_slice-else-plain_run-end.ensures.items
+    ∙ ap (λ (t : List ℕ). c.args.out.now.items ++ t)
+    (c.as_slice.ensures.value ∙ c.push.ensures.items ∙ ap (λ (t : List ℕ). t ++ 0x0A ∷ []) c.push_characters.ensures.items
+    ∙ ap (λ (t : List ℕ). (t ++ shown) ++ 0x0A ∷ []) c.new-text.ensures
+    ∙ ap (λ (t : List ℕ). encode_utf8_all t ++ 0x0A ∷ [])
     (trimmed-glyphs c.args.cells.now c.put_codes.new.codes c.end_of_text-end.result (omega (arith, long, c.requires.few))
-    c.put_codes.ensures.glyphs c.put_codes.ensures.codes c.end_of_text-end.ensures.text)
+    c.put_codes.ensures.glyphs c.put_codes.ensures.codes c.end_of_text-end.ensures.text))

@@ -1,10 +1,11 @@
 -- The codes of the tables encode the glyphs of the definition's charts and rows.
-use Rattle.std.proofs.Common.{◌≡◌, ℕ, ◌+◌, ◌-◌, ◌≤◌, ◌<◌, Bool, true, false, List, [], ◌∷◌, map, refl, sym, ap, ◌∙◌, arith, ◌&&◌}
+use Rattle.std.proofs.Common.{◌≡◌, ◌≢◌, inl, inr, ℕ, ◌+◌, ◌-◌, ◌≤◌, ◌<◌, Bool, true, false, List, [], ◌∷◌, map, refl, sym, ap, ◌∙◌, arith, ◌&&◌}
 use Rattle.std.proofs.Common.{get_or}
 use Rattle.std.specs.Prelude.{nat_lt, nat_le, if◌then◌else◌}
 use Rattle.std.specs.List.{range_with_len}
 use Rattle.std.proofs.lemmas.List.FromFn.{get_or-map-range_with_len}
 use Rattle.std.proofs.Math.ListN.{get_or-map}
+use Rattle.std.proofs.lemmas.Bool.{cases_lt}
 use Rattle.std.proofs.lemmas.Bool.Decides.{nat_tests}
 use Rattle.vt_glyph.specs.Tables.{glyph_of, substitute_glyph}
 use Rattle.vt_glyph.specs.Spell.{spelling_of}
@@ -131,6 +132,40 @@ braille-code c low high =
 pub blank-code : 0x20 ≡ code_by 0x2800
 unfolding sign_of
 blank-code = refl
+
+kana-same : map (λ c. SUBSTITUTE) (range_with_len 0x3041 186) ≡ map sign_of (range_with_len 0x3041 186)
+unfolding sign_of
+kana-same = refl
+
+kana-after-same : map (λ c. SUBSTITUTE) (range_with_len 0x30FC 4) ≡ map sign_of (range_with_len 0x30FC 4)
+unfolding sign_of
+kana-after-same = refl
+
+pub middle-dot-code : 0xB7 ≡ code_by 0x30FB
+unfolding sign_of
+middle-dot-code = refl
+
+-- a character beyond the charts, before the fullwidth forms
+beyond-code : (c : ℕ) → 0x3100 ≤ c → c ≤ 0x9FFF → SUBSTITUTE ≡ code_by c
+beyond-code c low high =
+    let no_latin : nat_lt c 0x180 ≡ false = grind (arith, nat_tests) in
+    let no_letter : nat_lt c 0x2000 ≡ false = grind (arith, nat_tests) in
+    let no_line : nat_le 0x2500 c && nat_le c 0x257F ≡ false = grind (arith, nat_tests) in
+    let no_sign : nat_lt c 0x3100 ≡ false = grind (arith, nat_tests) in
+    let no_ascii : nat_le 0xFF01 c && nat_le c 0xFF5E ≡ false = grind (arith, nat_tests) in
+    rw (no_latin, no_letter, no_line, no_sign, no_ascii) refl
+
+pub kana-or-han-code : (c : ℕ) → 0x3041 ≤ c → c ≤ 0x9FFF → c ≢ 0x30FB → SUBSTITUTE ≡ code_by c
+kana-or-han-code c low high other =
+    elim (cases_lt c 0x30FB) [
+      | inl before ↦ within (λ k. SUBSTITUTE) sign_of 0x3041 186 c kana-same low (omega (arith, before))
+          ∙ code-sign c (omega (arith, low)) (omega (arith, before))
+      | inr after ↦ elim (cases_lt c 0x3100) [
+        | inl kana ↦ within (λ k. SUBSTITUTE) sign_of 0x30FC 4 c kana-after-same (omega (arith, after, other)) (omega (arith, kana))
+            ∙ code-sign c (omega (arith, low)) (omega (arith, kana))
+        | inr han ↦ beyond-code c (omega (arith, han)) high
+      ]
+    ]
 
 -- ---- the glyphs of the codes
 

@@ -311,6 +311,21 @@ pub(crate) fn code_of(c: char) -> u8
     code_by(c as u32)
 }
 
+/// Returns the code of the glyph that is shown for a character from U+3041 to U+9FFF. Speed: it is one comparison.
+#[inline(always)]
+pub(crate) fn kana_or_han_code(c: char) -> u8
+    requires { (0x3041 ≤ c) × (c ≤ 0x9FFF) }
+    ensures glyph { encoded_glyph result ≡ shown c }
+    ensures code { IsEncoding result }
+{
+    glyphs();
+    let n = c as u32;
+    if n == 0x30FB {
+        return 0xB7;
+    }
+    SUBSTITUTE
+}
+
 /// Returns the spelling of the glyph with this code.
 #[inline]
 pub(crate) fn spelling_of_code(code: u8) -> Spelling

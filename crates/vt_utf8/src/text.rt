@@ -2,12 +2,15 @@
 ghost use Rattle.std.specs.Prelude.{◌≡◌, ◌≤◌, ◌<◌, ◌+◌, [], ◌∷◌, false, length, take, slice_index};
 ghost use Rattle.std.specs.Bool.{OnTrue};
 ghost use Rattle.arrayvec.specs.ArrayVec.{array_vec_len};
+ghost use Rattle.vt_glyph.specs.Encoding.{encoded_glyph, IsEncoding};
+ghost use Rattle.vt_utf8.specs.Cells.{cells};
+ghost use Rattle.vt_utf8.specs.Similar.{shown};
 ghost use Rattle.vt_utf8.specs.Text.{IsReady, ReadsText, WritesCharacter, WritesText};
 
 use crate::decoder::whole_character;
 use crate::feeding::writes_glyphs;
-use crate::similar::code_of;
-use crate::translation::{is_wide, narrow_code, reads_ascii};
+use crate::similar::{code_of, kana_or_han_code};
+use crate::translation::{is_kana_or_han, is_wide, narrow_code, reads_ascii};
 use arrayvec::ArrayVec;
 use vt_glyph::laws::ascii_codes;
 use vt_syntax::plain_run;
@@ -102,7 +105,7 @@ fn read_ascii(piece: &[u8], room: usize, ascii: bool, text: &mut Text) -> usize
 
 /// Appends the code of U+FFFD for an ill-formed byte at the front of a chunk, with nothing pending, if there is room. If ASCII cuts the
 /// byte off, the ASCII code comes after it. Returns how many bytes they take.
-#[inline(always)]
+#[inline(never)]
 fn read_ill_formed(piece: &[u8], room: usize, ascii: bool, text: &mut Text) -> usize
     requires some { 1 ≤ length piece.now }
     requires beyond { 0x80 ≤ slice_index piece.now 0 }
@@ -157,6 +160,9 @@ fn append_codes(c: char, room: usize, text: &mut Text) -> bool
     ensures no { result ≡ false → text.new ≡ text.old }
 {
     ascii_codes();
+    if is_kana_or_han(c) {
+        return append_two(c, kana_or_han_code(c), room, text);
+    }
     if let Some(code) = narrow_code(c) {
         if text.len() < room {
             text.push(code);
@@ -164,12 +170,29 @@ fn append_codes(c: char, room: usize, text: &mut Text) -> bool
         }
         return false;
     }
-    if text.len() + 2 <= room && is_wide(c) {
-        text.push(code_of(c));
-        text.push(b' ');
-        return true;
+    is_wide(c) && append_two(c, code_of(c), room, text)
+}
+
+/// Appends the code of a character with two cells, and that of a space, if there is room. Returns whether it did.
+#[inline(always)]
+fn append_two(c: char, code: u8, room: usize, text: &mut Text) -> bool
+    requires few { room ≤ 64 }
+    requires before { array_vec_len text.old ≤ room }
+    requires beyond { 0x80 ≤ c }
+    requires wide { cells c ≡ 2 }
+    requires glyph { encoded_glyph code ≡ shown c }
+    requires code { IsEncoding code }
+    ensures room { array_vec_len text.new ≤ room }
+    ensures yes { OnTrue result (WritesCharacter c text.old.items text.new.items) }
+    ensures no { result ≡ false → text.new ≡ text.old }
+{
+    ascii_codes();
+    if text.len() + 2 > room {
+        return false;
     }
-    false
+    text.push(code);
+    text.push(b' ');
+    true
 }
 
 /// Writes the text at the front of a chunk, with nothing pending. Returns how many bytes it takes: 0 if there is none, or no room.

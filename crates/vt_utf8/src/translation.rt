@@ -82,8 +82,9 @@ pub(crate) fn narrow_code(c: char) -> Option<u8>
 /// Returns whether a character is kana, or one of the block of 20,992 Han characters. Speed: a character below these is told by
 /// one comparison.
 #[inline(always)]
-fn is_kana_or_han(c: char) -> bool
-    ensures { OnTrue result (cells c ≡ 2) }
+pub(crate) fn is_kana_or_han(c: char) -> bool
+    ensures wide { OnTrue result (cells c ≡ 2) }
+    ensures within { OnTrue result ((0x3041 ≤ c) × (c ≤ 0x9FFF)) }
 {
     if (c as u32) < 0x3041 {
         return false;

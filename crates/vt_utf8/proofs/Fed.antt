@@ -1,16 +1,18 @@
--- The result of feeding.
-use Rattle.std.proofs.Common.{◌≡◌, ℕ, ◌+◌, ◌-◌, ◌≤◌, arith, length-drop, List, [], ◌∷◌, ◌++◌, take, drop, length, refl, sym, ap, ◌∙◌, append_assoc, append-nil}
+-- The result of feeding bytes to a sink, in parts.
+use Rattle.std.proofs.Common.{◌≡◌, ℕ, ◌+◌, ◌-◌, ◌*◌, ◌≤◌, ◌<◌, arith, length-drop, List, [], ◌∷◌, ◌++◌, All, take, drop, length, refl, sym, ap, ◌∙◌, append-nil, subst}
 use Rattle.std.specs.Prelude.{slice_index}
 use Rattle.std.proofs.Math.Seq.{take-add, take-length}
-use Rattle.vt_term.specs.State.{State}
+use Rattle.std.proofs.lemmas.List.{length-take-le}
+use Rattle.std.proofs.lemmas.List.Elements.{All-take}
+use Rattle.bstr.specs.Utf8.{replacement}
 use Rattle.vt_screen.specs.declared.size.Size.{Size}
-use Rattle.vt_term.specs.Sound.{IsSoundAt}
-use Rattle.vt_term.specs.Play.{Played, play, both}
-use Rattle.vt_utf8.specs.Decoding.{read, characters, pending_after}
-use Rattle.vt_utf8.specs.Translation.{translation}
-use Rattle.vt_utf8.specs.Play.{translated_all, translated, play_utf8}
-use Rattle.vt_utf8.specs.Private.Feeds.{FeedsUtf8}
-use Rattle.vt_utf8.proofs.Cuts.{translated-append}
+use Rattle.vt_term.specs.State.{State}
+use Rattle.vt_term.specs.Sound.{IsSoundSized}
+use Rattle.vt_utf8.specs.Decoding.{read, characters, pending_after, IsWhole}
+use Rattle.vt_utf8.specs.Sinks.{Point, AreInTurn, FitsFeed, Feeds}
+use Rattle.vt_utf8.specs.Private.Cut.{IsCut}
+use Rattle.vt_utf8.proofs.Cuts.{characters-append, pending-append, ascii-characters, ascii-pending}
+use Rattle.vt_utf8.proofs.CutOff.{front-cut, cut-characters, cut-left}
 
 -- a piece starting at a place
 pub rest-of : (piece : List ℕ) (at : ℕ) → take (length piece - at) (drop at piece) ≡ drop at piece
@@ -22,94 +24,81 @@ pub take-one : (piece : List ℕ) → 1 ≤ length piece → take 1 piece ≡ sl
 take-one [] some = absurd (omega (arith, some))
 take-one (b ∷ piece) some = refl
 
--- one character
-pub translated-one : (s : State) (c : ℕ) → translated_all s (c ∷ []) ≡ translation s c
-translated-one s c = append-nil (translation s c)
+module _ {K L : Type 0} (Takes : Point K L → List ℕ → Point K L → Type 0) where
+  -- with nothing pending
+  pub feeds-first : (x y : Point K L) (pending bytes : List ℕ) → pending ≡ [] → Takes x (characters [] bytes) y
+      → pending_after [] bytes ≡ [] → Feeds Takes x pending bytes y pending
+  feeds-first x y pending bytes none takes left = rw none (record { takes = takes; left = sym left })
 
-pub played-one : (s : State) (c : ℕ) → play s (translated_all s (c ∷ [])) ≡ play s (translation s c)
-played-one s c = ap (λ (t : List ℕ). play s t) (translated-one s c)
+  pub feeds-ascii : (x y : Point K L) (pending run : List ℕ) (n : ℕ) → pending ≡ [] → All (λ b. b < 0x80) run
+      → Takes x (take n run) y → Feeds Takes x pending (take n run) y pending
+  feeds-ascii x y pending run n none all takes =
+      let some : All (λ b. b < 0x80) (take n run) = All-take (λ b. b < 0x80) n run all in
+      feeds-first x y pending (take n run) none
+      (subst (λ (cs : List ℕ). Takes x cs y) (sym (ascii-characters (take n run) some)) takes) (ascii-pending (take n run) some)
 
-module _ {size : Size} (none : (s : State) → IsSoundAt size s → play s [] ≡ record { state = s; reports = [] })
-    (two : (s : State) (a b : List ℕ) → play s (a ++ b) ≡ both (play s a) (play (play s a).state b))
-    (keeps : (s : State) (bytes : List ℕ) → IsSoundAt size s → IsSoundAt size (play s bytes).state) where
-  -- what was given up, and the characters after it
-  played-two : (s t : State) (xs ys : List ℕ) → IsSoundAt size s → t ≡ (play s (translated_all s xs)).state
-      → play s (translated_all s (xs ++ ys)) ≡ both (play s (translated_all s xs)) (play t (translated_all t ys))
-  played-two s t xs ys sound is =
-      ap (λ (bytes : List ℕ). play s bytes) (translated-append none two keeps s xs ys sound)
-      ∙ two s (translated_all s xs) (translated_all (play s (translated_all s xs)).state ys)
-      ∙ ap (λ (u : State). both (play s (translated_all s xs)) (play u (translated_all u ys))) (sym is)
+  pub feeds-whole : (x y : Point K L) (pending piece : List ℕ) (c n : ℕ) → pending ≡ [] → IsWhole piece c n
+      → Takes x (c ∷ []) y → Feeds Takes x pending (take n piece) y pending
+  feeds-whole x y pending piece c n none whole takes =
+      feeds-first x y pending (take n piece) none
+      (subst (λ (cs : List ℕ). Takes x cs y) (sym whole.characters) takes) whole.pending
 
-  pub feeds-byte : (s t u : State) (pending : List ℕ) (b : ℕ) (xs ys after before out : List ℕ) → IsSoundAt size s
-      → xs ++ ys ≡ (read pending b).characters → after ≡ (read pending b).pending
-      → t ≡ (play s (translated_all s xs)).state → (play s (translated_all s xs)).reports ≡ []
-      → u ≡ (play t (translated_all t ys)).state → out ≡ before ++ (play t (translated_all t ys)).reports
-      → FeedsUtf8 s pending (b ∷ []) u after before out
-  unfolding play_utf8 translated
-  feeds-byte s t u pending b xs ys after before out sound are left first silent second told =
-      let all : characters pending (b ∷ []) ≡ xs ++ ys = append-nil (read pending b).characters ∙ sym are in
-      let played : play s (translated_all s (characters pending (b ∷ [])))
-      ≡ both (play s (translated_all s xs)) (play t (translated_all t ys)) =
-      ap (λ (cs : List ℕ). play s (translated_all s cs)) all ∙ played-two s t xs ys sound first in
-      record {
-        state = second ∙ sym (ap (λ (p : Played). p.state) played);
-        left = left;
-        reports = told ∙ ap (λ (r : List ℕ). before ++ r)
-            (sym (ap (λ (p : Played). p.reports) played
-            ∙ ap (λ (r : List ℕ). r ++ (play t (translated_all t ys)).reports) silent));
-      }
+  module _ (OneSize : State → K → Type 0) (joins : AreInTurn Takes OneSize) where
+    pub still-fits : (most : Size → ℕ) (x y : Point K L) (cs : List ℕ) (limit : ℕ) → Takes x cs y
+        → FitsFeed OneSize most x.state x.kept limit → FitsFeed OneSize most y.state y.kept limit
+    still-fits most x y cs limit takes fits = record {
+      one_size = joins.one_size x y cs takes fits.one_size;
+      twice = fits.twice ∙ ap (λ (size : Size). 2 * most size) (sym (joins.size x y cs takes));
+    }
 
--- ---- one part of a piece, and the next
+    pub feeds-nothing : (x : Point K L) (pending : List ℕ) → IsSoundSized x.state → Feeds Takes x pending [] x pending
+    feeds-nothing x pending sound = record { takes = joins.nothing x sound; left = refl }
 
-module _ {size : Size} (none : (s : State) (pending : List ℕ) → IsSoundAt size s
-    → play_utf8 s pending [] ≡ record { state = s; reports = [] })
-    (two : (s : State) (pending a b : List ℕ) → IsSoundAt size s → play_utf8 s pending (a ++ b)
-    ≡ both (play_utf8 s pending a) (play_utf8 (play_utf8 s pending a).state (pending_after pending a) b))
-    (lasting : (pending a b : List ℕ)
-    → pending_after pending (a ++ b) ≡ pending_after (pending_after pending a) b) where
-  pub feeds-nothing : (s : State) (pending out : List ℕ) → IsSoundAt size s → FeedsUtf8 s pending [] s pending out out
-  feeds-nothing s pending out sound = record {
-    state = sym (ap (λ (p : Played). p.state) (none s pending sound));
-    left = refl;
-    reports = sym (append-nil out) ∙ ap (λ (r : List ℕ). out ++ r)
-        (sym (ap (λ (p : Played). p.reports) (none s pending sound)));
-  }
+    pub feeds-more : (x y z : Point K L) (pending after left piece : List ℕ) (at n : ℕ) → IsSoundSized x.state
+        → Feeds Takes x pending (take at piece) y after → Feeds Takes y after (take n (drop at piece)) z left
+        → Feeds Takes x pending (take (at + n) piece) z left
+    feeds-more x y z pending after left piece at n sound first second =
+        let a = take at piece in
+        let b = take n (drop at piece) in
+        let both : characters pending (a ++ b) ≡ characters pending a ++ characters after b =
+        characters-append pending a b ∙ ap (λ (q : List ℕ). characters pending a ++ characters q b) (sym first.left) in
+        rw (take-add at n piece) (record {
+          takes = subst (λ (cs : List ℕ). Takes x cs z) (sym both)
+              (joins.more x y z (characters pending a) (characters after b) sound first.takes second.takes);
+          left = second.left ∙ ap (λ (q : List ℕ). pending_after q b) first.left ∙ sym (pending-append pending a b);
+        })
 
-  pub feeds-more : (s t u : State) (pending after left piece before out last : List ℕ) (at n : ℕ) → IsSoundAt size s
-      → FeedsUtf8 s pending (take at piece) t after before out → FeedsUtf8 t after (take n (drop at piece)) u left out last
-      → FeedsUtf8 s pending (take (at + n) piece) u left before last
-  feeds-more s t u pending after left piece before out last at n sound first second =
-      let a = take at piece in
-      let b = take n (drop at piece) in
-      let played : play_utf8 s pending (a ++ b) ≡ both (play_utf8 s pending a) (play_utf8 t after b) =
-      two s pending a b sound
-      ∙ rw (← first.state, ← first.left) refl in
-      rw (take-add at n piece) (record {
-        state = second.state ∙ sym (ap (λ (p : Played). p.state) played);
-        left = second.left ∙ ap (λ (q : List ℕ). pending_after q b) first.left ∙ sym (lasting pending a b);
-        reports = second.reports ∙ ap (λ (o : List ℕ). o ++ (play_utf8 t after b).reports) first.reports
-            ∙ append_assoc before (play_utf8 s pending a).reports (play_utf8 t after b).reports
-            ∙ ap (λ (r : List ℕ). before ++ r) (sym (ap (λ (p : Played). p.reports) played));
-      })
+    -- the front that was tried first is empty
+    pub feeds-next : (x y z : Point K L) (pending piece bytes left : List ℕ) (n : ℕ) → IsSoundSized x.state → n ≡ 0
+        → Takes x (characters [] (take n piece)) y → Feeds Takes y pending bytes z left → Feeds Takes x pending bytes z left
+    feeds-next x y z pending piece bytes left n sound zero first second = record {
+      takes = joins.more x y z [] (characters pending bytes) sound
+          (subst (λ (k : ℕ). Takes x (characters [] (take k piece)) y) zero first) second.takes;
+      left = second.left;
+    }
 
-  -- the front that was tried first is empty
-  pub same-state : (s t : State) (piece before out : List ℕ) (w : ℕ) → IsSoundAt size s → w ≡ 0
-      → FeedsUtf8 s [] (take w piece) t [] before out → t ≡ s
-  same-state s t piece before out w sound zero first =
-      first.state ∙ rw zero (ap (λ (p : Played). p.state) (none s [] sound))
+    -- what was given up, and the characters after it
+    pub feeds-byte : (x y z : Point K L) (pending : List ℕ) (b : ℕ) (xs ys after : List ℕ) → IsSoundSized x.state
+        → xs ++ ys ≡ (read pending b).characters → after ≡ (read pending b).pending → Takes x xs y → Takes y ys z
+        → Feeds Takes x pending (b ∷ []) z after
+    feeds-byte x y z pending b xs ys after sound are left first second = record {
+      takes = subst (λ (cs : List ℕ). Takes x cs z) (are ∙ sym (append-nil (read pending b).characters))
+          (joins.more x y z xs ys sound first second);
+      left = left;
+    }
 
-  pub feeds-next : (s t u : State) (pending left piece before out last : List ℕ) (w n : ℕ) → IsSoundAt size s → w ≡ 0
-      → FeedsUtf8 s [] (take w piece) t [] before out → out ≡ before → FeedsUtf8 t pending (take n piece) u left out last
-      → FeedsUtf8 s pending (take n piece) u left before last
-  feeds-next s t u pending left piece before out last w n sound zero first same second =
-      rw (← same-state s t piece before out w sound zero first, ← same) second
-
--- ASCII with nothing pending
-pub feeds-ascii : (s t : State) (pending bytes before out : List ℕ) → pending ≡ [] → play_utf8 s [] bytes ≡ play s bytes
-    → pending_after [] bytes ≡ [] → t ≡ (play s bytes).state → out ≡ before ++ (play s bytes).reports
-    → FeedsUtf8 s pending bytes t pending before out
-feeds-ascii s t pending bytes before out none same left state told = rw none (record {
-  state = state ∙ sym (ap (λ (p : Played). p.state) same);
-  left = sym left;
-  reports = told ∙ ap (λ (p : Played). before ++ p.reports) (sym same);
-})
+    -- U+FFFD for one byte that ASCII cuts off, and the ASCII
+    pub feeds-cut : (x y z : Point K L) (pending run : List ℕ) (n : ℕ) → IsSoundSized x.state → 1 ≤ n → n ≤ length run
+        → IsCut pending (slice_index run 0) → All (λ b. b < 0x80) run → Takes x (replacement ∷ []) y → Takes y (take n run) z
+        → Feeds Takes x pending (take n run) z []
+    feeds-cut x y z pending run n sound some within cut all first second =
+        let bytes = take n run in
+        let long : length bytes ≡ n = length-take-le n run within in
+        let many : 1 ≤ length bytes = omega (arith, long, some) in
+        let low : All (λ b. b < 0x80) bytes = All-take (λ b. b < 0x80) n run all in
+        let is = front-cut pending run n some (omega (arith, some, within)) cut in
+        record {
+          takes = subst (λ (cs : List ℕ). Takes x cs z) (sym (cut-characters pending bytes many is low))
+              (joins.more x y z (replacement ∷ []) bytes sound first second);
+          left = sym (cut-left pending bytes many is low);
+        }

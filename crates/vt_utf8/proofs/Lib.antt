@@ -10,7 +10,7 @@ mod Plain
 pub mod Fed
 pub mod Logged
 mod CutOff
-mod PlayedAs
+pub mod TakenAs
 pub mod Themselves
 pub mod Written
 mod Lanes

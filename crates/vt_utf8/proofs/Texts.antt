@@ -1,14 +1,13 @@
 -- Text is its glyphs, written one after another.
-use Rattle.std.proofs.Common.{◌≡◌, ℕ, suc, ◌+◌, ◌≤◌, ◌<◌, Bool, true, false, List, [], ◌∷◌, ◌++◌, All, None, inl, inr, refl, sym, ap, subst, ◌∙◌, arith, append-nil, append_assoc, length, map, take, drop}
+use Rattle.std.proofs.Common.{◌≡◌, ℕ, suc, ◌+◌, ◌≤◌, ◌<◌, Bool, true, false, List, [], ◌∷◌, ◌++◌, All, inl, inr, refl, sym, ap, subst, ◌∙◌, arith, append-nil, append_assoc, length, map, take, drop}
 use Rattle.std.specs.Prelude.{nat_lt, ◌==◌, ◌⊎◌, flat_map, slice_index}
 use Rattle.std.proofs.Math.Seq.{take-add}
 use Rattle.std.proofs.lemmas.Bool.Decides.{nat_tests}
 use Rattle.std.proofs.lemmas.Grind.{flat_map-append}
-use Rattle.std.proofs.lemmas.List.{length-append, length-take, length-map, map-append}
+use Rattle.std.proofs.lemmas.List.{length-append, length-map, map-append}
 use Rattle.std.proofs.lemmas.List.Elements.{All-nil, All-cons, All-append}
 use Rattle.bstr.specs.Utf8.{replacement}
 use Rattle.vt_syntax.specs.Class.{IsPlain}
-use Rattle.vt_syntax.specs.declared.held.Held.TheVariants.{Nothing}
 use Rattle.vt_syntax.specs.Laws.{SplitLaw, SpellingLaw}
 use Rattle.vt_glyph.specs.declared.glyph.Spelling.TheVariants.{Plain}
 use Rattle.vt_glyph.specs.GraphicSets.{GraphicSets}
@@ -27,10 +26,9 @@ use Rattle.vt_term.specs.Play.{Played, play, both}
 use Rattle.vt_utf8.specs.Cells.{cells}
 use Rattle.vt_utf8.specs.Similar.{shown}
 use Rattle.vt_utf8.specs.Decoding.{Read, read, read_first, characters, pending_after, IsWhole}
-use Rattle.vt_utf8.specs.Translation.{written, unshifted, translation, glyph_off, is_at_end, reads_ascii, write_wide}
-use Rattle.vt_utf8.specs.Play.{translated_all, translated, play_utf8}
+use Rattle.vt_utf8.specs.Translation.{written, translation, glyph_off, is_at_end, reads_ascii, write_wide}
+use Rattle.vt_utf8.specs.Play.{translated_all}
 use Rattle.vt_utf8.specs.Private.Cut.{IsCut}
-use Rattle.vt_utf8.specs.Private.Feeds.{FeedsUtf8, utf8_off}
 use Rattle.vt_utf8.specs.Text.{glyphs_of, IsInText, IsReady, ReadsText, WritesCharacter, WritesText}
 use Rattle.vt_utf8.proofs.CutOff.{told, left}
 use Rattle.vt_utf8.proofs.Firsts.{first-none, first-over, first-begun, read-nothing}
@@ -51,10 +49,57 @@ GlyphsLeave = (glyphs : List ℕ) (s : Display) → s.cursor.wrap ≡ false → 
 abbrev pub GlyphsTwo : Type 0
 GlyphsTwo = (a b : List ℕ) (s : Display) → write_glyphs (a ++ b) s ≡ write_glyphs b (write_glyphs a s)
 
+-- what writing glyphs leaves
+abbrev pub after_glyphs : State → List ℕ → State
+after_glyphs s glyphs = record s { display = write_glyphs glyphs s.display }
+
+-- text fits before the last column
+abbrev pub FitsRow : State → List ℕ → Type 0
+FitsRow s glyphs = s.display.cursor.col + length glyphs ≤ s.display.grid.width
+
+-- what holds of text before the last column
+abbrev pub OfText : (State → List ℕ → Type 0) → Size → Type 0
+OfText holds size = (s : State) (cs : List ℕ) → IsSoundAt size s → IsReady s → All (IsInText (reads_ascii s.display.sets)) cs
+    → FitsRow s (flat_map glyphs_of cs) → holds s cs
+
+abbrev pub PlaysText : State → List ℕ → Type 0
+PlaysText s cs = play s (translated_all s cs) ≡ record { state = after_glyphs s (flat_map glyphs_of cs); reports = [] }
+
+abbrev pub TextOff : State → List ℕ → Type 0
+TextOff s cs = scrolled_off s (translated_all s cs) ≡ []
+
+-- what a character of text does, characters of text do in turn
+module _ {size : Size} (leave : GlyphsLeave) (parts : GlyphsTwo) (DoesOne : State → ℕ → State → Type 0)
+    (Does : State → List ℕ → State → Type 0) (nothing : (s : State) → IsSoundAt size s → Does s [] s)
+    (more : (s t u : State) (c : ℕ) (cs : List ℕ) → DoesOne s c t → Does t cs u → Does s (c ∷ cs) u)
+    (step : (s : State) (c : ℕ) → IsSoundAt size s → IsReady s → IsInText (reads_ascii s.display.sets) c → FitsRow s (glyphs_of c)
+    → DoesOne s c (after_glyphs s (glyphs_of c)) × IsSoundAt size (after_glyphs s (glyphs_of c))) where
+  pub each : OfText (λ s cs. Does s cs (after_glyphs s (flat_map glyphs_of cs))) size
+  each s [] sound ready all fits = nothing s sound
+  each s (c ∷ cs) sound ready all fits =
+      let d = s.display in
+      let own = glyphs_of c in
+      let later = flat_map glyphs_of cs in
+      let total : length (flat_map glyphs_of (c ∷ cs)) ≡ length own + length later = length-append own later in
+      let first = step s c sound ready (all 0 0 (omega arith)) (omega (arith, total, fits)) in
+      let t : State = after_glyphs s own in
+      let after = leave own d ready.wrap (omega (arith, total, fits)) in
+      let column : t.display.cursor.col ≡ d.cursor.col + length own = ap (λ (k : Cursor). k.col) after.cursor in
+      let ready_after : IsReady t = record {
+        held = ready.held;
+        pending = ap (λ (g : GraphicSets). g.pending) after.sets ∙ ready.pending;
+        wrap = ap (λ (k : Cursor). k.wrap) after.cursor;
+      } in
+      let all_after : All (IsInText (reads_ascii t.display.sets)) cs =
+      subst (λ (g : GraphicSets). All (IsInText (reads_ascii g)) cs) (sym after.sets) (λ k e h. all (suc k) e (omega (arith, h))) in
+      subst (λ (e : Display). Does s (c ∷ cs) (record s { display = e })) (sym (parts own later d))
+      (more s t (after_glyphs t later) c cs first.0
+      (each t cs first.1 ready_after all_after (omega (arith, total, fits, column, after.width))))
+
 -- ---- one character
 
-record DoesStep (s : State) (c : ℕ) : Type 0 where
-  plays : play s (translation s c) ≡ silently s (write_glyphs (glyphs_of c) s.display)
+record DoesStep (s : State) (c : ℕ) (t : State) : Type 0 where
+  plays : play s (translation s c) ≡ record { state = t; reports = [] }
   off : scrolled_off s (translation s c) ≡ []
 
 no-wrap_off : (d : Display) → d.cursor.wrap ≡ false → glyph_off d ≡ []
@@ -88,7 +133,7 @@ module _ (spelled : SpellingLaw) (spelling : SpellingLaws) (glyphs : GlyphLaws) 
     {size : Size} (keeps : KeepsSoundAt size) (two : PlaysTwo)
     (nothing : (s : State) → IsSoundAt size s → play s [] ≡ record { state = s; reports = [] }) where
   ascii-step : (s : State) (c : ℕ) → IsSoundAt size s → IsReady s → reads_ascii s.display.sets ≡ true → 0x20 ≤ c → c ≤ 0x7E
-      → DoesStep s c
+      → DoesStep s c (after_glyphs s (glyphs_of c))
   ascii-step s c sound ready reads low high =
       let d = s.display in
       let code = ascii c low high in
@@ -104,7 +149,8 @@ module _ (spelled : SpellingLaw) (spelling : SpellingLaws) (glyphs : GlyphLaws) 
             ∙ off-written spelled spelling s c sound ready.held is ∙ no-wrap_off d ready.wrap;
       }
 
-  one-step : (s : State) (c : ℕ) → IsSoundAt size s → IsReady s → 0x80 ≤ c → cells c ≡ 1 → DoesStep s c
+  one-step : (s : State) (c : ℕ) → IsSoundAt size s → IsReady s → 0x80 ≤ c → cells c ≡ 1
+      → DoesStep s c (after_glyphs s (glyphs_of c))
   one-step s c sound ready beyond one = record {
     plays = writes-one spelled spelling glyphs s c sound ready.held beyond one
         ∙ ap (λ (d : Display). silently s (write_glyph (shown c) d)) (unshifted-same s.display ready.pending)
@@ -113,7 +159,7 @@ module _ (spelled : SpellingLaw) (spelling : SpellingLaws) (glyphs : GlyphLaws) 
   }
 
   two-step : (s : State) (c : ℕ) → IsSoundAt size s → IsReady s → 0x80 ≤ c → cells c ≡ 2
-      → s.display.cursor.col + length (glyphs_of c) ≤ s.display.grid.width → DoesStep s c
+      → FitsRow s (glyphs_of c) → DoesStep s c (after_glyphs s (glyphs_of c))
   two-step s c sound ready beyond is fits =
       let d = s.display in
       let room : d.cursor.col + 2 ≤ d.grid.width =
@@ -128,53 +174,40 @@ module _ (spelled : SpellingLaw) (spelling : SpellingLaws) (glyphs : GlyphLaws) 
             ∙ no-wrap_off d ready.wrap;
       }
 
-  step : (s : State) (c : ℕ) → IsSoundAt size s → IsReady s → IsInText (reads_ascii s.display.sets) c
-      → s.display.cursor.col + length (glyphs_of c) ≤ s.display.grid.width → DoesStep s c
-  step s c sound ready (inl is) fits = ascii-step s c sound ready is.0 is.1.0 is.1.1
-  step s c sound ready (inr (beyond, inl one)) fits = one-step s c sound ready beyond one
-  step s c sound ready (inr (beyond, inr wide)) fits = two-step s c sound ready beyond wide fits
+  one : (s : State) (c : ℕ) → IsSoundAt size s → IsReady s → IsInText (reads_ascii s.display.sets) c → FitsRow s (glyphs_of c)
+      → DoesStep s c (after_glyphs s (glyphs_of c))
+  one s c sound ready (inl is) fits = ascii-step s c sound ready is.0 is.1.0 is.1.1
+  one s c sound ready (inr (beyond, inl narrow)) fits = one-step s c sound ready beyond narrow
+  one s c sound ready (inr (beyond, inr wide)) fits = two-step s c sound ready beyond wide fits
+
+  step : (s : State) (c : ℕ) → IsSoundAt size s → IsReady s → IsInText (reads_ascii s.display.sets) c → FitsRow s (glyphs_of c)
+      → DoesStep s c (after_glyphs s (glyphs_of c)) × IsSoundAt size (after_glyphs s (glyphs_of c))
+  step s c sound ready is fits =
+      let does = one s c sound ready is fits in
+      (does, subst (IsSoundAt size) (ap (λ (p : Played). p.state) does.plays) (keeps s (translation s c) sound))
 
   -- ---- characters
 
-  pub record DoesText (s : State) (cs : List ℕ) : Type 0 where
-    pub plays : play s (translated_all s cs) ≡ silently s (write_glyphs (flat_map glyphs_of cs) s.display)
+  pub record DoesText (s : State) (cs : List ℕ) (t : State) : Type 0 where
+    pub plays : play s (translated_all s cs) ≡ record { state = t; reports = [] }
     pub off : scrolled_off s (translated_all s cs) ≡ []
 
   module _ (leave : GlyphsLeave) (parts : GlyphsTwo)
       (off_none : (s : State) → IsSoundAt size s → scrolled_off s [] ≡ [])
       (off_two : (s : State) (a b : List ℕ) → scrolled_off s (a ++ b) ≡ scrolled_off s a ++ scrolled_off (play s a).state b) where
-    pub text : (cs : List ℕ) (s : State) → IsSoundAt size s → IsReady s → All (IsInText (reads_ascii s.display.sets)) cs
-        → s.display.cursor.col + length (flat_map glyphs_of cs) ≤ s.display.grid.width → DoesText s cs
-    text [] s sound ready all fits = record { plays = nothing s sound; off = off_none s sound }
-    text (c ∷ cs) s sound ready all fits =
-        let d = s.display in
-        let own = glyphs_of c in
-        let later = flat_map glyphs_of cs in
-        let total : length (flat_map glyphs_of (c ∷ cs)) ≡ length own + length later = length-append own later in
-        let first = step s c sound ready (all 0 0 (omega arith)) (omega (arith, total, fits)) in
-        let t : State = record s { display = write_glyphs own d } in
-        let state : (play s (translation s c)).state ≡ t = ap (λ (p : Played). p.state) first.plays in
-        let after = leave own d ready.wrap (omega (arith, total, fits)) in
-        let column : t.display.cursor.col ≡ d.cursor.col + length own = ap (λ (k : Cursor). k.col) after.cursor in
-        let sound_after : IsSoundAt size t = subst (IsSoundAt size) state (keeps s (translation s c) sound) in
-        let ready_after : IsReady t = record {
-          held = ready.held;
-          pending = ap (λ (g : GraphicSets). g.pending) after.sets ∙ ready.pending;
-          wrap = ap (λ (k : Cursor). k.wrap) after.cursor;
-        } in
-        let all_after : All (IsInText (reads_ascii t.display.sets)) cs =
-        subst (λ (g : GraphicSets). All (IsInText (reads_ascii g)) cs) (sym after.sets) (λ k e h. all (suc k) e (omega (arith, h))) in
-        let rest = text cs t sound_after ready_after all_after (omega (arith, total, fits, column, after.width)) in
-        record {
-          plays = two s (translation s c) (translated_all (play s (translation s c)).state cs)
-              ∙ ap (λ (p : Played). both p (play p.state (translated_all p.state cs))) first.plays
-              ∙ ap (λ (p : Played). both (silently s (write_glyphs own d)) p) rest.plays
-              ∙ ap (λ (e : Display). silently s e) (sym (parts own later d));
-          off = off_two s (translation s c) (translated_all (play s (translation s c)).state cs)
-              ∙ ap (λ (u : State). scrolled_off s (translation s c) ++ scrolled_off u (translated_all u cs)) state
-              ∙ ap (λ (rows : List (List Cell)). rows ++ scrolled_off t (translated_all t cs)) first.off
-              ∙ rest.off;
-        }
+    more : (s t u : State) (c : ℕ) (cs : List ℕ) → DoesStep s c t → DoesText t cs u → DoesText s (c ∷ cs) u
+    more s t u c cs first rest = record {
+      plays = two s (translation s c) (translated_all (play s (translation s c)).state cs)
+          ∙ ap (λ (p : Played). both p (play p.state (translated_all p.state cs))) first.plays
+          ∙ ap (λ (p : Played). both (record { state = t; reports = [] }) p) rest.plays;
+      off = off_two s (translation s c) (translated_all (play s (translation s c)).state cs)
+          ∙ ap (λ (p : Played). scrolled_off s (translation s c) ++ scrolled_off p.state (translated_all p.state cs)) first.plays
+          ∙ ap (λ (rows : List (List Cell)). rows ++ scrolled_off t (translated_all t cs)) first.off
+          ∙ rest.off;
+    }
+
+    pub text : OfText (λ s cs. DoesText s cs (after_glyphs s (flat_map glyphs_of cs))) size
+    text = each leave parts DoesStep DoesText (λ s sound. record { plays = nothing s sound; off = off_none s sound }) more step
 
 -- ---- reading
 
@@ -369,43 +402,3 @@ writes-read {ascii} s t bytes codes is read ready fits same written = record {
   state = written ∙ ap (λ (xs : List ℕ). record s { display = write_glyphs (map encoded_glyph xs) s.display }) same
       ∙ ap (λ (g : List ℕ). record s { display = write_glyphs g s.display }) read.glyphs;
 }
-
--- without text the state stays
-pub text-stays : (s t : State) (piece : List ℕ) (n : ℕ) → n ≡ 0 → WritesText s (take n piece) t → t ≡ s
-text-stays s t piece n zero text =
-    text.state
-    ∙ ap (λ (k : ℕ). record s { display = write_glyphs (flat_map glyphs_of (characters [] (take k piece))) s.display }) zero
-
--- ---- text is played as it is written
-
-abbrev PlaysText : State → List ℕ → Type 0
-PlaysText s cs =
-    play s (translated_all s cs) ≡ record { state = record s { display = write_glyphs (flat_map glyphs_of cs) s.display }; reports = [] }
-
-pub feeds-text : {size : Size} → ((s : State) (cs : List ℕ) → IsSoundAt size s → IsReady s
-    → All (IsInText (reads_ascii s.display.sets)) cs
-    → s.display.cursor.col + length (flat_map glyphs_of cs) ≤ s.display.grid.width → PlaysText s cs)
-    → (s t : State) (piece out : List ℕ) (n : ℕ) → IsSoundAt size s → 0 < n → n ≤ length piece → WritesText s (take n piece) t
-    → FeedsUtf8 s [] (take n piece) t [] out out
-unfolding play_utf8 translated
-feeds-text law s t piece out n sound some within text =
-    let cs = characters [] (take n piece) in
-    let long : length (take n piece) ≡ n = rw length-take (omega (arith, within)) in
-    let played : play s (translated_all s cs) ≡ record { state = t; reports = [] } =
-    law s cs sound (text.ready (omega (arith, some, long))) text.is_text text.fits
-    ∙ ap (λ (u : State). record { state = u; reports = [] }) (sym text.state) in
-    record {
-      state = sym (ap (λ (p : Played). p.state) played);
-      left = sym text.pending;
-      reports = sym (append-nil out) ∙ ap (λ (r : List ℕ). out ++ r) (sym (ap (λ (p : Played). p.reports) played));
-    }
-
-pub text-off : {size : Size} → ((s : State) (cs : List ℕ) → IsSoundAt size s → IsReady s
-    → All (IsInText (reads_ascii s.display.sets)) cs
-    → s.display.cursor.col + length (flat_map glyphs_of cs) ≤ s.display.grid.width → scrolled_off s (translated_all s cs) ≡ [])
-    → (s t : State) (piece : List ℕ) (n : ℕ) → IsSoundAt size s → 0 < n → n ≤ length piece → WritesText s (take n piece) t
-    → utf8_off s [] (take n piece) ≡ []
-unfolding translated
-text-off law s t piece n sound some within text =
-    let long : length (take n piece) ≡ n = rw length-take (omega (arith, within)) in
-    law s (characters [] (take n piece)) sound (text.ready (omega (arith, some, long))) text.is_text text.fits

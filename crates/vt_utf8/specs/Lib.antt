@@ -8,4 +8,5 @@ pub mod Play
 pub mod Placing
 pub mod Text
 pub mod Logs
+pub mod Sinks
 pub mod Private

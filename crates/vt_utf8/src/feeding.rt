@@ -8,7 +8,7 @@ ghost use Rattle.bstr.specs.Utf8.{replacement};
 ghost use Rattle.vt_glyph.specs.Tables.{space};
 ghost use Rattle.vt_syntax.specs.declared.held.Held.TheVariants.{Nothing};
 ghost use Rattle.vt_term.specs.Play.{play};
-ghost use Rattle.vt_term.specs.Scrolling.{log, scrolled_off};
+ghost use Rattle.vt_term.specs.Scrolling.{log};
 ghost use Rattle.vt_term.specs.Text.{line_text, row_text_limit};
 ghost use Rattle.vt_term.specs.Writing.{write_glyph};
 ghost use Rattle.vt_utf8.specs.Cells.{cells};
@@ -16,26 +16,24 @@ ghost use Rattle.vt_utf8.specs.Similar.{shown};
 ghost use Rattle.vt_utf8.specs.Decoding.{pending_after};
 ghost use Rattle.vt_utf8.specs.Limits.{lines_limit, utf8_lines_limit};
 ghost use Rattle.vt_utf8.specs.Translation.{glyph_off, translation};
-ghost use Rattle.vt_utf8.specs.Play.{translated_all, translated, play_utf8};
+ghost use Rattle.vt_utf8.specs.Play.{translated, play_utf8};
 ghost use Rattle.vt_utf8.specs.Private.Cut.{IsCut};
 ghost use Rattle.vt_utf8.specs.Private.Feeds.{FeedsUtf8, utf8_off};
+ghost use Rattle.vt_utf8.specs.Sinks.{point, Feeds, FitsFeed, Grows};
 
 use crate::ascii::ascii_run;
 use crate::decoder::{Decoder, whole_character};
-use crate::laws::{ascii, sized_cuts, sized_one_byte, sized_silence, sized_text, sized_writes};
-use crate::log::BytesLog;
+use crate::laws::{sized_silence, sized_writes};
+use crate::log::{BytesLog, Log};
 use crate::similar::code_of;
-use crate::text::write_text;
+use crate::sink::Sink;
 use crate::translation::{
     BYTE_LIMIT, TRANSLATION_LIMIT, is_at_end, is_wide, narrow_code, translation,
 };
 use std::alloc::AllocError;
 use vt_syntax::Held;
-use vt_syntax::laws::one_split;
-use vt_term::laws::{
-    sized_cuts as played_cuts, sized_log_cuts, sized_soundness as played_soundness,
-};
-use vt_term::{Glyph, Lines, Nobody, REPORT_LIMIT, SizedTerminal};
+use vt_term::laws::{sized_cuts as played_cuts, sized_log_cuts};
+use vt_term::{Glyph, Lines, Nobody, REPORT_LIMIT, SizedTerminal, Vt220};
 
 /// Plays a chunk of a host's UTF-8, and appends the reports to `out`. `decoder` keeps what is pending between chunks.
 ///
@@ -152,13 +150,35 @@ fn feed_front<L: BytesLog>(
     ensures bounded { vec_len out.new ≤ vec_len out.old + 10 * result }
     ensures capacity { vec_capacity out.old ≤ vec_capacity out.new }
 {
-    let _ = terminal.width();
-    sized_cuts();
-    one_split();
     let limit = utf8_lines_limit(terminal);
+    feed_characters(terminal, &mut Vt220, decoder, piece, limit, log, out)
+}
+
+/// Plays the front of a chunk of UTF-8 on a sink, until the log is full. Returns how many bytes it played. `decoder` keeps what is
+/// pending between chunks. `limit` is twice the most bytes of lines that a character scrolls off.
+#[inline(always)]
+pub fn feed_characters<L: Log, S: Sink<L>>(
+    terminal: &mut SizedTerminal,
+    sink: &mut S,
+    decoder: &mut Decoder,
+    piece: &[u8],
+    limit: usize,
+    log: &mut L,
+    out: &mut Vec<u8>,
+) -> usize
+    requires room { vec_len out.old + 10 * length piece.now ≤ vec_capacity out.old }
+    requires fits { FitsFeed S.OneSize S.most terminal.old sink.old limit }
+    ensures within { result ≤ length piece.now }
+    ensures all { result < length piece.now → L.IsFull log.new limit }
+    ensures fed { Feeds S.Takes (point terminal.old sink.old log.old out.old.items) decoder.old (take result piece.now)
+        (point terminal.new sink.new log.new out.new.items) decoder.new }
+    ensures grows { Grows out.old out.new (10 * result) }
+{
+    let _ = terminal.width();
+    sink.in_turn();
     let mut at = 0;
     while at < piece.len() {
-        let count = feed_next(terminal, decoder, &piece[at..], limit, log, out);
+        let count = feed_next(terminal, sink, decoder, &piece[at..], limit, log, out);
         if count == 0 {
             return at;
         }
@@ -180,11 +200,12 @@ fn ascii_front(piece: &[u8]) -> usize
     0
 }
 
-/// Plays the front of a chunk that isn't empty: the ASCII bytes or the whole characters there if nothing is pending, otherwise a
-/// byte, or the ASCII bytes that cut off a pending one. Returns how many bytes it played: none if the log is full.
+/// Plays the front of a chunk that isn't empty: the ASCII bytes, the text or the whole character there if nothing is pending, otherwise
+/// a byte, or the ASCII bytes that cut off a pending one. Returns how many bytes it played: none if the log is full.
 #[inline(always)]
-fn feed_next<L: BytesLog>(
+fn feed_next<L: Log, S: Sink<L>>(
     terminal: &mut SizedTerminal,
+    sink: &mut S,
     decoder: &mut Decoder,
     piece: &[u8],
     limit: usize,
@@ -193,164 +214,54 @@ fn feed_next<L: BytesLog>(
 ) -> usize
     requires some { 1 ≤ length piece.now }
     requires room { vec_len out.old + 10 * length piece.now ≤ vec_capacity out.old }
-    requires limit { limit ≡ utf8_lines_limit terminal.old.display.grid.size }
-    ensures none { result ≡ 0 → L.IsFull log.new (utf8_lines_limit terminal.old.display.grid.size) }
+    requires fits { FitsFeed S.OneSize S.most terminal.old sink.old limit }
+    ensures none { result ≡ 0 → L.IsFull log.new limit }
     ensures within { result ≤ length piece.now }
-    ensures fed { FeedsUtf8 terminal.old decoder.old (take result piece.now) terminal.new decoder.new
-        out.old.items out.new.items }
-    ensures keeps { L.Keeps log.old (utf8_off terminal.old decoder.old (take result piece.now)) log.new }
-    ensures bounded { vec_len out.new ≤ vec_len out.old + 10 * result }
-    ensures capacity { vec_capacity out.old ≤ vec_capacity out.new }
+    ensures fed { Feeds S.Takes (point terminal.old sink.old log.old out.old.items) decoder.old (take result piece.now)
+        (point terminal.new sink.new log.new out.new.items) decoder.new }
+    ensures grows { Grows out.old out.new (10 * result) }
 {
     if decoder.is_empty() {
         let run = ascii_front(piece);
         if run > 0 {
-            return feed_ascii(terminal, decoder, &piece[..run], log, out);
+            return feed_ascii(terminal, sink, decoder, &piece[..run], limit, log, out);
         }
-        return feed_beyond(terminal, decoder, piece, limit, log, out);
+        return feed_beyond(terminal, sink, decoder, piece, limit, log, out);
     }
-    feed_pending(terminal, decoder, piece, limit, log, out)
-}
-
-/// Returns how many ASCII bytes at the front of a chunk that isn't empty, at most 22, cut off one pending byte: none if it isn't cut
-/// off.
-#[inline(always)]
-fn cut_front(decoder: &Decoder, piece: &[u8]) -> usize
-    requires { 1 ≤ length piece.now }
-    ensures within { result ≤ length piece.now }
-    ensures few { result ≤ 22 }
-    ensures ascii { All (λ b. b < 0x80) (take result piece.now) }
-    ensures cut { 1 ≤ result → IsCut decoder.now (slice_index piece.now 0) }
-{
-    if decoder.is_cut_by(piece[0]) {
-        return ascii_front(piece).min(TRANSLATION_LIMIT);
-    }
-    0
-}
-
-/// Plays the front of a chunk that isn't empty, after a pending part: the ASCII bytes that cut off one byte, otherwise a byte.
-/// Returns how many bytes it played: none if the log is full. Speed: most bytes that are cut off are cut off by ASCII.
-#[inline(always)]
-fn feed_pending<L: BytesLog>(
-    terminal: &mut SizedTerminal,
-    decoder: &mut Decoder,
-    piece: &[u8],
-    limit: usize,
-    log: &mut L,
-    out: &mut Vec<u8>,
-) -> usize
-    requires some { 1 ≤ length piece.now }
-    requires room { vec_len out.old + 10 * length piece.now ≤ vec_capacity out.old }
-    requires limit { limit ≡ utf8_lines_limit terminal.old.display.grid.size }
-    ensures none { result ≡ 0 → L.IsFull log.new (utf8_lines_limit terminal.old.display.grid.size) }
-    ensures within { result ≤ length piece.now }
-    ensures fed { FeedsUtf8 terminal.old decoder.old (take result piece.now) terminal.new decoder.new
-        out.old.items out.new.items }
-    ensures keeps { L.Keeps log.old (utf8_off terminal.old decoder.old (take result piece.now)) log.new }
-    ensures bounded { vec_len out.new ≤ vec_len out.old + 10 * result }
-    ensures capacity { vec_capacity out.old ≤ vec_capacity out.new }
-{
-    let run = cut_front(decoder, piece);
-    if run == 0 {
-        return feed_first(terminal, decoder, piece, limit, log, out);
-    }
-    if log.is_full(limit) {
-        return feed_first(terminal, decoder, piece, limit, log, out);
-    }
-    decoder.clear();
-    feed_cut(terminal, &piece[..run], log, out);
-    run
-}
-
-/// Plays U+FFFD for one byte that ASCII cuts off, and the ASCII bytes.
-#[inline(always)]
-fn feed_cut<L: BytesLog>(terminal: &mut SizedTerminal, run: &[u8], log: &mut L, out: &mut Vec<u8>)
-    requires some { 1 ≤ length run.now }
-    requires few { length run.now ≤ 22 }
-    requires ascii { All (λ b. b < 0x80) run.now }
-    requires room { vec_len out.old + 10 * length run.now ≤ vec_capacity out.old }
-    requires lines_room { L.HasRoom log.old (utf8_lines_limit terminal.old.display.grid.size) }
-    ensures fed { (pending : List ℕ) → IsCut pending (slice_index run.now 0)
-        → FeedsUtf8 terminal.old pending run.now terminal.new [] out.old.items out.new.items }
-    ensures keeps { (pending : List ℕ) → IsCut pending (slice_index run.now 0)
-        → L.Keeps log.old (utf8_off terminal.old pending run.now) log.new }
-    ensures bounded { vec_len out.new ≤ vec_len out.old + 10 * length run.now }
-    ensures capacity { vec_capacity out.old ≤ vec_capacity out.new }
-{
-    let _ = terminal.width();
-    played_cuts();
-    one_split();
-    log.character(terminal, '\u{FFFD}', out);
-    let _ = log.feed(terminal, run, out);
+    feed_pending(terminal, sink, decoder, piece, limit, log, out)
 }
 
 /// Plays ASCII bytes with nothing pending. Returns how many it played: fewer if the log is full.
 #[inline(always)]
-fn feed_ascii<L: BytesLog>(
+fn feed_ascii<L: Log, S: Sink<L>>(
     terminal: &mut SizedTerminal,
+    sink: &mut S,
     decoder: &Decoder,
     run: &[u8],
+    limit: usize,
     log: &mut L,
     out: &mut Vec<u8>,
 ) -> usize
     requires nothing { decoder.now ≡ [] }
     requires ascii { All (λ b. b < 0x80) run.now }
     requires room { vec_len out.old + 10 * length run.now ≤ vec_capacity out.old }
+    requires fits { FitsFeed S.OneSize S.most terminal.old sink.old limit }
     ensures within { result ≤ length run.now }
-    ensures all { result < length run.now → L.IsFull log.new (utf8_lines_limit terminal.old.display.grid.size) }
-    ensures fed { FeedsUtf8 terminal.old decoder.now (take result run.now) terminal.new decoder.now
-        out.old.items out.new.items }
-    ensures keeps { L.Keeps log.old (utf8_off terminal.old decoder.now (take result run.now)) log.new }
-    ensures bounded { vec_len out.new ≤ vec_len out.old + 10 * result }
-    ensures capacity { vec_capacity out.old ≤ vec_capacity out.new }
+    ensures all { result < length run.now → L.IsFull log.new limit }
+    ensures fed { Feeds S.Takes (point terminal.old sink.old log.old out.old.items) decoder.now (take result run.now)
+        (point terminal.new sink.new log.new out.new.items) decoder.now }
+    ensures grows { Grows out.old out.new (10 * result) }
 {
-    ascii();
     let _ = decoder;
-    log.feed(terminal, run, out)
+    sink.take_run(terminal, run, limit, log, out)
 }
 
-/// Plays the text at the front of a chunk that begins with a character beyond ASCII, or that character if it isn't text, with nothing
-/// pending. Returns how many bytes it played: 0 if no whole character is there, or the log is full. Speed: a byte at a time
-/// leaves the same.
+/// Plays the text at the front of a chunk that begins with a character beyond ASCII, that character if it isn't text, or a byte if
+/// neither is there, with nothing pending. Returns how many bytes it played: none if the log is full.
 #[inline(always)]
-fn feed_whole<L: BytesLog>(
+fn feed_beyond<L: Log, S: Sink<L>>(
     terminal: &mut SizedTerminal,
-    piece: &[u8],
-    limit: usize,
-    log: &mut L,
-    out: &mut Vec<u8>,
-) -> usize
-    requires room { vec_len out.old + 10 ≤ vec_capacity out.old }
-    requires limit { limit ≡ utf8_lines_limit terminal.old.display.grid.size }
-    ensures within { result ≤ length piece.now }
-    ensures fed { FeedsUtf8 terminal.old [] (take result piece.now) terminal.new [] out.old.items out.new.items }
-    ensures keeps { L.Keeps log.old (utf8_off terminal.old [] (take result piece.now)) log.new }
-    ensures out { out.new.items ≡ out.old.items }
-    ensures capacity { vec_capacity out.old ≤ vec_capacity out.new }
-{
-    let _ = terminal.width();
-    sized_cuts();
-    one_split();
-    sized_text();
-    let text = write_text(terminal, piece);
-    if text > 0 {
-        return text;
-    }
-    if log.is_full(limit) {
-        return 0;
-    }
-    if let Some((c, size)) = whole_character(piece) {
-        log.character(terminal, c, out);
-        return size;
-    }
-    0
-}
-
-/// Plays the text or the character at the front of a chunk, or a byte if neither is there, with nothing pending.
-/// Returns how many bytes it played: none if the log is full.
-#[inline(always)]
-fn feed_beyond<L: BytesLog>(
-    terminal: &mut SizedTerminal,
+    sink: &mut S,
     decoder: &mut Decoder,
     piece: &[u8],
     limit: usize,
@@ -360,29 +271,81 @@ fn feed_beyond<L: BytesLog>(
     requires nothing { decoder.old ≡ [] }
     requires some { 1 ≤ length piece.now }
     requires room { vec_len out.old + 10 ≤ vec_capacity out.old }
-    requires limit { limit ≡ utf8_lines_limit terminal.old.display.grid.size }
-    ensures none { result ≡ 0 → L.IsFull log.new (utf8_lines_limit terminal.old.display.grid.size) }
+    requires fits { FitsFeed S.OneSize S.most terminal.old sink.old limit }
+    ensures none { result ≡ 0 → L.IsFull log.new limit }
     ensures within { result ≤ length piece.now }
-    ensures fed { FeedsUtf8 terminal.old decoder.old (take result piece.now) terminal.new decoder.new
-        out.old.items out.new.items }
-    ensures keeps { L.Keeps log.old (utf8_off terminal.old decoder.old (take result piece.now)) log.new }
-    ensures bounded { vec_len out.new ≤ vec_len out.old + 10 * result }
-    ensures capacity { vec_capacity out.old ≤ vec_capacity out.new }
+    ensures fed { Feeds S.Takes (point terminal.old sink.old log.old out.old.items) decoder.old (take result piece.now)
+        (point terminal.new sink.new log.new out.new.items) decoder.new }
+    ensures grows { Grows out.old out.new (10 * result) }
 {
     let _ = terminal.width();
-    sized_cuts();
-    one_split();
-    let whole = feed_whole(terminal, piece, limit, log, out);
-    if whole > 0 {
-        return whole;
+    sink.in_turn();
+    let text = sink.take_text(terminal, piece);
+    if text > 0 {
+        return text;
     }
-    feed_first(terminal, decoder, piece, limit, log, out)
+    feed_whole(terminal, sink, decoder, piece, limit, log, out)
 }
 
-/// Plays the first byte of a chunk. Returns how many bytes it played: none if the log is full.
+/// Plays the whole character at the front of a chunk, or a byte if none is there, with nothing pending. Returns how many bytes it
+/// played: none if the log is full. Speed: a byte at a time leaves the same.
 #[inline(always)]
-fn feed_first<L: BytesLog>(
+fn feed_whole<L: Log, S: Sink<L>>(
     terminal: &mut SizedTerminal,
+    sink: &mut S,
+    decoder: &mut Decoder,
+    piece: &[u8],
+    limit: usize,
+    log: &mut L,
+    out: &mut Vec<u8>,
+) -> usize
+    requires nothing { decoder.old ≡ [] }
+    requires some { 1 ≤ length piece.now }
+    requires room { vec_len out.old + 10 ≤ vec_capacity out.old }
+    requires fits { FitsFeed S.OneSize S.most terminal.old sink.old limit }
+    ensures none { result ≡ 0 → L.IsFull log.new limit }
+    ensures within { result ≤ length piece.now }
+    ensures fed { Feeds S.Takes (point terminal.old sink.old log.old out.old.items) decoder.old (take result piece.now)
+        (point terminal.new sink.new log.new out.new.items) decoder.new }
+    ensures grows { Grows out.old out.new (10 * result) }
+{
+    let _ = terminal.width();
+    sink.in_turn();
+    if log.is_full(limit) {
+        return 0;
+    }
+    match whole_character(piece) {
+        Some((c, size)) => {
+            sink.take_beyond(terminal, c, log, out);
+            size
+        }
+        None => {
+            feed_byte(terminal, sink, decoder, piece[0], log, out);
+            1
+        }
+    }
+}
+
+/// Returns how many ASCII bytes at the front of a chunk that isn't empty cut off one pending byte: none if it isn't cut off.
+#[inline(always)]
+fn cut_front(decoder: &Decoder, piece: &[u8]) -> usize
+    requires { 1 ≤ length piece.now }
+    ensures within { result ≤ length piece.now }
+    ensures ascii { All (λ b. b < 0x80) (take result piece.now) }
+    ensures cut { 1 ≤ result → IsCut decoder.now (slice_index piece.now 0) }
+{
+    if decoder.is_cut_by(piece[0]) {
+        return ascii_front(piece);
+    }
+    0
+}
+
+/// Plays the front of a chunk that isn't empty, after a pending part: the ASCII bytes that cut off one byte, otherwise a byte.
+/// Returns how many bytes it played: none if the log is full. Speed: most bytes that are cut off are cut off by ASCII.
+#[inline(always)]
+fn feed_pending<L: Log, S: Sink<L>>(
+    terminal: &mut SizedTerminal,
+    sink: &mut S,
     decoder: &mut Decoder,
     piece: &[u8],
     limit: usize,
@@ -390,124 +353,150 @@ fn feed_first<L: BytesLog>(
     out: &mut Vec<u8>,
 ) -> usize
     requires some { 1 ≤ length piece.now }
-    requires room { vec_len out.old + 10 ≤ vec_capacity out.old }
-    requires limit { limit ≡ utf8_lines_limit terminal.old.display.grid.size }
-    ensures none { result ≡ 0 → L.IsFull log.new (utf8_lines_limit terminal.old.display.grid.size) }
-    ensures within { result ≤ 1 }
-    ensures fed { FeedsUtf8 terminal.old decoder.old (take result piece.now) terminal.new decoder.new
-        out.old.items out.new.items }
-    ensures keeps { L.Keeps log.old (utf8_off terminal.old decoder.old (take result piece.now)) log.new }
-    ensures bounded { vec_len out.new ≤ vec_len out.old + 10 * result }
-    ensures capacity { vec_capacity out.old ≤ vec_capacity out.new }
+    requires room { vec_len out.old + 10 * length piece.now ≤ vec_capacity out.old }
+    requires fits { FitsFeed S.OneSize S.most terminal.old sink.old limit }
+    ensures none { result ≡ 0 → L.IsFull log.new limit }
+    ensures within { result ≤ length piece.now }
+    ensures fed { Feeds S.Takes (point terminal.old sink.old log.old out.old.items) decoder.old (take result piece.now)
+        (point terminal.new sink.new log.new out.new.items) decoder.new }
+    ensures grows { Grows out.old out.new (10 * result) }
 {
     let _ = terminal.width();
-    sized_cuts();
-    one_split();
+    sink.in_turn();
     if log.is_full(limit) {
         return 0;
     }
-    feed_byte(terminal, decoder, piece[0], log, out);
-    1
+    let run = cut_front(decoder, piece);
+    if run == 0 {
+        feed_byte(terminal, sink, decoder, piece[0], log, out);
+        return 1;
+    }
+    decoder.clear();
+    feed_cut(terminal, sink, &piece[..run], log, out)
+}
+
+/// Plays U+FFFD for one byte that ASCII cuts off, and one of the ASCII bytes, or more of them. Returns how many of these it played.
+#[inline(always)]
+fn feed_cut<L: Log, S: Sink<L>>(
+    terminal: &mut SizedTerminal,
+    sink: &mut S,
+    run: &[u8],
+    log: &mut L,
+    out: &mut Vec<u8>,
+) -> usize
+    requires some { 1 ≤ length run.now }
+    requires ascii { All (λ b. b < 0x80) run.now }
+    requires room { vec_len out.old + 10 * length run.now ≤ vec_capacity out.old }
+    requires lines_room { L.HasRoom log.old (2 * S.most terminal.old.display.grid.size) }
+    requires one_size { S.OneSize terminal.old sink.old }
+    ensures some { 1 ≤ result }
+    ensures within { result ≤ length run.now }
+    ensures fed { (pending : List ℕ) → IsCut pending (slice_index run.now 0)
+        → Feeds S.Takes (point terminal.old sink.old log.old out.old.items) pending (take result run.now)
+        (point terminal.new sink.new log.new out.new.items) [] }
+    ensures grows { Grows out.old out.new (10 * result) }
+{
+    let _ = terminal.width();
+    sink.in_turn();
+    sink.take_beyond(terminal, '\u{FFFD}', log, out);
+    sink.take_some(terminal, run, log, out)
 }
 
 /// Plays a byte.
-fn feed_byte<L: BytesLog>(
+fn feed_byte<L: Log, S: Sink<L>>(
     terminal: &mut SizedTerminal,
+    sink: &mut S,
     decoder: &mut Decoder,
     b: u8,
     log: &mut L,
     out: &mut Vec<u8>,
 )
     requires room { vec_len out.old + 10 ≤ vec_capacity out.old }
-    requires lines_room { L.HasRoom log.old (utf8_lines_limit terminal.old.display.grid.size) }
-    ensures fed { FeedsUtf8 terminal.old decoder.old (b ∷ []) terminal.new decoder.new out.old.items out.new.items }
-    ensures keeps { L.Keeps log.old (utf8_off terminal.old decoder.old (b ∷ [])) log.new }
-    ensures bounded { vec_len out.new ≤ vec_len out.old + 10 }
-    ensures capacity { vec_capacity out.old ≤ vec_capacity out.new }
+    requires lines_room { L.HasRoom log.old (2 * S.most terminal.old.display.grid.size) }
+    requires one_size { S.OneSize terminal.old sink.old }
+    ensures fed { Feeds S.Takes (point terminal.old sink.old log.old out.old.items) decoder.old (b ∷ [])
+        (point terminal.new sink.new log.new out.new.items) decoder.new }
+    ensures grows { Grows out.old out.new 10 }
 {
     let _ = terminal.width();
-    played_cuts();
-    played_soundness();
-    one_split();
-    sized_one_byte();
+    sink.in_turn();
     let (lost, character) = decoder.push(b);
-    feed_lost(terminal, lost, log, out);
-    feed_completed(terminal, character, log, out);
+    feed_lost(terminal, sink, lost, log, out);
+    feed_completed(terminal, sink, character, log, out);
 }
 
 /// Plays U+FFFD if what was pending is ill-formed.
 #[inline(always)]
-fn feed_lost<L: BytesLog>(
+fn feed_lost<L: Log, S: Sink<L>>(
     terminal: &mut SizedTerminal,
+    sink: &mut S,
     lost: Option<char>,
     log: &mut L,
     out: &mut Vec<u8>,
 )
     requires lost { IfSome lost (λ c. c ≡ replacement) }
     requires room { vec_len out.old + 10 ≤ vec_capacity out.old }
-    requires lines_room { L.HasRoom log.old (utf8_lines_limit terminal.old.display.grid.size) }
-    ensures state { terminal.new ≡ (play terminal.old (translated_all terminal.old (option_to_list lost))).state }
-    ensures silent { (play terminal.old (translated_all terminal.old (option_to_list lost))).reports ≡ [] }
-    ensures keeps { L.Keeps log.old (scrolled_off terminal.old (translated_all terminal.old (option_to_list lost))) log.new }
-    ensures left { L.HasRoom log.new (lines_limit terminal.old.display.grid.size) }
+    requires lines_room { L.HasRoom log.old (2 * S.most terminal.old.display.grid.size) }
+    ensures takes { S.Takes (point terminal.old sink.old log.old out.old.items) (option_to_list lost)
+        (point terminal.new sink.new log.new out.new.items) }
+    ensures left { L.HasRoom log.new (S.most terminal.old.display.grid.size) }
     ensures out { out.new.items ≡ out.old.items }
     ensures capacity { vec_capacity out.old ≤ vec_capacity out.new }
 {
     let _ = terminal.width();
-    played_cuts();
-    one_split();
-    if let Some(c) = lost {
-        let _ = c;
-        log.character(terminal, '\u{FFFD}', out);
+    sink.in_turn();
+    match lost {
+        Some(c) => {
+            let _ = c;
+            sink.take_beyond(terminal, '\u{FFFD}', log, out);
+        }
+        None => {}
     }
 }
 
 /// Plays the character that a byte completes, if it completes one.
 #[inline(always)]
-fn feed_completed<L: BytesLog>(
+fn feed_completed<L: Log, S: Sink<L>>(
     terminal: &mut SizedTerminal,
+    sink: &mut S,
     character: Option<char>,
     log: &mut L,
     out: &mut Vec<u8>,
 )
     requires room { vec_len out.old + 10 ≤ vec_capacity out.old }
-    requires lines_room { L.HasRoom log.old (lines_limit terminal.old.display.grid.size) }
-    ensures state { terminal.new
-        ≡ (play terminal.old (translated_all terminal.old (option_to_list character))).state }
-    ensures reports { out.new.items ≡ out.old.items
-        ++ (play terminal.old (translated_all terminal.old (option_to_list character))).reports }
-    ensures keeps { L.Keeps log.old
-        (scrolled_off terminal.old (translated_all terminal.old (option_to_list character))) log.new }
-    ensures bounded { vec_len out.new ≤ vec_len out.old + 10 }
-    ensures capacity { vec_capacity out.old ≤ vec_capacity out.new }
+    requires lines_room { L.HasRoom log.old (S.most terminal.old.display.grid.size) }
+    requires one_size { S.OneSize terminal.old sink.old }
+    ensures takes { S.Takes (point terminal.old sink.old log.old out.old.items) (option_to_list character)
+        (point terminal.new sink.new log.new out.new.items) }
+    ensures grows { Grows out.old out.new 10 }
 {
     let _ = terminal.width();
-    played_cuts();
-    one_split();
-    if let Some(c) = character {
-        feed_character(terminal, c, log, out);
+    sink.in_turn();
+    match character {
+        Some(c) => feed_character(terminal, sink, c, log, out),
+        None => {}
     }
 }
 
-/// Plays a character.
-fn feed_character<L: BytesLog>(
+/// Plays a character on a sink.
+pub fn feed_character<L: Log, S: Sink<L>>(
     terminal: &mut SizedTerminal,
+    sink: &mut S,
     c: char,
     log: &mut L,
     out: &mut Vec<u8>,
 )
     requires room { vec_len out.old + 10 ≤ vec_capacity out.old }
-    requires lines_room { L.HasRoom log.old (lines_limit terminal.old.display.grid.size) }
-    ensures state { terminal.new ≡ (play terminal.old (translation terminal.old c)).state }
-    ensures reports { out.new.items ≡ out.old.items ++ (play terminal.old (translation terminal.old c)).reports }
-    ensures keeps { L.Keeps log.old (scrolled_off terminal.old (translation terminal.old c)) log.new }
-    ensures bounded { vec_len out.new ≤ vec_len out.old + 10 }
-    ensures capacity { vec_capacity out.old ≤ vec_capacity out.new }
+    requires lines_room { L.HasRoom log.old (S.most terminal.old.display.grid.size) }
+    requires one_size { S.OneSize terminal.old sink.old }
+    ensures takes { S.Takes (point terminal.old sink.old log.old out.old.items) (c ∷ [])
+        (point terminal.new sink.new log.new out.new.items) }
+    ensures grows { Grows out.old out.new 10 }
 {
     if (c as u32) < 0x80 {
-        let _ = log.feed(terminal, &[c as u8], out);
+        let _ = sink.take_some(terminal, &[c as u8], log, out);
     } else {
-        log.character(terminal, c, out);
+        sink.take_beyond(terminal, c, log, out);
     }
 }
 

@@ -9,6 +9,7 @@ pub mod laws;
 mod log;
 mod showing;
 mod similar;
+mod sink;
 pub mod sized;
 mod text;
 mod translation;
@@ -21,5 +22,6 @@ pub use feeds::{
 };
 pub use log::Log;
 pub use showing::shown_as;
+pub use sink::Sink;
 pub use text::write_text;
 pub use translation::{BYTE_LIMIT, Bytes, TRANSLATION_LIMIT, cells};

@@ -52,7 +52,7 @@ pub(crate) trait BytesLog: Log {
         requires { vec_len out.old + 10 * length piece.now ≤ vec_capacity out.old }
         ensures within { result ≤ length piece.now }
         ensures all { result < length piece.now → Self.IsFull self.new (row_text_limit terminal.old.display.grid.size) }
-        ensures whole { Self.HasRoom self.old (row_text_limit terminal.old.display.grid.size * length piece.now) → result ≡ length piece.now }
+        ensures some { 1 ≤ length piece.now → Self.HasRoom self.old (row_text_limit terminal.old.display.grid.size) → 1 ≤ result }
         ensures state { terminal.new ≡ (play terminal.old (take result piece.now)).state }
         ensures reports { out.new.items ≡ out.old.items ++ (play terminal.old (take result piece.now)).reports }
         ensures keeps { Self.Keeps self.old (scrolled_off terminal.old (take result piece.now)) self.new }

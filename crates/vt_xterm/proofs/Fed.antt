@@ -1,9 +1,9 @@
 -- The result of feeding.
-use Rattle.std.proofs.Common.{◌≡◌, ℕ, ◌+◌, List, [], ◌∷◌, ◌++◌, All, ◌<◌, take, drop, length, refl, sym, ap, ◌∙◌, append_assoc, subst, false, arith, None, Option, Some}
+use Rattle.std.proofs.Common.{◌≡◌, ℕ, ◌+◌, List, [], ◌∷◌, ◌++◌, take, drop, refl, sym, ap, ◌∙◌, append_assoc, subst, false, arith, None, Option, Some}
 use Rattle.std.specs.Prelude.{◌≤◌, nat_lt}
 use Rattle.std.proofs.lemmas.Bool.Decides.{nat_tests}
 use Rattle.std.proofs.Common.{append-nil}
-use Rattle.std.proofs.Math.Seq.{take-add, take-length}
+use Rattle.std.proofs.Math.Seq.{take-add}
 use Rattle.std.proofs.lemmas.List.{take_all}
 use Rattle.vt_syntax.specs.declared.event.Event.{Event}
 use Rattle.vt_syntax.specs.declared.event.Event.TheVariants.{Sequence}
@@ -13,27 +13,25 @@ use Rattle.vt_syntax.specs.Laws.{SplitLaw}
 use Rattle.vt_term.specs.State.{State}
 use Rattle.vt_term.specs.Reports.{report}
 use Rattle.vt_term.specs.Play.{play}
-use Rattle.vt_utf8.specs.Decoding.{read, characters, pending_after, IsWhole}
 use Rattle.vt_utf8.specs.Translation.{translation}
-use Rattle.vt_utf8.proofs.Cuts.{ascii-pending, pending-append}
 use Rattle.vt_term.specs.Observing.{Feeds, happenings_of}
 use Rattle.vt_xterm.specs.Pages.{PagesState, Screens, screens, shown_by}
 use Rattle.vt_xterm.specs.declared.sides.Sides.{Sides}
 use Rattle.vt_xterm.specs.Pages.{bounds_of}
 use Rattle.vt_xterm.specs.Bounded.{held_beyond}
 use Rattle.vt_xterm.specs.Front.{xterm_effect, function_in, functions_of, plain_functions}
-use Rattle.vt_xterm.specs.Play.{Whole, WholePlayed, FrontState, behind, both, play_bytes, after_events, play_beyond, screens_beyond}
-use Rattle.vt_xterm.specs.Play.{play_character, play_characters, play_xterm, nothing_played, whole_of}
+use Rattle.vt_xterm.specs.Play.{Whole, WholePlayed, both, play_bytes, after_events, play_beyond, screens_beyond}
+use Rattle.vt_xterm.specs.Play.{play_character, play_characters, nothing_played, whole_of}
 use Rattle.vt_xterm.specs.Terminals.{PlaysTerminals}
-use Rattle.vt_xterm.specs.Private.Feeds.{Leaves, FeedsBytes, FeedsXterm}
+use Rattle.vt_xterm.specs.Private.Feeds.{Leaves, FeedsBytes}
 use Rattle.vt_xterm.specs.Private.Profiles.{screens_on, unbounded}
 use Rattle.vt_xterm.specs.Private.Finding.{SetsNone, AllKeepNone}
-use Rattle.vt_xterm.proofs.Cuts.{bytes-two, bytes-nothing, character-ascii, characters-two, xterm-nothing, xterm-two, xterm-ascii}
+use Rattle.vt_xterm.proofs.Cuts.{bytes-two, bytes-nothing}
 use Rattle.vt_xterm.proofs.NoSides.{events-on, after-none, reports-none}
 use Rattle.vt_xterm.proofs.Terminals.{bytes-terminals}
 
 -- one play after another
-leaves-both : (p q r : WholePlayed) (v u : Whole) (before mid after : List ℕ) → Leaves p v before mid
+pub leaves-both : (p q r : WholePlayed) (v u : Whole) (before mid after : List ℕ) → Leaves p v before mid
     → Leaves q u mid after → r ≡ both p q → Leaves r u before after
 leaves-both p q r v u before mid after first second is = record {
   whole = second.whole ∙ ap (λ (x : WholePlayed). x.whole) (sym is);
@@ -42,7 +40,7 @@ leaves-both p q r v u before mid after first second is = record {
       ∙ ap (λ (x : WholePlayed). before ++ x.reports) (sym is);
 }
 
-leaves-nothing : (p : WholePlayed) (w : Whole) (out : List ℕ) → p ≡ nothing_played w → Leaves p w out out
+pub leaves-nothing : (p : WholePlayed) (w : Whole) (out : List ℕ) → p ≡ nothing_played w → Leaves p w out out
 leaves-nothing p w out is = record {
   whole = ap (λ (x : WholePlayed). x.whole) (sym is);
   reports = sym (append-nil out) ∙ ap (λ (x : WholePlayed). out ++ x.reports) (sym is);
@@ -131,99 +129,7 @@ feeds-event s mid t pages q bytes event before after is read left kept told =
     → FeedsBytes (whole_of s pages) bytes (whole_of t q) before after) (sym read)
     (λ one two three. feeds-effect s t pages q bytes event before after is one two three) left kept told
 
--- ---- UTF-8
-
-pub ascii-played : SplitLaw → (w : Whole) (pending bytes : List ℕ) → IsHeldPart w.state.held → pending ≡ []
-    → All (λ b. b < 0x80) bytes → play_xterm w pending bytes ≡ play_bytes w bytes
-ascii-played split w pending bytes held none all =
-    ap (λ (p : List ℕ). play_xterm w p bytes) none ∙ xterm-ascii split w bytes held all
-
-ascii-fed : SplitLaw → (s t : State) (front new : FrontState) (bytes before after : List ℕ) → IsHeldPart s.held
-    → front.pending ≡ [] → new.pending ≡ [] → All (λ b. b < 0x80) bytes
-    → FeedsBytes (whole_of s front.pages) bytes (whole_of t new.pages) before after
-    → FeedsXterm s front bytes t new before after
-ascii-fed split s t front new bytes before after held none still all fed =
-    let w = whole_of s front.pages in
-    let is = ascii-played split w front.pending bytes held none all in
-    record {
-      leaves = record {
-        whole = fed.whole ∙ ap (λ (p : WholePlayed). p.whole) (sym is);
-        reports = fed.reports ∙ ap (λ (p : WholePlayed). before ++ p.reports) (sym is);
-      };
-      left = still ∙ sym (ap (λ (p : List ℕ). pending_after p bytes) none ∙ ascii-pending bytes all);
-    }
-
-pub feeds-ascii : SplitLaw → (s t : State) (inside front new : FrontState) (bytes before after : List ℕ)
-    → inside ≡ front → IsHeldPart s.held → front.pending ≡ [] → new.pending ≡ inside.pending → All (λ b. b < 0x80) bytes
-    → FeedsBytes (whole_of s inside.pages) bytes (whole_of t new.pages) before after
-    → FeedsXterm s front bytes t new before after
-feeds-ascii split s t inside front new bytes before after is held none still all fed =
-    subst (λ (f : FrontState). f.pending ≡ [] → FeedsXterm s f bytes t new before after) is
-    (λ empty. ascii-fed split s t inside new bytes before after held empty (still ∙ empty) all fed) none
-
--- what was given up, and the character after it
-byte-fed : (s t u : State) (p : PagesState) (front new : FrontState) (b : ℕ) (xs ys before mid after : List ℕ)
-    → xs ++ ys ≡ (read front.pending b).characters → new.pending ≡ (read front.pending b).pending
-    → Leaves (play_characters (whole_of s front.pages) xs) (whole_of t p) before mid
-    → Leaves (play_characters (whole_of t p) ys) (whole_of u new.pages) mid after
-    → FeedsXterm s front (b ∷ []) u new before after
-unfolding play_xterm
-byte-fed s t u p front new b xs ys before mid after are left first second =
-    let w = whole_of s front.pages in
-    let x = play_characters w xs in
-    let q = play_characters (whole_of t p) ys in
-    let all : characters front.pending (b ∷ []) ≡ xs ++ ys = append-nil (read front.pending b).characters ∙ sym are in
-    record {
-      leaves = leaves-both x q (play_characters w (characters front.pending (b ∷ []))) (whole_of t p)
-          (whole_of u new.pages) before mid after first second
-          (ap (λ (cs : List ℕ). play_characters w cs) all ∙ characters-two w xs ys
-          ∙ ap (λ (y : Whole). both x (play_characters y ys)) (sym first.whole));
-      left = left;
-    }
-
-pub feeds-byte : (s t u : State) (p : PagesState) (inside front new : FrontState) (b : ℕ) (xs ys before mid after : List ℕ)
-    → inside ≡ front → xs ++ ys ≡ (read inside.pending b).characters → new.pending ≡ (read inside.pending b).pending
-    → Leaves (play_characters (whole_of s inside.pages) xs) (whole_of t p) before mid
-    → Leaves (play_characters (whole_of t p) ys) (whole_of u new.pages) mid after
-    → FeedsXterm s front (b ∷ []) u new before after
-feeds-byte s t u p inside front new b xs ys before mid after is are left first second =
-    subst (λ (f : FrontState). FeedsXterm s f (b ∷ []) u new before after) is
-    (byte-fed s t u p inside new b xs ys before mid after are left first second)
-
-pub xterm-none : (s : State) (front : FrontState) (out : List ℕ) → FeedsXterm s front [] s front out out
-xterm-none s front out = record {
-  leaves = leaves-nothing (play_xterm (behind s front) front.pending []) (behind s front) out
-      (xterm-nothing (behind s front) front.pending);
-  left = refl;
-}
-
-pub xterm-more : (s t u : State) (front mid new : FrontState) (piece : List ℕ) (at n : ℕ) (before out after : List ℕ)
-    → FeedsXterm s front (take at piece) t mid before out → FeedsXterm t mid (take n (drop at piece)) u new out after
-    → FeedsXterm s front (take (at + n) piece) u new before after
-xterm-more s t u front mid new piece at n before out after first second =
-    let a = take at piece in
-    let b = take n (drop at piece) in
-    let p = play_xterm (behind s front) front.pending a in
-    let q = play_xterm (behind t mid) mid.pending b in
-    let two : play_xterm (behind s front) front.pending (a ++ b) ≡ both p q =
-    xterm-two (behind s front) front.pending a b
-    ∙ ap (λ (x : Whole). both p (play_xterm x (pending_after front.pending a) b)) (sym first.leaves.whole)
-    ∙ ap (λ (x : List ℕ). both p (play_xterm (behind t mid) x b)) (sym first.left) in
-    rw (take-add at n piece) (record {
-      leaves = leaves-both p q (play_xterm (behind s front) front.pending (a ++ b)) (behind t mid) (behind u new) before out
-          after first.leaves second.leaves two;
-      left = second.left ∙ ap (λ (x : List ℕ). pending_after x b) first.left ∙ sym (pending-append front.pending a b);
-    })
-
 -- ---- a character
-
-pub leaves-ascii : (w v : Whole) (c : ℕ) (before after : List ℕ) → c < 0x80 → FeedsBytes w (c ∷ []) v before after
-    → Leaves (play_characters w (c ∷ [])) v before after
-leaves-ascii w v c before after low fed =
-    leaves-both (play_bytes w (c ∷ [])) (nothing_played v) (play_characters w (c ∷ [])) v v before after
-    after fed (record { whole = refl; reports = sym (append-nil after) })
-    (ap (λ (p : WholePlayed). both p (nothing_played p.whole)) (character-ascii w c low)
-    ∙ ap (λ (x : Whole). both (play_bytes w (c ∷ [])) (nothing_played x)) (sym fed.whole))
 
 -- beyond ASCII it is played as on a VT220, or between left and right margins
 pub character-beyond : (s : State) (pages : PagesState) (c : ℕ) (b : Option Sides) → 0x80 ≤ c → bounds_of (screens s pages) ≡ b
@@ -258,43 +164,6 @@ leaves-between s t pages q c m out high bounds left kept =
       reports = sym (ap (λ (r : List ℕ). out ++ r)
           (append-nil (play_character (whole_of s pages) c).reports ∙ ap (λ (p : WholePlayed). p.reports) is) ∙ append-nil out);
     }
-
--- a whole character with nothing pending
-pub whole-played : (w : Whole) (pending piece : List ℕ) (c n : ℕ) → pending ≡ [] → IsWhole piece c n
-    → play_xterm w pending (take n piece) ≡ play_characters w (c ∷ [])
-unfolding play_xterm
-whole-played w pending piece c n none whole =
-    ap (λ (p : List ℕ). play_characters w (characters p (take n piece))) none
-    ∙ ap (λ (cs : List ℕ). play_characters w cs) whole.characters
-
-whole-fed : (s t : State) (front new : FrontState) (piece : List ℕ) (c n : ℕ) (before after : List ℕ) → front.pending ≡ []
-    → new.pending ≡ [] → IsWhole piece c n
-    → Leaves (play_characters (whole_of s front.pages) (c ∷ [])) (whole_of t new.pages) before after
-    → FeedsXterm s front (take n piece) t new before after
-whole-fed s t front new piece c n before after none still whole left =
-    let all = whole-played (behind s front) front.pending piece c n none whole in record {
-      leaves = record {
-        whole = left.whole ∙ ap (λ (p : WholePlayed). p.whole) (sym all);
-        reports = left.reports ∙ ap (λ (p : WholePlayed). before ++ p.reports) (sym all);
-      };
-      left = still ∙ sym (ap (λ (p : List ℕ). pending_after p (take n piece)) none ∙ whole.pending);
-    }
-
-pub feeds-whole : (s t : State) (inside front new : FrontState) (piece : List ℕ) (c n : ℕ) (before after : List ℕ)
-    → inside ≡ front → front.pending ≡ [] → new.pending ≡ inside.pending → IsWhole piece c n
-    → Leaves (play_characters (whole_of s inside.pages) (c ∷ [])) (whole_of t new.pages) before after
-    → FeedsXterm s front (take n piece) t new before after
-feeds-whole s t inside front new piece c n before after is none still whole left =
-    whole-fed s t front new piece c n before after none (still ∙ ap (λ (f : FrontState). f.pending) is ∙ none) whole
-    (subst (λ (f : FrontState). Leaves (play_characters (whole_of s f.pages) (c ∷ [])) (whole_of t new.pages) before after) is
-    left)
-
--- all of a piece
-pub feeds-all : (s t : State) (front new : FrontState) (piece : List ℕ) (n : ℕ) (before after : List ℕ)
-    → n ≡ length piece → FeedsXterm s front (take n piece) t new before after → FeedsXterm s front piece t new before after
-feeds-all s t front new piece n before after is fed =
-    subst (λ (bytes : List ℕ). FeedsXterm s front bytes t new before after)
-    (ap (λ (k : ℕ). take k piece) is ∙ take-length piece) fed
 
 pub one-byte : (n b : ℕ) → 1 ≤ n → take n (b ∷ []) ≡ b ∷ []
 one-byte n b some = take_all n (b ∷ []) (omega (arith, some))

@@ -20,3 +20,4 @@ mod Logged
 mod Unseen
 pub mod OfOneSize
 mod TextPlayed
+mod TakenAs

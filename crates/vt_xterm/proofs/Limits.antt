@@ -23,22 +23,16 @@ pub character-fits : (size : Size) → utf8_lines_limit size ≤ lines_limit siz
 character-fits size =
     mul-le 22 (row_text_limit size) (max size.rows 22) (row_text_limit size) (right-max size.rows 22) (omega arith)
 
-twice : (n : ℕ) → n ≤ 2 * n
-twice n = omega arith
-
-pub one-fits : (size : Size) → lines_limit size ≤ xterm_lines_limit size
-one-fits size = twice (lines_limit size)
-
-after-first : (n m : ℕ) → m ≤ n → n + m ≤ 2 * n
-after-first n m few = omega (arith, few)
-
--- a character, and what is after it
-pub both-fit : (size : Size) → lines_limit size + utf8_lines_limit size ≤ xterm_lines_limit size
-both-fit size = after-first (lines_limit size) (utf8_lines_limit size) (character-fits size)
-
 -- a limit that was computed before bytes were played
 pub limit-stays : (s t : Size) (limit : ℕ) → t ≡ s → limit ≡ xterm_lines_limit s → limit ≡ xterm_lines_limit t
 limit-stays s t limit same is = is ∙ ap xterm_lines_limit (sym same)
+
+-- more, and what it leaves
+pub before-more : (n a : ℕ) → n ≤ n + a
+before-more n a = omega arith
+
+pub more-fits : (n a b : ℕ) → a ≤ b → n + a ≤ n + b
+more-fits n a b few = omega (arith, few)
 
 -- a row
 pub row-fits : (size : Size) → IsSize size → row_text_limit size ≤ text_limit size

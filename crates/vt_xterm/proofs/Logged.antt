@@ -1,27 +1,27 @@
 -- The lines that are kept, in parts.
-use Rattle.std.proofs.Common.{◌≡◌, ℕ, ◌+◌, List, [], ◌∷◌, ◌++◌, take, drop, sym, ap, ◌∙◌, subst, append-nil, All, ◌<◌, Bool, true, false, Option, Some, None}
+use Rattle.std.proofs.Common.{◌≡◌, ℕ, ◌+◌, List, [], ◌∷◌, ◌++◌, take, drop, sym, ap, ◌∙◌, subst, append-nil, Bool, true, false, Option, Some, None}
 use Rattle.std.specs.Prelude.{flat_map, ◌≤◌, if◌then◌else◌}
 use Rattle.std.proofs.Math.Seq.{take-add}
 use Rattle.std.proofs.lemmas.Grind.{flat_map-append}
 use Rattle.vt_syntax.specs.Laws.{SplitLaw}
 use Rattle.vt_term.specs.Text.{line_text}
 use Rattle.vt_syntax.specs.declared.event.Event.{Event}
-use Rattle.vt_syntax.specs.Held.{IsHeldPart, events_from, held_from}
+use Rattle.vt_syntax.specs.Held.{events_from, held_from}
 use Rattle.vt_term.specs.State.{State}
 use Rattle.vt_term.specs.Scrolling.{scrolled_off}
-use Rattle.vt_utf8.specs.Decoding.{read, characters, pending_after, IsWhole}
+use Rattle.vt_utf8.specs.Decoding.{pending_after}
 use Rattle.vt_utf8.specs.Translation.{translation}
 use Rattle.vt_xterm.specs.declared.sides.Sides.{Sides}
 use Rattle.vt_xterm.specs.Pages.{PagesState, screens, bounds_of}
 use Rattle.vt_xterm.specs.Log.{page_line_off, line_off_between, xterm_line_off, xterm_lines_off}
-use Rattle.vt_xterm.specs.Play.{Whole, WholePlayed, FrontState, behind, screens_of, xterm_log}
+use Rattle.vt_xterm.specs.Play.{Whole, WholePlayed, screens_of, xterm_log}
 use Rattle.vt_xterm.specs.Play.{play_bytes, play_character, play_characters, play_xterm, whole_of}
 use Rattle.vt_xterm.specs.Terminals.{PlaysTerminals}
 use Rattle.vt_utf8.specs.Logs.{AreKept}
 use Rattle.vt_utf8.proofs.Logged.{Rows, keeps-nothing, keeps-both}
-use Rattle.vt_xterm.proofs.Cuts.{bytes-two, character-ascii, characters-two, xterm-nothing, xterm-two}
+use Rattle.vt_xterm.proofs.Cuts.{bytes-two, characters-two, xterm-nothing, xterm-two}
 use Rattle.vt_xterm.proofs.Terminals.{bytes-terminals}
-use Rattle.vt_xterm.proofs.Fed.{ascii-played, whole-played, character-beyond, one-byte}
+use Rattle.vt_xterm.proofs.Fed.{character-beyond}
 
 -- ---- the law of the log
 
@@ -58,70 +58,7 @@ module _ {O : Type 0} (Keeps : O → Rows → O → Type 0) (HasRoom IsFull : O 
       (ap (λ (x : WholePlayed). x.lines) (characters-two w xs ys)
       ∙ ap (λ (x : Whole). (play_characters w xs).lines ++ (play_characters x ys).lines) (sym is))
 
-  pub keeps-xterm : (w v : Whole) (pending after piece : List ℕ) (at n : ℕ) (o p q : O)
-      → v ≡ (play_xterm w pending (take at piece)).whole → after ≡ pending_after pending (take at piece)
-      → Keeps o (play_xterm w pending (take at piece)).lines p
-      → Keeps p (play_xterm v after (take n (drop at piece))).lines q
-      → Keeps o (play_xterm w pending (take (at + n) piece)).lines q
-  keeps-xterm w v pending after piece at n o p q is left first second =
-      let a = take at piece in
-      let b = take n (drop at piece) in
-      keeps-both Keeps HasRoom IsFull kept o p q (play_xterm w pending a).lines (play_xterm v after b).lines
-      (play_xterm w pending (take (at + n) piece)).lines first second
-      (ap (λ (bytes : List ℕ). (play_xterm w pending bytes).lines) (take-add at n piece)
-      ∙ ap (λ (x : WholePlayed). x.lines) (xterm-two w pending a b)
-      ∙ ap (λ (x : Whole). (play_xterm w pending a).lines ++ (play_xterm x (pending_after pending a) b).lines) (sym is)
-      ∙ ap (λ (x : List ℕ). (play_xterm w pending a).lines ++ (play_xterm v x b).lines) (sym left))
-
-  -- ---- UTF-8
-
-  pub keeps-ascii : SplitLaw → (s : State) (inside front : FrontState) (bytes : List ℕ) (o p : O) → inside ≡ front
-      → IsHeldPart s.held → front.pending ≡ [] → All (λ b. b < 0x80) bytes
-      → Keeps o (play_bytes (whole_of s inside.pages) bytes).lines p
-      → Keeps o (play_xterm (behind s front) front.pending bytes).lines p
-  keeps-ascii split s inside front bytes o p is held none all keeps =
-      subst (λ (rows : Rows). Keeps o rows p)
-      (ap (λ (f : FrontState). (play_bytes (whole_of s f.pages) bytes).lines) is
-      ∙ ap (λ (x : WholePlayed). x.lines) (sym (ascii-played split (behind s front) front.pending bytes held none all)))
-      keeps
-
-  pub keeps-byte : (s t : State) (m : PagesState) (inside front : FrontState) (b : ℕ) (xs ys : List ℕ) (o p q : O) → inside ≡ front
-      → xs ++ ys ≡ (read inside.pending b).characters
-      → whole_of t m ≡ (play_characters (whole_of s inside.pages) xs).whole
-      → Keeps o (play_characters (whole_of s inside.pages) xs).lines p
-      → Keeps p (play_characters (whole_of t m) ys).lines q
-      → Keeps o (play_xterm (behind s front) front.pending (b ∷ [])).lines q
-  unfolding play_xterm
-  keeps-byte s t m inside front b xs ys o p q is are left first second =
-      subst (λ (f : FrontState). Keeps o (play_characters (behind s f) (characters f.pending (b ∷ []))).lines q) is
-      (subst (λ (cs : List ℕ). Keeps o (play_characters (whole_of s inside.pages) cs).lines q)
-      (are ∙ sym (append-nil (read inside.pending b).characters))
-      (keeps-characters (whole_of s inside.pages) (whole_of t m) xs ys o p q left first second))
-
-  pub keeps-whole : (s : State) (inside front : FrontState) (piece : List ℕ) (c n : ℕ) (o p : O) → inside ≡ front
-      → front.pending ≡ [] → IsWhole piece c n → Keeps o (play_characters (whole_of s inside.pages) (c ∷ [])).lines p
-      → Keeps o (play_xterm (behind s front) front.pending (take n piece)).lines p
-  keeps-whole s inside front piece c n o p is none whole keeps =
-      subst (λ (x : WholePlayed). Keeps o x.lines p)
-      (ap (λ (f : FrontState). play_characters (whole_of s f.pages) (c ∷ [])) is
-      ∙ sym (whole-played (behind s front) front.pending piece c n none whole))
-      keeps
-
-  pub keeps-none : (s : State) (front : FrontState) (o : O) → Keeps o (play_xterm (behind s front) front.pending []).lines o
-  keeps-none s front o =
-      keeps-nothing Keeps HasRoom IsFull kept o (play_xterm (behind s front) front.pending []).lines
-      (ap (λ (x : WholePlayed). x.lines) (xterm-nothing (behind s front) front.pending))
-
   -- ---- a character
-
-  pub keeps-ascii-character : (w : Whole) (c n : ℕ) (o p : O) → c < 0x80 → 1 ≤ n
-      → Keeps o (play_bytes w (take n (c ∷ []))).lines p → Keeps o (play_characters w (c ∷ [])).lines p
-  keeps-ascii-character w c n o p low some keeps =
-      subst (λ (rows : Rows). Keeps o rows p)
-      (ap (λ (bytes : List ℕ). (play_bytes w bytes).lines) (one-byte n c some)
-      ∙ ap (λ (x : WholePlayed). x.lines) (sym (character-ascii w c low))
-      ∙ sym (append-nil (play_character w c).lines))
-      keeps
 
   beyond-lines : (s : State) (pages : PagesState) (c : ℕ) → 0x80 ≤ c → bounds_of (screens s pages) ≡ None
       → (play_characters (whole_of s pages) (c ∷ [])).lines ≡ if pages.alternate then [] else scrolled_off s (translation s c)

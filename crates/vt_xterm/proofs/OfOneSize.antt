@@ -12,7 +12,7 @@ use Rattle.vt_term.specs.Machines.{KeepsSize}
 use Rattle.vt_term.proofs.SizeKept.{own-display, play_kept}
 use Rattle.vt_xterm.specs.Pages.{Screens, PagesState}
 use Rattle.vt_xterm.specs.Front.{screen_effect, xterm_effect}
-use Rattle.vt_xterm.specs.Play.{FrontState, xterm}
+use Rattle.vt_xterm.specs.Play.{xterm}
 use Rattle.vt_xterm.specs.Private.Feeds.{KeepSizes}
 use Rattle.vt_xterm.specs.Private.Profiles.{AreOfOneSize, screens_on, unbounded}
 use Rattle.vt_xterm.proofs.SoundScreens.{AreSound, screen-event-keeps, event-keeps}
@@ -42,11 +42,6 @@ keep-nothing s p = record { shown = refl; other = refl }
 
 pub keep-both : (s t u : State) (p q r : PagesState) → KeepSizes s p t q → KeepSizes t q u r → KeepSizes s p u r
 keep-both s t u p q r first second = record { shown = second.shown ∙ first.shown; other = second.other ∙ first.other }
-
--- by the parts of a front
-pub front-sizes : (s t : State) (inside front : FrontState) (q : PagesState) → inside ≡ front → KeepSizes s inside.pages t q
-    → KeepSizes s front.pages t q
-front-sizes s t inside front q is kept = subst (λ (f : FrontState). KeepSizes s f.pages t q) is kept
 
 pub keep-shown : (s t : State) (p : PagesState) → t.display.grid.size ≡ s.display.grid.size → KeepSizes s p t p
 keep-shown s t p is = record { shown = is; other = refl }

@@ -1,36 +1,31 @@
 -- Text under TERM=xterm, while DECLRMM is reset: its glyphs are written one after another.
-use Rattle.std.proofs.Common.{◌≡◌, ℕ, suc, ◌+◌, ◌≤◌, ◌<◌, Bool, true, false, List, [], ◌∷◌, ◌++◌, All, None, inl, inr, refl, sym, ap, subst, ◌∙◌, arith, append-nil, length}
+use Rattle.std.proofs.Common.{◌≡◌, ℕ, ◌≤◌, ◌<◌, Bool, true, false, List, [], ◌∷◌, All, None, inl, inr, refl, sym, ap, subst, ◌∙◌, arith, append-nil}
 use Rattle.std.specs.Prelude.{flat_map, if◌then◌else◌}
-use Rattle.std.proofs.lemmas.List.{length-append}
 use Rattle.std.proofs.lemmas.List.Elements.{All-nil, All-cons}
-use Rattle.vt_syntax.specs.declared.event.Event.{Event}
 use Rattle.vt_syntax.specs.declared.event.Event.TheVariants.{Print}
 use Rattle.vt_syntax.specs.declared.held.Held.{Held}
 use Rattle.vt_syntax.specs.declared.held.Held.TheVariants.{Nothing}
 use Rattle.vt_syntax.specs.Held.{events_from}
 use Rattle.vt_syntax.specs.Laws.{SpellingLaw}
-use Rattle.vt_glyph.specs.GraphicSets.{GraphicSets}
 use Rattle.vt_glyph.specs.Invocation.{HasGlyph}
 use Rattle.vt_screen.specs.declared.cell.Cell.{Cell}
 use Rattle.vt_screen.specs.declared.size.Size.{Size}
-use Rattle.vt_term.specs.declared.state.Cursor.{Cursor}
-use Rattle.vt_term.specs.State.{Display, State}
+use Rattle.vt_term.specs.State.{State}
 use Rattle.vt_term.specs.Sound.{IsSoundAt}
 use Rattle.vt_term.specs.Scrolling.{scrolled_off}
 use Rattle.vt_term.specs.Writing.{write_glyphs}
 use Rattle.vt_term.specs.Play.{Played, play}
 use Rattle.vt_term.proofs.Bytes.{graphic-events}
-use Rattle.vt_utf8.specs.Decoding.{characters, pending_after}
+use Rattle.vt_utf8.specs.Decoding.{characters}
 use Rattle.vt_utf8.specs.Translation.{translation, reads_ascii}
 use Rattle.vt_utf8.specs.Play.{translated_all}
 use Rattle.vt_utf8.specs.Text.{glyphs_of, IsInText, IsReady, WritesText}
 use Rattle.vt_utf8.proofs.Cuts.{translation-ascii}
-use Rattle.vt_utf8.proofs.Fed.{translated-one}
+use Rattle.vt_utf8.proofs.TakenAs.{translated-one}
 use Rattle.vt_utf8.proofs.Wide.{silently, KeepsSoundAt}
-use Rattle.vt_utf8.proofs.Texts.{GlyphsLeave, GlyphsTwo}
+use Rattle.vt_utf8.proofs.Texts.{GlyphsLeave, GlyphsTwo, FitsRow, OfText, PlaysText, TextOff, after_glyphs, each}
 use Rattle.vt_xterm.specs.Pages.{PagesState}
-use Rattle.vt_xterm.specs.Play.{Whole, WholePlayed, FrontState, behind, both, play_bytes, play_character, play_characters, play_xterm, nothing_played, whole_of, screens_of}
-use Rattle.vt_xterm.specs.Private.Feeds.{FeedsXterm}
+use Rattle.vt_xterm.specs.Play.{Whole, WholePlayed, both, play_character, play_characters, nothing_played, whole_of, screens_of}
 use Rattle.vt_xterm.specs.Terminals.{AreTerminals, PlaysTerminals}
 use Rattle.vt_xterm.proofs.Cuts.{character-ascii}
 use Rattle.vt_xterm.proofs.Fed.{character-beyond}
@@ -68,44 +63,27 @@ as-terminal spelled s pages c ascii none between (inl is) =
 as-terminal spelled s pages c ascii none between (inr (beyond, _)) =
     character-beyond s pages c None beyond (none-bounds (screens_of (whole_of s pages)) none)
 
--- what text leaves
-abbrev after_text : State → List ℕ → State
-after_text s cs = record s { display = write_glyphs (flat_map glyphs_of cs) s.display }
-
-abbrev Fits : State → List ℕ → Type 0
-Fits s cs = s.display.cursor.col + length (flat_map glyphs_of cs) ≤ s.display.grid.width
-
-abbrev pub PlaysText : Size → Type 0
-PlaysText size = (s : State) (cs : List ℕ) → IsSoundAt size s → IsReady s → All (IsInText (reads_ascii s.display.sets)) cs
-    → Fits s cs → play s (translated_all s cs) ≡ silently s (write_glyphs (flat_map glyphs_of cs) s.display)
-
-abbrev pub TextOff : Size → Type 0
-TextOff size = (s : State) (cs : List ℕ) → IsSoundAt size s → IsReady s → All (IsInText (reads_ascii s.display.sets)) cs
-    → Fits s cs → scrolled_off s (translated_all s cs) ≡ []
-
 no-lines : (b : Bool) (rows : List (List Cell)) → rows ≡ [] → (if b then [] else rows) ≡ []
 no-lines true rows is = refl
 no-lines false rows is = is
 
-module _ (spelled : SpellingLaw) {size : Size} (plays : PlaysText size) (off : TextOff size) (leave : GlyphsLeave) (parts : GlyphsTwo)
+module _ (spelled : SpellingLaw) {size : Size} (plays : OfText PlaysText size) (off : OfText TextOff size) (leave : GlyphsLeave) (parts : GlyphsTwo)
     (keeps : KeepsSoundAt size) (pages : PagesState) (none : pages.sides ≡ None) where
   -- one character
-  step : (s : State) (c : ℕ) → IsSoundAt size s → IsReady s → IsInText (reads_ascii s.display.sets) c
-      → s.display.cursor.col + length (glyphs_of c) ≤ s.display.grid.width
-      → (play s (translation s c) ≡ silently s (write_glyphs (glyphs_of c) s.display))
-      × (play_character (whole_of s pages) c ≡ nothing_played (whole_of (record s { display = write_glyphs (glyphs_of c) s.display }) pages))
+  step : (s : State) (c : ℕ) → IsSoundAt size s → IsReady s → IsInText (reads_ascii s.display.sets) c → FitsRow s (glyphs_of c)
+      → (play_character (whole_of s pages) c ≡ nothing_played (whole_of (after_glyphs s (glyphs_of c)) pages))
+      × IsSoundAt size (after_glyphs s (glyphs_of c))
   step s c sound ready is room =
       let w = whole_of s pages in
       let all : All (IsInText (reads_ascii s.display.sets)) (c ∷ []) =
       All-cons (IsInText (reads_ascii s.display.sets)) c [] is (All-nil (IsInText (reads_ascii s.display.sets))) in
       let own : flat_map glyphs_of (c ∷ []) ≡ glyphs_of c = append-nil (glyphs_of c) in
-      let fits : Fits s (c ∷ []) = subst (λ (g : List ℕ). s.display.cursor.col + length g ≤ s.display.grid.width) (sym own) room in
+      let fits : FitsRow s (flat_map glyphs_of (c ∷ [])) = subst (λ (g : List ℕ). FitsRow s g) (sym own) room in
       let played : play s (translation s c) ≡ silently s (write_glyphs (glyphs_of c) s.display) =
       ap (λ (b : List ℕ). play s b) (sym (translated-one s c)) ∙ plays s (c ∷ []) sound ready all fits
       ∙ ap (λ (g : List ℕ). silently s (write_glyphs g s.display)) own in
       let silent : scrolled_off s (translation s c) ≡ [] =
       ap (λ (b : List ℕ). scrolled_off s b) (sym (translated-one s c)) ∙ off s (c ∷ []) sound ready all fits in (
-        played,
         as-terminal spelled s pages c (reads_ascii s.display.sets) none ready.held is
             ∙ ap (λ (p : Played). record {
               whole = record w { state = p.state };
@@ -113,49 +91,30 @@ module _ (spelled : SpellingLaw) {size : Size} (plays : PlaysText size) (off : T
               lines = if pages.alternate then [] else scrolled_off s (translation s c);
             }) played
             ∙ ap (λ (rows : List (List Cell)). record {
-              whole = whole_of (record s { display = write_glyphs (glyphs_of c) s.display }) pages;
+              whole = whole_of (after_glyphs s (glyphs_of c)) pages;
               reports = [];
               lines = rows;
             }) (no-lines pages.alternate (scrolled_off s (translation s c)) silent),
+        subst (IsSoundAt size) (ap (λ (p : Played). p.state) played) (keeps s (translation s c) sound),
       )
 
-  pub text : (cs : List ℕ) (s : State) → IsSoundAt size s → IsReady s → All (IsInText (reads_ascii s.display.sets)) cs
-      → Fits s cs → play_characters (whole_of s pages) cs ≡ nothing_played (whole_of (after_text s cs) pages)
-  text [] s sound ready all fits = refl
-  text (c ∷ cs) s sound ready all fits =
-      let d = s.display in
-      let own = glyphs_of c in
-      let later = flat_map glyphs_of cs in
-      let total : length (flat_map glyphs_of (c ∷ cs)) ≡ length own + length later = length-append own later in
-      let first = step s c sound ready (all 0 0 (omega arith)) (omega (arith, total, fits)) in
-      let t : State = record s { display = write_glyphs own d } in
-      let after = leave own d ready.wrap (omega (arith, total, fits)) in
-      let column : t.display.cursor.col ≡ d.cursor.col + length own = ap (λ (k : Cursor). k.col) after.cursor in
-      let sound_after : IsSoundAt size t =
-      subst (IsSoundAt size) (ap (λ (p : Played). p.state) first.0) (keeps s (translation s c) sound) in
-      let ready_after : IsReady t = record {
-        held = ready.held;
-        pending = ap (λ (g : GraphicSets). g.pending) after.sets ∙ ready.pending;
-        wrap = ap (λ (k : Cursor). k.wrap) after.cursor;
-      } in
-      let all_after : All (IsInText (reads_ascii t.display.sets)) cs =
-      subst (λ (g : GraphicSets). All (IsInText (reads_ascii g)) cs) (sym after.sets) (λ k e h. all (suc k) e (omega (arith, h))) in
-      ap (λ (p : WholePlayed). both p (play_characters p.whole cs)) first.1
-      ∙ ap (λ (p : WholePlayed). both (nothing_played (whole_of t pages)) p)
-      (text cs t sound_after ready_after all_after (omega (arith, total, fits, column, after.width)))
-      ∙ ap (λ (e : Display). nothing_played (whole_of (record s { display = e }) pages)) (sym (parts own later d))
+  text : OfText (λ s cs. play_characters (whole_of s pages) cs
+      ≡ nothing_played (whole_of (after_glyphs s (flat_map glyphs_of cs)) pages)) size
+  text = each leave parts (λ s c t. play_character (whole_of s pages) c ≡ nothing_played (whole_of t pages))
+      (λ s cs t. play_characters (whole_of s pages) cs ≡ nothing_played (whole_of t pages)) (λ s sound. refl)
+      (λ s t u c cs first rest. ap (λ (p : WholePlayed). both p (play_characters p.whole cs)) first
+      ∙ ap (λ (p : WholePlayed). both (nothing_played (whole_of t pages)) p) rest) step
 
   -- text that was written
   pub text-written : (s t : State) (bytes : List ℕ) → IsSoundAt size s → WritesText s bytes t
-      → play_xterm (whole_of s pages) [] bytes ≡ nothing_played (whole_of t pages)
-  unfolding play_xterm
+      → play_characters (whole_of s pages) (characters [] bytes) ≡ nothing_played (whole_of t pages)
   text-written s t [] sound written = ap (λ (u : State). nothing_played (whole_of u pages)) (sym written.state)
   text-written s t (b ∷ bytes) sound written =
-      text (characters [] (b ∷ bytes)) s sound (written.ready (omega arith)) written.is_text written.fits
+      text s (characters [] (b ∷ bytes)) sound (written.ready (omega arith)) written.is_text written.fits
       ∙ ap (λ (u : State). nothing_played (whole_of u pages)) (sym written.state)
 
 -- text keeps the size
-pub text-plays : {size : Size} → PlaysText size → (s t : State) (bytes : List ℕ) → IsSoundAt size s → WritesText s bytes t
+pub text-plays : {size : Size} → OfText PlaysText size → (s t : State) (bytes : List ℕ) → IsSoundAt size s → WritesText s bytes t
     → t.display.grid.size ≡ s.display.grid.size
 text-plays plays s t [] sound written = ap (λ (u : State). u.display.grid.size) written.state
 text-plays plays s t (b ∷ bytes) sound written =
@@ -163,29 +122,3 @@ text-plays plays s t (b ∷ bytes) sound written =
     played-size s t (translated_all s cs)
     (written.state
     ∙ sym (ap (λ (p : Played). p.state) (plays s cs sound (written.ready (omega arith)) written.is_text written.fits)))
-
-text-nothing : (s t : State) (inside front : FrontState) (bytes : List ℕ) → inside ≡ front → front.pending ≡ []
-    → play_xterm (whole_of s inside.pages) [] bytes ≡ nothing_played (whole_of t inside.pages)
-    → play_xterm (behind s front) front.pending bytes ≡ nothing_played (behind t front)
-text-nothing s t inside front bytes is none played =
-    ap (λ (p : List ℕ). play_xterm (behind s front) p bytes) none
-    ∙ subst (λ (f : FrontState). play_xterm (whole_of s f.pages) [] bytes ≡ nothing_played (whole_of t f.pages)) is played
-
-pub text-feeds : (s t : State) (inside front : FrontState) (bytes out : List ℕ) → inside ≡ front → front.pending ≡ []
-    → play_xterm (whole_of s inside.pages) [] bytes ≡ nothing_played (whole_of t inside.pages)
-    → pending_after [] bytes ≡ [] → FeedsXterm s front bytes t front out out
-text-feeds s t inside front bytes out is none played left =
-    let all = text-nothing s t inside front bytes is none played in
-    record {
-      leaves = record {
-        whole = sym (ap (λ (p : WholePlayed). p.whole) all);
-        reports = sym (append-nil out) ∙ ap (λ (r : List ℕ). out ++ r) (sym (ap (λ (p : WholePlayed). p.reports) all));
-      };
-      left = none ∙ sym (ap (λ (p : List ℕ). pending_after p bytes) none ∙ left);
-    }
-
-pub text-lines : (s t : State) (inside front : FrontState) (bytes : List ℕ) → inside ≡ front → front.pending ≡ []
-    → play_xterm (whole_of s inside.pages) [] bytes ≡ nothing_played (whole_of t inside.pages)
-    → (play_xterm (behind s front) front.pending bytes).lines ≡ []
-text-lines s t inside front bytes is none played =
-    ap (λ (p : WholePlayed). p.lines) (text-nothing s t inside front bytes is none played)

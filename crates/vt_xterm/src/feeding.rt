@@ -1,32 +1,25 @@
 //! Feeding: what a host sends under TERM=xterm changes a terminal's state, and gives report bytes.
-ghost use Rattle.std.specs.Prelude.{◌≡◌, ◌<◌, ◌+◌, ◌*◌, ◌≤◌, ◌++◌, ◌⊎◌, [], ◌∷◌, ℕ, All, length, take, flat_map};
-ghost use Rattle.std.specs.Prelude.{vec_len, vec_capacity, None, OnOk, OnErr, IsOk, IfSome};
-ghost use Rattle.std.specs.Option.{option_to_list};
-ghost use Rattle.bstr.specs.Utf8.{replacement};
+ghost use Rattle.std.specs.Prelude.{◌≡◌, ◌<◌, ◌+◌, ◌*◌, ◌≤◌, ◌++◌, ◌⊎◌, [], ◌∷◌, length, take, flat_map};
+ghost use Rattle.std.specs.Prelude.{vec_len, vec_capacity, None, OnOk, OnErr, IsOk};
 ghost use Rattle.vt_syntax.specs.Event.{event_of};
 ghost use Rattle.vt_term.specs.Text.{line_text};
 ghost use Rattle.vt_utf8.specs.Decoding.{pending_after};
-ghost use Rattle.vt_utf8.specs.Limits.{lines_limit as utf8_lines_limit};
 ghost use Rattle.vt_xterm.specs.Limits.{lines_limit, xterm_lines_limit};
-ghost use Rattle.vt_xterm.specs.Pages.{screens, bounds_of};
+ghost use Rattle.vt_xterm.specs.Pages.{screens};
 ghost use Rattle.vt_xterm.specs.Log.{xterm_line_off};
-ghost use Rattle.vt_xterm.specs.Play.{behind, nothing_played, play_bytes, play_characters, play_xterm, xterm_log, whole_of};
-ghost use Rattle.vt_xterm.specs.Private.Feeds.{Leaves, FeedsBytes, FeedsXterm, KeepSizes};
+ghost use Rattle.vt_xterm.specs.Play.{behind, play_bytes, play_characters, play_xterm, xterm_log, whole_of};
+ghost use Rattle.vt_xterm.specs.Private.Feeds.{FeedsBytes, FeedsXterm, KeepSizes};
 
-use crate::bounded::character_between;
 use crate::finder::Finder;
 use crate::front::{SizedFront, SizedPages};
-use crate::laws::cuts;
 use crate::log::{LineLog, PageLog, feed_terminals};
 use crate::playing::carry_out_whole;
 use std::alloc::AllocError;
-use vt_syntax::laws::{one_split, spelled};
+use vt_syntax::laws::one_split;
 use vt_syntax::{EventKind, Taken, Values};
-use vt_term::laws::{glyph_runs, sized_soundness as played_soundness};
 use vt_term::{Lines, Nobody, REPORT_LIMIT, SizedTerminal};
-use vt_utf8::laws::sized_text;
-use vt_utf8::sized::feed_beyond_ascii;
-use vt_utf8::{TRANSLATION_LIMIT, ascii_run, whole_character, write_text};
+use vt_utf8::TRANSLATION_LIMIT;
+use vt_utf8::sized::{feed_character, feed_characters};
 
 /// Plays a chunk of a host's bytes, in UTF-8 and with the functions of xterm, and appends the reports to `out`. `front` keeps
 /// what is pending between chunks, and the page that isn't shown.
@@ -175,281 +168,16 @@ fn feed_front<L: PageLog>(
     ensures bounded { vec_len out.new ≤ vec_len out.old + 10 * result }
     ensures capacity { vec_capacity out.old ≤ vec_capacity out.new }
 {
-    cuts();
     let limit = xterm_lines_limit(terminal);
-    let mut at = 0;
-    while at < piece.len() {
-        let count = feed_next(terminal, front, &piece[at..], limit, log, out);
-        if count == 0 {
-            return at;
-        }
-        at += count;
-    }
-    at
-}
-
-/// Plays the front of a chunk that isn't empty. Returns how many bytes it played: none if the log is full.
-#[inline(always)]
-fn feed_next<L: PageLog>(
-    terminal: &mut SizedTerminal,
-    front: &mut SizedFront,
-    piece: &[u8],
-    limit: usize,
-    log: &mut L,
-    out: &mut Vec<u8>,
-) -> usize
-    requires some { 1 ≤ length piece.now }
-    requires room { vec_len out.old + 10 * length piece.now ≤ vec_capacity out.old }
-    requires one_size { front.old.pages.other.grid.size ≡ terminal.old.display.grid.size }
-    requires limit { limit ≡ xterm_lines_limit terminal.old.display.grid.size }
-    ensures none { result ≡ 0 → L.IsFull log.new (xterm_lines_limit terminal.old.display.grid.size) }
-    ensures within { result ≤ length piece.now }
-    ensures sizes { KeepSizes terminal.old front.old.pages terminal.new front.new.pages }
-    ensures fed { FeedsXterm terminal.old front.old (take result piece.now) terminal.new front.new
-        out.old.items out.new.items }
-    ensures keeps { L.Keeps log.old (play_xterm (behind terminal.old front.old) front.old.pending
-        (take result piece.now)).lines log.new }
-    ensures bounded { vec_len out.new ≤ vec_len out.old + 10 * result }
-    ensures capacity { vec_capacity out.old ≤ vec_capacity out.new }
-{
-    if front.decoder.is_empty() {
-        return feed_first(terminal, front, piece, limit, log, out);
-    }
-    if log.is_full(limit) {
-        return 0;
-    }
-    feed_byte(terminal, front, piece[0], log, out);
-    1
-}
-
-/// Plays the front of a chunk that isn't empty, with nothing pending: ASCII bytes, text, a whole character or a byte. Returns how many
-/// bytes it played: none if the log is full.
-#[inline(always)]
-fn feed_first<L: PageLog>(
-    terminal: &mut SizedTerminal,
-    front: &mut SizedFront,
-    piece: &[u8],
-    limit: usize,
-    log: &mut L,
-    out: &mut Vec<u8>,
-) -> usize
-    requires nothing { front.old.pending ≡ [] }
-    requires some { 1 ≤ length piece.now }
-    requires room { vec_len out.old + 10 * length piece.now ≤ vec_capacity out.old }
-    requires one_size { front.old.pages.other.grid.size ≡ terminal.old.display.grid.size }
-    requires limit { limit ≡ xterm_lines_limit terminal.old.display.grid.size }
-    ensures none { result ≡ 0 → L.IsFull log.new (xterm_lines_limit terminal.old.display.grid.size) }
-    ensures within { result ≤ length piece.now }
-    ensures sizes { KeepSizes terminal.old front.old.pages terminal.new front.new.pages }
-    ensures fed { FeedsXterm terminal.old front.old (take result piece.now) terminal.new front.new
-        out.old.items out.new.items }
-    ensures keeps { L.Keeps log.old (play_xterm (behind terminal.old front.old) front.old.pending
-        (take result piece.now)).lines log.new }
-    ensures bounded { vec_len out.new ≤ vec_len out.old + 10 * result }
-    ensures capacity { vec_capacity out.old ≤ vec_capacity out.new }
-{
-    if piece[0] < 0x80 {
-        let run = ascii_run(piece);
-        if run > 0 {
-            return feed_ascii(terminal, front, &piece[..run], limit, log, out);
-        }
-    }
-    let text = feed_text(terminal, &front.pages, piece);
-    if text > 0 {
-        return text;
-    }
-    feed_one(terminal, front, piece, limit, log, out)
-}
-
-/// Plays a whole character at the front of a chunk that isn't empty, or a byte if none is there, with nothing pending. Returns how many
-/// bytes it played: none if the log is full.
-#[inline(always)]
-fn feed_one<L: PageLog>(
-    terminal: &mut SizedTerminal,
-    front: &mut SizedFront,
-    piece: &[u8],
-    limit: usize,
-    log: &mut L,
-    out: &mut Vec<u8>,
-) -> usize
-    requires nothing { front.old.pending ≡ [] }
-    requires some { 1 ≤ length piece.now }
-    requires room { vec_len out.old + 10 * length piece.now ≤ vec_capacity out.old }
-    requires one_size { front.old.pages.other.grid.size ≡ terminal.old.display.grid.size }
-    requires limit { limit ≡ xterm_lines_limit terminal.old.display.grid.size }
-    ensures none { result ≡ 0 → L.IsFull log.new (xterm_lines_limit terminal.old.display.grid.size) }
-    ensures within { result ≤ length piece.now }
-    ensures sizes { KeepSizes terminal.old front.old.pages terminal.new front.new.pages }
-    ensures fed { FeedsXterm terminal.old front.old (take result piece.now) terminal.new front.new
-        out.old.items out.new.items }
-    ensures keeps { L.Keeps log.old (play_xterm (behind terminal.old front.old) front.old.pending
-        (take result piece.now)).lines log.new }
-    ensures bounded { vec_len out.new ≤ vec_len out.old + 10 * result }
-    ensures capacity { vec_capacity out.old ≤ vec_capacity out.new }
-{
-    if log.is_full(limit) {
-        return 0;
-    }
-    match whole_character(piece) {
-        Some((c, size)) => {
-            feed_beyond(terminal, &mut front.pages, c, log, out);
-            size
-        }
-        None => {
-            feed_byte(terminal, front, piece[0], log, out);
-            1
-        }
-    }
-}
-
-/// Writes the text at the front of a chunk, with nothing pending, while DECLRMM is reset. Returns how many bytes it takes: 0 if there is
-/// none, or no room before the last column.
-#[inline(always)]
-fn feed_text(terminal: &mut SizedTerminal, pages: &SizedPages, piece: &[u8]) -> usize
-    ensures within { result ≤ length piece.now }
-    ensures size { terminal.new.display.grid.size ≡ terminal.old.display.grid.size }
-    ensures played { play_xterm (whole_of terminal.old pages.now) [] (take result piece.now)
-        ≡ nothing_played (whole_of terminal.new pages.now) }
-    ensures pending { pending_after [] (take result piece.now) ≡ [] }
-    ensures none { result ≡ 0 → terminal.new ≡ terminal.old }
-{
-    let _ = terminal.width();
-    spelled();
-    glyph_runs();
-    played_soundness();
-    sized_text();
-    if pages.has_sides() {
-        return 0;
-    }
-    write_text(terminal, piece)
-}
-
-/// Plays ASCII bytes with nothing pending. Returns how many it played: fewer if the log is full.
-#[inline(always)]
-fn feed_ascii<L: PageLog>(
-    terminal: &mut SizedTerminal,
-    front: &mut SizedFront,
-    run: &[u8],
-    limit: usize,
-    log: &mut L,
-    out: &mut Vec<u8>,
-) -> usize
-    requires nothing { front.old.pending ≡ [] }
-    requires ascii { All (λ b. b < 0x80) run.now }
-    requires room { vec_len out.old + 10 * length run.now ≤ vec_capacity out.old }
-    requires one_size { front.old.pages.other.grid.size ≡ terminal.old.display.grid.size }
-    requires limit { limit ≡ xterm_lines_limit terminal.old.display.grid.size }
-    ensures within { result ≤ length run.now }
-    ensures all { result < length run.now → L.IsFull log.new (xterm_lines_limit terminal.old.display.grid.size) }
-    ensures sizes { KeepSizes terminal.old front.old.pages terminal.new front.new.pages }
-    ensures fed { FeedsXterm terminal.old front.old (take result run.now) terminal.new front.new out.old.items out.new.items }
-    ensures keeps { L.Keeps log.old (play_xterm (behind terminal.old front.old) front.old.pending
-        (take result run.now)).lines log.new }
-    ensures bounded { vec_len out.new ≤ vec_len out.old + 10 * result }
-    ensures capacity { vec_capacity out.old ≤ vec_capacity out.new }
-{
-    let _ = terminal.width();
-    one_split();
-    log.play(terminal, &mut front.pages, run, limit, out)
-}
-
-/// Plays a byte.
-fn feed_byte<L: PageLog>(
-    terminal: &mut SizedTerminal,
-    front: &mut SizedFront,
-    b: u8,
-    log: &mut L,
-    out: &mut Vec<u8>,
-)
-    requires room { vec_len out.old + 10 ≤ vec_capacity out.old }
-    requires lines_room { L.HasRoom log.old (xterm_lines_limit terminal.old.display.grid.size) }
-    requires one_size { front.old.pages.other.grid.size ≡ terminal.old.display.grid.size }
-    ensures sizes { KeepSizes terminal.old front.old.pages terminal.new front.new.pages }
-    ensures fed { FeedsXterm terminal.old front.old (b ∷ []) terminal.new front.new out.old.items out.new.items }
-    ensures keeps { L.Keeps log.old (play_xterm (behind terminal.old front.old) front.old.pending (b ∷ [])).lines log.new }
-    ensures bounded { vec_len out.new ≤ vec_len out.old + 10 }
-    ensures capacity { vec_capacity out.old ≤ vec_capacity out.new }
-{
-    let (lost, character) = front.decoder.push(b);
-    feed_lost(terminal, &mut front.pages, lost, log, out);
-    feed_completed(terminal, &mut front.pages, character, log, out);
-}
-
-/// Plays U+FFFD if what was pending is ill-formed. It causes no report.
-#[inline(always)]
-fn feed_lost<L: PageLog>(
-    terminal: &mut SizedTerminal,
-    pages: &mut SizedPages,
-    lost: Option<char>,
-    log: &mut L,
-    out: &mut Vec<u8>,
-)
-    requires lost { IfSome lost (λ c. c ≡ replacement) }
-    requires room { vec_len out.old + 10 ≤ vec_capacity out.old }
-    requires lines_room { L.HasRoom log.old (xterm_lines_limit terminal.old.display.grid.size) }
-    ensures sizes { KeepSizes terminal.old pages.old terminal.new pages.new }
-    ensures leaves { Leaves (play_characters (whole_of terminal.old pages.old) (option_to_list lost))
-        (whole_of terminal.new pages.new) out.old.items out.new.items }
-    ensures keeps { L.Keeps log.old (play_characters (whole_of terminal.old pages.old) (option_to_list lost)).lines log.new }
-    ensures left { L.HasRoom log.new (lines_limit terminal.old.display.grid.size) }
-    ensures out { out.new.items ≡ out.old.items }
-    ensures capacity { vec_capacity out.old ≤ vec_capacity out.new }
-{
-    match lost {
-        Some(c) => feed_beyond(terminal, pages, c, log, out),
-        None => {}
-    }
-}
-
-/// Plays the character that a byte completes, if it completes one.
-#[inline(always)]
-fn feed_completed<L: PageLog>(
-    terminal: &mut SizedTerminal,
-    pages: &mut SizedPages,
-    character: Option<char>,
-    log: &mut L,
-    out: &mut Vec<u8>,
-)
-    requires room { vec_len out.old + 10 ≤ vec_capacity out.old }
-    requires lines_room { L.HasRoom log.old (lines_limit terminal.old.display.grid.size) }
-    requires one_size { pages.old.other.grid.size ≡ terminal.old.display.grid.size }
-    ensures sizes { KeepSizes terminal.old pages.old terminal.new pages.new }
-    ensures leaves { Leaves (play_characters (whole_of terminal.old pages.old) (option_to_list character))
-        (whole_of terminal.new pages.new) out.old.items out.new.items }
-    ensures keeps { L.Keeps log.old (play_characters (whole_of terminal.old pages.old) (option_to_list character)).lines
-        log.new }
-    ensures bounded { vec_len out.new ≤ vec_len out.old + 10 }
-    ensures capacity { vec_capacity out.old ≤ vec_capacity out.new }
-{
-    match character {
-        Some(c) => feed_character(terminal, pages, c, log, out),
-        None => {}
-    }
-}
-
-/// Plays a character.
-fn feed_character<L: PageLog>(
-    terminal: &mut SizedTerminal,
-    pages: &mut SizedPages,
-    c: char,
-    log: &mut L,
-    out: &mut Vec<u8>,
-)
-    requires room { vec_len out.old + 10 ≤ vec_capacity out.old }
-    requires lines_room { L.HasRoom log.old (lines_limit terminal.old.display.grid.size) }
-    requires one_size { pages.old.other.grid.size ≡ terminal.old.display.grid.size }
-    ensures sizes { KeepSizes terminal.old pages.old terminal.new pages.new }
-    ensures leaves { Leaves (play_characters (whole_of terminal.old pages.old) (c ∷ []))
-        (whole_of terminal.new pages.new) out.old.items out.new.items }
-    ensures keeps { L.Keeps log.old (play_characters (whole_of terminal.old pages.old) (c ∷ [])).lines log.new }
-    ensures bounded { vec_len out.new ≤ vec_len out.old + 10 }
-    ensures capacity { vec_capacity out.old ≤ vec_capacity out.new }
-{
-    if (c as u32) < 0x80 {
-        log.play_some(terminal, pages, &[c as u8], out);
-    } else {
-        feed_beyond(terminal, pages, c, log, out);
-    }
+    feed_characters(
+        terminal,
+        &mut front.pages,
+        &mut front.decoder,
+        piece,
+        limit,
+        log,
+        out,
+    )
 }
 
 /// Plays a character of what a host sends, and appends its report to `out`, which has capacity for ten more bytes. It never fails and
@@ -505,60 +233,6 @@ pub fn feed_xterm_character_log(
         beside: Finder,
     };
     feed_character(terminal, pages, c, &mut log, reports);
-}
-
-/// Plays a character beyond ASCII, which causes no report.
-#[inline(always)]
-fn feed_beyond<L: PageLog>(
-    terminal: &mut SizedTerminal,
-    pages: &mut SizedPages,
-    c: char,
-    log: &mut L,
-    out: &mut Vec<u8>,
-)
-    requires beyond { 0x80 ≤ c }
-    requires room { vec_len out.old + 10 ≤ vec_capacity out.old }
-    requires lines_room { L.HasRoom log.old (lines_limit terminal.old.display.grid.size) }
-    ensures sizes { KeepSizes terminal.old pages.old terminal.new pages.new }
-    ensures leaves { Leaves (play_characters (whole_of terminal.old pages.old) (c ∷ []))
-        (whole_of terminal.new pages.new) out.old.items out.new.items }
-    ensures keeps { L.Keeps log.old (play_characters (whole_of terminal.old pages.old) (c ∷ [])).lines log.new }
-    ensures left { (n : ℕ) → L.HasRoom log.old (n + utf8_lines_limit terminal.old.display.grid.size) → L.HasRoom log.new n }
-    ensures out { out.new.items ≡ out.old.items }
-    ensures capacity { vec_capacity out.old ≤ vec_capacity out.new }
-{
-    match pages.bounds(terminal.width()) {
-        Some(sides) => character_between(terminal, pages, sides, c),
-        None => feed_unbounded(terminal, pages, c, log, out),
-    }
-}
-
-/// Plays a character beyond ASCII as `feed_beyond` does, if left and right margins bound nothing.
-#[inline(always)]
-fn feed_unbounded<L: PageLog>(
-    terminal: &mut SizedTerminal,
-    pages: &SizedPages,
-    c: char,
-    log: &mut L,
-    out: &mut Vec<u8>,
-)
-    requires beyond { 0x80 ≤ c }
-    requires unbounded { bounds_of (screens terminal.old pages.now) ≡ None }
-    requires room { vec_len out.old + 10 ≤ vec_capacity out.old }
-    requires lines_room { L.HasRoom log.old (lines_limit terminal.old.display.grid.size) }
-    ensures size { terminal.new.display.grid.size ≡ terminal.old.display.grid.size }
-    ensures leaves { Leaves (play_characters (whole_of terminal.old pages.now) (c ∷ []))
-        (whole_of terminal.new pages.now) out.old.items out.new.items }
-    ensures keeps { L.Keeps log.old (play_characters (whole_of terminal.old pages.now) (c ∷ [])).lines log.new }
-    ensures left { (n : ℕ) → L.HasRoom log.old (n + utf8_lines_limit terminal.old.display.grid.size) → L.HasRoom log.new n }
-    ensures out { out.new.items ≡ out.old.items }
-    ensures capacity { vec_capacity out.old ≤ vec_capacity out.new }
-{
-    if pages.is_alternate() {
-        feed_beyond_ascii(terminal, c, out);
-    } else {
-        log.character(terminal, c, out);
-    }
 }
 
 /// Plays bytes of the terminal, with the functions of xterm. Returns how many it played: fewer if the log is full.

@@ -20,6 +20,7 @@ mod profile;
 mod repeating;
 mod resizing;
 mod sides;
+mod sink;
 pub mod sized;
 mod tabs;
 

@@ -1,9 +1,11 @@
 -- The result of feeding: the state, the pages, the pending part, and the reports appended.
 use Rattle.std.specs.Prelude.{◌≡◌, ℕ, List, ◌++◌}
+use Rattle.vt_screen.specs.declared.cell.Cell.{Cell}
 use Rattle.vt_term.specs.State.{State}
 use Rattle.vt_utf8.specs.Decoding.{pending_after}
+use Rattle.vt_utf8.specs.Sinks.{Point}
 use Rattle.vt_xterm.specs.Pages.{PagesState}
-use Rattle.vt_xterm.specs.Play.{Whole, WholePlayed, FrontState, behind, play_bytes, play_xterm}
+use Rattle.vt_xterm.specs.Play.{Whole, WholePlayed, FrontState, behind, whole_of, play_bytes, play_characters, play_xterm}
 
 -- what is left is what a play leaves, and its reports are after what was before
 pub record Leaves (played : WholePlayed) (w : Whole) (before after : List ℕ) : Type 0 where
@@ -24,3 +26,13 @@ pub record FeedsXterm (s : State) (front : FrontState) (bytes : List ℕ) (t : S
 pub record KeepSizes (s : State) (pages : PagesState) (t : State) (new : PagesState) : Type 0 where
   pub shown : t.display.grid.size ≡ s.display.grid.size
   pub other : new.other.grid.size ≡ pages.other.grid.size
+
+abbrev pub whole_at : {L : Type 0} → Point PagesState L → Whole
+whole_at x = whole_of x.state x.kept
+
+-- characters
+pub record TakesXterm {L : Type 0} (Keeps : L → List (List Cell) → L → Type 0) (x : Point PagesState L) (cs : List ℕ)
+    (y : Point PagesState L) : Type 0 where
+  pub leaves : Leaves (play_characters (whole_at x) cs) (whole_at y) x.reports y.reports
+  pub keeps : Keeps x.log (play_characters (whole_at x) cs).lines y.log
+  pub sizes : KeepSizes x.state x.kept y.state y.kept

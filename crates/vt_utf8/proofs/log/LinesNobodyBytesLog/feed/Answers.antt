@@ -1,8 +1,6 @@
-use Rattle.std.proofs.Common.{◌≡◌, ◌⊎◌, ◌++◌, ◌∙◌, ◌≤◌, ◌*◌, ◌+◌, ◌<◌, ℕ, inl, inr, List, All, ap, take, length, arith, vec_len, vec_capacity}
+use Rattle.std.proofs.Common.{◌≡◌, ◌⊎◌, ◌++◌, ◌∙◌, ◌≤◌, ◌*◌, ◌+◌, ◌<◌, ℕ, zero, suc, inl, inr, List, All, ap, take, length, arith, vec_len, vec_capacity}
 use Rattle.std.specs.Prelude.{flat_map}
-use Rattle.std.proofs.lemmas.Bool.{cases_lt}
 use Rattle.std.proofs.lemmas.List.{length-take-le}
-use Rattle.std.proofs.lemmas.Nat.{mul-le}
 use Rattle.vt_screen.specs.declared.cell.Cell.{Cell}
 use Rattle.vt_term.specs.Happenings.{happenings}
 use Rattle.vt_term.specs.ScrollSteps.{IsShort}
@@ -35,23 +33,17 @@ returns-clause-keeps c =
       saw.5,
     )
 
--- there is capacity for a line for each byte, so the feed doesn't stop before the last one
-never : (n k limit len after capacity end : ℕ) → (k + 1) * limit ≤ n * limit → len + limit * n ≤ capacity → len + limit * n ≤ end
-    → after ≤ len + limit * k → (capacity < after + limit) ⊎ (end < after + limit) → ⊥
-never n k limit len after capacity end next room fits few (inl full) = omega (arith, next, room, few, full)
-never n k limit len after capacity end next room fits few (inr full) = omega (arith, next, fits, few, full)
-
-whole-fits : (n k limit len after capacity end : ℕ) → k ≤ n → len + limit * n ≤ capacity → len + limit * n ≤ end
-    → after ≤ len + limit * k → (k < n → (capacity < after + limit) ⊎ (end < after + limit)) → k ≡ n
-whole-fits n k limit len after capacity end within room fits few stop = elim (cases_lt k n) [
-  | inl lt ↦
-      let next : (k + 1) * limit ≤ n * limit = mul-le (k + 1) limit n limit (omega arith) (omega arith) in
-      absurd (never n k limit len after capacity end next room fits few (stop lt))
-  | inr ge ↦ omega (arith, within, ge)
+-- there is capacity for a line, so the feed doesn't stop before the first one
+goes-on : (n k limit len after capacity end : ℕ) → 1 ≤ n → len + limit ≤ capacity → len + limit ≤ end
+    → after ≤ len + limit * k → (k < n → (capacity < after + limit) ⊎ (end < after + limit)) → 1 ≤ k
+goes-on n zero limit len after capacity end some room fits few stop = elim (stop (omega (arith, some))) [
+  | inl full ↦ absurd (omega (arith, few, room, full))
+  | inr full ↦ absurd (omega (arith, few, fits, full))
 ]
+goes-on n (suc k) limit len after capacity end some room fits few stop = omega arith
 
-pub returns-clause-whole : goal.returns-clause-whole
-returns-clause-whole c = λ room.
+pub returns-clause-some : goal.returns-clause-some
+returns-clause-some c = λ some room.
     let fed = c.feed_observed in
     let piece = c.args.piece.now in
     let bytes = take fed.result piece in
@@ -60,7 +52,7 @@ returns-clause-whole c = λ room.
     let count : length (happenings c.args.terminal.now bytes) ≡ fed.result =
     c.sized_happened.ensures.count c.args.terminal.now bytes ∙ length-take-le fed.result piece fed.ensures.within in
     let few = rw (c.row_text_limit-self.ensures, count) at saw.3.bounded in
-    whole-fits (length piece) fed.result limit (vec_len c.args.self.now.lines.now) (vec_len fed.new.observer.lines.now)
-    (vec_capacity fed.new.observer.lines.now) fed.new.observer.end fed.ensures.within (omega (arith, room.0, saw.4))
+    goes-on (length piece) fed.result limit (vec_len c.args.self.now.lines.now) (vec_len fed.new.observer.lines.now)
+    (vec_capacity fed.new.observer.lines.now) fed.new.observer.end some (omega (arith, room.0, saw.4))
     (omega (arith, room.1, saw.2)) (omega (arith, few, fed.new.observer.lines.now.ok, c.args.self.now.lines.now.ok))
     (λ less. rw (saw.1, c.row_text_limit-self.ensures) at (stopped (fed.ensures.all less)))

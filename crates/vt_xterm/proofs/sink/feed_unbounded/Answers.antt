@@ -5,7 +5,7 @@ use Rattle.vt_xterm.proofs.Limits.{character-fits}
 use Rattle.vt_xterm.proofs.OfOneSize.{played-size}
 use Rattle.vt_xterm.proofs.Fed.{leaves-beyond}
 use Rattle.vt_xterm.proofs.Logged.{keeps-alternate, keeps-main}
-use Rattle.vt_xterm.proofs.feeding.feed_unbounded.Goals as goal
+use Rattle.vt_xterm.proofs.sink.feed_unbounded.Goals as goal
 
 pub returns-then-is_alternate-clause-leaves : goal.returns-then-is_alternate-clause-leaves
 returns-then-is_alternate-clause-leaves g c =

@@ -2,7 +2,7 @@
 use Rattle.std.proofs.Common.{◌≡◌, ◌||◌, ℕ, List, Bool, true, false, not, is_some, Option, Some, None, refl, subst, arith}
 use Rattle.vt_cli.specs.declared.asked.Request.{Request}
 use Rattle.vt_cli.specs.declared.what.Word.{Word}
-use Rattle.vt_cli.specs.declared.what.Word.TheVariants.{Replay}
+use Rattle.vt_cli.specs.declared.what.Word.TheVariants.{Replay, Log}
 use Rattle.vt_device.specs.declared.fault.Break.{Break}
 use Rattle.vt_recording.specs.declared.format.Format.{Format}
 use Rattle.vt_recording.specs.declared.format.Moment.{Moment}
@@ -23,6 +23,7 @@ module _ (r : Request) (format : Format) (host : Host) (timing : Option (List �
   by_word : (word : Word) → changes_size word ≡ true → IsTakenBetween format host.encoding r.from r.until timing bytes content broken replaced
       → IsTakenBy word r format host timing bytes content broken replaced
   by_word (Replay what) is taken = taken
+  by_word Log is taken = taken
   by_word word is taken = absurd (grind (arith, is))
 
   pub taken_by : keeps_size r format ≡ false

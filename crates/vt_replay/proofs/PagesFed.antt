@@ -347,13 +347,11 @@ goes-on r n limit len after room later most some full same fits is grows = elim 
 ]
 
 -- nothing is written of no bytes
-pub no-lines : (w : Whole) (pending bytes before out : List ℕ) (r : ℕ) → ((w : Whole) (pending : List ℕ) → xterm_log w pending [] ≡ [])
-    → out ≡ before ++ xterm_log w pending (take r bytes) → r ≡ 0 → length out ≡ length before
-no-lines w pending bytes before out r none lines is =
-    let same : out ≡ before ++ xterm_log w pending (take 0 bytes) =
-    lines ∙ ap (λ (k : ℕ). before ++ xterm_log w pending (take k bytes)) is in
-    ap (λ (l : List ℕ). length l)
-    (same ∙ ap (λ (l : List ℕ). before ++ l) (none w pending) ∙ append-nil before)
+pub no-lines : (written : List ℕ → List ℕ) (bytes before out : List ℕ) (r : ℕ) → written [] ≡ []
+    → out ≡ before ++ written (take r bytes) → r ≡ 0 → length out ≡ length before
+no-lines written bytes before out r none lines is =
+    let same : out ≡ before ++ written (take 0 bytes) = lines ∙ ap (λ (k : ℕ). before ++ written (take k bytes)) is in
+    ap (λ (l : List ℕ). length l) (same ∙ ap (λ (l : List ℕ). before ++ l) none ∙ append-nil before)
 
 -- ---- capacities
 

@@ -3,17 +3,15 @@ use Rattle.std.proofs.Common.{◌≡◌, ◌∙◌, ℕ, List, [], ◌++◌, ap,
 use Rattle.vt_term.specs.State.{State, power_up}
 use Rattle.vt_screen.specs.declared.size.Size.{Size}
 use Rattle.vt_term.specs.Sound.{IsSoundAt, IsSoundSized}
-use Rattle.vt_term.specs.Play.{Played, play, both}
+use Rattle.vt_term.specs.Play.{play, both}
 use Rattle.vt_term.specs.Scrolling.{log}
 use Rattle.vt_utf8.specs.Decoding.{pending_after}
 use Rattle.vt_utf8.specs.Play.{play_utf8, translated}
-use Rattle.vt_term.specs.Text.{text}
 use Rattle.vt_xterm.specs.Play.{Whole, WholePlayed, FrontState, play_xterm, xterm_log, behind, both as both_whole}
 use Rattle.vt_recording.specs.declared.format.Encoding.{Encoding}
 use Rattle.vt_recording.specs.declared.format.Encoding.TheVariants.{Dec, Utf8}
 use Rattle.vt_recording.specs.declared.format.TerminalType.TheVariants.{Vt220}
 use Rattle.vt_replay.specs.Encoding.{decoded}
-use Rattle.vt_device.specs.Output.{IsAfter, always}
 use Rattle.vt_replay.specs.Playing.{language_of, on_terminal, played_as}
 use Rattle.vt_replay.specs.Resizes.{Utf8Kept, XtermKept, utf8_session, xterm_session}
 
@@ -88,65 +86,34 @@ xterm_kept s t front after chunk more two parts state pages left =
     let rest : pending_after front.pending (chunk ++ more) ≡ pending_after after.pending more = rw left (parts front.pending chunk more) in
     λ ι. xterm_record (whole ι) (rest ι)
 
--- the log of what xterm plays, and its screen
-pub xterm_log_after : (s t : State) (front after : FrontState) (chunk : List ℕ)
-    → ((w : Whole) (pending a b : List ℕ) → play_xterm w pending (a ++ b)
-    ≡ both_whole (play_xterm w pending a) (play_xterm (play_xterm w pending a).whole (pending_after pending a) b))
-    → ((w : Whole) (pending a b : List ℕ) → xterm_log w pending (a ++ b)
-    ≡ xterm_log w pending a ++ xterm_log (play_xterm w pending a).whole (pending_after pending a) b)
-    → ((w : Whole) (pending : List ℕ) → xterm_log w pending [] ≡ [])
-    → t ≡ (play_xterm (behind s front) front.pending chunk).whole.state
-    → after.pages ≡ (play_xterm (behind s front) front.pending chunk).whole.pages
-    → after.pending ≡ pending_after front.pending chunk
-    → IsAfter (xterm_log (behind s front) front.pending)
-    (λ x. text (play_xterm (behind s front) front.pending x).whole.state) always chunk
-    (xterm_log (behind t after) after.pending)
-    (λ x. text (play_xterm (behind t after) after.pending x).whole.state) always
-xterm_log_after s t front after chunk two log_two log_none state pages left = record {
-  on = λ more. rw (state, pages, left) (log_two (behind s front) front.pending chunk more);
-  end_on = λ more. rw (state, pages, left)
-      (ap (λ (p : WholePlayed). text p.whole.state) (two (behind s front) front.pending chunk more));
-  there_on = λ more. refl;
-  none = log_none (behind t after) after.pending;
-}
+-- ---- the log of more bytes
 
--- the log, and its screen
-pub plain_log_after : (s t : State) (chunk : List ℕ)
-    → ((s : State) (a b : List ℕ) → play s (a ++ b) ≡ both (play s a) (play (play s a).state b))
+pub plain_lines : (s t : State) (chunk more : List ℕ)
     → ((s : State) (a b : List ℕ) → log s (a ++ b) ≡ log s a ++ log (play s a).state b)
-    → ((size : Size) (s : State) → IsSoundAt size s → log s [] ≡ [])
-    → ((size : Size) (s : State) (bytes : List ℕ) → IsSoundAt size s → IsSoundAt size (play s bytes).state)
-    → IsSoundSized s → t ≡ (play s chunk).state
-    → IsAfter (λ x. log s x) (λ x. text (play s x).state) always chunk (λ x. log t x) (λ x. text (play t x).state) always
-plain_log_after s t chunk two log_two log_none stays sound state = record {
-  on = λ more. rw (state) (log_two s chunk more);
-  end_on = λ more. rw (state) (ap (λ (p : Played). text p.state) (two s chunk more));
-  there_on = λ more. refl;
-  none = log_none s.display.grid.size t (rw (state) (stays s.display.grid.size s chunk sound));
-}
+    → t ≡ (play s chunk).state → log s (chunk ++ more) ≡ log s chunk ++ log t more
+plain_lines s t chunk more log_two state = rw state (log_two s chunk more)
 
--- the log of UTF-8, and its screen
-pub utf8_log_after : (s t : State) (pending after chunk : List ℕ)
-    → ((size : Size) (s : State) (pending a b : List ℕ) → IsSoundAt size s → play_utf8 s pending (a ++ b)
-    ≡ both (play_utf8 s pending a) (play_utf8 (play_utf8 s pending a).state (pending_after pending a) b))
+pub utf8_lines : (s t : State) (pending after chunk more : List ℕ)
     → ((size : Size) (s : State) (pending a b : List ℕ) → IsSoundAt size s → translated s pending (a ++ b)
     ≡ translated s pending a ++ translated (play_utf8 s pending a).state (pending_after pending a) b)
     → ((s : State) (a b : List ℕ) → log s (a ++ b) ≡ log s a ++ log (play s a).state b)
-    → ((size : Size) (s : State) → IsSoundAt size s → log s [] ≡ [])
-    → ((size : Size) (s : State) (bytes : List ℕ) → IsSoundAt size s → IsSoundAt size (play s bytes).state)
     → IsSoundSized s → t ≡ (play_utf8 s pending chunk).state → after ≡ pending_after pending chunk
-    → IsAfter (λ x. log s (translated s pending x)) (λ x. text (play_utf8 s pending x).state) always chunk
-    (λ x. log t (translated t after x)) (λ x. text (play_utf8 t after x).state) always
+    → log s (translated s pending (chunk ++ more)) ≡ log s (translated s pending chunk) ++ log t (translated t after more)
 unfolding play_utf8 translated
-utf8_log_after s t pending after chunk two cut log_two log_none stays sound state left = record {
-  on = λ more. rw (state, left)
-      (ap (λ (x : List ℕ). log s x) (cut s.display.grid.size s pending chunk more sound)
-      ∙ log_two s (translated s pending chunk) (translated (play_utf8 s pending chunk).state (pending_after pending chunk) more));
-  end_on = λ more. rw (state, left)
-      (ap (λ (p : Played). text p.state) (two s.display.grid.size s pending chunk more sound));
-  there_on = λ more. refl;
-  none = log_none s.display.grid.size t (rw (state) (stays s.display.grid.size s (translated s pending chunk) sound));
-}
+utf8_lines s t pending after chunk more cut log_two sound state left =
+    rw (state, left)
+    (ap (λ (x : List ℕ). log s x) (cut s.display.grid.size s pending chunk more sound)
+    ∙ log_two s (translated s pending chunk) (translated (play_utf8 s pending chunk).state (pending_after pending chunk) more))
+
+pub xterm_lines : (s t : State) (front after : FrontState) (chunk more : List ℕ)
+    → ((w : Whole) (pending a b : List ℕ) → xterm_log w pending (a ++ b)
+    ≡ xterm_log w pending a ++ xterm_log (play_xterm w pending a).whole (pending_after pending a) b)
+    → t ≡ (play_xterm (behind s front) front.pending chunk).whole.state
+    → after.pages ≡ (play_xterm (behind s front) front.pending chunk).whole.pages
+    → after.pending ≡ pending_after front.pending chunk
+    → xterm_log (behind s front) front.pending (chunk ++ more)
+    ≡ xterm_log (behind s front) front.pending chunk ++ xterm_log (behind t after) after.pending more
+xterm_lines s t front after chunk more log_two state pages left = rw (state, pages, left) (log_two (behind s front) front.pending chunk more)
 
 -- no bytes log nothing
 pub utf8_log_none : (s : State) (pending : List ℕ) → ((size : Size) (s : State) → IsSoundAt size s → log s [] ≡ [])

@@ -21,7 +21,7 @@ both-both a b c =
     ap (λ (l : List ℕ). told c.state l) (append_assoc a.reports b.reports c.reports)
 
 -- bytes are too few for a change, or not, after others as they are from the beginning
-few : (chunk more : List ℕ) (n : ℕ) (b : Bool) → nat_lt (length more) n ≡ b → nat_lt (length (chunk ++ more)) (length chunk + n) ≡ b
+pub few : (chunk more : List ℕ) (n : ℕ) (b : Bool) → nat_lt (length more) n ≡ b → nat_lt (length (chunk ++ more)) (length chunk + n) ≡ b
 few chunk more n true is = rw (length-append chunk more) (grind (arith, nat_tests, is))
 few chunk more n false is = rw (length-append chunk more) (grind (arith, nat_tests, is))
 

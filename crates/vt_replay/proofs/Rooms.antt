@@ -1,14 +1,15 @@
--- The lines of a byte have room between two writes of a log.
-use Rattle.std.proofs.Common.{◌≡◌, ℕ, ◌*◌, ◌≤◌, max, inl, inr, arith}
-use Rattle.std.proofs.lemmas.Bool.Decides.{leb_tells}
+-- The lines of a byte have room in twice the text of the largest screen, and so has a text.
+use Rattle.std.proofs.Common.{ℕ, ◌*◌, ◌≤◌, max, arith}
+use Rattle.std.proofs.lemmas.Nat.{mul-le}
 
--- twice the lines of a screen, or of a character, in whatever of 64 lines and two screens is more
-pub xterm_room : (rows row : ℕ) → 2 * (max rows 22 * row) ≤ max (64 * row) (2 * (rows * row))
-xterm_room rows row = elim (leb_tells rows 22) [
-  | inl low ↦
-      let most : max rows 22 ≡ 22 = omega (arith, low.1) in
-      rw (most) (omega arith)
-  | inr high ↦
-      let most : max rows 22 ≡ rows = omega (arith, high.1) in
-      rw (most) (omega arith)
-]
+pub text_room : (rows row : ℕ) → rows ≤ 255 → row ≤ 766 → rows * row ≤ 390660
+text_room rows row few short =
+    let most : rows * row ≤ 255 * 766 = mul-le rows row 255 766 few short in
+    omega (arith, most)
+
+-- twice the lines of a screen, or of a character
+pub xterm_room : (rows row : ℕ) → rows ≤ 255 → row ≤ 766 → 2 * (max rows 22 * row) ≤ 390660
+xterm_room rows row few short =
+    let least : max rows 22 ≤ 255 = omega (arith, few) in
+    let most : max rows 22 * row ≤ 255 * 766 = mul-le (max rows 22) row 255 766 least short in
+    omega (arith, most)

@@ -6,13 +6,15 @@ use Rattle.vt_term.specs.Play.{Played}
 use Rattle.vt_cli.specs.declared.what.What.{What}
 use Rattle.vt_cli.specs.declared.what.What.TheVariants.{Text, Reports, Repaint, Status, Show, Picture}
 use Rattle.vt_device.specs.Runs.{Flags, Moves}
-use Rattle.vt_device.specs.Output.{OutputTable, nothing}
+use Rattle.vt_device.specs.Output.{OutputTable, nothing, always}
 use Rattle.vt_device.specs.declared.fault.Fault.{Fault}
 use Rattle.vt_replay.specs.declared.language.Language.{Language}
 use Rattle.vt_replay.specs.declared.language.Language.TheVariants.{Dec, Utf8, Xterm}
 use Rattle.vt_replay.specs.Due.{sent_by, there_by, due_at_end, PlayedTable}
 use Rattle.vt_replay.specs.Playing.{Due, due_by, played_at, repainted, replayed_at, ReplayTable}
 use Rattle.vt_xterm_paint.specs.Repaint.{xterm_repaint}
+use Rattle.vt_term.specs.Text.{text}
+use Rattle.vt_replay.specs.Log.{lines_at, screen_at, lines_in, screen_in, lines_with, screen_with}
 use Rattle.vt_replay.specs.Session.{is_between}
 use Rattle.vt_replay.specs.Resizes.{XtermKept, played_with, repainted_with, replayed_with, ResizedReplayTable}
 
@@ -93,3 +95,36 @@ pub of_session : (kept due : List ℕ → XtermKept) (left left_after held held_
     → moves_kept left left_after held held_after result piece f limit due
 of_session kept due left left_after held held_after result piece f limit is moves =
     coe 0 1 (ι. moves_kept left left_after held held_after result piece f limit (is ι)) moves
+
+-- ---- the log
+
+lines : (size : Size) (language : Language) → ◌≡◌ {A = List ℕ → List ℕ} (lines_with size [] language) (lines_at size language)
+lines size Dec = refl
+lines size Utf8 = refl
+lines size Xterm = refl
+
+screen : (size : Size) (language : Language) → ◌≡◌ {A = List ℕ → List ℕ} (screen_with size [] language) (screen_at size language)
+screen size language = ap {B = List ℕ → List ℕ} (λ (f : List ℕ → Played) (bytes : List ℕ). text (f bytes).state) (played size language)
+
+abbrev moves_log : (left left_after held held_after : Option (List ℕ)) (result : Result (Unit {0}) Fault) (piece : ℕ) (f : Flags) (limit : ℕ)
+    → (written ending : List ℕ → List ℕ) → Type 0
+moves_log left left_after held held_after result piece f limit written ending =
+    Moves left left_after held held_after (λ b w. OutputTable written ending always result piece b w f limit)
+
+-- on a VT220's screen
+pub log_as_before : (left left_after held held_after : Option (List ℕ)) (size : Size) (language : Language)
+    (result : Result (Unit {0}) Fault) (piece : ℕ) (f : Flags) (limit : ℕ) → size ≡ vt220_size
+    → moves_log left left_after held held_after result piece f limit (lines_with size [] language) (screen_with size [] language)
+    → moves_log left left_after held held_after result piece f limit (lines_in language) (screen_in language)
+log_as_before left left_after held held_after size language result piece f limit is moves =
+    let written : lines_with size [] language ≡ lines_in language = lines size language ∙ ap (λ (s : Size). lines_at s language) is in
+    let ending : screen_with size [] language ≡ screen_in language = screen size language ∙ ap (λ (s : Size). screen_at s language) is in
+    coe 0 1 (ι. moves_log left left_after held held_after result piece f limit (written ι) (ending ι)) moves
+
+-- before the first byte
+pub of_log : (lines lines_due : List ℕ → List ℕ) (played played_due : List ℕ → Played) (left left_after held held_after : Option (List ℕ))
+    (result : Result (Unit {0}) Fault) (piece : ℕ) (f : Flags) (limit : ℕ) → lines ≡ lines_due → played ≡ played_due
+    → moves_log left left_after held held_after result piece f limit lines (λ bytes. text (played bytes).state)
+    → moves_log left left_after held held_after result piece f limit lines_due (λ bytes. text (played_due bytes).state)
+of_log lines lines_due played played_due left left_after held held_after result piece f limit same plays moves =
+    coe 0 1 (ι. moves_log left left_after held held_after result piece f limit (same ι) (λ bytes. text (plays ι bytes).state)) moves

@@ -10,11 +10,12 @@ use Rattle.std.specs.Prelude.{ℕ, List, [], ◌∷◌, length, take, drop, map,
 use Rattle.vt_screen.specs.declared.size.Size.{Size}
 use Rattle.vt_term.specs.State.{State, state_of}
 use Rattle.vt_term.specs.Play.{Played, play, both}
-use Rattle.vt_term.specs.Resizing.{state_on}
+use Rattle.vt_term.specs.Resizing.{state_on, log_on}
+use Rattle.vt_term.specs.Scrolling.{log}
 use Rattle.vt_utf8.specs.Decoding.{pending_after}
-use Rattle.vt_utf8.specs.Play.{play_utf8}
-use Rattle.vt_xterm.specs.Play.{Whole, play_xterm, behind, front_of}
-use Rattle.vt_xterm.specs.Resizing.{whole_on}
+use Rattle.vt_utf8.specs.Play.{play_utf8, translated}
+use Rattle.vt_xterm.specs.Play.{Whole, play_xterm, xterm_log, behind, front_of}
+use Rattle.vt_xterm.specs.Resizing.{whole_on, xterm_log_on}
 use Rattle.vt_replay.specs.declared.language.Language.{Language}
 use Rattle.vt_replay.specs.declared.language.Language.TheVariants.{Dec, Utf8, Xterm}
 use Rattle.vt_replay.specs.declared.resized.Resize.{Resize}
@@ -29,11 +30,14 @@ use Rattle.vt_device.specs.declared.fault.Fault.{Fault}
 
 -- ---- what is kept between a host's bytes, in each language
 
--- what bytes leave and report, what they leave to be kept, and what a change of the size makes of that
+-- what bytes leave and report, what they leave to be kept, and what a change of the size makes of that; the lines that
+-- bytes scroll off, and those that leave at a change
 pub record Session (K : Type 0) : Type 0 where
   pub played : K → List ℕ → Played
   pub after : K → List ℕ → K
   pub on : Size → K → K
+  pub lines : K → List ℕ → List ℕ
+  pub off : Size → K → List ℕ
 
 -- a state, and what is pending of UTF-8
 pub record Utf8Kept : Type 0 where
@@ -50,6 +54,8 @@ plain_session = record {
   played = λ s bytes. play s bytes;
   after = λ s bytes. (play s bytes).state;
   on = state_on;
+  lines = λ s bytes. log s bytes;
+  off = log_on;
 }
 
 abbrev pub utf8_begun : Size → Utf8Kept
@@ -60,6 +66,8 @@ utf8_session = record {
   played = λ k bytes. play_utf8 k.state k.pending bytes;
   after = λ k bytes. record { state = (play_utf8 k.state k.pending bytes).state; pending = pending_after k.pending bytes };
   on = λ size k. record { state = state_on size k.state; pending = k.pending };
+  lines = λ k bytes. log k.state (translated k.state k.pending bytes);
+  off = λ size k. log_on size k.state;
 }
 
 abbrev pub xterm_begun : Size → XtermKept
@@ -70,6 +78,8 @@ xterm_session = record {
   played = λ k bytes. on_terminal (play_xterm k.whole k.pending bytes);
   after = λ k bytes. record { whole = (play_xterm k.whole k.pending bytes).whole; pending = pending_after k.pending bytes };
   on = λ size k. record { whole = whole_on size k.whole; pending = k.pending };
+  lines = λ k bytes. xterm_log k.whole k.pending bytes;
+  off = λ size k. xterm_log_on size k.whole;
 }
 
 -- ---- bytes and changes

@@ -14,6 +14,8 @@ mod host;
 mod index;
 mod language;
 pub mod laws;
+mod log_output;
+mod log_player;
 mod log_search;
 mod logging;
 mod main_page;

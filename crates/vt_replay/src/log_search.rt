@@ -8,8 +8,10 @@ ghost use Rattle.vt_replay.specs.LogSearch.{scrolled_after, log_found, log_found
 use crate::animated::{PIECE, is_empty};
 use crate::events::{event_at, push_decimal, push_time};
 use crate::language::Language;
-use crate::logging::{LogOutput, Utf8LogOutput, XtermLogOutput};
+use crate::log_output::LogOutput;
+use crate::log_player::LogPlayer;
 use crate::outputs::SizedWordOutput;
+use crate::player::{PlainPlayer, Utf8Player, XtermPlayer};
 use memchr::memmem;
 use std::alloc::{AllocError, Global};
 use vt_recording::{Event, count_characters};
@@ -22,17 +24,7 @@ pub(crate) trait LogLines: SizedWordOutput {
         ensures { Self.counted self.now ≡ 0 };
 }
 
-impl LogLines for LogOutput {
-    #[inline(always)]
-    fn counts_nothing(&self) {}
-}
-
-impl LogLines for Utf8LogOutput {
-    #[inline(always)]
-    fn counts_nothing(&self) {}
-}
-
-impl LogLines for XtermLogOutput {
+impl<P: LogPlayer> LogLines for LogOutput<P> {
     #[inline(always)]
     fn counts_nothing(&self) {}
 }
@@ -273,14 +265,14 @@ pub(crate) fn push_log_found(
     ensures { OnOk result (out.new.items ≡ out.old.items ++ log_found_at size language utf8 wanted.now opening.now content.now steps.now) }
 {
     match language {
-        Language::Dec => {
-            push_log_by::<LogOutput>(alloc, size, utf8, wanted, opening, content, steps, out)
-        }
-        Language::Utf8 => {
-            push_log_by::<Utf8LogOutput>(alloc, size, utf8, wanted, opening, content, steps, out)
-        }
-        Language::Xterm => {
-            push_log_by::<XtermLogOutput>(alloc, size, utf8, wanted, opening, content, steps, out)
-        }
+        Language::Dec => push_log_by::<LogOutput<PlainPlayer>>(
+            alloc, size, utf8, wanted, opening, content, steps, out,
+        ),
+        Language::Utf8 => push_log_by::<LogOutput<Utf8Player>>(
+            alloc, size, utf8, wanted, opening, content, steps, out,
+        ),
+        Language::Xterm => push_log_by::<LogOutput<XtermPlayer>>(
+            alloc, size, utf8, wanted, opening, content, steps, out,
+        ),
     }
 }

@@ -68,7 +68,7 @@ pub(crate) trait Player: Drop {
 /// The player of a host whose bytes are the terminal's.
 #[derive(Drop)]
 pub(crate) struct PlainPlayer {
-    terminal: SizedTerminal,
+    pub(crate) terminal: SizedTerminal,
 }
 
 impl Player for PlainPlayer {

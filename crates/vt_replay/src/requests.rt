@@ -61,7 +61,7 @@ fn carry_out_word<S: Source, W: Write>(
                 alloc, reader, writer, what, language, size, resizes, piece, limit,
             )
         }
-        Word::Log => write_log_at(alloc, reader, writer, language, size, piece, limit),
+        Word::Log => write_log_at(alloc, reader, writer, language, size, resizes, piece, limit),
         Word::Pages => write_pages_at(alloc, reader, writer, language, size, piece, limit),
         Word::Trace => write_trace(alloc, reader, writer, language, size, piece, limit),
         Word::Summary => write_summary(alloc, reader, writer, language, size, piece, limit),
@@ -190,10 +190,10 @@ pub fn lacks_times(format: Format, timed: bool, until: Option<Moment>) -> bool
 /// that moves, a search and an index. If the request leaves the size to a recording, they are on the size that its
 /// first line names, if a screen may have that. DECCOLM leaves the width of such a screen, unless it is a VT220's.
 ///
-/// A replay carries out the changes of the size that a recording has up to the moment, each after the content that
-/// comes before it. It doesn't if a size or a width is asked for, or if it begins in the middle. DECCOLM leaves the
-/// width of a screen after a change. A change to a size that no screen may have is passed over. All other words are of
-/// the first size.
+/// A replay and a log carry out the changes of the size that a recording has up to the moment, each after the content
+/// that comes before it. They don't if a size or a width is asked for, or if the request begins in the middle. DECCOLM
+/// leaves the width of a screen after a change. A change to a size that no screen may have is passed over. All other
+/// words are of the first size.
 ///
 /// The word is carried out on the bytes of raw input as they come, if all of it is wanted and 132 columns weren't asked
 /// for. Otherwise the input is read whole, and the word is carried out on its content between the moments. If the
@@ -282,6 +282,7 @@ fn changes_size(word: Word) -> bool
 {
     match word {
         Word::Replay(_) => true,
+        Word::Log => true,
         _ => false,
     }
 }

@@ -94,7 +94,7 @@ pub(crate) struct Resized<P: Drop> {
 }
 
 /// Returns whether the next change comes before the next byte.
-fn is_now<P: Player>(left: usize, later: &VecDeque<Later<P>>) -> bool
+pub(crate) fn is_now<P: Player>(left: usize, later: &VecDeque<Later<P>>) -> bool
     ensures { not result ≡ is_settled left later.now.items }
 {
     match later.front() {
@@ -104,7 +104,7 @@ fn is_now<P: Player>(left: usize, later: &VecDeque<Later<P>>) -> bool
 }
 
 /// Returns the number of bytes between a change and the next one, if one is to come.
-fn bytes_before<P: Player>(later: &VecDeque<Later<P>>) -> usize
+pub(crate) fn bytes_before<P: Player>(later: &VecDeque<Later<P>>) -> usize
     ensures { due result (coming later.now.items (λ l. l.after) (λ l. P.screen l.target))
         ≡ coming later.now.items (λ l. l.after) (λ l. P.screen l.target) }
 {
@@ -149,7 +149,10 @@ fn settle<P: Player>(player: &mut P, left: &mut usize, later: &mut VecDeque<Late
 }
 
 /// Returns players for changes. `Err` means that allocation failed.
-fn later_for<P: Player>(alloc: Global, resizes: &[Resize]) -> Result<VecDeque<Later<P>>, AllocError>
+pub(crate) fn later_for<P: Player>(
+    alloc: Global,
+    resizes: &[Resize],
+) -> Result<VecDeque<Later<P>>, AllocError>
     requires { All (λ r. IsSize r.size) resizes.now }
     ensures { IfOk result (λ later. coming later.items (λ l. l.after) (λ l. P.screen l.target) ≡ resizes.now) }
 {

@@ -39,8 +39,8 @@ returns-clause-some c =
     let none : fed.result ≡ 0 → vec_len fed.new.lines ≡ vec_len lines =
     λ zero. omega (
       arith,
-      no-lines w c.args.front.now.pending piece lines.items fed.new.lines.items fed.result c.log_cuts.ensures.none
-          fed.ensures.lines zero,
+      no-lines (λ bytes. xterm_log w c.args.front.now.pending bytes) piece lines.items fed.new.lines.items fed.result
+          (c.log_cuts.ensures.none w c.args.front.now.pending) fed.ensures.lines zero,
       fed.new.lines.ok,
       lines.ok,
     ) in

@@ -1,0 +1,44 @@
+use Rattle.std.proofs.Common.{◌≡◌, ◌+◌, length, take, vec_len, vec_capacity, arith}
+use Rattle.vt_xterm.specs.Limits.{xterm_lines_limit}
+use Rattle.vt_xterm.specs.Play.{behind, xterm_log}
+use Rattle.vt_replay.proofs.Players.{xterm_on, xterm_kept, xterm_lines}
+use Rattle.vt_replay.proofs.PagesFed.{goes-on, no-lines}
+use Rattle.vt_replay.proofs.log_player.XtermPlayerLogPlayer.feed_log.Goals as goal
+
+pub returns-clause-some : goal.returns-clause-some
+returns-clause-some c =
+    let fed = c.feed_xterm_log_reserved in
+    let lines = c.args.lines.now in
+    let none : fed.result ≡ 0 → vec_len fed.new.lines ≡ vec_len lines =
+    λ zero. omega (
+      arith,
+      no-lines (λ bytes. xterm_log (behind c.args.self.now.terminal c.args.self.now.front) c.args.self.now.front.pending bytes) c.args.chunk.now lines.items fed.new.lines.items fed.result
+          (c.log_cuts.ensures.none (behind c.args.self.now.terminal c.args.self.now.front) c.args.self.now.front.pending)
+          fed.ensures.lines zero,
+      fed.new.lines.ok,
+      lines.ok,
+    ) in
+    goes-on fed.result (length c.args.chunk.now) (xterm_lines_limit c.args.self.now.terminal.display.grid.size) (vec_len lines)
+    (vec_len fed.new.lines) (vec_len lines + 390660) (vec_capacity fed.new.lines) 390660 c.requires.some fed.ensures.all none
+    (omega (arith, c.lines_fit.ensures.xterm)) (omega arith) (omega (arith, c.requires.room, fed.ensures.lines_capacity))
+
+pub returns-clause-lines_on : goal.returns-clause-lines_on
+returns-clause-lines_on c = λ more.
+    let fed = c.feed_xterm_log_reserved in
+    xterm_lines _ _ _ _ (take fed.result c.args.chunk.now) more c.log_cuts.ensures.two fed.ensures.state fed.ensures.pages
+    fed.ensures.pending
+
+pub returns-clause-on : goal.returns-clause-on
+returns-clause-on c = λ more.
+    let fed = c.feed_xterm_log_reserved in
+    xterm_on _ _ _ _ (take fed.result c.args.chunk.now) more c.cuts.ensures.two fed.ensures.state fed.ensures.pages
+    fed.ensures.pending
+
+pub returns-clause-after : goal.returns-clause-after
+returns-clause-after c = λ more.
+    let fed = c.feed_xterm_log_reserved in
+    xterm_kept _ _ _ _ (take fed.result c.args.chunk.now) more c.cuts.ensures.two c.sized_cuts.ensures.pending
+    fed.ensures.state fed.ensures.pages fed.ensures.pending
+
+pub returns-clause-one : goal.returns-clause-one
+returns-clause-one c = λ one. c.feed_xterm_log_reserved.ensures.lines_bounded

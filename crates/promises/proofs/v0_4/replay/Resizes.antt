@@ -1,12 +1,13 @@
 -- 0.4: vt_replay/specs/Resizes is today's.
 use Rattle.promises.proofs.v0_4.replay.Playing.{due_by-same}
 use Rattle.promises.proofs.v0_4.term.Play.{play-same}
-use Rattle.promises.proofs.v0_4.term.Resizing.{state_on-same}
+use Rattle.promises.proofs.v0_4.term.Resizing.{log_on-same, state_on-same}
+use Rattle.promises.proofs.v0_4.term.Scrolling.{log-same}
 use Rattle.promises.proofs.v0_4.term.State.{state_of-same}
 use Rattle.promises.proofs.v0_4.utf8.Decoding.{pending_after-same}
-use Rattle.promises.proofs.v0_4.utf8.Play.{play_utf8-same}
-use Rattle.promises.proofs.v0_4.xterm.Play.{front_of-same, play_xterm-same}
-use Rattle.promises.proofs.v0_4.xterm.Resizing.{whole_on-same}
+use Rattle.promises.proofs.v0_4.utf8.Play.{play_utf8-same, translated-same}
+use Rattle.promises.proofs.v0_4.xterm.Play.{front_of-same, play_xterm-same, xterm_log-same}
+use Rattle.promises.proofs.v0_4.xterm.Resizing.{whole_on-same, xterm_log_on-same}
 use Rattle.promises.proofs.v0_4.xterm_paint.Repaint.{xterm_repaint-same}
 use Rattle.promises.specs.v0_4.replay.Resizes as frozen
 use Rattle.std.proofs.Common.{◌≡◌}
@@ -30,6 +31,8 @@ Session-made K ρ = record {
   played = ρ.played;
   after = ρ.after;
   on = ρ.on;
+  lines = ρ.lines;
+  off = ρ.off;
 }
 
 pub Session-read : (K : Type 0) → today.Session K → frozen.Session' K
@@ -37,6 +40,8 @@ Session-read K ρ = record {
   played = ρ.played;
   after = ρ.after;
   on = ρ.on;
+  lines = ρ.lines;
+  off = ρ.off;
 }
 
 pub Utf8Kept-made : frozen.Utf8Kept' → today.Utf8Kept
@@ -68,6 +73,8 @@ plain_session-same = λ ι. record {
   played = λ s bytes. (play-same ι) s bytes;
   after = λ s bytes. ((play-same ι) s bytes).state;
   on = (state_on-same ι);
+  lines = λ s bytes. (log-same ι) s bytes;
+  off = (log_on-same ι);
 }
 
 pub utf8_begun-same : frozen.utf8_begun ≡ today.utf8_begun
@@ -78,6 +85,8 @@ utf8_session-same = λ ι. record {
   played = λ k bytes. (play_utf8-same ι) k.state k.pending bytes;
   after = λ k bytes. record { state = ((play_utf8-same ι) k.state k.pending bytes).state; pending = (pending_after-same ι) k.pending bytes };
   on = λ size k. record { state = (state_on-same ι) size k.state; pending = k.pending };
+  lines = λ k bytes. (log-same ι) k.state ((translated-same ι) k.state k.pending bytes);
+  off = λ size k. (log_on-same ι) size k.state;
 }
 
 pub xterm_begun-same : frozen.xterm_begun ≡ today.xterm_begun
@@ -88,6 +97,8 @@ xterm_session-same = λ ι. record {
   played = λ k bytes. on_terminal ((play_xterm-same ι) k.whole k.pending bytes);
   after = λ k bytes. record { whole = ((play_xterm-same ι) k.whole k.pending bytes).whole; pending = (pending_after-same ι) k.pending bytes };
   on = λ size k. record { whole = (whole_on-same ι) size k.whole; pending = k.pending };
+  lines = λ k bytes. (xterm_log-same ι) k.whole k.pending bytes;
+  off = λ size k. (xterm_log_on-same ι) size k.whole;
 }
 
 pub played_on-at : {K : Type 0} (x1 : Session K) (x2 : K) (x3 : List Resize) (x4 : List ℕ) → frozen.played_on x1 x2 x3 x4 ≡ today.played_on x1 x2 x3 x4

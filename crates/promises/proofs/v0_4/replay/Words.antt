@@ -1,6 +1,6 @@
 -- 0.4: vt_replay/specs/Words is today's.
 use Rattle.promises.proofs.v0_4.replay.Encoding.{decoded-same}
-use Rattle.promises.proofs.v0_4.replay.Log.{lines_at-same, screen_at-same}
+use Rattle.promises.proofs.v0_4.replay.Log.{lines_with-same, screen_at-same, screen_with-same}
 use Rattle.promises.proofs.v0_4.replay.MainPage.{xterm_pages-same}
 use Rattle.promises.proofs.v0_4.replay.Pages.{pages-same}
 use Rattle.promises.proofs.v0_4.replay.Resizes.{replayed_with-same}
@@ -80,7 +80,7 @@ due_of-at (Replay what) size resizes terminal encoding = λ ι. (replayed_with-s
 due_of-at (Animation looks) size resizes terminal encoding = λ ι. (of_decoded-same ι) Dec all nothing
 due_of-at Log size resizes terminal encoding = λ ι.
     let language = language_of terminal encoding in
-    record { written = (lines_at-same ι) size language; ending = (screen_at-same ι) size language; there = always }
+    record { written = (lines_with-same ι) size resizes language; ending = (screen_with-same ι) size resizes language; there = always }
 due_of-at Pages size resizes terminal encoding = λ ι.
     let language = language_of terminal encoding in
     record { written = (pages_at-same ι) size language; ending = (screen_at-same ι) size language; there = always }

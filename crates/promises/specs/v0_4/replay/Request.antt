@@ -129,6 +129,7 @@ has_sizes format = false
 -- the word carries out changes of the size
 abbrev pub changes_size : Word → Bool
 changes_size (Replay what) = true
+changes_size Log = true
 changes_size word = false
 
 -- the screen keeps its size: one was asked for, or a width, or no change is carried out. A word that begins in the middle plays no screen

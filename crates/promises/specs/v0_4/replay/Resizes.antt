@@ -3,12 +3,13 @@ use Rattle.promises.specs.v0_4.device.Output.{nothing}
 use Rattle.promises.specs.v0_4.replay.Playing.{due_by, on_terminal}
 use Rattle.promises.specs.v0_4.replay.Session.{is_between}
 use Rattle.promises.specs.v0_4.term.Play.{both, play}
-use Rattle.promises.specs.v0_4.term.Resizing.{state_on}
+use Rattle.promises.specs.v0_4.term.Resizing.{log_on, state_on}
+use Rattle.promises.specs.v0_4.term.Scrolling.{log}
 use Rattle.promises.specs.v0_4.term.State.{state_of}
 use Rattle.promises.specs.v0_4.utf8.Decoding.{pending_after}
-use Rattle.promises.specs.v0_4.utf8.Play.{play_utf8}
-use Rattle.promises.specs.v0_4.xterm.Play.{behind, front_of, play_xterm}
-use Rattle.promises.specs.v0_4.xterm.Resizing.{whole_on}
+use Rattle.promises.specs.v0_4.utf8.Play.{play_utf8, translated}
+use Rattle.promises.specs.v0_4.xterm.Play.{behind, front_of, play_xterm, xterm_log}
+use Rattle.promises.specs.v0_4.xterm.Resizing.{whole_on, xterm_log_on}
 use Rattle.promises.specs.v0_4.xterm_paint.Repaint.{xterm_repaint}
 use Rattle.std.specs.Prelude.{[], cond, drop, length, List, nat_lt, take, ℕ, ◌∷◌}
 use Rattle.vt_cli.specs.declared.what.What.TheVariants.{Repaint}
@@ -23,11 +24,14 @@ use Rattle.vt_term.specs.Play.{Played}
 use Rattle.vt_term.specs.State.{State}
 use Rattle.vt_xterm.specs.Play.{Whole}
 
--- what bytes leave and report, what they leave to be kept, and what a change of the size makes of that
+-- what bytes leave and report, what they leave to be kept, and what a change of the size makes of that; the lines that
+-- bytes scroll off, and those that leave at a change
 pub record Session' (K : Type 0) : Type 0 where
   pub played : K → List ℕ → Played
   pub after : K → List ℕ → K
   pub on : Size → K → K
+  pub lines : K → List ℕ → List ℕ
+  pub off : Size → K → List ℕ
 
 -- a state, and what is pending of UTF-8
 pub record Utf8Kept' : Type 0 where
@@ -44,6 +48,8 @@ plain_session = record {
   played = λ s bytes. play s bytes;
   after = λ s bytes. (play s bytes).state;
   on = state_on;
+  lines = λ s bytes. log s bytes;
+  off = log_on;
 }
 
 abbrev pub utf8_begun : Size → Utf8Kept
@@ -54,6 +60,8 @@ utf8_session = record {
   played = λ k bytes. play_utf8 k.state k.pending bytes;
   after = λ k bytes. record { state = (play_utf8 k.state k.pending bytes).state; pending = pending_after k.pending bytes };
   on = λ size k. record { state = state_on size k.state; pending = k.pending };
+  lines = λ k bytes. log k.state (translated k.state k.pending bytes);
+  off = λ size k. log_on size k.state;
 }
 
 abbrev pub xterm_begun : Size → XtermKept
@@ -64,6 +72,8 @@ xterm_session = record {
   played = λ k bytes. on_terminal (play_xterm k.whole k.pending bytes);
   after = λ k bytes. record { whole = (play_xterm k.whole k.pending bytes).whole; pending = pending_after k.pending bytes };
   on = λ size k. record { whole = whole_on size k.whole; pending = k.pending };
+  lines = λ k bytes. xterm_log k.whole k.pending bytes;
+  off = λ size k. xterm_log_on size k.whole;
 }
 
 -- what bytes leave and report, with changes between them: each comes after so many bytes more than the one before it. Without a

@@ -1,7 +1,7 @@
 -- 0.4: vt_replay/specs/Words.
 use Rattle.promises.specs.v0_4.device.Output.{all, always, nothing, OutputTable}
 use Rattle.promises.specs.v0_4.replay.Encoding.{decoded}
-use Rattle.promises.specs.v0_4.replay.Log.{lines_at, screen_at}
+use Rattle.promises.specs.v0_4.replay.Log.{lines_with, screen_at, screen_with}
 use Rattle.promises.specs.v0_4.replay.MainPage.{xterm_pages}
 use Rattle.promises.specs.v0_4.replay.Pages.{pages}
 use Rattle.promises.specs.v0_4.replay.Playing.{language_of}
@@ -65,14 +65,14 @@ of_decoded encoding written ending = record {
 }
 
 -- what is due by each word, a row a word, for a terminal of a size, whose screen changes its size, and in an encoding.
--- A replay carries the changes out. A picture that moves, the table of events, the spans of a search and an index are
+-- A replay and a log carry the changes out. A picture that moves, the table of events, the spans of a search and an index are
 -- ready before they are written. What content writes under TERM=xterm is below
 abbrev pub due_of : Word → Size → List Resize → TerminalType → Encoding → Due
 due_of (Replay what) size resizes terminal encoding = replayed_with size resizes (language_of terminal encoding) what
 due_of (Animation looks) size resizes terminal encoding = of_decoded Dec all nothing
 due_of Log size resizes terminal encoding =
     let language = language_of terminal encoding in
-    record { written = lines_at size language; ending = screen_at size language; there = always }
+    record { written = lines_with size resizes language; ending = screen_with size resizes language; there = always }
 due_of Pages size resizes terminal encoding =
     let language = language_of terminal encoding in
     record { written = pages_at size language; ending = screen_at size language; there = always }

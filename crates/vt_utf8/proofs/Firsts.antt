@@ -1,10 +1,10 @@
 -- First bytes: with nothing pending, and after one that they cut off.
-use Rattle.std.proofs.Common.{◌≡◌, ℕ, ◌≤◌, ◌<◌, List, [], ◌∷◌, ◌++◌, length, Some, None, true, false, refl, sym, ap, ◌∙◌, arith}
-use Rattle.std.specs.Prelude.{Bool, Option, IfSome, nat_lt, ◌==◌, slice_index, if◌then◌else◌}
+use Rattle.std.proofs.Common.{◌≡◌, ℕ, ◌≤◌, ◌<◌, List, [], ◌∷◌, ◌++◌, length, Some, None, true, false, refl, sym, ◌∙◌, arith}
+use Rattle.std.specs.Prelude.{Bool, Option, IfSome, nat_lt, ◌==◌, if◌then◌else◌}
 use Rattle.std.specs.Option.{option_to_list}
 use Rattle.std.proofs.lemmas.Bool.Decides.{nat_tests}
 use Rattle.bstr.specs.Utf8.{decoded, continues, second, replacement}
-use Rattle.vt_utf8.specs.Decoding.{Read, is_begun, given_up, read, read_first, read_last}
+use Rattle.vt_utf8.specs.Decoding.{is_begun, given_up, read, read_first}
 use Rattle.vt_utf8.specs.Private.Cut.{IsCut}
 use Rattle.vt_utf8.proofs.Reading.{IsReadApart, when-begun, when-whole, when-other}
 

@@ -1,5 +1,5 @@
 -- Runs of ASCII bytes, seen a vector at a time through the mask of the lanes that end them.
-use Rattle.std.proofs.Common.{◌≡◌, ℕ, zero, suc, ◌%◌, ◌^◌, ◌<◌, ◌≤◌, not, cond, eqb, ltb, List, [], ◌∷◌, map, length, replicate, refl, arith, w8, Fits}
+use Rattle.std.proofs.Common.{◌≡◌, ℕ, zero, suc, ◌%◌, ◌^◌, ◌<◌, ◌≤◌, cond, ltb, List, [], ◌∷◌, map, length, replicate, refl, arith, w8, Fits}
 use Rattle.std.proofs.lemmas.Bool.Decides.{nat_tests}
 use Rattle.std.proofs.lemmas.List.{length-map, length-take, get_or-take}
 use Rattle.std.proofs.lemmas.Simd.{mask_l-mod}

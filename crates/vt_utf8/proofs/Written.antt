@@ -370,11 +370,12 @@ written-itself s t c n none played is written =
     ∙ sym (ap (λ (p : Played). p.state) played)
 
 -- a wide character's glyph and the space after it are, if two cells are left in the row
-pub wide-itself : (s t : State) (c : ℕ) → is_full s.display ≡ false
+pub wide-itself : (s t : State) (c n : ℕ) → is_full s.display ≡ false
     → play s (translation s c) ≡ record { state = record s { display = write_wide (shown c) s.display }; reports = [] }
-    → t ≡ record s { display = write_glyph space (write_glyph (shown c) s.display) } → t ≡ (play s (translation s c)).state
-wide-itself s t c fits played written =
+    → n ≡ shown c → t ≡ record s { display = write_glyph space (write_glyph n s.display) } → t ≡ (play s (translation s c)).state
+wide-itself s t c n fits played is written =
     written
+    ∙ ap (λ (m : ℕ). record s { display = write_glyph space (write_glyph m s.display) }) is
     ∙ ap (λ (b : Bool). record s {
       display = if not b then write_glyph space (write_glyph (shown c) s.display) else (
           if s.display.modes.decawm then write_glyph space (write_glyph (shown c) (next_line s.display)) else s.display);

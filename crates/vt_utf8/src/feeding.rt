@@ -1,5 +1,5 @@
 //! Feeding: UTF-8 changes a terminal's state, and gives report bytes.
-ghost use Rattle.std.specs.Prelude.{◌≡◌, ◌<◌, ◌+◌, ◌*◌, ◌≤◌, ◌++◌, ◌⊎◌, [], ◌∷◌, ℕ, List, All, true, length, take, drop, flat_map};
+ghost use Rattle.std.specs.Prelude.{◌≡◌, ◌<◌, ◌+◌, ◌*◌, ◌≤◌, ◌++◌, ◌⊎◌, [], ◌∷◌, ℕ, List, All, length, take, flat_map};
 ghost use Rattle.std.specs.Prelude.{slice_index, vec_len, vec_capacity, OnOk, OnErr, IsOk, IfSome};
 ghost use Rattle.std.specs.Bool.{OnTrue};
 ghost use Rattle.std.specs.Option.{option_to_list};
@@ -12,7 +12,6 @@ ghost use Rattle.vt_term.specs.Scrolling.{log};
 ghost use Rattle.vt_term.specs.Text.{line_text, row_text_limit};
 ghost use Rattle.vt_term.specs.Writing.{write_glyph};
 ghost use Rattle.vt_utf8.specs.Cells.{cells};
-ghost use Rattle.vt_utf8.specs.Similar.{shown};
 ghost use Rattle.vt_utf8.specs.Decoding.{pending_after};
 ghost use Rattle.vt_utf8.specs.Limits.{lines_limit, utf8_lines_limit};
 ghost use Rattle.vt_utf8.specs.Translation.{glyph_off, translation};
@@ -22,14 +21,12 @@ ghost use Rattle.vt_utf8.specs.Private.Feeds.{FeedsUtf8, utf8_off};
 ghost use Rattle.vt_utf8.specs.Sinks.{point, Feeds, FitsFeed, Grows};
 
 use crate::ascii::ascii_run;
+use crate::coded::coded;
 use crate::decoder::{Decoder, whole_character};
 use crate::laws::{sized_silence, sized_writes};
 use crate::log::{BytesLog, Log};
-use crate::similar::code_of;
 use crate::sink::Sink;
-use crate::translation::{
-    BYTE_LIMIT, TRANSLATION_LIMIT, is_at_end, is_wide, narrow_code, translation,
-};
+use crate::translation::{BYTE_LIMIT, TRANSLATION_LIMIT, is_at_end, translation};
 use std::alloc::AllocError;
 use vt_syntax::Held;
 use vt_term::laws::{sized_cuts as played_cuts, sized_log_cuts};
@@ -200,6 +197,21 @@ fn ascii_front(piece: &[u8]) -> usize
     0
 }
 
+/// Returns how many ASCII bytes at the front of a chunk that isn't empty a sink takes as one run. Speed: no search begins at a byte that
+/// isn't ASCII.
+#[inline(always)]
+fn run_front<L: Log, S: Sink<L>>(piece: &[u8]) -> usize
+    requires { 1 ≤ length piece.now }
+    ensures within { result ≤ length piece.now }
+    ensures ascii { All (λ b. b < 0x80) (take result piece.now) }
+    ensures run { 1 ≤ result → S.IsRun (take result piece.now) }
+{
+    if piece[0] < 0x80 {
+        return S::front_run(piece);
+    }
+    0
+}
+
 /// Plays the front of a chunk that isn't empty: the ASCII bytes, the text or the whole character there if nothing is pending, otherwise
 /// a byte, or the ASCII bytes that cut off a pending one. Returns how many bytes it played: none if the log is full.
 #[inline(always)]
@@ -222,7 +234,7 @@ fn feed_next<L: Log, S: Sink<L>>(
     ensures grows { Grows out.old out.new (10 * result) }
 {
     if decoder.is_empty() {
-        let run = ascii_front(piece);
+        let run = run_front::<L, S>(piece);
         if run > 0 {
             return feed_ascii(terminal, sink, decoder, &piece[..run], limit, log, out);
         }
@@ -244,6 +256,7 @@ fn feed_ascii<L: Log, S: Sink<L>>(
 ) -> usize
     requires nothing { decoder.now ≡ [] }
     requires ascii { All (λ b. b < 0x80) run.now }
+    requires run { S.IsRun run.now }
     requires room { vec_len out.old + 10 * length run.now ≤ vec_capacity out.old }
     requires fits { FitsFeed S.OneSize S.most terminal.old sink.old limit }
     ensures within { result ≤ length run.now }
@@ -526,26 +539,28 @@ pub fn feed_beyond_ascii(terminal: &mut SizedTerminal, c: char, out: &mut Vec<u8
     sized_silence();
     sized_writes();
     if writes_glyphs(terminal) {
-        if let Some(code) = narrow_code(c) {
-            terminal.write_glyph(Glyph::encoded(code));
-            return;
-        }
-        if is_wide(c) && !is_at_end(terminal) {
-            write_both(terminal, c);
-            return;
+        if let Some(found) = coded(c) {
+            if found.cells == 1 {
+                terminal.write_glyph(Glyph::encoded(found.code));
+                return;
+            }
+            if !is_at_end(terminal) {
+                write_both(terminal, Glyph::encoded(found.code));
+                return;
+            }
         }
     }
     feed_translated(terminal, c, out);
 }
 
-/// Writes the glyph that is shown for a character, and a space after it.
+/// Writes a glyph, and a space after it.
 #[inline(never)]
-fn write_both(terminal: &mut SizedTerminal, c: char)
+fn write_both(terminal: &mut SizedTerminal, glyph: Glyph)
     ensures { terminal.new ≡ record terminal.old {
-      display = write_glyph space (write_glyph (shown c) terminal.old.display);
+      display = write_glyph space (write_glyph glyph terminal.old.display);
     } }
 {
-    terminal.write_glyph(Glyph::encoded(code_of(c)));
+    terminal.write_glyph(glyph);
     terminal.write_glyph(Glyph::blank());
 }
 
@@ -615,13 +630,15 @@ pub fn feed_beyond_ascii_log(
     sized_silence();
     sized_writes();
     if writes_glyphs(terminal) {
-        if let Some(code) = narrow_code(c) {
-            write_logged(terminal, Glyph::encoded(code), lines);
-            return;
-        }
-        if is_wide(c) && !is_at_end(terminal) {
-            write_both_logged(terminal, c, lines);
-            return;
+        if let Some(found) = coded(c) {
+            if found.cells == 1 {
+                write_logged(terminal, Glyph::encoded(found.code), lines);
+                return;
+            }
+            if !is_at_end(terminal) {
+                write_both_logged(terminal, Glyph::encoded(found.code), lines);
+                return;
+            }
         }
     }
     feed_translated_log(terminal, c, out, lines);
@@ -642,18 +659,18 @@ fn write_logged(terminal: &mut SizedTerminal, glyph: Glyph, lines: &mut Vec<u8>)
     terminal.write_glyph(glyph);
 }
 
-/// Writes the glyph that is shown for a character, and a space after it. Appends the line that the glyph scrolls off.
+/// Writes a glyph, and a space after it. Appends the line that the glyph scrolls off.
 #[inline(never)]
-fn write_both_logged(terminal: &mut SizedTerminal, c: char, lines: &mut Vec<u8>)
+fn write_both_logged(terminal: &mut SizedTerminal, glyph: Glyph, lines: &mut Vec<u8>)
     requires { vec_len lines.old + lines_limit terminal.old.display.grid.size ≤ vec_capacity lines.old }
     ensures lines { lines.new.items ≡ lines.old.items ++ flat_map line_text (glyph_off terminal.old.display) }
     ensures bounded { vec_len lines.new ≤ vec_len lines.old + lines_limit terminal.old.display.grid.size }
     ensures capacity { vec_capacity lines.old ≤ vec_capacity lines.new }
     ensures terminal { terminal.new ≡ record terminal.old {
-      display = write_glyph space (write_glyph (shown c) terminal.old.display);
+      display = write_glyph space (write_glyph glyph terminal.old.display);
     } }
 {
-    write_logged(terminal, Glyph::encoded(code_of(c)), lines);
+    write_logged(terminal, glyph, lines);
     terminal.write_glyph(Glyph::blank());
 }
 

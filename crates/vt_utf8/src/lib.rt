@@ -2,6 +2,7 @@
 #![tactic(auto)]
 
 mod ascii;
+mod coded;
 mod decoder;
 mod feeding;
 mod feeds;

@@ -2,7 +2,7 @@
 //!
 //! A glyph's code is one byte. An ASCII glyph is its own code. A glyph that is spelled by G2 has the code of its
 //! spelling with the high bit set. A glyph that is spelled by G3 has the code less 60 (hexadecimal).
-ghost use Rattle.std.specs.Prelude.{◌≡◌, ◌≤◌, ◌&&◌, nat_le, true};
+ghost use Rattle.std.specs.Prelude.{◌≡◌, ◌≤◌, ◌&&◌, nat_le};
 ghost use Rattle.vt_glyph.specs.Encoding.{encoded_spelling, encoded_glyph, IsEncoding};
 ghost use Rattle.vt_glyph.specs.Spell.{spelling_of};
 ghost use Rattle.vt_utf8.specs.Private.Codes.{code_by, sign_of};

@@ -5,6 +5,7 @@ ghost use Rattle.vt_term.specs.State.{State};
 ghost use Rattle.vt_utf8.specs.Decoding.{characters, pending_after};
 ghost use Rattle.vt_utf8.specs.Sinks.{Point, point, AreInTurn, FitsFeed, Grows};
 
+use crate::ascii::ascii_run;
 use crate::laws::sized_text;
 use crate::log::{BytesLog, Log};
 use crate::text::write_text;
@@ -22,7 +23,16 @@ pub trait Sink<L: Log> {
     /// The most bytes of lines that a character scrolls off.
     ghost most: { Size → ℕ };
 
-    /// Takes the front of ASCII bytes, until the log is full. Returns how many bytes it took.
+    /// ASCII bytes that are taken as one run.
+    ghost IsRun: { List ℕ → Type 0 };
+
+    /// Returns how many bytes at the front of a chunk are ASCII, and taken as one run.
+    fn front_run(piece: &[u8]) -> usize
+        ensures within { result ≤ length piece.now }
+        ensures ascii { All (λ b. b < 0x80) (take result piece.now) }
+        ensures run { IsRun (take result piece.now) };
+
+    /// Takes the front of such a run, until the log is full. Returns how many bytes it took.
     fn take_run(
         &mut self,
         terminal: &mut SizedTerminal,
@@ -32,6 +42,7 @@ pub trait Sink<L: Log> {
         out: &mut Vec<u8>,
     ) -> usize
         requires ascii { All (λ b. b < 0x80) run.now }
+        requires run { IsRun run.now }
         requires room { vec_len out.old + 10 * length run.now ≤ vec_capacity out.old }
         requires fits { FitsFeed OneSize most terminal.old self.old limit }
         ensures within { result ≤ length run.now }
@@ -94,6 +105,13 @@ impl<L: BytesLog> Sink<L> for Vt220 {
     ghost OneSize = { λ s k. ⊤ };
 
     ghost most = { lines_limit };
+
+    ghost IsRun = { λ run. ⊤ };
+
+    #[inline(always)]
+    fn front_run(piece: &[u8]) -> usize {
+        ascii_run(piece)
+    }
 
     #[inline(always)]
     fn take_run(

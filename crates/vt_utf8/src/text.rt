@@ -1,16 +1,13 @@
 //! Text: characters whose glyphs are written one after another, before the last column. Speed: they are written at once.
-ghost use Rattle.std.specs.Prelude.{◌≡◌, ◌≤◌, ◌<◌, ◌+◌, [], ◌∷◌, false, length, take, slice_index};
+ghost use Rattle.std.specs.Prelude.{◌≡◌, ◌≤◌, ◌<◌, ◌+◌, ◌∷◌, false, length, take, slice_index};
 ghost use Rattle.std.specs.Bool.{OnTrue};
 ghost use Rattle.arrayvec.specs.ArrayVec.{array_vec_len};
-ghost use Rattle.vt_glyph.specs.Encoding.{encoded_glyph, IsEncoding};
-ghost use Rattle.vt_utf8.specs.Cells.{cells};
-ghost use Rattle.vt_utf8.specs.Similar.{shown};
 ghost use Rattle.vt_utf8.specs.Text.{IsReady, ReadsText, WritesCharacter, WritesText};
 
+use crate::coded::coded;
 use crate::decoder::whole_character;
 use crate::feeding::writes_glyphs;
-use crate::similar::{code_of, kana_or_han_code};
-use crate::translation::{is_kana_or_han, is_wide, narrow_code, reads_ascii};
+use crate::translation::reads_ascii;
 use arrayvec::ArrayVec;
 use vt_glyph::laws::ascii_codes;
 use vt_syntax::plain_run;
@@ -42,8 +39,8 @@ fn text_room(terminal: &SizedTerminal) -> usize
 }
 
 /// Appends the codes of the text at the front of a chunk, with nothing pending, until there are `room`. `ascii` says whether ASCII is
-/// read as itself. Returns how many bytes the text takes.
-#[inline(always)]
+/// read as itself. Returns how many bytes the text takes. Speed: in a separate function the loop has registers for what it keeps.
+#[inline(never)]
 fn read_text(piece: &[u8], room: usize, ascii: bool, text: &mut Text) -> usize
     requires few { room ≤ 64 }
     requires before { array_vec_len text.old ≤ room }
@@ -160,38 +157,16 @@ fn append_codes(c: char, room: usize, text: &mut Text) -> bool
     ensures no { result ≡ false → text.new ≡ text.old }
 {
     ascii_codes();
-    if is_kana_or_han(c) {
-        return append_two(c, kana_or_han_code(c), room, text);
-    }
-    if let Some(code) = narrow_code(c) {
-        if text.len() < room {
-            text.push(code);
-            return true;
-        }
+    let Some(found) = coded(c) else {
+        return false;
+    };
+    if text.len() + found.cells > room {
         return false;
     }
-    is_wide(c) && append_two(c, code_of(c), room, text)
-}
-
-/// Appends the code of a character with two cells, and that of a space, if there is room. Returns whether it did.
-#[inline(always)]
-fn append_two(c: char, code: u8, room: usize, text: &mut Text) -> bool
-    requires few { room ≤ 64 }
-    requires before { array_vec_len text.old ≤ room }
-    requires beyond { 0x80 ≤ c }
-    requires wide { cells c ≡ 2 }
-    requires glyph { encoded_glyph code ≡ shown c }
-    requires code { IsEncoding code }
-    ensures room { array_vec_len text.new ≤ room }
-    ensures yes { OnTrue result (WritesCharacter c text.old.items text.new.items) }
-    ensures no { result ≡ false → text.new ≡ text.old }
-{
-    ascii_codes();
-    if text.len() + 2 > room {
-        return false;
+    text.push(found.code);
+    if found.cells == 2 {
+        text.push(b' ');
     }
-    text.push(code);
-    text.push(b' ');
     true
 }
 

@@ -1,18 +1,15 @@
 //! Translation: the terminal's own bytes for a character, in the terminal's state.
-ghost use Rattle.std.specs.Prelude.{◌≡◌, ◌+◌, ◌<◌, ◌≤◌, ◌++◌, [], ◌∷◌, IfSome, length};
-ghost use Rattle.std.specs.Bool.{OnTrue};
+ghost use Rattle.std.specs.Prelude.{◌≡◌, ◌+◌, ◌<◌, ◌≤◌, ◌++◌, [], ◌∷◌, length};
 ghost use Rattle.std.specs.Option.{option_to_list};
 ghost use Rattle.arrayvec.specs.ArrayVec.{array_vec_len};
-ghost use Rattle.vt_glyph.specs.Encoding.{encoded_glyph, IsEncoding};
 ghost use Rattle.vt_glyph.specs.Spell.{spelling_of};
-ghost use Rattle.vt_glyph.specs.Designation.{final_of};
 ghost use Rattle.vt_utf8.specs.Similar.{shown};
 ghost use Rattle.vt_utf8.specs.Cells.{cells};
 ghost use Rattle.vt_utf8.specs.Translation.{reads_ascii, while_designated, spelled_in, both_halves, is_at_end};
-ghost use Rattle.vt_utf8.specs.Translation.{written_wide, in_cells, put, translation};
+ghost use Rattle.vt_utf8.specs.Translation.{written_wide, put, translation};
 ghost use Rattle.vt_utf8.specs.Play.{translated_all};
 
-use crate::similar::{braille_code, code_of, element_code, is_in, spelling_of_code};
+use crate::similar::{code_of, spelling_of_code};
 use arrayvec::ArrayVec;
 use unicode_width::UnicodeWidthChar;
 use vt_glyph::laws::glyphs;
@@ -43,71 +40,6 @@ pub fn cells(c: char) -> usize
     } else {
         c.width().unwrap_or(0).min(2)
     }
-}
-
-/// Returns the code of the glyph that is shown for a character beyond ASCII, if the character has one cell. Speed: in
-/// six ranges all characters have one cell, so one test is enough.
-#[inline(always)]
-pub(crate) fn narrow_code(c: char) -> Option<u8>
-    ensures { IfSome result (λ code. (cells c ≡ 1) × (encoded_glyph code ≡ shown c) × IsEncoding code) }
-{
-    glyphs();
-    if is_in(0xA0, 0x17F, c as u32) {
-        return Some(code_of(c));
-    }
-    if is_in(0x2500, 0x257F, c as u32) {
-        return Some(code_of(c));
-    }
-    if is_kana_or_han(c) {
-        return None;
-    }
-    if is_in(0x2580, 0x259F, c as u32) {
-        return Some(element_code(c as u32));
-    }
-    if is_in(0x2010, 0x2027, c as u32) {
-        return Some(code_of(c));
-    }
-    if is_in(0x2800, 0x28FF, c as u32) {
-        return Some(braille_code(c as u32));
-    }
-    if is_in(0xFFFD, 0xFFFD, c as u32) {
-        return Some(code_of(c));
-    }
-    if cells(c) == 1 {
-        return Some(code_of(c));
-    }
-    None
-}
-
-/// Returns whether a character is kana, or one of the block of 20,992 Han characters. Speed: a character below these is told by
-/// one comparison.
-#[inline(always)]
-pub(crate) fn is_kana_or_han(c: char) -> bool
-    ensures wide { OnTrue result (cells c ≡ 2) }
-    ensures within { OnTrue result ((0x3041 ≤ c) × (c ≤ 0x9FFF)) }
-{
-    if (c as u32) < 0x3041 {
-        return false;
-    }
-    if is_in(0x3041, 0x3096, c as u32) {
-        return true;
-    }
-    if is_in(0x30A1, 0x30FF, c as u32) {
-        return true;
-    }
-    is_in(0x4E00, 0x9FFF, c as u32)
-}
-
-/// Returns whether a character beyond ASCII has two cells. Speed: for kana and most Han characters, testing a range is
-/// enough.
-#[inline(always)]
-pub(crate) fn is_wide(c: char) -> bool
-    ensures { OnTrue result (cells c ≡ 2) }
-{
-    if is_kana_or_han(c) {
-        return true;
-    }
-    cells(c) == 2
 }
 
 /// Returns the spelling of the glyph that is shown for a character of U+00A0 or above.

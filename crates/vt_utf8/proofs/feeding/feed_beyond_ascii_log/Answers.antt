@@ -1,4 +1,4 @@
-use Rattle.std.proofs.Common.{◌≡◌, ◌++◌, ◌∙◌, List, false, sym, ap, rules}
+use Rattle.std.proofs.Common.{◌≡◌, ◌++◌, ◌∙◌, List, false, sym, ap, arith, rules}
 use Rattle.std.specs.Prelude.{flat_map}
 use Rattle.vt_screen.specs.declared.cell.Cell.{Cell}
 use Rattle.vt_term.specs.Scrolling.{log}
@@ -11,34 +11,35 @@ pub returns-clause-silent : goal.returns-clause-silent
 returns-clause-silent c =
     c.sized_silence.ensures.silent c.args.terminal.now.display.grid.size c.args.terminal.now c.args.c c.width.ensures.sound c.requires.beyond
 
-pub returns-in-Some-clause-silent : goal.returns-in-Some-clause-silent
-returns-in-Some-clause-silent c =
+pub returns-then-found-eq1-clause-silent : goal.returns-then-found-eq1-clause-silent
+returns-then-found-eq1-clause-silent c =
     c.sized_silence.ensures.silent c.args.terminal.now.display.grid.size c.args.terminal.now c.args.c c.width.ensures.sound c.requires.beyond
 
-pub returns-in-Some-clause-state : goal.returns-in-Some-clause-state
-returns-in-Some-clause-state c =
+pub returns-then-found-eq1-clause-state : goal.returns-then-found-eq1-clause-state
+returns-then-found-eq1-clause-state c =
     let is = c.if-writes_glyphs.ensures in
     written-itself c.args.terminal.now c.write_logged.new.terminal c.args.c c.encoded.result is.1
     (c.sized_writes.ensures.one c.args.terminal.now.display.grid.size c.args.terminal.now c.args.c c.width.ensures.sound is.0 c.requires.beyond
-    c.in-Some.ensures.0)
-    (c.encoded.ensures ∙ c.in-Some.ensures.1) c.write_logged.ensures.terminal
+    (c.in-Some.ensures.cells ∙ c.if-found-eq1.true))
+    (c.encoded.ensures ∙ c.in-Some.ensures.glyph) c.write_logged.ensures.terminal
 
-pub returns-in-Some-clause-lines : goal.returns-in-Some-clause-lines
+pub returns-then-found-eq1-clause-lines : goal.returns-then-found-eq1-clause-lines
 unfolding log
-returns-in-Some-clause-lines c =
+returns-then-found-eq1-clause-lines c =
     let is = c.if-writes_glyphs.ensures in
     c.write_logged.ensures.lines
     ∙ ap (λ (rows : List (List Cell)). c.args.lines.now.items ++ flat_map line_text rows)
     (sym (c.sized_writes.ensures.off c.args.terminal.now.display.grid.size c.args.terminal.now c.args.c c.width.ensures.sound is.0 c.requires.beyond
-    c.in-Some.ensures.0))
+    (c.in-Some.ensures.cells ∙ c.if-found-eq1.true)))
 
 pub returns-then-not-is_at_end-clause-state : goal.returns-then-not-is_at_end-clause-state
 returns-then-not-is_at_end-clause-state c =
     let is = c.if-writes_glyphs.ensures in
     let fits : is_at_end c.args.terminal.now.display ≡ false = search rules in
-    wide-itself c.args.terminal.now c.write_both_logged.new.terminal c.args.c fits
-    (c.sized_writes.ensures.two c.args.terminal.now.display.grid.size c.args.terminal.now c.args.c c.width.ensures.sound is.0 is.1 c.requires.beyond (search rules))
-    c.write_both_logged.ensures.terminal
+    wide-itself c.args.terminal.now c.write_both_logged.new.terminal c.args.c c.encoded-then-not-is_at_end.result fits
+    (c.sized_writes.ensures.two c.args.terminal.now.display.grid.size c.args.terminal.now c.args.c c.width.ensures.sound is.0 is.1 c.requires.beyond
+    (c.in-Some.ensures.cells ∙ omega (arith, c.in-Some.ensures.some, c.in-Some.ensures.few, c.if-found-eq1.false)))
+    (c.encoded-then-not-is_at_end.ensures ∙ c.in-Some.ensures.glyph) c.write_both_logged.ensures.terminal
 
 pub returns-then-not-is_at_end-clause-lines : goal.returns-then-not-is_at_end-clause-lines
 unfolding log
@@ -47,5 +48,5 @@ returns-then-not-is_at_end-clause-lines c =
     let fits : is_at_end c.args.terminal.now.display ≡ false = search rules in
     c.write_both_logged.ensures.lines
     ∙ ap (λ (rows : List (List Cell)). c.args.lines.now.items ++ flat_map line_text rows)
-    (sym (c.sized_writes.ensures.two_off c.args.terminal.now.display.grid.size c.args.terminal.now c.args.c c.width.ensures.sound is.0 is.1 c.requires.beyond (search rules)
-    fits))
+    (sym (c.sized_writes.ensures.two_off c.args.terminal.now.display.grid.size c.args.terminal.now c.args.c c.width.ensures.sound is.0 is.1 c.requires.beyond
+    (c.in-Some.ensures.cells ∙ omega (arith, c.in-Some.ensures.some, c.in-Some.ensures.few, c.if-found-eq1.false)) fits))

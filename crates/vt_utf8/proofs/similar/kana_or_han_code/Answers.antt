@@ -1,4 +1,4 @@
-use Rattle.std.proofs.Common.{◌∙◌, ap, sym, subst, arith}
+use Rattle.std.proofs.Common.{◌∙◌, ap, sym, subst}
 use Rattle.vt_glyph.specs.Encoding.{encoded_glyph, IsEncoding}
 use Rattle.vt_utf8.proofs.Tables.{code_by-glyph, kana-or-han-code, middle-dot-code}
 use Rattle.vt_utf8.proofs.Encodes.{code_by-encodes}

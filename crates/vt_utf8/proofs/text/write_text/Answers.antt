@@ -1,4 +1,4 @@
-use Rattle.std.proofs.Common.{◌≤◌, ℕ, List, [], take, refl, arith, ap, subst, sym, ◌∙◌}
+use Rattle.std.proofs.Common.{◌≤◌, ℕ, List, take, arith, ap, subst, ◌∙◌}
 use Rattle.vt_utf8.specs.Translation.{reads_ascii}
 use Rattle.vt_utf8.specs.Text.{ReadsText}
 use Rattle.vt_utf8.proofs.Texts.{writes-none, writes-read}

@@ -1,8 +1,8 @@
 use Rattle.std.proofs.Common.{◌≡◌, ◌∙◌, ◌∷◌, [], true, sym, ap}
-use Rattle.std.specs.Prelude.{◌==◌, length}
+use Rattle.std.specs.Prelude.{◌==◌}
 use Rattle.std.specs.Option.{option_to_list}
 use Rattle.bstr.specs.Utf8.{replacement}
-use Rattle.vt_utf8.specs.Decoding.{Read, read, read_first}
+use Rattle.vt_utf8.specs.Decoding.{Read}
 use Rattle.vt_utf8.proofs.Firsts.{when-nothing, when-cut, cut-lost}
 use Rattle.vt_utf8.proofs.decoder.Decoder.push.Goals as goal
 

@@ -2,7 +2,7 @@
 use std::alloc::{AllocError, Global};
 
 /// The number of blocks that a `Scarce` keeps. No call of the tests grows its memory so often.
-pub(crate) const BLOCKS: u32 = 4000;
+pub(crate) const BLOCKS: u32 = 16000;
 
 /// Takes all the memory that the allocator still gives, in blocks that are never touched.
 fn take_all(alloc: Global, ballast: &mut Vec<Vec<u8>>) {

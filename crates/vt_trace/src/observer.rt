@@ -98,10 +98,11 @@ pub fn trace_as<P: Profile, N: Naming>(
     count
 }
 
-/// Appends the trace of a byte. The terminal doesn't play it: the caller does so afterwards. `out` has capacity for the
-/// trace.
+/// Appends the trace of a byte, before which the parser's held part is held. The terminal doesn't play it: the caller does so
+/// afterwards. `out` has capacity for the trace.
 pub fn trace_byte<N: Naming>(
     terminal: &SizedTerminal,
+    parser: Parser,
     names: &N,
     tracer: &mut Tracer,
     byte: u8,
@@ -109,23 +110,25 @@ pub fn trace_byte<N: Naming>(
 )
     requires place { tracer.old.place + 1 < 2 ^ 64 }
     requires room { vec_len out.old + TRACE_LIMIT ≤ vec_capacity out.old }
-    ensures lines { out.new.items ≡ out.old.items ++ traced_told N.names tracer.old (happenings terminal.now (byte ∷ [])) }
-    ensures tracer { tracer.new ≡ tracer_told tracer.old (happenings terminal.now (byte ∷ [])) }
+    ensures lines { out.new.items ≡ out.old.items
+        ++ traced_told N.names tracer.old (happenings (record terminal.now { held = parser }) (byte ∷ [])) }
+    ensures tracer { tracer.new ≡ tracer_told tracer.old (happenings (record terminal.now { held = parser }) (byte ∷ [])) }
     ensures bounded { vec_len out.new ≤ vec_len out.old + TRACE_LIMIT }
     ensures capacity { vec_capacity out.old ≤ vec_capacity out.new }
 {
-    // The width's contract gives the soundness of the state.
+    // The contracts of these two give the soundness of the state.
     let _ = terminal.width();
+    let _ = parser.held();
     one_split();
     let piece = [byte];
-    let mut parser = terminal.parser();
+    let mut ahead = parser.copied();
     let mut values = Values::new();
-    let Taken { event, .. } = parser.next(&piece, &mut values);
+    let Taken { event, .. } = ahead.next(&piece, &mut values);
     let mut observer = Tracing {
         names,
         tracer,
         out,
-        parser: terminal.parser(),
+        parser,
         values: Values::new(),
     };
     match event {

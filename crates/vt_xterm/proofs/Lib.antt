@@ -9,6 +9,11 @@ mod WrittenBeyond
 pub mod Bounds
 pub mod SoundScreens
 pub mod Stays
+pub mod Untouched
+pub mod Passing
+pub mod Spelled
+mod Calm
+mod CalmRuns
 mod Places
 mod Fitting
 mod Landing

@@ -3,6 +3,7 @@ pub mod Repeating
 pub mod Tabs
 pub mod Scroll
 pub mod Attributes
+pub mod Subparameters
 pub mod Sides
 pub mod Pages
 pub mod Bounded

@@ -2,3 +2,4 @@
 pub mod Finding
 pub mod Feeds
 pub mod Profiles
+pub mod Calm

@@ -1,7 +1,7 @@
 -- The screen as a picture that moves: an SVG document in UTF-8, without a script. Each frame is a group that is drawn
 -- over those before it, and has the rows that changed. A group is hidden until its time. So a program that shows no
 -- animation shows the last screen. (this profile; CSS: animations, easing functions and media queries)
-use Rattle.std.specs.Prelude.{◌≡◌, ◌<◌, ℕ, zero, suc, ◌+◌, ◌-◌, ◌*◌, ◌/◌, ◌%◌, List, [], ◌∷◌, ◌++◌, Bool, true, false, not, ◌==◌, ◌&&◌, ◌||◌}
+use Rattle.std.specs.Prelude.{◌≡◌, ◌<◌, ℕ, zero, suc, ◌+◌, ◌-◌, ◌*◌, ◌/◌, ◌%◌, ◌^◌, min, List, [], ◌∷◌, ◌++◌, Bool, true, false, not, ◌==◌, ◌&&◌, ◌||◌}
 use Rattle.std.specs.Prelude.{if◌then◌else◌, codes, decimal, flat_map, length, nat_lt, nat_le, slice_index_or}
 use Rattle.std.specs.Int.{div_ceil}
 use Rattle.std.specs.List.{range_with_len}
@@ -12,6 +12,7 @@ use Rattle.vt_screen.specs.Grid.{Grid, row_of}
 use Rattle.vt_screen.specs.Same.{when, same_bool, same_rendition}
 use Rattle.vt_term.specs.State.{Display}
 use Rattle.vt_term.specs.Modes.{private_values, is_set}
+use Rattle.vt_picture.specs.declared.animation.ViewBox.{ViewBox}
 use Rattle.vt_picture.specs.declared.looks.Theme.{Theme}
 use Rattle.vt_picture.specs.declared.looks.Theme.TheVariants.{Dark, Light, Green, Amber}
 use Rattle.vt_picture.specs.declared.looks.CursorShape.{CursorShape}
@@ -146,6 +147,11 @@ row_is_blank s row = is_empty (trimmed (row_of s.grid row))
 abbrev pub first_number : Size → (frame : ℕ) → ℕ
 first_number size frame = (size.rows + 8) * frame
 
+-- the number of the frame after one, on a screen of this size: the least one whose numbers come after all those of the frame before.
+-- On a screen of the same size it is one more. It stops at 2^32 - 1
+abbrev pub next_number : (number : ℕ) → (before size : Size) → ℕ
+next_number number before size = min (div_ceil ((before.rows + 8) * (number + 1)) (size.rows + 8)) (2 ^ 32 - 1)
+
 -- the number of a row of a whole screen, in a frame of this number. The paper under the screen has that of a blank row
 abbrev pub number_on_screen : (frame : ℕ) → Display → (row : ℕ) → ℕ
 number_on_screen frame s row = first_number s.grid.size frame + (if row_is_blank s row then 0 else first_of_look s row)
@@ -268,6 +274,11 @@ unfoldable pub frame : CursorShape → (duration columns number micros : ℕ) �
 frame shape duration columns number micros numbers before s =
     frame_start s.grid.size columns micros (is_reversed s) s.grid.width ++ changes_drawn shape duration number numbers before s ++ group_end
 
+-- a frame that draws the whole screen
+unfoldable pub whole_frame : CursorShape → (duration columns number micros : ℕ) → Display → List ℕ
+whole_frame shape duration columns number micros s =
+    frame_start s.grid.size columns micros (is_reversed s) s.grid.width ++ screen_drawn shape duration number s ++ group_end
+
 -- ---- the document
 
 -- a byte of the title; &, < and > by the entities of XML, and a space for a control character, which XML lacks
@@ -319,12 +330,18 @@ unfoldable pub first_screen : CursorShape → (duration columns : ℕ) → Displ
 first_screen shape duration columns s =
     first_start s.grid.size columns (is_reversed s) s.grid.width ++ screen_drawn shape duration 0 s ++ group_end
 
--- everything up to the first frame, in a picture of so many columns: the text alternative is that of the last screen
-unfoldable pub animation_head : Theme → CursorShape → (title : List ℕ) → (duration columns : ℕ) → Display → Display → List ℕ
-animation_head theme shape title duration columns first last =
-    document_start last.grid.size.rows columns ++ flat_map title_byte title ++ title_end
+-- everything up to the first frame, in a picture with this view box. The first screen is drawn as wide as so many columns. The text
+-- alternative is that of the last screen
+unfoldable pub animation_head_of : Theme → CursorShape → (title : List ℕ) → (duration : ℕ) → ViewBox → (columns : ℕ) → Display → Display → List ℕ
+animation_head_of theme shape title duration view columns first last =
+    document_start view.rows view.columns ++ flat_map title_byte title ++ title_end
     ++ alternative last.grid.size.rows last.grid ++ style ++ moving_style ++ moving_start theme duration
     ++ first_screen shape duration columns first
+
+-- the same, in a picture of so many columns for screens of one size
+abbrev pub animation_head : Theme → CursorShape → (title : List ℕ) → (duration columns : ℕ) → Display → Display → List ℕ
+animation_head theme shape title duration columns first last =
+    animation_head_of theme shape title duration (record { rows = last.grid.size.rows; columns = columns }) columns first last
 
 abbrev pub animation_end : List ℕ
 animation_end = group_end ++ codes "</svg>" ++ line_feed

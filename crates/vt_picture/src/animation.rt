@@ -2,14 +2,14 @@
 ghost use Rattle.std.specs.Prelude.{◌≡◌, ◌+◌, ◌*◌, ◌≤◌, ◌++◌, ◌∷◌, [], if◌then◌else◌, nat_lt, ℕ, ◌<◌, length, flat_map, vec_len, vec_capacity, OnOk, OnErr, IsOk, slice_index_or};
 ghost use Rattle.vt_screen.specs.Sizes.{IsSize};
 ghost use Rattle.vt_picture.specs.Animation.{rows_drawn, screen_drawn, rows_changed, same_paper, changes_drawn, number_then, AreNumbered};
-ghost use Rattle.vt_picture.specs.Animation.{narrow_screens, whole_paper, frame_start, frame, number_on_screen, number_after};
+ghost use Rattle.vt_picture.specs.Animation.{narrow_screens, whole_paper, frame_start, frame, whole_frame, number_on_screen, number_after};
 ghost use Rattle.vt_picture.specs.Animation.{title_byte, moving_style};
 ghost use Rattle.vt_picture.specs.Animation.{light_colour, dark_colour, moving_start, first_start, first_screen};
-ghost use Rattle.vt_picture.specs.Animation.{animation_head, animation_end};
-ghost use Rattle.vt_picture.specs.Limits.{animation_limit, drawn_row_limit, frame_limit};
+ghost use Rattle.vt_picture.specs.Animation.{animation_head, animation_head_of, animation_end};
+ghost use Rattle.vt_picture.specs.Limits.{animation_limit, animation_limit_of, drawn_row_limit, frame_limit};
 
 use crate::document::{push_alternative, push_document_start, push_style, push_title_end};
-use crate::limits::{animation_limit, frame_limit};
+use crate::limits::{animation_limit_of, frame_limit};
 use crate::looks::{CursorShape, Theme};
 use crate::rows::{
     first_number, number_after, number_on_screen, push_changed_row, push_drawn_row,
@@ -40,7 +40,17 @@ pub struct Moving {
     pub cursor: CursorShape,
     /// The microseconds after which the picture begins again: more than the time of the last frame.
     pub duration: u64,
-    /// The number of columns of the last screen, which the picture has, too.
+    /// The number of columns of the last screen, which the picture has, too. If the size of the screen changes, it is that of the
+    /// screen that is drawn.
+    pub columns: usize,
+}
+
+/// The rows and the columns for which a picture has room: its view box.
+#[derive(Clone, Copy, Debug, PartialEq, Eq)]
+pub struct ViewBox {
+    /// The number of rows.
+    pub rows: usize,
+    /// The number of columns.
     pub columns: usize,
 }
 
@@ -138,7 +148,7 @@ fn push_changed_rows(
     t: &SizedTerminal,
     out: &mut Vec<u8>,
 ) -> [u64; MOST]
-    requires size { before.now.display.grid.size ≡ t.now.display.grid.size }
+    requires rows { before.now.display.grid.size.rows ≡ t.now.display.grid.size.rows }
     requires numbers { length numbers.now ≡ t.now.display.grid.size.rows }
     requires room { vec_len out.old + t.now.display.grid.size.rows * drawn_row_limit t.now.display.grid.size ≤ vec_capacity out.old }
     ensures items { out.new.items ≡ out.old.items ++ rows_changed shape duration frame t.now.display.grid.size.rows numbers.now before.now.display t.now.display }
@@ -173,7 +183,7 @@ fn push_changes(
     t: &SizedTerminal,
     out: &mut Vec<u8>,
 ) -> [u64; MOST]
-    requires size { before.now.display.grid.size ≡ t.now.display.grid.size }
+    requires rows { before.now.display.grid.size.rows ≡ t.now.display.grid.size.rows }
     requires numbers { length numbers.now ≡ t.now.display.grid.size.rows }
     requires room { vec_len out.old + (t.now.display.grid.size.rows * drawn_row_limit t.now.display.grid.size + 300) ≤ vec_capacity out.old }
     ensures items { out.new.items ≡ out.old.items ++ changes_drawn shape duration frame numbers.now before.now.display t.now.display }
@@ -214,8 +224,8 @@ fn push_frame_start(
 }
 
 /// Appends a frame of a picture that moves: what a screen looks like after so many microseconds, drawn over the screen
-/// before. It has the rows that look different. Both screens have the same size. The frames are numbered from 1. `numbers` has a
-/// number for each row, as `animation_start` or the frame before left it.
+/// before. It has the rows that look different. Both screens have the same number of rows. The frames are numbered from 1. `numbers`
+/// has a number for each row, as `animation_start` or the frame before left it.
 ///
 /// It first reserves `frame_limit` bytes of capacity. Returns `Err` if that fails. Then the contents of `out` and the
 /// numbers are unchanged.
@@ -229,7 +239,7 @@ pub fn frame(
     t: &SizedTerminal,
     out: &mut Vec<u8>,
 ) -> Result<(), AllocError>
-    requires size { before.now.display.grid.size ≡ t.now.display.grid.size }
+    requires rows { before.now.display.grid.size.rows ≡ t.now.display.grid.size.rows }
     requires numbers { length numbers.old ≡ t.now.display.grid.size.rows }
     ensures ok { OnOk result (out.new.items ≡ out.old.items
         ++ frame moving.cursor moving.duration moving.columns number micros numbers.old before.now.display t.now.display) }
@@ -254,6 +264,41 @@ pub fn frame(
         out,
     );
     numbers.copy_from_slice(&after[..size.rows]);
+    push_bytes(b"</g>\n", out);
+    Ok(())
+}
+
+/// Appends a frame of a picture that moves which draws a whole screen, whatever the screen before is: it may have other rows.
+/// `next_number` returns the number of such a frame. `numbers` gets the numbers of the rows, for the next frame.
+///
+/// It first reserves `frame_limit` bytes of capacity. Returns `Err` if that fails. Then the contents of `out` and the
+/// numbers are unchanged.
+#[tactic(auto, unfolding(crate::specs::Animation::whole_frame))]
+pub fn whole_frame(
+    moving: Moving,
+    number: u32,
+    micros: u64,
+    numbers: &mut [u64],
+    t: &SizedTerminal,
+    out: &mut Vec<u8>,
+) -> Result<(), AllocError>
+    requires { length numbers.old ≡ t.now.display.grid.size.rows }
+    ensures ok { OnOk result (out.new.items ≡ out.old.items
+        ++ whole_frame moving.cursor moving.duration moving.columns number micros t.now.display) }
+    ensures numbers { OnOk result ((i : ℕ) → i < t.now.display.grid.size.rows
+        → slice_index_or numbers.new i 0 ≡ number_on_screen number t.now.display (i + 1)) }
+    ensures err { OnErr result (out.new.items ≡ out.old.items) }
+    ensures kept { OnErr result (numbers.new ≡ numbers.old) }
+    ensures has_room { vec_len out.old + frame_limit t.now.display.grid.size ≤ vec_capacity out.old → IsOk result }
+    ensures bounded { vec_len out.new ≤ vec_len out.old + frame_limit t.now.display.grid.size }
+    ensures capacity { vec_capacity out.old ≤ vec_capacity out.new }
+{
+    let size = t.size();
+    out.reserve(frame_limit(size))?;
+    let (reversed, width) = (t.modes().decscnm, t.width());
+    push_frame_start(size, moving.columns, micros, reversed, width, out);
+    let drawn = push_screen(moving.cursor, moving.duration, number, t, out);
+    numbers.copy_from_slice(&drawn[..size.rows]);
     push_bytes(b"</g>\n", out);
     Ok(())
 }
@@ -409,12 +454,61 @@ fn push_first_screen(
 }
 
 /// Appends everything of a picture that moves up to its first frame: the screen at the beginning, `first`. The title is
-/// UTF-8. The text of `last`, the screen at the end, is the text alternative. Both screens have the same size. `moving.columns` is
-/// the width of `last`. `numbers` gets the numbers of the rows, for the first frame.
+/// UTF-8. The text of `last`, the screen at the end, is the text alternative. The two may have different sizes. The picture has
+/// room for `view`. `numbers` gets the numbers of the rows, for the first frame.
+///
+/// It first reserves `animation_limit_of` bytes of capacity, and 5 for each byte of the title. Returns `Err` if that fails. Then
+/// the contents of `out` and the numbers are unchanged.
+#[tactic(auto, unfolding(crate::specs::Animation::animation_head_of))]
+pub fn animation_start_of(
+    theme: Theme,
+    moving: Moving,
+    title: &[u8],
+    view: ViewBox,
+    first: &SizedTerminal,
+    last: &SizedTerminal,
+    numbers: &mut [u64],
+    out: &mut Vec<u8>,
+) -> Result<(), AllocError>
+    requires numbers { length numbers.old ≡ first.now.display.grid.size.rows }
+    requires rows { view.rows ≤ MOST }
+    requires columns { view.columns ≤ MOST }
+    ensures ok { OnOk result (out.new.items ≡ out.old.items
+        ++ animation_head_of theme moving.cursor title.now moving.duration view moving.columns first.now.display last.now.display) }
+    ensures numbers { OnOk result ((i : ℕ) → i < first.now.display.grid.size.rows
+        → slice_index_or numbers.new i 0 ≡ number_on_screen 0 first.now.display (i + 1)) }
+    ensures err { OnErr result (out.new.items ≡ out.old.items) }
+    ensures kept { OnErr result (numbers.new ≡ numbers.old) }
+    ensures has_room { vec_len out.old + (5 * length title.now + animation_limit_of first.now.display.grid.size last.now.display.grid.size)
+        ≤ vec_capacity out.old → IsOk result }
+    ensures bounded { vec_len out.new
+        ≤ vec_len out.old + (5 * length title.now + animation_limit_of first.now.display.grid.size last.now.display.grid.size) }
+    ensures capacity { vec_capacity out.old ≤ vec_capacity out.new }
+{
+    let size = first.size();
+    out.reserve(
+        title
+            .len()
+            .saturating_mul(5)
+            .saturating_add(animation_limit_of(size, last.size())),
+    )?;
+    push_document_start(view.rows, view.columns, out);
+    push_title(title, out);
+    push_title_end(out);
+    push_alternative(last, out);
+    push_style(out);
+    push_moving_style(out);
+    push_moving_start(theme, moving.duration, out);
+    let drawn = push_first_screen(moving.cursor, moving.duration, moving.columns, first, out);
+    numbers.copy_from_slice(&drawn[..size.rows]);
+    Ok(())
+}
+
+/// Appends everything of a picture that moves up to its first frame, as [`animation_start_of`] does. Both screens have the same
+/// size. `moving.columns` is the width of `last`, and the picture has room for a screen of that width.
 ///
 /// It first reserves `animation_limit` bytes of capacity, and 5 for each byte of the title. Returns `Err` if that fails. Then
 /// the contents of `out` and the numbers are unchanged.
-#[tactic(auto, unfolding(crate::specs::Animation::animation_head))]
 pub fn animation_start(
     theme: Theme,
     moving: Moving,
@@ -438,23 +532,11 @@ pub fn animation_start(
     ensures bounded { vec_len out.new ≤ vec_len out.old + (5 * length title.now + animation_limit first.now.display.grid.size) }
     ensures capacity { vec_capacity out.old ≤ vec_capacity out.new }
 {
-    let size = first.size();
-    out.reserve(
-        title
-            .len()
-            .saturating_mul(5)
-            .saturating_add(animation_limit(size)),
-    )?;
-    push_document_start(size.rows, moving.columns, out);
-    push_title(title, out);
-    push_title_end(out);
-    push_alternative(last, out);
-    push_style(out);
-    push_moving_style(out);
-    push_moving_start(theme, moving.duration, out);
-    let drawn = push_first_screen(moving.cursor, moving.duration, moving.columns, first, out);
-    numbers.copy_from_slice(&drawn[..size.rows]);
-    Ok(())
+    let view = ViewBox {
+        rows: last.size().rows,
+        columns: moving.columns,
+    };
+    animation_start_of(theme, moving, title, view, first, last, numbers, out)
 }
 
 /// Appends the end of a picture that moves. Returns `Err` if allocation fails. Then the contents of `out` are unchanged.

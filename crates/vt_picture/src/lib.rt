@@ -17,7 +17,7 @@ pub mod sized;
 mod squeezing;
 mod views;
 
-pub use animation::{ANIMATION_LIMIT, FRAME_LIMIT, Moving, animation_end};
+pub use animation::{ANIMATION_LIMIT, FRAME_LIMIT, Moving, ViewBox, animation_end};
 pub use bytes::push_glyph;
 pub use document::PICTURE_LIMIT;
 pub use drawing::DRAW_LIMIT;

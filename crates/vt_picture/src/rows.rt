@@ -1,12 +1,12 @@
 //! The rows of a picture that moves. A run is adjacent cells with the same attributes.
-ghost use Rattle.std.specs.Prelude.{◌≡◌, ◌+◌, ◌*◌, ◌≤◌, ◌++◌, ℕ, List, true, length, vec_len, vec_capacity};
+ghost use Rattle.std.specs.Prelude.{◌≡◌, ◌+◌, ◌-◌, ◌*◌, ◌^◌, ◌<◌, ◌≤◌, ◌++◌, ℕ, List, true, length, vec_len, vec_capacity};
 ghost use Rattle.vt_screen.specs.Sizes.{IsSize};
 ghost use Rattle.vt_screen.specs.Grid.{row_of};
 ghost use Rattle.vt_screen.specs.Same.{when, same_rendition};
 ghost use Rattle.vt_picture.specs.Animation.{span_length, is_ended, span_attributes, span_start, span_cell, spans};
 ghost use Rattle.vt_picture.specs.Animation.{row_paper, definition_start, row_definition, row_use};
 ghost use Rattle.vt_picture.specs.Animation.{mark_attributes, is_hidden, mark_left, mark_top, mark, marked, cursor_column};
-ghost use Rattle.vt_picture.specs.Animation.{is_reversed, first_like as first_like_of, first_of_look, row_is_blank, first_number, number_on_screen};
+ghost use Rattle.vt_picture.specs.Animation.{is_reversed, first_like as first_like_of, first_of_look, row_is_blank, first_number, next_number, number_on_screen};
 ghost use Rattle.vt_picture.specs.Animation.{row_drawn, same_row, seen_at, number_after, row_changed};
 
 use crate::bytes::push_escaped;
@@ -331,6 +331,18 @@ pub(crate) fn first_number(size: Size, frame: u32) -> u64
     (size.rows as u64 + 8) * frame as u64
 }
 
+/// Returns the number of the frame after one, on a screen of another size or of the same. It is the least one for which the two
+/// frames have no row's number in common. It stops at 2^32 - 1.
+pub fn next_number(number: u32, before: Size, size: Size) -> u32
+    requires before { IsSize before }
+    requires size { IsSize size }
+    ensures number { result ≡ next_number number before size }
+    ensures apart { result < 2 ^ 32 - 1 → first_number before (number + 1) ≤ first_number size result }
+{
+    let past = (before.rows as u64 + 8) * (number as u64 + 1);
+    past.div_ceil(size.rows as u64 + 8).min(u32::MAX as u64) as u32
+}
+
 /// Returns the number of a row of a whole screen, in a frame of this number.
 pub(crate) fn number_on_screen(frame: u32, t: &SizedTerminal, row: usize) -> u64
     requires { (1 ≤ row) × (row ≤ t.now.display.grid.size.rows) }
@@ -408,7 +420,7 @@ fn push_if_used(is_used: bool, duration: u64, number: u64, row: usize, out: &mut
 
 /// Returns whether a row looks the same on two screens.
 fn same_row(shape: CursorShape, before: &SizedTerminal, t: &SizedTerminal, row: usize) -> bool
-    requires size { before.now.display.grid.size ≡ t.now.display.grid.size }
+    requires rows { before.now.display.grid.size.rows ≡ t.now.display.grid.size.rows }
     requires row { (1 ≤ row) × (row ≤ t.now.display.grid.size.rows) }
     ensures { result ≡ same_row shape before.now.display t.now.display row }
 {
@@ -456,7 +468,7 @@ pub(crate) fn push_changed_row(
     row: usize,
     out: &mut Vec<u8>,
 )
-    requires size { before.now.display.grid.size ≡ t.now.display.grid.size }
+    requires rows { before.now.display.grid.size.rows ≡ t.now.display.grid.size.rows }
     requires row { (1 ≤ row) × (row ≤ t.now.display.grid.size.rows) }
     requires room { vec_len out.old + (203 * t.now.display.grid.size.wide + 360) ≤ vec_capacity out.old }
     ensures items { (frame : ℕ) → (numbers : List ℕ) → number ≡ number_after frame numbers before.now.display t.now.display row

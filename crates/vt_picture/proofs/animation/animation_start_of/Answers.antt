@@ -1,13 +1,10 @@
-use Rattle.std.proofs.Common.{◌≡◌, ◌∙◌, append_assoc, ap}
-use Rattle.vt_screen.specs.declared.size.Size.{Size}
-use Rattle.vt_picture.specs.Animation.{animation_head}
-use Rattle.vt_picture.proofs.animation.animation_start.Goals as goal
+use Rattle.std.proofs.Common.{append_assoc}
+use Rattle.vt_picture.specs.Animation.{animation_head_of}
+use Rattle.vt_picture.proofs.animation.animation_start_of.Goals as goal
 
 pub returns-clause-ok : goal.returns-clause-ok
-unfolding animation_head
+unfolding animation_head_of
 returns-clause-ok c =
-    let rows : c.size-size.result.rows ≡ c.args.last.now.display.grid.size.rows =
-    ap (λ (z : Size). z.rows) (c.size-size.ensures.size ∙ c.requires.size) in
     rw (
       c.push_first_screen-drawn.ensures.items,
       c.push_moving_start.ensures.items,
@@ -18,6 +15,5 @@ returns-clause-ok c =
       c.push_title.ensures.items,
       c.push_document_start.ensures.items,
       c.in_ok-reserve.ensures.items,
-      rows,
     )
     (simp append_assoc)

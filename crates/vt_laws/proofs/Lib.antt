@@ -18,3 +18,4 @@ mod Found
 mod PlainTables
 mod XtermBounded
 mod XtermIgnored
+mod FrameNumbers

@@ -1,5 +1,5 @@
 -- The checkpoints of the steps from one on, and the repaint of a session after more bytes.
-use Rattle.std.proofs.Common.{◌≡◌, ◌==◌, ◌+◌, ◌-◌, ◌≤◌, ◌<◌, ◌++◌, ◌∷◌, ◌∙◌, [], ℕ, List, length, take, drop, min, max, Bool, true, false, not, cond, ◌&&◌, Option, Some, None, nat_le, fold, flat_map, refl, sym, ap, arith, append-nil, append_assoc, length-drop}
+use Rattle.std.proofs.Common.{◌≡◌, ◌==◌, ◌+◌, ◌-◌, ◌≤◌, ◌<◌, ◌++◌, ◌∷◌, ◌∙◌, [], ℕ, List, length, take, drop, min, max, Bool, true, false, not, cond, ◌&&◌, Option, Some, None, nat_le, flat_map, refl, sym, ap, arith, append-nil, append_assoc, length-drop}
 use Rattle.std.proofs.lemmas.List.{drop_all, drop-drop, length-take}
 use Rattle.std.proofs.Math.Seq.{take-add}
 use Rattle.std.proofs.lemmas.List.Sums.{fold-append}

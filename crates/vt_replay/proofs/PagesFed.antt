@@ -29,7 +29,8 @@ use Rattle.vt_utf8.proofs.Cuts.{characters-append, pending-append, ascii-charact
 use Rattle.vt_utf8.proofs.Silence.{is_part, AreSilent, character-events}
 use Rattle.vt_xterm.specs.Pages.{Screens, PagesState}
 use Rattle.vt_xterm.specs.Play.{Whole, WholePlayed, FrontState, behind, screens_of, play_bytes, play_character, play_characters, play_xterm, xterm_log, both as both_whole}
-use Rattle.vt_xterm.specs.Play.{whole_of}
+use Rattle.vt_xterm.specs.Subparameters.{before, is_apart, passed}
+use Rattle.vt_xterm.specs.Play.{whole_of, held_on, held_before, play_ascii}
 use Rattle.vt_xterm.proofs.Cuts.{characters-two, character-ascii}
 use Rattle.vt_xterm.proofs.Fed.{one-byte}
 use Rattle.vt_device.specs.Output.{IsAfter, always}
@@ -250,18 +251,23 @@ single-none b s =
     (of-both (λ (es : List Event). pages_before es s ≡ []) (is_plain b || nat_le 0xA0 b) (Print b ∷ []) (Control b ∷ [])
     (quiet s.pages.alternate (page s.display)) (quiet s.pages.alternate (page s.display)))
 
+-- no bytes come before it
+nothing-before : (w : Whole) (b : ℕ) → w.state.held ≡ Nothing → held_before w b ≡ Nothing
+unfolding before
+nothing-before w b between = ap (λ (h : Held). held_on h (before w.pages.subparameters h b)) between
+
 module _ (spelling : SpellingLaw) where
   byte-none : (w : Whole) (b : ℕ) → w.state.held ≡ Nothing → IsText b → pages_at_byte w b ≡ []
   byte-none w b between text =
-      ap (λ (h : Held). pages_before (events_from h (b ∷ [])) (screens_of w)) between
+      ap (λ (h : Held). pages_before (events_from h (b ∷ [])) (screens_of w)) (nothing-before w b between)
       ∙ ap (λ (es : List Event). pages_before es (screens_of w)) (spelling.single b (opens-nothing b text))
       ∙ single-none b (screens_of w)
 
   byte-held : (w : Whole) (b : ℕ) → w.state.held ≡ Nothing → IsText b → (play_character w b).whole.state.held ≡ Nothing
-  unfolding play_bytes
+  unfolding play_ascii play_bytes before is_apart
   byte-held w b between text =
       ap (λ (p : WholePlayed). p.whole.state.held) (character-ascii w b text.0)
-      ∙ ap (λ (h : Held). held_from h (b ∷ [])) between ∙ spelling.single_held b (opens-nothing b text)
+      ∙ ap (λ (h : Held). held_from h (passed w.pages.subparameters h b)) between ∙ spelling.single_held b (opens-nothing b text)
 
   text-lines : (w : Whole) (bytes : List ℕ) → w.state.held ≡ Nothing → All IsText bytes
       → pages_of_characters w bytes ≡ flat_map line_text (play_characters w bytes).lines
@@ -311,20 +317,24 @@ pub front-whole : (s : State) (v : Whole) (front inside : FrontState) (c : ℕ) 
     → v ≡ (play_characters (whole_of s inside.pages) (c ∷ [])).whole → v ≡ (play_characters (behind s front) (c ∷ [])).whole
 front-whole s v front inside c is made = made ∙ ap (λ (f : FrontState). (play_characters (behind s f) (c ∷ [])).whole) is
 
+pub front-before : (s : State) (inside front : FrontState) (b : ℕ) (h : Held) → inside ≡ front
+    → h ≡ held_before (whole_of s inside.pages) b → h ≡ held_before (behind s front) b
+front-before s inside front b h is read = read ∙ ap (λ (f : FrontState). held_before (behind s f) b) is
+
 -- the page before the event that a byte completes, if it completes one
-completes : (w : Whole) (h : Held) (b n : ℕ) (events : List Event) → h ≡ w.state.held → 1 ≤ n
+completes : (w : Whole) (h : Held) (b n : ℕ) (events : List Event) → h ≡ held_before w b → 1 ≤ n
     → events ≡ events_from h (take n (b ∷ [])) → pages_at_byte w b ≡ pages_before events (screens_of w)
 completes w h b n events is some read =
     ap (λ (es : List Event). pages_before es (screens_of w))
     (ap (λ (x : Held). events_from x (b ∷ [])) (sym is)
     ∙ ap (λ (bytes : List ℕ). events_from h bytes) (sym (one-byte n b some)) ∙ sym read)
 
-pub page-none : (w : Whole) (h : Held) (b n : ℕ) (before : List ℕ) → h ≡ w.state.held → 1 ≤ n
+pub page-none : (w : Whole) (h : Held) (b n : ℕ) (before : List ℕ) → h ≡ held_before w b → 1 ≤ n
     → [] ≡ events_from h (take n (b ∷ [])) → before ≡ before ++ pages_at_byte w b
 page-none w h b n before is some read =
     sym (append-nil before) ∙ ap (λ (l : List ℕ). before ++ l) (sym (completes w h b n [] is some read))
 
-pub page-some : (w : Whole) (h : Held) (b n : ℕ) (event : Event) (before out : List ℕ) → h ≡ w.state.held → 1 ≤ n
+pub page-some : (w : Whole) (h : Held) (b n : ℕ) (event : Event) (before out : List ℕ) → h ≡ held_before w b → 1 ≤ n
     → event ∷ [] ≡ events_from h (take n (b ∷ [])) → out ≡ before ++ page_before event (screens_of w)
     → out ≡ before ++ pages_at_byte w b
 page-some w h b n event before out is some read told =
@@ -345,6 +355,19 @@ goes-on r n limit len after room later most some full same fits is grows = elim 
         | inr less ↦ absurd (omega (arith, less, stays, fits, is))
       ]
 ]
+
+-- the first turn alone writes
+pub first-turn : (begun len new now limit : ℕ) → len ≡ begun → now ≡ limit → new ≤ len + now → new ≤ begun + limit
+first-turn begun len new now limit none is few = omega (arith, none, is, few)
+
+-- two characters write twice as much
+pub two-bounded : (old middle new now limit : ℕ) → now ≡ limit → middle ≤ old + limit → new ≤ middle + now → new ≤ old + 2 * limit
+two-bounded old middle new now limit is first second = omega (arith, is, first, second)
+
+-- two characters under TERM=xterm
+pub two-in-main : (old middle new now page lines : ℕ) → page ≤ lines → now ≡ page + lines → middle ≤ old + (page + lines) → new ≤ middle + now
+    → new ≤ old + (page + 2 * (2 * lines))
+two-in-main old middle new now page lines fits is first second = omega (arith, fits, is, first, second)
 
 -- nothing is written of no bytes
 pub no-lines : (written : List ℕ → List ℕ) (bytes before out : List ℕ) (r : ℕ) → written [] ≡ []
@@ -383,18 +406,6 @@ one-in-most page most old room few fits = omega (arith, few, fits)
 
 pub one-fits : (rows row old room : ℕ) → old + 2 * (max rows 22 * row) ≤ room → old + rows * row ≤ room
 one-fits rows row old room fits = one-in-most (rows * row) (max rows 22 * row) old room (text-fits rows row) fits
-
-page-in-room : (page most : ℕ) → page ≤ most → page ≤ 4 * (2 * most)
-page-in-room page most few = omega (arith, few)
-
-pub text-room : (rows row : ℕ) → rows * row ≤ 4 * (2 * (max rows 22 * row))
-text-room rows row = page-in-room (rows * row) (max rows 22 * row) (text-fits rows row)
-
-both-in-room : (page most : ℕ) → page ≤ most → page + 2 * (2 * most) ≤ 4 * (2 * most)
-both-in-room page most few = omega (arith, few)
-
-pub main-room : (rows row : ℕ) → rows * row + 2 * (2 * (max rows 22 * row)) ≤ 4 * (2 * (max rows 22 * row))
-main-room rows row = both-in-room (rows * row) (max rows 22 * row) (text-fits rows row)
 
 -- ---- what comes after bytes
 

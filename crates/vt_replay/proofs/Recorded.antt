@@ -5,7 +5,7 @@ use Rattle.vt_screen.specs.declared.size.Size.{Size}
 use Rattle.vt_cli.specs.Source.{size_of}
 use Rattle.vt_recording.specs.declared.changes.Change.{Change}
 use Rattle.vt_replay.specs.declared.resized.Resize.{Resize}
-use Rattle.vt_replay.specs.Request.{resize_then, resizes_of}
+use Rattle.vt_replay.specs.Resizes.{resize_then, resizes_of}
 
 abbrev resize : ℕ → Size → Resize
 resize after size = record { after = after; size = size }

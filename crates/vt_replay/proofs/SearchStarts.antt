@@ -1,5 +1,5 @@
 -- The steps before a moment, and what is made of the others.
-use Rattle.std.proofs.Common.{◌≡◌, ◌+◌, ◌-◌, ◌≤◌, ◌++◌, ◌∷◌, ◌∙◌, [], ℕ, List, length, take, drop, min, max, Bool, true, false, cond, refl, sym, ap, arith, append-nil, append_assoc, length-drop}
+use Rattle.std.proofs.Common.{◌≡◌, ◌+◌, ◌-◌, ◌≤◌, ◌++◌, ◌∷◌, ◌∙◌, [], ℕ, List, length, take, drop, min, max, Bool, true, false, cond, refl, sym, ap, arith, length-drop}
 use Rattle.std.proofs.lemmas.List.{drop_all, length-take}
 use Rattle.std.proofs.Math.Seq.{take-add}
 use Rattle.vt_recording.specs.declared.format.Moment.{Moment}

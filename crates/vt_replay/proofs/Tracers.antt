@@ -1,14 +1,13 @@
--- The tracer after bytes.
-use Rattle.std.proofs.Common.{◌≡◌, ℕ, ◌+◌, List, [], ◌∷◌, ◌++◌, length, refl, ap, arith}
+-- The trace of more bytes, and the tracer after them.
+use Rattle.std.proofs.Common.{◌≡◌, ℕ, ◌+◌, List, [], ◌∷◌, ◌++◌, length, refl, arith}
 use Rattle.vt_term.specs.State.{State}
 use Rattle.vt_screen.specs.declared.size.Size.{Size}
 use Rattle.vt_term.specs.Sound.{IsSoundAt, IsSoundSized}
 use Rattle.vt_term.specs.Play.{play}
 use Rattle.vt_utf8.specs.Decoding.{pending_after}
 use Rattle.vt_utf8.specs.Play.{play_utf8}
-use Rattle.vt_device.specs.Output.{IsAfter, always}
 use Rattle.vt_trace.specs.declared.tracing.Tracer.{Tracer}
-use Rattle.vt_trace.specs.Trace.{trace, tracer_all, tracer_after, end_lines}
+use Rattle.vt_trace.specs.Trace.{trace, tracer_all, tracer_after}
 use Rattle.vt_trace.specs.Utf8.{dialect_trace, dialect_tracer, trace_utf8, tracer_utf8}
 use Rattle.vt_xterm.specs.Play.{Whole, FrontState, behind, play_xterm}
 use Rattle.vt_xterm_trace.specs.Trace.{trace_xterm, tracer_xterm}
@@ -31,21 +30,17 @@ pub no_tracer : (s : State) (t : Tracer) → tracer_all s t [] ≡ t
 unfolding tracer_all
 no_tracer s t = refl
 
-pub plain_trace_after : (s z : State) (t u : Tracer) (chunk : List ℕ)
-    → ((size : Size) (s : State) (t : Tracer) (a b : List ℕ) → IsSoundAt size s → trace s t (a ++ b)
-    ≡ trace s t a ++ trace (play s a).state (tracer_all s t a) b)
-    → ((size : Size) (s : State) (t : Tracer) (a b : List ℕ) → IsSoundAt size s → tracer_all s t (a ++ b)
-    ≡ tracer_all (play s a).state (tracer_all s t a) b)
-    → IsSoundSized s → z ≡ (play s chunk).state → u ≡ tracer_all s t chunk
-    → IsAfter (λ x. trace s t x) (λ x. end_lines (tracer_all s t x)) always chunk
-    (λ x. trace z u x) (λ x. end_lines (tracer_all z u x)) always
-plain_trace_after s z t u chunk lines tracers sound state tracer = record {
-  on = λ more. rw (state, tracer) (lines s.display.grid.size s t chunk more sound);
-  end_on = λ more. rw (state, tracer)
-      (ap (λ (v : Tracer). end_lines v) (tracers s.display.grid.size s t chunk more sound));
-  there_on = λ more. refl;
-  none = no_trace z u;
-}
+module _ (s z : State) (t u : Tracer) (chunk more : List ℕ) (sound : IsSoundSized s) (state : z ≡ (play s chunk).state)
+    (tracer : u ≡ tracer_all s t chunk) where
+  pub plain_trace : ((size : Size) (s : State) (t : Tracer) (a b : List ℕ) → IsSoundAt size s → trace s t (a ++ b)
+      ≡ trace s t a ++ trace (play s a).state (tracer_all s t a) b)
+      → trace s t (chunk ++ more) ≡ trace s t chunk ++ trace z u more
+  plain_trace two = rw (state, tracer) (two s.display.grid.size s t chunk more sound)
+
+  pub plain_tracer : ((size : Size) (s : State) (t : Tracer) (a b : List ℕ) → IsSoundAt size s → tracer_all s t (a ++ b)
+      ≡ tracer_all (play s a).state (tracer_all s t a) b)
+      → tracer_all s t (chunk ++ more) ≡ tracer_all z u more
+  plain_tracer two = rw (state, tracer) (two s.display.grid.size s t chunk more sound)
 
 -- ---- UTF-8
 
@@ -57,23 +52,18 @@ pub no_utf8_tracer : (s : State) (t : Tracer) (pending : List ℕ) → tracer_ut
 unfolding dialect_tracer
 no_utf8_tracer s t pending = refl
 
-pub utf8_trace_after : (s z : State) (t u : Tracer) (pending after chunk : List ℕ)
-    → ((size : Size) (s : State) (t : Tracer) (pending a b : List ℕ) → IsSoundAt size s
-    → trace_utf8 s t pending (a ++ b) ≡ trace_utf8 s t pending a
-    ++ trace_utf8 (play_utf8 s pending a).state (tracer_utf8 s t pending a) (pending_after pending a) b)
-    → ((size : Size) (s : State) (t : Tracer) (pending a b : List ℕ) → IsSoundAt size s → tracer_utf8 s t pending (a ++ b)
-    ≡ tracer_utf8 (play_utf8 s pending a).state (tracer_utf8 s t pending a) (pending_after pending a) b)
-    → IsSoundSized s → z ≡ (play_utf8 s pending chunk).state → after ≡ pending_after pending chunk
-    → u ≡ tracer_utf8 s t pending chunk
-    → IsAfter (λ x. trace_utf8 s t pending x) (λ x. end_lines (tracer_utf8 s t pending x)) always chunk
-    (λ x. trace_utf8 z u after x) (λ x. end_lines (tracer_utf8 z u after x)) always
-utf8_trace_after s z t u pending after chunk lines tracers sound state left tracer = record {
-  on = λ more. rw (state, left, tracer) (lines s.display.grid.size s t pending chunk more sound);
-  end_on = λ more. rw (state, left, tracer)
-      (ap (λ (v : Tracer). end_lines v) (tracers s.display.grid.size s t pending chunk more sound));
-  there_on = λ more. refl;
-  none = no_utf8_trace z u after;
-}
+module _ (s z : State) (t u : Tracer) (pending after chunk more : List ℕ) (sound : IsSoundSized s)
+    (state : z ≡ (play_utf8 s pending chunk).state) (left : after ≡ pending_after pending chunk) (tracer : u ≡ tracer_utf8 s t pending chunk) where
+  pub utf8_trace : ((size : Size) (s : State) (t : Tracer) (pending a b : List ℕ) → IsSoundAt size s
+      → trace_utf8 s t pending (a ++ b) ≡ trace_utf8 s t pending a
+      ++ trace_utf8 (play_utf8 s pending a).state (tracer_utf8 s t pending a) (pending_after pending a) b)
+      → trace_utf8 s t pending (chunk ++ more) ≡ trace_utf8 s t pending chunk ++ trace_utf8 z u after more
+  utf8_trace two = rw (state, left, tracer) (two s.display.grid.size s t pending chunk more sound)
+
+  pub utf8_tracer : ((size : Size) (s : State) (t : Tracer) (pending a b : List ℕ) → IsSoundAt size s → tracer_utf8 s t pending (a ++ b)
+      ≡ tracer_utf8 (play_utf8 s pending a).state (tracer_utf8 s t pending a) (pending_after pending a) b)
+      → tracer_utf8 s t pending (chunk ++ more) ≡ tracer_utf8 z u after more
+  utf8_tracer two = rw (state, left, tracer) (two s.display.grid.size s t pending chunk more sound)
 
 -- ---- under TERM=xterm
 
@@ -81,22 +71,17 @@ pub no_xterm_tracer : (w : Whole) (t : Tracer) (pending : List ℕ) → tracer_x
 unfolding dialect_tracer
 no_xterm_tracer w t pending = refl
 
-pub xterm_trace_after : (s z : State) (front new : FrontState) (t u : Tracer) (chunk : List ℕ)
-    → ((w : Whole) (t : Tracer) (pending a b : List ℕ) → trace_xterm w t pending (a ++ b) ≡ trace_xterm w t pending a
-    ++ trace_xterm (play_xterm w pending a).whole (tracer_xterm w t pending a) (pending_after pending a) b)
-    → ((w : Whole) (t : Tracer) (pending a b : List ℕ) → tracer_xterm w t pending (a ++ b)
-    ≡ tracer_xterm (play_xterm w pending a).whole (tracer_xterm w t pending a) (pending_after pending a) b)
-    → ((w : Whole) (t : Tracer) (pending : List ℕ) → trace_xterm w t pending [] ≡ [])
-    → z ≡ (play_xterm (behind s front) front.pending chunk).whole.state
-    → new.pages ≡ (play_xterm (behind s front) front.pending chunk).whole.pages
-    → new.pending ≡ pending_after front.pending chunk → u ≡ tracer_xterm (behind s front) t front.pending chunk
-    → IsAfter (λ x. trace_xterm (behind s front) t front.pending x)
-    (λ x. end_lines (tracer_xterm (behind s front) t front.pending x)) always chunk
-    (λ x. trace_xterm (behind z new) u new.pending x) (λ x. end_lines (tracer_xterm (behind z new) u new.pending x)) always
-xterm_trace_after s z front new t u chunk lines tracers none state pages left tracer = record {
-  on = λ more. rw (state, pages, left, tracer) (lines (behind s front) t front.pending chunk more);
-  end_on = λ more. rw (state, pages, left, tracer)
-      (ap (λ (v : Tracer). end_lines v) (tracers (behind s front) t front.pending chunk more));
-  there_on = λ more. refl;
-  none = none (behind z new) u new.pending;
-}
+module _ (s z : State) (front new : FrontState) (t u : Tracer) (chunk more : List ℕ)
+    (state : z ≡ (play_xterm (behind s front) front.pending chunk).whole.state)
+    (pages : new.pages ≡ (play_xterm (behind s front) front.pending chunk).whole.pages)
+    (left : new.pending ≡ pending_after front.pending chunk) (tracer : u ≡ tracer_xterm (behind s front) t front.pending chunk) where
+  pub xterm_trace : ((w : Whole) (t : Tracer) (pending a b : List ℕ) → trace_xterm w t pending (a ++ b) ≡ trace_xterm w t pending a
+      ++ trace_xterm (play_xterm w pending a).whole (tracer_xterm w t pending a) (pending_after pending a) b)
+      → trace_xterm (behind s front) t front.pending (chunk ++ more)
+      ≡ trace_xterm (behind s front) t front.pending chunk ++ trace_xterm (behind z new) u new.pending more
+  xterm_trace two = rw (state, pages, left, tracer) (two (behind s front) t front.pending chunk more)
+
+  pub xterm_tracer : ((w : Whole) (t : Tracer) (pending a b : List ℕ) → tracer_xterm w t pending (a ++ b)
+      ≡ tracer_xterm (play_xterm w pending a).whole (tracer_xterm w t pending a) (pending_after pending a) b)
+      → tracer_xterm (behind s front) t front.pending (chunk ++ more) ≡ tracer_xterm (behind z new) u new.pending more
+  xterm_tracer two = rw (state, pages, left, tracer) (two (behind s front) t front.pending chunk more)

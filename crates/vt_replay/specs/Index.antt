@@ -10,7 +10,6 @@ use Rattle.vt_xterm_paint.specs.Repaint.{xterm_repaint}
 use Rattle.vt_recording.specs.declared.format.Format.{Format}
 use Rattle.vt_recording.specs.declared.format.Format.TheVariants.{Raw, Script, Ttyrec, Asciicast}
 use Rattle.vt_recording.specs.declared.format.Encoding.{Encoding}
-use Rattle.vt_recording.specs.declared.format.Moment.{Moment}
 use Rattle.vt_device.specs.declared.fault.Break.{Break}
 use Rattle.vt_recording.specs.declared.timeline.EventKind.TheVariants.{Output}
 use Rattle.vt_recording.specs.Reached.{has_characters}
@@ -255,5 +254,5 @@ index_of format host every opening broken bytes content steps =
 abbrev pub IsIndexed : Format → Host → (every : ℕ) → (opening : List ℕ) → (timing : Option (List ℕ)) → (bytes index : List ℕ)
     → (broken : Option Break) → (replaced : ℕ) → Type 0
 IsIndexed format host every opening timing bytes index broken replaced =
-    IsStepped (λ content steps. index_of format host every opening broken bytes content steps) format host.encoding None
+    IsStepped (λ content steps changes. index_of format host every opening broken bytes content steps) format host.encoding None
     timing bytes index broken replaced

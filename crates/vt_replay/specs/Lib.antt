@@ -18,4 +18,5 @@ pub mod Showing
 pub mod Sized
 pub mod Status
 pub mod Steps
+pub mod Traces
 pub mod Words

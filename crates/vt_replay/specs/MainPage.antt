@@ -13,7 +13,7 @@ use Rattle.vt_term.specs.Text.{line_text}
 use Rattle.vt_utf8.specs.Decoding.{characters}
 use Rattle.vt_xterm.specs.Pages.{Screens, is_bounded}
 use Rattle.vt_xterm.specs.Front.{xterm_effect}
-use Rattle.vt_xterm.specs.Play.{Whole, screens_of, play_character}
+use Rattle.vt_xterm.specs.Play.{Whole, held_before, screens_of, play_character}
 use Rattle.vt_replay.specs.Pages.{erases_all, blanks_by, is_reset, page}
 
 -- SD moves every line off: between full margins, by as many lines as the screen has or more
@@ -75,7 +75,7 @@ pages_before (event ∷ events) s = page_before event s ++ pages_before events (
 
 -- the pages and lines of a byte, which completes at most one event. An event that blanks the page scrolls no line off
 abbrev pub pages_at_byte : Whole → ℕ → List ℕ
-pages_at_byte w b = pages_before (events_from w.state.held (b ∷ [])) (screens_of w)
+pages_at_byte w b = pages_before (events_from (held_before w b) (b ∷ [])) (screens_of w)
 
 -- the page before the event of a character; one beyond ASCII blanks no page
 abbrev pub page_at : Whole → ℕ → List ℕ

@@ -127,7 +127,3 @@ main_room size = text_limit size + 2 * xterm_lines_limit size
 -- an ASCII byte that isn't ESC
 abbrev pub IsText : ℕ → Type 0
 IsText b = (b < 0x80) × (b ≢ 0x1B)
-
--- the capacity for lines and pages between two writes: 8 screens of 22 rows or more
-unfoldable pub pages_room : Size → ℕ
-pages_room size = 4 * xterm_lines_limit size

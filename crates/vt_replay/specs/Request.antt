@@ -1,21 +1,18 @@
 -- The bytes that a request takes from its reader, and those that it gives to its writer. (this profile)
-use Rattle.std.specs.Prelude.{◌≡◌, ◌⊎◌, ℕ, ◌+◌, ◌-◌, ◌^◌, ◌≤◌, ◌++◌, ◌∷◌, ◌&&◌, ◌||◌, List, [], length, min, take, Bool, true, false, not, is_some, Option, Some, None, Result, Ok, Err}
+use Rattle.std.specs.Prelude.{◌≡◌, ◌⊎◌, ℕ, ◌+◌, ◌-◌, ◌≤◌, ◌++◌, ◌&&◌, ◌||◌, List, [], length, Bool, true, false, not, is_some, Option, Some, None, Result, Ok, Err}
 use Rattle.vt_device.specs.Runs.{Flags}
 use Rattle.vt_cli.specs.declared.asked.Request.{Request}
 use Rattle.vt_recording.specs.declared.format.Format.{Format}
 use Rattle.vt_recording.specs.declared.format.Format.TheVariants as format
 use Rattle.vt_recording.specs.Format.{has_times}
 use Rattle.vt_recording.specs.declared.format.Moment.{Moment}
-use Rattle.vt_recording.specs.declared.format.Moment.TheVariants.{Micros, Bytes, Event, Marker}
+use Rattle.vt_recording.specs.declared.format.Moment.TheVariants.{Micros}
 use Rattle.vt_recording.specs.declared.detection.Detected.{Detected}
 use Rattle.vt_recording.specs.declared.detection.Detected.TheVariants.{Recording, Compressed}
 use Rattle.vt_recording.specs.Detection.{detected}
 use Rattle.vt_device.specs.declared.fault.Break.{Break}
 use Rattle.vt_recording.specs.Reached.{IsTakenBetween, IsAmong, has_characters, nothing_passed}
 use Rattle.vt_recording.specs.Changes.{changes_in}
-use Rattle.vt_recording.specs.declared.changes.Change.{Change}
-use Rattle.vt_screen.specs.declared.size.Size.{Size}
-use Rattle.vt_cli.specs.Source.{size_of}
 use Rattle.vt_replay.specs.declared.resized.Resize.{Resize}
 use Rattle.vt_device.specs.declared.fault.Fault.{Fault}
 use Rattle.vt_device.specs.declared.fault.Fault.TheVariants as fault
@@ -27,6 +24,7 @@ use Rattle.vt_replay.specs.Words.{WordTable}
 use Rattle.vt_replay.specs.EventTable.{IsTableTaken}
 use Rattle.vt_replay.specs.Playing.{language_of}
 use Rattle.vt_replay.specs.Animated.{title_of, IsAnimation}
+use Rattle.vt_replay.specs.Resizes.{carried_out}
 use Rattle.vt_replay.specs.Search.{text_of, IsSearched}
 use Rattle.vt_replay.specs.Index.{IsIndexed}
 use Rattle.vt_cli.specs.declared.what.What.TheVariants.{Picture}
@@ -86,36 +84,7 @@ pub record IsPlayed (o : Outcome) (r : Request) (host : Host) (resizes : List Re
   pub ended : o.ended ≡ ended_of broken played
   pub replaces : o.replaced ≡ replaced
 
--- what is taken out of a recording for a word: the table of its events, a picture that moves, the spans of a search, an index, or its content
-abbrev pub IsTakenBy : Word → Request → Format → Host → (timing : Option (List ℕ)) → (bytes content : List ℕ)
-    → (broken : Option Break) → (replaced : ℕ) → Type 0
-IsTakenBy Events r format host timing bytes content broken replaced =
-    IsTableTaken format r.full r.from r.until timing bytes content broken replaced
-IsTakenBy (Animation looks) r format host timing bytes content broken replaced =
-    IsAnimation looks (title_of r.title) (opening (Replay Picture) host) host.size (language_of host.terminal host.encoding) format host.encoding r.until
-    timing bytes content broken replaced
-IsTakenBy Search r format host timing bytes content broken replaced =
-    IsSearched host.size r.log (text_of r.pattern) (opening (Replay Picture) host) (language_of host.terminal host.encoding) format host.encoding r.from
-    r.until timing bytes content broken replaced
-IsTakenBy Index r format host timing bytes content broken replaced =
-    IsIndexed format host r.every (opening (Replay Picture) host) timing bytes content broken replaced
-IsTakenBy word r format host timing bytes content broken replaced =
-    IsTakenBetween format host.encoding r.from r.until timing bytes content broken replaced
-
 -- ---- changes of the size
-
--- the changes from one on: an impossible size isn't used, and the next change comes after the one before it
-abbrev pub resize_then : Option Size → (after : ℕ) → (skipped taken : List Resize) → List Resize
-resize_then None after skipped taken = skipped
-resize_then (Some size) after skipped taken = record { after = after; size = size } ∷ taken
-
--- changes at places of the content as changes of the screen, after bytes that aren't of the content, and after a place of it. The number
--- of bytes stops at 2^64 - 1
-unfoldable pub resizes_of : (before at : ℕ) → List Change → List Resize
-resizes_of before at [] = []
-resizes_of before at (c ∷ changes) =
-    resize_then (size_of c.window.columns c.window.rows) (min (before + (c.place - at)) (2 ^ 64 - 1)) (resizes_of before at changes)
-    (resizes_of 0 c.place changes)
 
 -- only asciinema and script(1) write sizes
 abbrev pub has_sizes : Format → Bool
@@ -126,25 +95,49 @@ has_sizes format = false
 -- the word carries out changes of the size
 abbrev pub changes_size : Word → Bool
 changes_size (Replay what) = true
+changes_size (Animation looks) = true
 changes_size Log = true
+changes_size Pages = true
+changes_size Trace = true
+changes_size Search = true
 changes_size word = false
 
--- the screen keeps its size: one was asked for, or a width, or no change is carried out. A word that begins in the middle plays no screen
+-- the screen keeps its size: one was asked for, or a width, or no change is carried out. A word that begins in the middle carries none out
 abbrev pub keeps_size : Request → Format → Bool
 keeps_size r format =
     is_some r.size || (is_some r.wide || (is_some r.from || (not (changes_size r.word) || not (has_sizes format))))
 
--- so many changes are carried out at most: each has a screen from the beginning
-abbrev pub most_changes : ℕ
-most_changes = 1000
+-- ---- what is taken out of a recording
+
+-- what is taken out of a recording for a word: the table of its events, a picture that moves, the spans of a search, an index, or its content
+abbrev pub IsTakenBy : Word → Request → Format → Host → (timing : Option (List ℕ)) → (bytes content : List ℕ)
+    → (broken : Option Break) → (replaced : ℕ) → Type 0
+IsTakenBy Events r format host timing bytes content broken replaced =
+    IsTableTaken format r.full r.from r.until timing bytes content broken replaced
+IsTakenBy (Animation looks) r format host timing bytes content broken replaced =
+    IsAnimation looks (keeps_size r format) (title_of r.title) (opening (Replay Picture) host) host.size (language_of host.terminal host.encoding) format
+    host.encoding r.until timing bytes content broken replaced
+IsTakenBy Search r format host timing bytes content broken replaced =
+    IsSearched host.size (keeps_size r format) r.log (text_of r.pattern) (opening (Replay Picture) host) (language_of host.terminal host.encoding) format host.encoding r.from
+    r.until timing bytes content broken replaced
+IsTakenBy Index r format host timing bytes content broken replaced =
+    IsIndexed format host r.every (opening (Replay Picture) host) timing bytes content broken replaced
+IsTakenBy word r format host timing bytes content broken replaced =
+    IsTakenBetween format host.encoding r.from r.until timing bytes content broken replaced
+
+-- ---- what is played of a recording
+
+-- no change comes between the bytes that are played: the screen keeps its size, or the changes are carried out in what is made of the
+-- whole recording
+abbrev pub plays_one_size : Request → Format → Bool
+plays_one_size r format = takes_whole r.word || keeps_size r format
 
 -- the first changes that a recording has up to the moment
-abbrev pub AreResizes : (keeps : Bool) → Request → Format → (timing : Option (List ℕ)) → (bytes : List ℕ) → Host → (resizes : List Resize) → Type 0
+abbrev pub AreResizes : (none : Bool) → Request → Format → (timing : Option (List ℕ)) → (bytes : List ℕ) → Host → (resizes : List Resize) → Type 0
 AreResizes true r format timing bytes host resizes = resizes ≡ []
 AreResizes false r format timing bytes host resizes =
     IsAmong format timing bytes (λ events. resizes
-    ≡ resizes_of (length (opening r.word host)) 0
-    (take most_changes (changes_in (has_characters format host.encoding) r.until nothing_passed events)))
+    ≡ carried_out false (length (opening r.word host)) (changes_in (has_characters format host.encoding) r.until nothing_passed events))
 
 -- what is played of a recording: the opening and the content, and the changes of the size
 pub record IsPrepared (r : Request) (format : Format) (timing : Option (List ℕ)) (b : List ℕ) (host : Host) (resizes : List Resize)
@@ -153,7 +146,7 @@ pub record IsPrepared (r : Request) (format : Format) (timing : Option (List ℕ
   pub content : List ℕ
   pub taken : IsTakenBy r.word r format host timing b content broken replaced
   pub joined : bytes ≡ opening r.word host ++ content
-  pub resized : AreResizes (keeps_size r format) r format timing b host resizes
+  pub resized : AreResizes (plays_one_size r format) r format timing b host resizes
 
 -- the input was read whole and taken apart, and the word was carried out on what is played of it
 pub record IsTakenApart (o : Outcome) (r : Request) (format : Format) (timing : Option (List ℕ)) (b w : List ℕ) (f : Flags) : Type 0 where

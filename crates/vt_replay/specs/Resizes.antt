@@ -6,7 +6,7 @@
 --   `a LF CR b LF CR c`, a change to 2 rows after 7 bytes: the cursor is in row 3, so one row leaves at the change: rows `b`, `c`
 --   the same with the change after 8 bytes: these never come, and there is no change: rows `a`, `b`, `c`
 --   a change after 0 bytes comes before the first byte, and one after as many as there are comes after the last
-use Rattle.std.specs.Prelude.{ℕ, List, [], ◌∷◌, length, take, drop, map, Bool, true, cond, nat_le, nat_lt, Result}
+use Rattle.std.specs.Prelude.{ℕ, ◌+◌, ◌-◌, ◌^◌, List, [], ◌∷◌, length, take, drop, map, min, Bool, true, cond, nat_le, nat_lt, Option, Some, None, Result}
 use Rattle.vt_screen.specs.declared.size.Size.{Size}
 use Rattle.vt_term.specs.State.{State, state_of}
 use Rattle.vt_term.specs.Play.{Played, play, both}
@@ -16,9 +16,17 @@ use Rattle.vt_utf8.specs.Decoding.{pending_after}
 use Rattle.vt_utf8.specs.Play.{play_utf8, translated}
 use Rattle.vt_xterm.specs.Play.{Whole, play_xterm, xterm_log, behind, front_of}
 use Rattle.vt_xterm.specs.Resizing.{whole_on, xterm_log_on}
+use Rattle.vt_trace.specs.declared.tracing.Tracer.{Tracer}
+use Rattle.vt_trace.specs.Trace.{trace, tracer_all}
+use Rattle.vt_trace.specs.Utf8.{trace_utf8, tracer_utf8}
+use Rattle.vt_xterm_trace.specs.Trace.{trace_xterm, tracer_xterm}
+use Rattle.vt_recording.specs.declared.changes.Change.{Change}
+use Rattle.vt_cli.specs.Source.{size_of}
 use Rattle.vt_replay.specs.declared.language.Language.{Language}
 use Rattle.vt_replay.specs.declared.language.Language.TheVariants.{Dec, Utf8, Xterm}
 use Rattle.vt_replay.specs.declared.resized.Resize.{Resize}
+use Rattle.vt_replay.specs.MainPage.{xterm_pages}
+use Rattle.vt_replay.specs.Pages.{pages}
 use Rattle.vt_replay.specs.Playing.{on_terminal, Due, due_by}
 use Rattle.vt_replay.specs.Session.{is_between}
 use Rattle.vt_cli.specs.declared.what.What.{What}
@@ -31,13 +39,16 @@ use Rattle.vt_device.specs.declared.fault.Fault.{Fault}
 -- ---- what is kept between a host's bytes, in each language
 
 -- what bytes leave and report, what they leave to be kept, and what a change of the size makes of that; the lines that
--- bytes scroll off, and those that leave at a change
+-- bytes scroll off, these and the pages, and the lines that leave at a change; the trace of bytes, and the tracer after them
 pub record Session (K : Type 0) : Type 0 where
   pub played : K → List ℕ → Played
   pub after : K → List ℕ → K
   pub on : Size → K → K
   pub lines : K → List ℕ → List ℕ
+  pub pages : K → List ℕ → List ℕ
   pub off : Size → K → List ℕ
+  pub trace : K → Tracer → List ℕ → List ℕ
+  pub tracer : K → Tracer → List ℕ → Tracer
 
 -- a state, and what is pending of UTF-8
 pub record Utf8Kept : Type 0 where
@@ -55,7 +66,10 @@ plain_session = record {
   after = λ s bytes. (play s bytes).state;
   on = state_on;
   lines = λ s bytes. log s bytes;
+  pages = λ s bytes. pages s bytes;
   off = log_on;
+  trace = λ s t bytes. trace s t bytes;
+  tracer = λ s t bytes. tracer_all s t bytes;
 }
 
 abbrev pub utf8_begun : Size → Utf8Kept
@@ -67,7 +81,10 @@ utf8_session = record {
   after = λ k bytes. record { state = (play_utf8 k.state k.pending bytes).state; pending = pending_after k.pending bytes };
   on = λ size k. record { state = state_on size k.state; pending = k.pending };
   lines = λ k bytes. log k.state (translated k.state k.pending bytes);
+  pages = λ k bytes. pages k.state (translated k.state k.pending bytes);
   off = λ size k. log_on size k.state;
+  trace = λ k t bytes. trace_utf8 k.state t k.pending bytes;
+  tracer = λ k t bytes. tracer_utf8 k.state t k.pending bytes;
 }
 
 abbrev pub xterm_begun : Size → XtermKept
@@ -79,7 +96,10 @@ xterm_session = record {
   after = λ k bytes. record { whole = (play_xterm k.whole k.pending bytes).whole; pending = pending_after k.pending bytes };
   on = λ size k. record { whole = whole_on size k.whole; pending = k.pending };
   lines = λ k bytes. xterm_log k.whole k.pending bytes;
+  pages = λ k bytes. xterm_pages k.whole k.pending bytes;
   off = λ size k. xterm_log_on size k.whole;
+  trace = λ k t bytes. trace_xterm k.whole t k.pending bytes;
+  tracer = λ k t bytes. tracer_xterm k.whole t k.pending bytes;
 }
 
 -- ---- bytes and changes
@@ -105,6 +125,43 @@ abbrev pub played_with : Size → List Resize → Language → List ℕ → Play
 played_with size resizes Dec bytes = played_on plain_session (state_of size) resizes bytes
 played_with size resizes Utf8 bytes = played_on utf8_session (utf8_begun size) resizes bytes
 played_with size resizes Xterm bytes = played_on xterm_session (xterm_begun size) resizes bytes
+
+-- ---- the changes of a recording
+
+-- the changes from one on: an impossible size isn't used, and the next change comes after the one before it
+abbrev pub resize_then : Option Size → (after : ℕ) → (skipped taken : List Resize) → List Resize
+resize_then None after skipped taken = skipped
+resize_then (Some size) after skipped taken = record { after = after; size = size } ∷ taken
+
+-- changes at places of the content as changes of the screen, after bytes that aren't of the content, and after a place of it. The number
+-- of bytes stops at 2^64 - 1
+unfoldable pub resizes_of : (before at : ℕ) → List Change → List Resize
+resizes_of before at [] = []
+resizes_of before at (c ∷ changes) =
+    resize_then (size_of c.window.columns c.window.rows) (min (before + (c.place - at)) (2 ^ 64 - 1)) (resizes_of before at changes)
+    (resizes_of 0 c.place changes)
+
+-- so many changes are carried out at most: each has a screen from the beginning
+abbrev pub most_changes : ℕ
+most_changes = 1000
+
+-- the changes of a screen that doesn't keep its size: the first ones, of bytes that begin with so many that aren't of the content
+abbrev pub carried_out : (keeps : Bool) → (before : ℕ) → List Change → List Resize
+carried_out keeps before changes = cond keeps [] (resizes_of before 0 (take most_changes changes))
+
+-- ---- bytes between changes
+
+-- the changes that come before the last of so many bytes
+abbrev pub changes_before : (count : ℕ) → List Resize → List Resize
+changes_before count [] = []
+changes_before count (r ∷ resizes) = cond (nat_lt r.after count) (r ∷ changes_before (count - r.after) resizes) []
+
+-- what bytes leave before the changes that come after them
+abbrev pub seen_on : {K : Type 0} → Session K → K → List Resize → List ℕ → State
+seen_on m k resizes bytes = (played_on m k (changes_before (length bytes) resizes) bytes).state
+
+abbrev pub seen_with : Size → List Resize → Language → List ℕ → State
+seen_with size resizes language bytes = (played_with size (changes_before (length bytes) resizes) language bytes).state
 
 -- ---- what is written
 

@@ -1,4 +1,4 @@
--- What is made of the content of a recording and the steps in which it came. (this profile)
+-- What is made of the content of a recording, the steps in which it came, and the changes of the window's size. (this profile)
 use Rattle.std.specs.Prelude.{◌≡◌, ℕ, List, Option, None}
 use Rattle.vt_recording.specs.declared.format.Format.{Format}
 use Rattle.vt_recording.specs.declared.format.Encoding.{Encoding}
@@ -7,18 +7,22 @@ use Rattle.vt_device.specs.declared.fault.Break.{Break}
 use Rattle.vt_recording.specs.Moment.{micros_of}
 use Rattle.vt_recording.specs.declared.timeline.Event as mark
 use Rattle.vt_recording.specs.Timeline.{Timeline, IsTimelineOf}
-use Rattle.vt_recording.specs.Reached.{IsTakenBetween, has_characters, steps_in}
+use Rattle.vt_recording.specs.declared.changes.Change.{Change}
+use Rattle.vt_recording.specs.Changes.{changes_in}
+use Rattle.vt_recording.specs.Reached.{IsTakenBetween, has_characters, nothing_passed, steps_in}
 
 -- an event without its bytes
 abbrev pub Step : Type 0
 Step = mark.Event
 
--- what is made of a recording up to a moment, and where the recording breaks its format. Its events are those of its
--- content
-pub record IsStepped (make : (content : List ℕ) → List Step → List ℕ) (format : Format) (encoding : Encoding) (until : Option Moment)
+-- what is made of a recording up to a moment, and where the recording breaks its format. Its steps and changes are those of
+-- its content
+pub record IsStepped (make : (content : List ℕ) → List Step → List Change → List ℕ) (format : Format) (encoding : Encoding) (until : Option Moment)
     (timing : Option (List ℕ)) (bytes made : List ℕ) (broken : Option Break) (replaced : ℕ) : Type 0 where
   pub content : List ℕ
   pub taken : IsTakenBetween format encoding None until timing bytes content broken replaced
   pub timeline : Timeline
   pub is_of : IsTimelineOf format timing bytes timeline
-  pub made_is : made ≡ make content (steps_in (has_characters format encoding) (micros_of until) timeline.events)
+  pub made_is : made
+      ≡ make content (steps_in (has_characters format encoding) (micros_of until) timeline.events)
+      (changes_in (has_characters format encoding) until nothing_passed timeline.events)

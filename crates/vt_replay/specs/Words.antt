@@ -1,16 +1,10 @@
 -- The bytes that each word writes. (this profile)
-use Rattle.std.specs.Prelude.{ℕ, List, [], Result}
+use Rattle.std.specs.Prelude.{ℕ, List, Result}
 use Rattle.vt_device.specs.Runs.{Flags}
 use Rattle.vt_term.specs.State.{state_of}
-use Rattle.vt_replay.specs.MainPage.{xterm_pages}
-use Rattle.vt_replay.specs.Pages.{pages}
-use Rattle.vt_trace.specs.Trace.{trace, tracer_all, tracer_at_start, end_lines}
 use Rattle.vt_trace.specs.Summary.{summary_on}
-use Rattle.vt_trace.specs.Utf8.{trace_utf8, tracer_utf8, summary_utf8_by, summary_utf8_on}
-use Rattle.vt_utf8.specs.Play.{translated}
-use Rattle.vt_xterm.specs.Play.{behind, front_of}
+use Rattle.vt_trace.specs.Utf8.{summary_utf8_by, summary_utf8_on}
 use Rattle.vt_xterm_trace.specs.Names.{xterm_listing}
-use Rattle.vt_xterm_trace.specs.Trace.{trace_xterm, tracer_xterm}
 use Rattle.vt_replay.specs.declared.language.Language.{Language}
 use Rattle.vt_replay.specs.declared.language.Language.TheVariants as language
 use Rattle.vt_recording.specs.declared.format.TerminalType.{TerminalType}
@@ -21,36 +15,22 @@ use Rattle.vt_device.specs.declared.fault.Fault.{Fault}
 use Rattle.vt_recording.specs.declared.format.Encoding.{Encoding}
 use Rattle.vt_recording.specs.declared.format.Encoding.TheVariants.{Dec, Utf8}
 use Rattle.vt_replay.specs.Encoding.{decoded}
-use Rattle.vt_replay.specs.Log.{screen_at, lines_with, screen_with}
+use Rattle.vt_replay.specs.Log.{lines_on, paged, lines_with, screen_with}
 use Rattle.vt_device.specs.Output.{OutputTable, always, all, nothing}
 use Rattle.vt_screen.specs.declared.size.Size.{Size}
 use Rattle.vt_replay.specs.Playing.{Due, language_of}
-use Rattle.vt_replay.specs.Resizes.{replayed_with}
+use Rattle.vt_replay.specs.Resizes.{plain_session, utf8_session, xterm_session, utf8_begun, xterm_begun, replayed_with}
 use Rattle.vt_replay.specs.declared.resized.Resize.{Resize}
 use Rattle.vt_replay.specs.Showing.{ShownTable}
+use Rattle.vt_replay.specs.Traces.{trace_with, trace_end_with}
 
 -- ---- pages
 
--- the lines and pages of the host's bytes in each language, on a screen of a size
-abbrev pub pages_at : Size → Language → List ℕ → List ℕ
-pages_at size language.Dec bytes = pages (state_of size) bytes
-pages_at size language.Utf8 bytes = pages (state_of size) (translated (state_of size) [] bytes)
-pages_at size language.Xterm bytes = xterm_pages (behind (state_of size) (front_of size)) [] bytes
-
--- ---- trace
-
--- the trace of the host's bytes in each language, on a screen of a size: the events have the host's own characters and
--- places
-abbrev pub trace_at : Size → Language → List ℕ → List ℕ
-trace_at size language.Dec bytes = trace (state_of size) tracer_at_start bytes
-trace_at size language.Utf8 bytes = trace_utf8 (state_of size) tracer_at_start [] bytes
-trace_at size language.Xterm bytes = trace_xterm (behind (state_of size) (front_of size)) tracer_at_start [] bytes
-
--- the end of a text, if the last line is one, and the line of a sequence or string that is still open
-abbrev pub trace_end_at : Size → Language → List ℕ → List ℕ
-trace_end_at size language.Dec bytes = end_lines (tracer_all (state_of size) tracer_at_start bytes)
-trace_end_at size language.Utf8 bytes = end_lines (tracer_utf8 (state_of size) tracer_at_start [] bytes)
-trace_end_at size language.Xterm bytes = end_lines (tracer_xterm (behind (state_of size) (front_of size)) tracer_at_start [] bytes)
+-- the lines and pages of the host's bytes in each language, on a screen of a size that has these changes
+abbrev pub pages_with : Size → List Resize → Language → List ℕ → List ℕ
+pages_with size resizes language.Dec bytes = lines_on (paged plain_session) (state_of size) resizes bytes
+pages_with size resizes language.Utf8 bytes = lines_on (paged utf8_session) (utf8_begun size) resizes bytes
+pages_with size resizes language.Xterm bytes = lines_on (paged xterm_session) (xterm_begun size) resizes bytes
 
 -- ---- summary
 
@@ -71,7 +51,7 @@ of_decoded encoding written ending = record {
 }
 
 -- what is due by each word, a row a word, for a terminal of a size, whose screen changes its size, and in an encoding.
--- A replay and a log carry the changes out. A picture that moves, the table of events, the spans of a search and an index are
+-- A replay, a log, its pages and a trace carry the changes out. A picture that moves, the table of events, the spans of a search and an index are
 -- ready before they are written. What content writes under TERM=xterm is below
 abbrev pub due_of : Word → Size → List Resize → TerminalType → Encoding → Due
 due_of (Replay what) size resizes terminal encoding = replayed_with size resizes (language_of terminal encoding) what
@@ -81,10 +61,10 @@ due_of Log size resizes terminal encoding =
     record { written = lines_with size resizes language; ending = screen_with size resizes language; there = always }
 due_of Pages size resizes terminal encoding =
     let language = language_of terminal encoding in
-    record { written = pages_at size language; ending = screen_at size language; there = always }
+    record { written = pages_with size resizes language; ending = screen_with size resizes language; there = always }
 due_of Trace size resizes terminal encoding =
     let language = language_of terminal encoding in
-    record { written = trace_at size language; ending = trace_end_at size language; there = always }
+    record { written = trace_with size resizes language; ending = trace_end_with size resizes language; there = always }
 due_of Summary size resizes terminal encoding =
     let language = language_of terminal encoding in
     record { written = nothing; ending = summary_at size language; there = always }

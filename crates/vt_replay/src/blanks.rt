@@ -1,5 +1,5 @@
 //! The events that blank the whole screen, and the lines that are written before such an event.
-ghost use Rattle.std.specs.Prelude.{◌≡◌, ◌+◌, ◌≤◌, ◌++◌, List, ℕ, vec_len, vec_capacity};
+ghost use Rattle.std.specs.Prelude.{◌≡◌, ◌+◌, ◌≤◌, ◌++◌, vec_len, vec_capacity};
 ghost use Rattle.vt_syntax.specs.Event.{event_of};
 ghost use Rattle.vt_glyph.specs.LookUp.{contains};
 ghost use Rattle.vt_term.specs.Parameters.{first};

@@ -1,5 +1,5 @@
 //! Checkpoints of a recording: repaints of what its content leaves up to some places.
-ghost use Rattle.std.specs.Prelude.{◌≡◌, ◌&&◌, ◌≤◌, ◌+◌, ◌-◌, ◌*◌, ◌++◌, ◌∷◌, ◌<◌, [], ℕ, List, Option, cond, length, take, drop, is_some, unwrap_or, flat_map, nat_le, vec_len, vec_capacity, IfOk, OnOk};
+ghost use Rattle.std.specs.Prelude.{◌≡◌, ◌&&◌, ◌≤◌, ◌+◌, ◌-◌, ◌*◌, ◌++◌, ◌∷◌, ◌<◌, [], ℕ, List, Option, cond, length, drop, is_some, unwrap_or, flat_map, vec_len, vec_capacity, IfOk, OnOk};
 ghost use Rattle.vt_screen.specs.declared.size.Size.{Size};
 ghost use Rattle.vt_screen.specs.Sizes.{IsSize};
 ghost use Rattle.vt_term.specs.Play.{play};

@@ -22,7 +22,7 @@ use std::io::{Read, Write};
 use vt_cli::{Settings, What};
 use vt_device::{Source, Watched};
 use vt_recording::Fault;
-use vt_term::{Size, SizedTerminal};
+use vt_term::Size;
 
 /// Plays the reader's bytes on a new terminal, and writes what is due. Neither device has failed before, and the reader
 /// hasn't ended.

@@ -1,11 +1,10 @@
 //! The index of a recording: checkpoints, from each of which the rest of the recording can be played.
-ghost use Rattle.std.specs.Prelude.{◌≡◌, ◌==◌, not, ◌≤◌, ◌<◌, ◌+◌, ◌-◌, ◌∷◌, ◌++◌, [], ℕ, List, length, take, drop, flat_map, decimal, codes, vec_capacity, option_map, IfOk, OnOk};
+ghost use Rattle.std.specs.Prelude.{◌≡◌, ◌==◌, not, ◌≤◌, ◌<◌, ◌+◌, ◌-◌, ◌∷◌, ◌++◌, [], length, drop, flat_map, decimal, codes, option_map, IfOk, OnOk};
 ghost use Rattle.vt_screen.specs.Sizes.{IsSize};
 ghost use Rattle.vt_recording.specs.declared.format.Format.TheVariants.{Ttyrec, Asciicast};
-ghost use Rattle.vt_replay.specs.Playing.{language_of};
-ghost use Rattle.vt_replay.specs.Index.{sum_of, are_summed, part_of, past, framed_places, is_in_turn, four_bytes, hex_digit, json_byte, event_of, line_of, checkpoint_line};
+ghost use Rattle.vt_replay.specs.Index.{sum_of, are_summed, part_of, past, framed_places, is_in_turn, hex_digit, json_byte, event_of, line_of};
 ghost use Rattle.vt_replay.specs.Index.{language_name, format_name, name_lines, head_of, front_of_file, head_lines, end_line, steps_for, places_for, is_indexed, indexed_places};
-ghost use Rattle.vt_replay.specs.Index.{Checkpoint, piece, summed_up, index_by, index_of, made_at, IsIndexed};
+ghost use Rattle.vt_replay.specs.Index.{piece, summed_up, index_by, index_of, IsIndexed};
 
 use crate::animated::PIECE;
 use crate::checkpoints::{

@@ -18,7 +18,7 @@ ghost use Rattle.vt_replay.specs.Playing.{language_of, played_as, played_at};
 ghost use Rattle.vt_replay.specs.declared.language.Language.TheVariants.{Dec, Utf8, Xterm};
 ghost use Rattle.vt_replay.specs.Session.{session_at};
 ghost use Rattle.vt_replay.specs.Index.{made_at};
-ghost use Rattle.vt_replay.specs.Search.{spans_at};
+ghost use Rattle.vt_replay.specs.Search.{spans_with};
 ghost use Rattle.vt_replay.specs.Steps.{Step};
 
 use vt_glyph::laws::{glyphs, spelling};
@@ -99,17 +99,18 @@ pub fn resumes()
 }
 
 /// States that a search may begin at a checkpoint. It finds the same spans after the repaint of what first bytes leave, and the rest before its
-/// moment, as after the first bytes and that rest. Any bytes that end between characters may come before the repaint.
+/// moment, as after the first bytes and that rest. Any bytes that end between characters may come before the repaint. The
+/// screen keeps its size.
 pub fn search_resumes()
     ensures dec { (size : Size) (wanted before first repaint rest content : List ℕ) (steps : List Step) → IsSize size
         → made_at size Dec first ≡ Some repaint
-        → spans_at size Dec wanted (before ++ (repaint ++ rest)) content steps ≡ spans_at size Dec wanted (first ++ rest) content steps }
+        → spans_with size [] Dec wanted (before ++ (repaint ++ rest)) content steps ≡ spans_with size [] Dec wanted (first ++ rest) content steps }
     ensures utf8 { (size : Size) (wanted before first repaint rest content : List ℕ) (steps : List Step) → IsSize size
         → pending_after [] before ≡ [] → made_at size Utf8 first ≡ Some repaint
-        → spans_at size Utf8 wanted (before ++ (repaint ++ rest)) content steps ≡ spans_at size Utf8 wanted (first ++ rest) content steps }
+        → spans_with size [] Utf8 wanted (before ++ (repaint ++ rest)) content steps ≡ spans_with size [] Utf8 wanted (first ++ rest) content steps }
     ensures xterm { (size : Size) (wanted before first repaint rest content : List ℕ) (steps : List Step) → IsSize size
         → pending_after [] before ≡ [] → made_at size Xterm first ≡ Some repaint
-        → spans_at size Xterm wanted (before ++ (repaint ++ rest)) content steps ≡ spans_at size Xterm wanted (first ++ rest) content steps }
+        → spans_with size [] Xterm wanted (before ++ (repaint ++ rest)) content steps ≡ spans_with size [] Xterm wanted (first ++ rest) content steps }
 {
     resumes();
 }

@@ -4,10 +4,12 @@
 
 mod animated;
 mod blanks;
+mod changes;
 mod characters;
 mod checkpoints;
 mod converting;
 mod decoding;
+mod delayed;
 mod engine;
 mod events;
 mod host;
@@ -24,6 +26,7 @@ mod output;
 mod outputs;
 mod page_characters;
 mod page_outputs;
+mod page_player;
 mod pages;
 mod player;
 mod requests;
@@ -35,6 +38,9 @@ mod sized;
 mod status;
 mod steps;
 mod sums;
+mod trace_output;
+mod trace_player;
+mod tracing;
 
 pub use engine::{replay, run, run_from};
 pub use host::{Host, host_for};

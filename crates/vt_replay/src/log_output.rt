@@ -9,7 +9,7 @@ ghost use Rattle.vt_replay.specs.declared.resized.Later.{Later};
 
 use crate::log_player::{LogPlayer, lines_fit};
 use crate::output::front_for;
-use crate::outputs::SizedWordOutput;
+use crate::player::Player;
 use crate::resized::{Later, Resize, bytes_before, is_now, later_for};
 use std::alloc::{AllocError, Global};
 use std::collections::VecDeque;
@@ -17,9 +17,8 @@ use std::mem;
 use vt_device::Output;
 use vt_term::{REPORT_LIMIT, Size};
 
-/// The capacity for lines between two writes: twice the text of the largest screen for the lines of a byte, and once
-/// more for those that leave at the changes after it.
-const LOG_ROOM: usize = 585990;
+/// The capacity for the lines that leave at the changes after a byte, and for the text: that of the largest screen.
+const TEXT_ROOM: usize = 195330;
 
 /// Carries out the next change, and appends the lines that leave at the top.
 fn change_log<P: LogPlayer>(player: &mut P, later: &mut VecDeque<Later<P>>, lines: &mut Vec<u8>)
@@ -66,7 +65,11 @@ fn settle_log<P: LogPlayer>(
 }
 
 /// Returns how many of so many bytes are taken at once: those before the byte that a change follows, or that byte.
-fn front_before<P: LogPlayer>(later: &VecDeque<Later<P>>, left: usize, count: usize) -> usize
+pub(crate) fn front_before<P: Player>(
+    later: &VecDeque<Later<P>>,
+    left: usize,
+    count: usize,
+) -> usize
     ensures within { result ≤ count }
     ensures some { 1 ≤ count → 1 ≤ result }
     ensures one { nat_lt 0 (length later.now.items) ≡ true → left ≤ result → result ≤ 1 }
@@ -141,10 +144,10 @@ impl<P: LogPlayer> Output for LogOutput<P> {
 
     ghost counted = { λ o. 0 };
 
-    ghost reserve = { λ o. 585990 };
+    ghost reserve = { λ o. P.room + 195330 };
 
     fn capacity(&self) -> usize {
-        LOG_ROOM
+        self.player.capacity() + TEXT_ROOM
     }
 
     fn feed(&mut self, chunk: &[u8], out: &mut Vec<u8>) -> usize {
@@ -169,15 +172,5 @@ impl<P: LogPlayer> Output for LogOutput<P> {
         let terminal = self.player.sized();
         lines_fit(terminal);
         terminal.text_reserved(out);
-    }
-}
-
-impl<P: LogPlayer> SizedWordOutput for LogOutput<P> {
-    ghost writes = { λ size bytes. lines_on P.session (P.begun size) [] bytes };
-
-    ghost ends = { λ size bytes. text (played_on P.session (P.begun size) [] bytes).state };
-
-    fn new(alloc: Global, size: Size, piece: usize) -> Result<LogOutput<P>, AllocError> {
-        LogOutput::<P>::new_with(alloc, size, &[], piece)
     }
 }

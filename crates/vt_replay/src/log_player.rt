@@ -27,7 +27,7 @@ const LINES_LIMIT: usize = 390660;
 #[inline(always)]
 pub(crate) fn lines_fit(terminal: &SizedTerminal)
     ensures line { row_text_limit terminal.now.display.grid.size ≤ 390660 }
-    ensures text { text_limit terminal.now.display.grid.size ≤ 390660 }
+    ensures text { text_limit terminal.now.display.grid.size ≤ 195330 }
     ensures utf8 { utf8_lines_limit terminal.now.display.grid.size ≤ 390660 }
     ensures xterm { xterm_lines_limit terminal.now.display.grid.size ≤ 390660 }
 {
@@ -39,13 +39,21 @@ pub(crate) trait LogPlayer: Player {
     /// The row of the cursor.
     ghost line: { Self → ℕ };
 
-    /// Plays the front of a chunk that isn't empty. Appends the reports to `reports`, and the lines that scroll off to
-    /// `lines`, which has capacity for those of a byte. Returns how many bytes it played. `reports` has capacity for
-    /// ten more bytes for each byte of the chunk. It allocates nothing.
+    /// The capacity for the lines of a byte.
+    ghost room: { ℕ };
+
+    /// Returns the capacity for the lines of a byte.
+    fn capacity(&self) -> usize
+        ensures room { result ≡ room }
+        ensures most { room ≤ 1000000 };
+
+    /// Plays the front of a chunk that isn't empty. Appends the lines that scroll off to `lines`, which has capacity for
+    /// those of a byte. Returns how many bytes it played. The reports are dropped. `reports` has capacity for ten more
+    /// bytes for each byte of the chunk, and is overwritten. It allocates nothing.
     fn feed_log(&mut self, chunk: &[u8], reports: &mut Vec<u8>, lines: &mut Vec<u8>) -> usize
         requires some { 1 ≤ length chunk.now }
         requires reports { vec_len reports.old + 10 * length chunk.now ≤ vec_capacity reports.old }
-        requires room { vec_len lines.old + 390660 ≤ vec_capacity lines.old }
+        requires room { vec_len lines.old + room ≤ vec_capacity lines.old }
         ensures some { 1 ≤ result }
         ensures within { result ≤ length chunk.now }
         ensures lines { lines.new.items ≡ lines.old.items ++ Self.session.lines (Self.kept self.old) (take result chunk.now) }
@@ -55,7 +63,7 @@ pub(crate) trait LogPlayer: Player {
             ≡ both (Self.session.played (Self.kept self.old) (take result chunk.now)) (Self.session.played (Self.kept self.new) more) }
         ensures after { (more : List ℕ) → Self.session.after (Self.kept self.old) (take result chunk.now ++ more)
             ≡ Self.session.after (Self.kept self.new) more }
-        ensures one { length chunk.now ≤ 1 → vec_len lines.new ≤ vec_len lines.old + 390660 }
+        ensures one { length chunk.now ≤ 1 → vec_len lines.new ≤ vec_len lines.old + room }
         ensures reports_capacity { vec_capacity reports.old ≤ vec_capacity reports.new }
         ensures capacity { vec_capacity lines.old ≤ vec_capacity lines.new };
 
@@ -108,6 +116,12 @@ fn push_moved_xterm(terminal: &SizedTerminal, front: &SizedFront, size: Size, li
 impl LogPlayer for PlainPlayer {
     ghost line = { λ p. p.terminal.display.cursor.row };
 
+    ghost room = { 390660 };
+
+    fn capacity(&self) -> usize {
+        LINES_LIMIT
+    }
+
     fn feed_log(&mut self, chunk: &[u8], reports: &mut Vec<u8>, lines: &mut Vec<u8>) -> usize {
         let _ = self.terminal.width();
         lines_fit(&self.terminal);
@@ -129,6 +143,12 @@ impl LogPlayer for PlainPlayer {
 
 impl LogPlayer for Utf8Player {
     ghost line = { λ p. p.terminal.display.cursor.row };
+
+    ghost room = { 390660 };
+
+    fn capacity(&self) -> usize {
+        LINES_LIMIT
+    }
 
     fn feed_log(&mut self, chunk: &[u8], reports: &mut Vec<u8>, lines: &mut Vec<u8>) -> usize {
         let _ = self.terminal.width();
@@ -158,6 +178,12 @@ impl LogPlayer for Utf8Player {
 
 impl LogPlayer for XtermPlayer {
     ghost line = { λ p. p.terminal.display.cursor.row };
+
+    ghost room = { 390660 };
+
+    fn capacity(&self) -> usize {
+        LINES_LIMIT
+    }
 
     fn feed_log(&mut self, chunk: &[u8], reports: &mut Vec<u8>, lines: &mut Vec<u8>) -> usize {
         lines_fit(&self.terminal);

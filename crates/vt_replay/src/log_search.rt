@@ -1,24 +1,26 @@
 //! A search for a text in the log: the lines with it that scrolled off, and when.
-ghost use Rattle.std.specs.Prelude.{◌≡◌, ◌+◌, ◌≤◌, ◌++◌, [], List, ℕ, vec_capacity, IfOk, OnOk};
+ghost use Rattle.std.specs.Prelude.{◌≡◌, ◌+◌, ◌≤◌, ◌++◌, [], List, ℕ, vec_capacity, All, IfOk, OnOk};
 ghost use Rattle.vt_screen.specs.Sizes.{IsSize};
 ghost use Rattle.vt_recording.specs.Gathered.{events_of};
 ghost use Rattle.vt_replay.specs.LogSearch.{column_of, log_line, column_in, found_line, found_there, found_by, begun_then, number_then, found_in_lines, number_after};
-ghost use Rattle.vt_replay.specs.LogSearch.{scrolled_after, log_found, log_found_at};
+ghost use Rattle.vt_replay.specs.LogSearch.{scrolled_after, log_found, log_found_with};
+ghost use Rattle.vt_replay.specs.Log.{lines_on};
 
 use crate::animated::{PIECE, is_empty};
 use crate::events::{event_at, push_decimal, push_time};
 use crate::language::Language;
 use crate::log_output::LogOutput;
 use crate::log_player::LogPlayer;
-use crate::outputs::SizedWordOutput;
 use crate::player::{PlainPlayer, Utf8Player, XtermPlayer};
+use crate::resized::Resize;
 use memchr::memmem;
 use std::alloc::{AllocError, Global};
+use vt_device::Output;
 use vt_recording::{Event, count_characters};
 use vt_term::Size;
 
 /// The output of a log, which counts nothing.
-pub(crate) trait LogLines: SizedWordOutput {
+pub(crate) trait LogLines: Output {
     /// States that the output has counted nothing, for proofs. It does nothing when it runs.
     fn counts_nothing(&self)
         ensures { Self.counted self.now ≡ 0 };
@@ -215,10 +217,11 @@ fn push_log_steps<O: LogLines>(
     Ok(())
 }
 
-/// Appends what is found in the log of steps, which have the bytes of a content, as an output writes it after an opening.
-fn push_log_by<O: LogLines>(
+/// Appends what is found in the log of steps, which have the bytes of a content, as it is written after an opening.
+fn push_log_by<P: LogPlayer>(
     alloc: Global,
     size: Size,
+    resizes: &[Resize],
     utf8: bool,
     wanted: &[u8],
     opening: &[u8],
@@ -226,12 +229,14 @@ fn push_log_by<O: LogLines>(
     steps: &[Event],
     out: &mut Vec<u8>,
 ) -> Result<(), AllocError>
-    requires { IsSize size }
+    requires size { IsSize size }
+    requires sizes { All (λ r. IsSize r.size) resizes.now }
     ensures { OnOk result (out.new.items ≡ out.old.items
-        ++ log_found (λ line. column_in wanted.now (log_line utf8 line)) (λ bytes. scrolled_after (O.writes size) opening.now bytes) 0 1
+        ++ log_found (λ line. column_in wanted.now (log_line utf8 line))
+        (λ bytes. scrolled_after (λ bytes. lines_on P.session (P.begun size) resizes.now bytes) opening.now bytes) 0 1
         (events_of steps.now content.now)) }
 {
-    let mut output = O::new(alloc, size, PIECE)?;
+    let mut output = LogOutput::<P>::new_with(alloc, size, resizes, PIECE)?;
     let mut room = Vec::with_capacity(alloc, output.capacity())?;
     let mut lines = Vec::new(alloc);
     let mut line = Vec::new(alloc);
@@ -249,10 +254,12 @@ fn push_log_by<O: LogLines>(
     )
 }
 
-/// Appends what is found in the log of steps, on a terminal of a size that plays a language.
+/// Appends what is found in the log of steps, on a terminal of a size that plays a language, and whose screen has these
+/// changes.
 pub(crate) fn push_log_found(
     alloc: Global,
     size: Size,
+    resizes: &[Resize],
     language: Language,
     utf8: bool,
     wanted: &[u8],
@@ -261,18 +268,19 @@ pub(crate) fn push_log_found(
     steps: &[Event],
     out: &mut Vec<u8>,
 ) -> Result<(), AllocError>
-    requires { IsSize size }
-    ensures { OnOk result (out.new.items ≡ out.old.items ++ log_found_at size language utf8 wanted.now opening.now content.now steps.now) }
+    requires size { IsSize size }
+    requires sizes { All (λ r. IsSize r.size) resizes.now }
+    ensures { OnOk result (out.new.items ≡ out.old.items ++ log_found_with size resizes.now language utf8 wanted.now opening.now content.now steps.now) }
 {
     match language {
-        Language::Dec => push_log_by::<LogOutput<PlainPlayer>>(
-            alloc, size, utf8, wanted, opening, content, steps, out,
+        Language::Dec => push_log_by::<PlainPlayer>(
+            alloc, size, resizes, utf8, wanted, opening, content, steps, out,
         ),
-        Language::Utf8 => push_log_by::<LogOutput<Utf8Player>>(
-            alloc, size, utf8, wanted, opening, content, steps, out,
+        Language::Utf8 => push_log_by::<Utf8Player>(
+            alloc, size, resizes, utf8, wanted, opening, content, steps, out,
         ),
-        Language::Xterm => push_log_by::<LogOutput<XtermPlayer>>(
-            alloc, size, utf8, wanted, opening, content, steps, out,
+        Language::Xterm => push_log_by::<XtermPlayer>(
+            alloc, size, resizes, utf8, wanted, opening, content, steps, out,
         ),
     }
 }

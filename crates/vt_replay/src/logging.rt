@@ -115,7 +115,7 @@ pub(crate) fn write_log_at<S: Source, W: Write>(
 }
 
 /// Writes the log of a source's bytes by a new player of a size, whose screen has these changes.
-fn write_log_by<P: LogPlayer, S: Source, W: Write>(
+pub(crate) fn write_log_by<P: LogPlayer, S: Source, W: Write>(
     alloc: Global,
     reader: &mut S,
     writer: &mut Watched<W>,

@@ -11,6 +11,7 @@ use crate::blanks::{blanks_by, erases_all, first, is_reset, push_page};
 use vt_syntax::{EventKind, Taken, Values};
 use vt_term::{SizedTerminal, count};
 use vt_xterm::SizedFront;
+use vt_xterm::sized::parser_before;
 
 /// Returns whether SD with these values moves every line off the screen.
 fn moves_down(terminal: &SizedTerminal, values: &[u16]) -> bool
@@ -131,7 +132,7 @@ pub(crate) fn push_page_before(
     ensures capacity { vec_capacity lines.old ≤ vec_capacity lines.new }
 {
     let mut values = Values::new();
-    let mut parser = terminal.parser();
+    let mut parser = parser_before(terminal, &front.pages, b);
     let Taken { event, .. } = parser.next(&[b], &mut values);
     match event {
         Some(kind) => push_page_of(terminal, front, kind, values.as_slice(), lines),

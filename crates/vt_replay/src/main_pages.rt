@@ -47,6 +47,7 @@ pub(crate) fn feed_main_pages(
     ensures other_size { front.new.pages.other.grid.size ≡ front.old.pages.other.grid.size }
     ensures paged { PagesXterm (behind terminal.old front.old) front.old.pending (take result chunk.now)
         (behind terminal.new front.new) front.new.pending lines.old.items lines.new.items }
+    ensures one { length chunk.now ≤ 1 → vec_len lines.new ≤ vec_len lines.old + main_room terminal.old.display.grid.size }
     ensures reports { vec_capacity reports.old ≤ vec_capacity reports.new }
     ensures capacity { vec_capacity lines.old ≤ vec_capacity lines.new }
 {
@@ -78,6 +79,7 @@ fn main_next(
     ensures other_size { front.new.pages.other.grid.size ≡ front.old.pages.other.grid.size }
     ensures paged { PagesXterm (behind terminal.old front.old) front.old.pending (take result piece.now)
         (behind terminal.new front.new) front.new.pending lines.old.items lines.new.items }
+    ensures one { length piece.now ≤ 1 → vec_len lines.new ≤ vec_len lines.old + main_room terminal.old.display.grid.size }
     ensures reports { vec_capacity reports.old ≤ vec_capacity reports.new }
     ensures capacity { vec_capacity lines.old ≤ vec_capacity lines.new }
 {
@@ -124,6 +126,7 @@ fn main_text(
     ensures other_size { front.new.pages.other.grid.size ≡ front.old.pages.other.grid.size }
     ensures paged { PagesXterm (behind terminal.old front.old) front.old.pending (take result text.now)
         (behind terminal.new front.new) front.new.pending lines.old.items lines.new.items }
+    ensures bounded { vec_len lines.new ≤ vec_len lines.old + xterm_lines_limit terminal.old.display.grid.size }
     ensures reports { vec_capacity reports.old ≤ vec_capacity reports.new }
     ensures capacity { vec_capacity lines.old ≤ vec_capacity lines.new }
 {
@@ -133,7 +136,7 @@ fn main_text(
     cuts();
     log_cuts();
     reports.clear();
-    let most = lines.capacity() - lines.len();
+    let most = xterm_lines_limit(terminal);
     let count = front_for(text, reports);
     feed_xterm_log_reserved(terminal, front, &text[..count], reports, lines, most)
 }
@@ -153,6 +156,7 @@ fn main_byte(
     ensures other_size { front.new.pages.other.grid.size ≡ front.old.pages.other.grid.size }
     ensures paged { PagesXterm (behind terminal.old front.old) front.old.pending (byte ∷ [])
         (behind terminal.new front.new) front.new.pending lines.old.items lines.new.items }
+    ensures bounded { vec_len lines.new ≤ vec_len lines.old + main_room terminal.old.display.grid.size }
     ensures reports { vec_capacity reports.old ≤ vec_capacity reports.new }
     ensures capacity { vec_capacity lines.old ≤ vec_capacity lines.new }
 {

@@ -1,30 +1,26 @@
 //! The outputs, which write by word what is due of the host's bytes as they come, and at their end.
-ghost use Rattle.std.specs.Prelude.{◌≡◌, ⊤, ◌+◌, ◌*◌, ◌/◌, ◌^◌, ◌≤◌, ◌<◌, ◌++◌, [], true, false, length, take, vec_capacity, IfOk, List, ℕ, Bool};
+ghost use Rattle.std.specs.Prelude.{◌≡◌, ◌+◌, ◌*◌, ◌^◌, ◌≤◌, ◌<◌, ◌++◌, [], true, false, IfOk, List, ℕ, Bool};
 ghost use Rattle.std.specs.Io.KnownBytes.{IsAtEnd};
 ghost use Rattle.vt_device.specs.Runs.{Moves};
 ghost use Rattle.vt_device.specs.Output.{OutputTable, always, all, nothing};
 ghost use Rattle.vt_replay.specs.Encoding.{EncodedTable};
 ghost use Rattle.vt_recording.specs.declared.format.Encoding.TheVariants.{Dec};
 ghost use Rattle.vt_replay.specs.declared.language.Language.TheVariants as language;
-ghost use Rattle.vt_replay.specs.Words.{trace_at, trace_end_at, summary_at};
+ghost use Rattle.vt_replay.specs.Words.{summary_at};
 ghost use Rattle.vt_screen.specs.declared.size.Size.{Size};
 ghost use Rattle.vt_screen.specs.Sizes.{IsSize};
-ghost use Rattle.vt_trace.specs.Trace.{trace, tracer_all, end_lines};
 ghost use Rattle.vt_trace.specs.Counted.{HasCountedSome, summary_after};
 ghost use Rattle.vt_trace.specs.Names.{vt220_listing};
 
-use crate::output::{AS_THEY_COME, front_for, write_output_from};
+use crate::output::{AS_THEY_COME, write_output_from};
 use std::alloc::{AllocError, Global};
 use std::io::Write;
 use vt_cli::Encoding;
 use vt_device::{Output, Source, Watched};
 use vt_recording::Fault;
 use vt_syntax::laws::one_split;
-use vt_term::laws::sized_soundness;
-use vt_term::{REPORT_LIMIT, Size, SizedTerminal};
-use vt_trace::laws::sized_cuts as trace_cuts;
-use vt_trace::sized::trace_reserved;
-use vt_trace::{SUMMARY_LIMIT, Summary, TRACE_LIMIT, Tracer, trace_end};
+use vt_term::Size;
+use vt_trace::{SUMMARY_LIMIT, Summary};
 
 /// The output of a word of the command line.
 pub(crate) trait WordOutput: Output {
@@ -121,70 +117,6 @@ pub(crate) fn write_word_at<O: SizedWordOutput, S: Source, W: Write>(
         piece,
         limit,
     )
-}
-
-/// The output of the trace.
-#[derive(Drop)]
-pub(crate) struct TraceOutput {
-    terminal: SizedTerminal,
-    tracer: Tracer,
-    /// The reports of a chunk, which are dropped: the trace has them.
-    reports: Vec<u8>,
-}
-
-impl Output for TraceOutput {
-    ghost written = { λ o bytes. trace o.terminal o.tracer bytes };
-
-    ghost ending = { λ o bytes. end_lines (tracer_all o.terminal o.tracer bytes) };
-
-    ghost there = { λ o bytes. true };
-
-    ghost most = { λ o. vec_capacity o.reports / 10 };
-
-    ghost counted = { λ o. o.tracer.place };
-
-    ghost reserve = { λ o. 430080 };
-
-    fn capacity(&self) -> usize {
-        1024 * TRACE_LIMIT
-    }
-
-    fn feed(&mut self, chunk: &[u8], out: &mut Vec<u8>) -> usize {
-        let _ = self.terminal.width();
-        sized_soundness();
-        trace_cuts();
-        self.reports.clear();
-        let count = front_for(chunk, &self.reports);
-        trace_reserved(
-            &mut self.terminal,
-            &mut self.tracer,
-            &chunk[..count],
-            &mut self.reports,
-            out,
-        )
-    }
-
-    fn is_there(&self) -> bool {
-        true
-    }
-
-    fn end(&mut self, out: &mut Vec<u8>) {
-        trace_end(&self.tracer, out)
-    }
-}
-
-impl SizedWordOutput for TraceOutput {
-    ghost writes = { λ size. trace_at size language.Dec };
-
-    ghost ends = { λ size. trace_end_at size language.Dec };
-
-    fn new(alloc: Global, size: Size, piece: usize) -> Result<TraceOutput, AllocError> {
-        Ok(TraceOutput {
-            reports: Vec::with_capacity(alloc, REPORT_LIMIT * piece)?,
-            terminal: SizedTerminal::new(alloc, size)?,
-            tracer: Tracer::new(),
-        })
-    }
 }
 
 /// The output of the summary.

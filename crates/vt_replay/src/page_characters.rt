@@ -38,6 +38,7 @@ pub(crate) fn feed_utf8_pages(
     ensures size { terminal.new.display.grid.size ≡ terminal.old.display.grid.size }
     ensures paged { PagesUtf8 terminal.old decoder.old (take result chunk.now) terminal.new decoder.new lines.old.items
         lines.new.items }
+    ensures one { length chunk.now ≤ 1 → vec_len lines.new ≤ vec_len lines.old + xterm_lines_limit terminal.old.display.grid.size }
     ensures reports { vec_capacity reports.old ≤ vec_capacity reports.new }
     ensures capacity { vec_capacity lines.old ≤ vec_capacity lines.new }
 {
@@ -70,6 +71,7 @@ fn page_next(
     ensures size { terminal.new.display.grid.size ≡ terminal.old.display.grid.size }
     ensures paged { PagesUtf8 terminal.old decoder.old (take result piece.now) terminal.new decoder.new lines.old.items
         lines.new.items }
+    ensures one { length piece.now ≤ 1 → vec_len lines.new ≤ vec_len lines.old + xterm_lines_limit terminal.old.display.grid.size }
     ensures reports { vec_capacity reports.old ≤ vec_capacity reports.new }
     ensures capacity { vec_capacity lines.old ≤ vec_capacity lines.new }
 {
@@ -101,6 +103,7 @@ fn page_ascii(
     ensures size { terminal.new.display.grid.size ≡ terminal.old.display.grid.size }
     ensures paged { PagesUtf8 terminal.old decoder.now (take result run.now) terminal.new decoder.now lines.old.items
         lines.new.items }
+    ensures one { length run.now ≤ 1 → vec_len lines.new ≤ vec_len lines.old + xterm_lines_limit terminal.old.display.grid.size }
     ensures reports { vec_capacity reports.old ≤ vec_capacity reports.new }
     ensures capacity { vec_capacity lines.old ≤ vec_capacity lines.new }
 {
@@ -125,6 +128,7 @@ fn page_byte(
     requires room { vec_len lines.old + xterm_lines_limit terminal.old.display.grid.size ≤ vec_capacity lines.old }
     ensures size { terminal.new.display.grid.size ≡ terminal.old.display.grid.size }
     ensures paged { PagesUtf8 terminal.old decoder.old (byte ∷ []) terminal.new decoder.new lines.old.items lines.new.items }
+    ensures bounded { vec_len lines.new ≤ vec_len lines.old + xterm_lines_limit terminal.old.display.grid.size }
     ensures reports { vec_capacity reports.old ≤ vec_capacity reports.new }
     ensures capacity { vec_capacity lines.old ≤ vec_capacity lines.new }
 {

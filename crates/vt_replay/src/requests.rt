@@ -1,17 +1,17 @@
 //! The carrying out of a request, by its word.
-ghost use Rattle.std.specs.Prelude.{◌≡◌, ◌≤◌, ◌<◌, ◌+◌, ◌++◌, ◌∷◌, List, length, take, drop, true, false, Err, option_map, All, IfOk};
+ghost use Rattle.std.specs.Prelude.{◌≡◌, ◌≤◌, ◌++◌, true, false, Err, option_map, All, IfOk};
 ghost use Rattle.std.proofs.Props.{props};
 ghost use Rattle.std.specs.Io.KnownBytes.{IsAtEnd};
 ghost use Rattle.vt_device.specs.Runs.{Moves};
 ghost use Rattle.vt_device.specs.Writing.{Gives};
 ghost use Rattle.vt_screen.specs.Sizes.{IsSize};
-ghost use Rattle.vt_recording.specs.declared.changes.Change.{Change};
 ghost use Rattle.vt_replay.specs.Words.{WordTable};
-ghost use Rattle.vt_replay.specs.Request.{asks_wide, is_streamed, takes_whole, needs_whole, has_sizes, changes_size, keeps_size, most_changes, resizes_of, AreResizes, format_of, lacks_times, ended_of, IsStreamed, IsTakenBy, IsPrepared, IsPlayed, OutcomeTable};
-ghost use Rattle.vt_replay.specs.Host.{host_of, opening};
+ghost use Rattle.vt_replay.specs.Request.{asks_wide, is_streamed, takes_whole, needs_whole, has_sizes, changes_size, keeps_size, plays_one_size, AreResizes, format_of, lacks_times, ended_of, IsStreamed, IsTakenBy, IsPrepared, IsPlayed, OutcomeTable};
+ghost use Rattle.vt_replay.specs.Host.{opening};
 
 use crate::animated::{animation_taken, title_of};
-use crate::characters::{write_summary, write_trace};
+use crate::changes::carried_out;
+use crate::characters::write_summary;
 use crate::converting::Converter;
 use crate::engine::run_at;
 use crate::events::events_taken;
@@ -23,13 +23,14 @@ use crate::outputs::{ContentOutput, write_word};
 use crate::page_outputs::write_pages_at;
 use crate::resized::Resize;
 use crate::search::{search_taken, text_of};
+use crate::tracing::write_trace;
 use std::alloc::{AllocError, Global};
 use std::io::{Read, Write};
-use vt_cli::{Encoding, Format, Moment, Request, TerminalType, What, Word, size_of};
+use vt_cli::{Encoding, Format, Moment, Request, TerminalType, What, Word};
 use vt_device::{Source, Watched, write_by};
 use vt_recording::{
-    Break, Change, Content, Detected, Fault, Taken, detect, heading_of, read_recording,
-    take_between, take_with_changes,
+    Break, Content, Detected, Fault, Taken, detect, heading_of, read_recording, take_between,
+    take_with_changes,
 };
 
 /// Carries out a request's word on the reader's bytes, as a host sent them. Neither device has failed before, and the reader hasn't
@@ -62,8 +63,10 @@ fn carry_out_word<S: Source, W: Write>(
             )
         }
         Word::Log => write_log_at(alloc, reader, writer, language, size, resizes, piece, limit),
-        Word::Pages => write_pages_at(alloc, reader, writer, language, size, piece, limit),
-        Word::Trace => write_trace(alloc, reader, writer, language, size, piece, limit),
+        Word::Pages => {
+            write_pages_at(alloc, reader, writer, language, size, resizes, piece, limit)
+        }
+        Word::Trace => { write_trace(alloc, reader, writer, language, size, resizes, piece, limit) }
         Word::Summary => write_summary(alloc, reader, writer, language, size, piece, limit),
         Word::Events | Word::Animation(_) | Word::Search | Word::Index => {
             write_word::<ContentOutput, S, W>(alloc, reader, writer, Encoding::Dec, piece, limit)
@@ -190,10 +193,11 @@ pub fn lacks_times(format: Format, timed: bool, until: Option<Moment>) -> bool
 /// that moves, a search and an index. If the request leaves the size to a recording, they are on the size that its
 /// first line names, if a screen may have that. DECCOLM leaves the width of such a screen, unless it is a VT220's.
 ///
-/// A replay and a log carry out the changes of the size that a recording has up to the moment, each after the content
-/// that comes before it. They don't if a size or a width is asked for, or if the request begins in the middle. DECCOLM
-/// leaves the width of a screen after a change. A change to a size that no screen may have is passed over. All other
-/// words are of the first size.
+/// A replay, a picture that moves, a log, its pages, a trace and a search carry out the changes of the size that a recording has up to
+/// the moment, each after the content that comes before it. They don't if a size or a width is asked for, or if the request begins in
+/// the middle.
+/// DECCOLM leaves the width of a screen after a change. A change to a size that no screen may have is passed over. All
+/// other words are of the first size.
 ///
 /// The word is carried out on the bytes of raw input as they come, if all of it is wanted and 132 columns weren't asked
 /// for. Otherwise the input is read whole, and the word is carried out on its content between the moments. If the
@@ -282,7 +286,11 @@ fn changes_size(word: Word) -> bool
 {
     match word {
         Word::Replay(_) => true,
+        Word::Animation(_) => true,
         Word::Log => true,
+        Word::Pages => true,
+        Word::Trace => true,
+        Word::Search => true,
         _ => false,
     }
 }
@@ -299,66 +307,11 @@ pub fn keeps_size(request: &Request, format: Format) -> bool
         || !has_sizes(format)
 }
 
-/// A place in what is played: the number of bytes after it that aren't of the content, and the number of bytes of the
-/// content before it.
-#[derive(Clone, Copy)]
-struct Spot {
-    before: usize,
-    at: u64,
-}
-
-/// Returns a change by its index.
-fn change_at(changes: &[Change], i: usize) -> Change
-    requires { i < length changes.now }
-    ensures { drop i changes.now ≡ result ∷ drop (i + 1) changes.now }
+/// Returns whether no change comes between the bytes that are played of a recording.
+fn plays_one_size(request: &Request, format: Format) -> bool
+    ensures { result ≡ plays_one_size request.now format }
 {
-    changes[i]
-}
-
-/// Appends a change of the window as a change of the screen that comes after a place, and returns the place of the
-/// change. A change to a size that no screen may have is left out.
-fn push_resize(spot: Spot, change: Change, resizes: &mut Vec<Resize>) -> Result<Spot, AllocError>
-    ensures ahead { IfOk result (λ next. (changes : List Change) → resizes.new.items ++ resizes_of next.before next.at changes
-        ≡ resizes.old.items ++ resizes_of spot.before spot.at (change ∷ changes)) }
-    ensures sizes { IfOk result (λ next. All (λ r. IsSize r.size) resizes.old.items → All (λ r. IsSize r.size) resizes.new.items) }
-{
-    let Some(size) = size_of(change.window.columns, change.window.rows) else {
-        return Ok(spot);
-    };
-    let more = change.place.saturating_sub(spot.at) as usize;
-    let after = spot.before.saturating_add(more);
-    resizes.push(Resize { after, size })?;
-    Ok(Spot {
-        before: 0,
-        at: change.place,
-    })
-}
-
-/// Returns changes of the window as changes of the screen, of bytes that begin with so many that aren't of the content. A change to
-/// a size that no screen may have is left out.
-fn resizes_of(alloc: Global, before: usize, changes: &[Change]) -> Result<Vec<Resize>, AllocError>
-    ensures resizes { IfOk result (λ resizes. resizes.items ≡ resizes_of before 0 changes.now) }
-    ensures sizes { IfOk result (λ resizes. All (λ r. IsSize r.size) resizes.items) }
-{
-    let mut resizes = Vec::new(alloc);
-    let mut spot = Spot { before, at: 0 };
-    let mut i = 0;
-    while i < changes.len() {
-        spot = push_resize(spot, change_at(changes, i), &mut resizes)?;
-        i += 1;
-    }
-    Ok(resizes)
-}
-
-/// The most changes of the size that are carried out. Each has a screen from the beginning, so this bounds the memory that a recording
-/// takes.
-const MOST_CHANGES: usize = 1000;
-
-/// Returns the changes that are carried out: the first ones.
-fn first_changes(changes: &[Change]) -> &[Change]
-    ensures { result.now ≡ take most_changes changes.now }
-{
-    &changes[..MOST_CHANGES.min(changes.len())]
+    takes_whole(request.word) || keeps_size(request, format)
 }
 
 /// Takes out of a recording what the word of a request needs: the table of its events, a picture that moves, the spans
@@ -380,16 +333,17 @@ fn taken_for(
         Word::Animation(looks) => {
             let first = opening(Word::Replay(What::Picture), host);
             let title = title_of(&request.title);
+            let keeps = keeps_size(request, format);
             animation_taken(
-                alloc, bytes, timing, format, host, first, looks, title, until,
+                alloc, bytes, timing, format, host, keeps, first, looks, title, until,
             )
         }
         Word::Search => {
             let first = opening(Word::Replay(What::Picture), host);
             let text = text_of(&request.pattern);
-            let log = request.log;
+            let (keeps, log) = (keeps_size(request, format), request.log);
             search_taken(
-                alloc, bytes, timing, format, host, log, first, text, from, until,
+                alloc, bytes, timing, format, host, keeps, log, first, text, from, until,
             )
         }
         Word::Index => {
@@ -422,10 +376,10 @@ fn needed_for(
 ) -> Result<Needed, AllocError>
     requires { IsSize host.size }
     ensures taken { IfOk result (λ n. IsTakenBy request.now.word request.now format host (option_map (λ b. b.now) timing.entry) bytes.now n.taken.content.items n.taken.broken n.taken.replaced) }
-    ensures resizes { IfOk result (λ n. AreResizes (keeps_size request.now format) request.now format (option_map (λ b. b.now) timing.entry) bytes.now host n.resizes.items) }
+    ensures resizes { IfOk result (λ n. AreResizes (plays_one_size request.now format) request.now format (option_map (λ b. b.now) timing.entry) bytes.now host n.resizes.items) }
     ensures sizes { IfOk result (λ n. All (λ r. IsSize r.size) n.resizes.items) }
 {
-    if keeps_size(request, format) {
+    if plays_one_size(request, format) {
         let taken = taken_for(alloc, bytes, timing, format, host, request)?;
         return Ok(Needed {
             taken,
@@ -433,8 +387,8 @@ fn needed_for(
         });
     }
     let found = take_with_changes(alloc, bytes, timing, format, host.encoding, request.until)?;
-    let first = first_changes(&found.changes);
-    let resizes = resizes_of(alloc, opening(request.word, host).len(), first)?;
+    let before = opening(request.word, host).len();
+    let resizes = carried_out(alloc, false, before, &found.changes)?;
     Ok(Needed {
         taken: found.taken,
         resizes,

@@ -1,20 +1,23 @@
 //! A search for a text in a recording: the spans of time in which it was on the screen.
-ghost use Rattle.std.specs.Prelude.{◌≡◌, ◌≤◌, ◌++◌, [], List, ℕ, length, take, encode_utf8_all, option_map, string_bytes, vec_capacity, IfOk, OnOk};
-ghost use Rattle.std.specs.List.{range_with_len};
+ghost use Rattle.std.specs.Prelude.{◌≡◌, ◌≤◌, ◌++◌, [], List, ℕ, length, encode_utf8_all, option_map, string_bytes, vec_capacity, All, IfOk, OnOk};
 ghost use Rattle.vt_screen.specs.Grid.{row_of};
 ghost use Rattle.vt_screen.specs.Sizes.{IsSize};
 ghost use Rattle.vt_term.specs.Text.{glyphs_of, trimmed};
 ghost use Rattle.vt_recording.specs.Gathered.{events_of};
 ghost use Rattle.vt_replay.specs.Playing.{language_of};
-ghost use Rattle.vt_replay.specs.Search.{text_of, in_cells, shown_for, is_utf8, wanted, goes_on, line_end, line_of, lines, place_of, first_at, first_place};
-ghost use Rattle.vt_replay.specs.Search.{found_then, until_column, span_line, ended, left_open, spans, spans_at, searched, searched_after, searched_from, IsSearched};
+ghost use Rattle.vt_replay.specs.Resizes.{seen_on};
+ghost use Rattle.vt_replay.specs.Search.{text_of, in_cells, shown_for, is_utf8, wanted, goes_on, line_end, line_of, lines, place_of, first_place};
+ghost use Rattle.vt_replay.specs.Search.{found_then, until_column, span_line, ended, left_open, spans, spans_with, searched, searched_after, searched_from, IsSearched};
 
-use crate::animated::{PIECE, is_empty, opened, play};
+use crate::animated::{PIECE, is_empty};
+use crate::changes::carried_out;
+use crate::delayed::{Delayed, Viewed};
 use crate::events::{event_at, push_decimal, push_time};
 use crate::host::Host;
 use crate::language::Language;
 use crate::log_search::{column_of, push_log_found};
 use crate::player::{PlainPlayer, Player, Utf8Player, XtermPlayer};
+use crate::resized::Resize;
 use crate::search_start::{begin_of, played_before, start_at, steps_left};
 use crate::steps::steps_taken;
 use memchr::memmem;
@@ -270,37 +273,37 @@ fn push_left_open(found: Option<Found>, out: &mut Vec<u8>) -> Result<(), AllocEr
 }
 
 /// Plays the bytes of a step, and returns the first place of a text on the screen after it.
-fn place_after<P: Player>(
+fn place_after<D: Viewed>(
     utf8: bool,
     wanted: &[u8],
     bytes: &[u8],
-    player: &mut P,
+    player: &mut D,
     reports: &mut Vec<u8>,
     scratch: &mut Vec<u8>,
 ) -> Result<Option<Place>, AllocError>
     requires { 10 ≤ vec_capacity reports.old }
-    ensures place { IfOk result (λ place. place ≡ first_place utf8 wanted.now (P.session.played (P.kept player.old) bytes.now).state.display) }
-    ensures on { OnOk result ((more : List ℕ) → (P.session.played (P.kept player.old) (bytes.now ++ more)).state ≡ (P.session.played (P.kept player.new) more).state) }
+    ensures place { IfOk result (λ place. place ≡ first_place utf8 wanted.now (D.shows player.old bytes.now).display) }
+    ensures on { OnOk result ((more : List ℕ) → D.shows player.old (bytes.now ++ more) ≡ D.shows player.new more) }
     ensures capacity { vec_capacity reports.old ≤ vec_capacity reports.new }
 {
-    play(player, bytes, reports);
+    player.play(bytes, reports);
     first_place(player.sized(), utf8, wanted, scratch)
 }
 
 /// Plays the steps, and appends the lines of the spans.
-fn push_spans<P: Player>(
+fn push_spans<D: Viewed>(
     utf8: bool,
     wanted: &[u8],
     steps: &[Event],
     content: &[u8],
-    player: &mut P,
+    player: &mut D,
     reports: &mut Vec<u8>,
     scratch: &mut Vec<u8>,
     out: &mut Vec<u8>,
 ) -> Result<(), AllocError>
     requires { 10 ≤ vec_capacity reports.old }
     ensures { OnOk result (out.new.items ≡ out.old.items
-        ++ spans (λ bytes. first_place utf8 wanted.now (P.session.played (P.kept player.old) bytes).state.display) 0 None
+        ++ spans (λ bytes. first_place utf8 wanted.now (D.shows player.old bytes).display) 0 None
         (events_of steps.now content.now)) }
 {
     let mut found = None;
@@ -324,19 +327,22 @@ fn push_spans<P: Player>(
 fn spans_by<P: Player>(
     alloc: Global,
     size: Size,
+    resizes: &[Resize],
     utf8: bool,
     wanted: &[u8],
     opening: &[u8],
     content: &[u8],
     steps: &[Event],
 ) -> Result<Vec<u8>, AllocError>
-    requires { IsSize size }
+    requires size { IsSize size }
+    requires sizes { All (λ r. IsSize r.size) resizes.now }
     ensures { IfOk result (λ lines. lines.items
-        ≡ spans (λ bytes. first_place utf8 wanted.now (P.session.played (P.begun size) (opening.now ++ bytes)).state.display) 0 None
+        ≡ spans (λ bytes. first_place utf8 wanted.now (seen_on P.session (P.begun size) resizes.now (opening.now ++ bytes)).display) 0 None
         (events_of steps.now content.now)) }
 {
     let mut reports = Vec::with_capacity(alloc, PIECE * REPORT_LIMIT)?;
-    let mut player = opened::<P>(alloc, size, opening, &mut reports)?;
+    let mut player = Delayed::<P>::new(alloc, size, resizes)?;
+    player.play(opening, &mut reports);
     let mut scratch = Vec::new(alloc);
     let mut lines = Vec::new(alloc);
     push_spans(
@@ -352,29 +358,32 @@ fn spans_by<P: Player>(
     Ok(lines)
 }
 
-/// Returns the lines of the spans of steps, on a terminal of a size that plays a language.
+/// Returns the lines of the spans of steps, on a terminal of a size that plays a language, and whose screen has these
+/// changes.
 fn spans_in(
     alloc: Global,
     size: Size,
+    resizes: &[Resize],
     language: Language,
     wanted: &[u8],
     opening: &[u8],
     content: &[u8],
     steps: &[Event],
 ) -> Result<Vec<u8>, AllocError>
-    requires { IsSize size }
-    ensures { IfOk result (λ lines. lines.items ≡ spans_at size language wanted.now opening.now content.now steps.now) }
+    requires size { IsSize size }
+    requires sizes { All (λ r. IsSize r.size) resizes.now }
+    ensures { IfOk result (λ lines. lines.items ≡ spans_with size resizes.now language wanted.now opening.now content.now steps.now) }
 {
     let utf8 = is_utf8(language);
     match language {
         Language::Dec => spans_by::<PlainPlayer>(
-            alloc, size, utf8, wanted, opening, content, steps,
+            alloc, size, resizes, utf8, wanted, opening, content, steps,
         ),
         Language::Utf8 => spans_by::<Utf8Player>(
-            alloc, size, utf8, wanted, opening, content, steps,
+            alloc, size, resizes, utf8, wanted, opening, content, steps,
         ),
         Language::Xterm => spans_by::<XtermPlayer>(
-            alloc, size, utf8, wanted, opening, content, steps,
+            alloc, size, resizes, utf8, wanted, opening, content, steps,
         ),
     }
 }
@@ -383,31 +392,37 @@ fn spans_in(
 fn found_in(
     alloc: Global,
     host: Host,
+    resizes: &[Resize],
     log: bool,
     text: &str,
     opening: &[u8],
     content: &[u8],
     steps: &[Event],
 ) -> Result<Vec<u8>, AllocError>
-    requires { IsSize host.size }
+    requires size { IsSize host.size }
+    requires sizes { All (λ r. IsSize r.size) resizes.now }
     ensures { IfOk result (λ lines. lines.items
-        ≡ searched host.size (language_of host.terminal host.encoding) log text.now opening.now content.now steps.now) }
+        ≡ searched host.size resizes.now (language_of host.terminal host.encoding) log text.now opening.now content.now steps.now) }
 {
     let language = Language::of(host.terminal, host.encoding);
     let shown = as_shown(alloc, language, text)?;
     let wanted = shown.as_bytes();
-    let mut lines = spans_in(alloc, host.size, language, wanted, opening, content, steps)?;
+    let size = host.size;
+    let mut lines = spans_in(
+        alloc, size, resizes, language, wanted, opening, content, steps,
+    )?;
     if !log {
         return Ok(lines);
     }
     let utf8 = is_utf8(language);
     push_log_found(
-        alloc, host.size, language, utf8, wanted, opening, content, steps, &mut lines,
+        alloc, size, resizes, language, utf8, wanted, opening, content, steps, &mut lines,
     )?;
     Ok(lines)
 }
 
-/// Returns what a search finds from a moment on. What comes before it is played after the opening, and not searched.
+/// Returns what a search finds from a moment on. What comes before it is played after the opening, and not searched. The
+/// screen keeps its size.
 fn found_after(
     alloc: Global,
     host: Host,
@@ -426,13 +441,14 @@ fn found_after(
     let before = played_before(alloc, opening, &content[..start.content])?;
     let content = &content[start.content..];
     let steps = steps_left(content, &steps[start.steps..]);
-    found_in(alloc, host, log, text, &before, content, steps)
+    found_in(alloc, host, &[], log, text, &before, content, steps)
 }
 
 /// Returns what a search finds, from a moment on if there is one.
 fn found_from(
     alloc: Global,
     host: Host,
+    resizes: &[Resize],
     log: bool,
     text: &str,
     opening: &[u8],
@@ -440,25 +456,28 @@ fn found_from(
     content: &[u8],
     steps: &[Event],
 ) -> Result<Vec<u8>, AllocError>
-    requires { IsSize host.size }
+    requires size { IsSize host.size }
+    requires sizes { All (λ r. IsSize r.size) resizes.now }
     ensures { IfOk result (λ lines. lines.items
-        ≡ searched_from from host.size (language_of host.terminal host.encoding) log text.now opening.now content.now steps.now) }
+        ≡ searched_from from host.size resizes.now (language_of host.terminal host.encoding) log text.now opening.now content.now steps.now) }
 {
     match from {
         Some(from) => found_after(alloc, host, log, text, opening, from, content, steps),
-        None => found_in(alloc, host, log, text, opening, content, steps),
+        None => found_in(alloc, host, resizes, log, text, opening, content, steps),
     }
 }
 
 /// Returns what a search for a text finds in a recording from a moment on and up to another one, instead of its content.
 /// This is a line for each span of time in which the text was on the screen. If `log` is set, it is also a line for each
-/// line with the text that scrolled off. The opening is played before the content.
+/// line with the text that scrolled off. The opening is played before the content. The changes of the size are carried
+/// out, unless the screen keeps its size.
 pub(crate) fn search_taken(
     alloc: Global,
     bytes: &[u8],
     timing: Option<&[u8]>,
     format: Format,
     host: Host,
+    keeps: bool,
     log: bool,
     opening: &[u8],
     text: &str,
@@ -466,10 +485,11 @@ pub(crate) fn search_taken(
     until: Option<Moment>,
 ) -> Result<Taken, AllocError>
     requires { IsSize host.size }
-    ensures { IfOk result (λ t. IsSearched host.size log text.now opening.now (language_of host.terminal host.encoding) format host.encoding from until (option_map (λ b. b.now) timing.entry) bytes.now t.content.items t.broken t.replaced) }
+    ensures { IfOk result (λ t. IsSearched host.size keeps log text.now opening.now (language_of host.terminal host.encoding) format host.encoding from until (option_map (λ b. b.now) timing.entry) bytes.now t.content.items t.broken t.replaced) }
 {
     let begin = begin_of(alloc, bytes, timing, format, host.encoding, from)?;
     let stepped = steps_taken(alloc, bytes, timing, format, host.encoding, until)?;
+    let resizes = carried_out(alloc, keeps, opening.len(), &stepped.changes)?;
     let broken = stepped.taken.broken;
     let replaced = stepped.taken.replaced;
     let content = &stepped.taken.content;
@@ -477,6 +497,7 @@ pub(crate) fn search_taken(
         content: found_from(
             alloc,
             host,
+            &resizes,
             log,
             text,
             opening,

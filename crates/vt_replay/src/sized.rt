@@ -1,6 +1,5 @@
 //! What is due of a screen of any size.
-ghost use Rattle.std.specs.Prelude.{◌≡◌, ⊤, ◌+◌, ◌*◌, ◌≤◌, ◌++◌, [], true, false, length, max, vec_len, vec_capacity, nat_le};
-ghost use Rattle.vt_syntax.specs.declared.held.Held.TheVariants.{Nothing};
+ghost use Rattle.std.specs.Prelude.{◌≡◌, ◌+◌, ◌*◌, ◌≤◌, ◌++◌, [], true, false, length, max, vec_len, vec_capacity, nat_le};
 ghost use Rattle.vt_replay.specs.Due.{due_at_end, is_sent, is_there, sent_by, there_by};
 ghost use Rattle.vt_replay.specs.Sized.{room_at, room_of};
 ghost use Rattle.std.specs.List.{list_all};

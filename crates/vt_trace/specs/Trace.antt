@@ -10,6 +10,7 @@ use Rattle.vt_syntax.specs.Items.{item_bytes, rest_bytes}
 use Rattle.vt_syntax.specs.Split.{split_of}
 use Rattle.vt_syntax.specs.Held.{events_from, held_after, held_from}
 use Rattle.vt_glyph.specs.Invocation.{has_no_glyph}
+use Rattle.vt_screen.specs.declared.size.Size.{Size}
 use Rattle.vt_term.specs.State.{Display, State}
 use Rattle.vt_term.specs.Functions.{effect}
 use Rattle.vt_term.specs.Reports.{report}
@@ -184,6 +185,20 @@ trace s t (b ∷ bytes) = traced s t b ++ trace (play s (b ∷ [])).state (trace
 unfoldable pub tracer_all : State → Tracer → List ℕ → Tracer
 tracer_all s t [] = t
 tracer_all s t (b ∷ bytes) = tracer_all (play s (b ∷ [])).state (tracer_after s t b) bytes
+
+-- ---- a change of the screen's size
+
+-- a size is written as its columns and rows, with `x` between them. After a change both widths are equal
+abbrev pub size_column : Size → List ℕ
+size_column size = decimal size.wide ++ (0x78 ∷ decimal size.rows)
+
+-- what is written of a change to a size: the end of a text, and a line
+abbrev pub size_lines : Tracer → Size → List ℕ
+size_lines t size = text_end t.in_text ++ line t.place (codes "size") (size_column size)
+
+-- the tracer after a change: no text goes on, and what is held does
+abbrev pub tracer_resized : Tracer → Tracer
+tracer_resized t = record t { in_text = false }
 
 -- what a tracer keeps of bytes, by their split. Of what is left it has the place, the first bytes, and the C1 control
 -- of a string. The place is the length of the items before what is left

@@ -1,5 +1,5 @@
 -- The frames of the steps before the index are written.
-use Rattle.std.proofs.Common.{◌≡◌, ◌-◌, ◌≤◌, ◌++◌, [], length, drop, vec_capacity}
+use Rattle.std.proofs.Common.{◌≡◌, ◌-◌, ◌≤◌, ◌++◌, [], length, drop, vec_len, vec_capacity}
 use Rattle.vt_recording.specs.Gathered.{events_of}
 use Rattle.vt_replay.specs.Animated.{frames}
 use Rattle.vt_replay.proofs.animated.push_frames.Given as goal
@@ -8,14 +8,13 @@ abbrev pub invariant-loop-i : goal.invariant-loop-i
 invariant-loop-i g l = record {
   within : l.at ≤ length l.content;
   room : 10 ≤ vec_capacity l.reports;
-  size : l.before.display.grid.size ≡ g.P.Player.screen l.player;
-  numbers : length l.numbers ≡ (g.P.Player.screen l.player).rows;
-  before : l.before ≡ (g.P.Player.session.played (g.P.Player.kept l.player) []).state;
+  numbers : vec_len l.numbers ≡ l.before.display.grid.size.rows;
+  before : l.before ≡ g.D.Viewed.shows l.player [];
   ahead : l.out.items
-      ++ frames (λ bytes. (g.P.Player.session.played (g.P.Player.kept l.player) bytes).state.display) l.moving.cursor l.moving.duration l.moving.columns l.number l.clock l.numbers
+      ++ frames (λ bytes. (g.D.Viewed.shows l.player bytes).display) l.drawn.cursor l.drawn.duration l.drawn.common l.number l.clock l.numbers.items
       (events_of (drop l.i l.steps) (drop l.at l.content))
       ≡ l.initial.out.items
-      ++ frames (λ bytes. (g.P.Player.session.played (g.P.Player.kept l.initial.player) bytes).state.display) l.moving.cursor l.moving.duration l.moving.columns 0 0 l.initial.numbers
+      ++ frames (λ bytes. (g.D.Viewed.shows l.initial.player bytes).display) l.drawn.cursor l.drawn.duration l.drawn.common 0 0 l.initial.numbers.items
       (events_of l.steps l.content);
 }
 

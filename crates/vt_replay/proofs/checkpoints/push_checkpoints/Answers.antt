@@ -1,6 +1,6 @@
-use Rattle.std.proofs.Common.{◌∙◌, ◌+◌, ◌≤◌, min, length, drop, refl, sym, ap, cond, Bool, ℕ, arith}
+use Rattle.std.proofs.Common.{◌∙◌, ◌+◌, ◌≤◌, min, length, drop, refl, ap, cond, Bool, arith}
 use Rattle.vt_recording.proofs.Marks.{still_within}
-use Rattle.vt_replay.specs.Index.{Checkpoint, checkpoint_line, checkpoint_event}
+use Rattle.vt_replay.specs.Index.{checkpoint_line, checkpoint_event}
 use Rattle.vt_replay.proofs.MadePoints.{one_more, none_made, not_later, table_done, events_done, last_done}
 use Rattle.vt_replay.proofs.checkpoints.push_checkpoints.Goals as goal
 

@@ -1,4 +1,4 @@
-use Rattle.std.proofs.Common.{rules, ◌≡◌, ℕ, List, length, take, min}
+use Rattle.std.proofs.Common.{rules, ◌≡◌, List}
 use Rattle.std.proofs.lemmas.List.{take_min}
 use Rattle.vt_replay.proofs.index.front_of_file.Goals as goal
 

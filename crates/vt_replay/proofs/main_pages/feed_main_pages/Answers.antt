@@ -1,8 +1,10 @@
-use Rattle.std.proofs.Common.{◌∙◌, take, drop, refl, ap, arith, length-drop}
+use Rattle.std.proofs.Common.{◌≡◌, ◌∙◌, take, drop, vec_len, refl, ap, arith, length-drop}
 use Rattle.std.proofs.Math.Seq.{take-add}
 use Rattle.vt_device.proofs.OutputSteps.{rest-of}
+use Rattle.vt_screen.specs.declared.size.Size.{Size}
 use Rattle.vt_xterm.specs.Play.{WholePlayed}
-use Rattle.vt_replay.proofs.PagesFed.{xterm-first, xterm-both}
+use Rattle.vt_replay.specs.PageCuts.{main_room}
+use Rattle.vt_replay.proofs.PagesFed.{xterm-first, xterm-both, first-turn}
 use Rattle.vt_replay.proofs.main_pages.feed_main_pages.Goals as goal
 
 pub loop-at-init : goal.loop-at-init
@@ -13,6 +15,7 @@ loop-at-init c = record {
   size = refl;
   other_size = refl;
   paged = xterm-first _ _ _;
+  one = λ few some. absurd (omega (arith, some));
   reports = omega arith;
   capacity = omega arith;
 }
@@ -26,6 +29,7 @@ loop-at-preserved c =
     let made = c.main_next-at.ensures in
     let rest = rest-of chunk at in
     let inside = simp length-drop at (rw rest at made.within) in
+    let turn = rw rest at made.one in
     record {
       within = omega (arith, inside);
       some = λ zero. absurd (omega (arith, zero, made.some));
@@ -35,6 +39,10 @@ loop-at-preserved c =
       paged = rw (take-add at n chunk)
           (xterm-both (λ w pending a b. ap (λ (p : WholePlayed). p.whole) (c.cuts.ensures.two w pending a b)) _ _ _ _ _ _
           (take at chunk) (take n (drop at chunk)) _ _ _ was.paged (rw rest at made.paged));
+      one = λ few some.
+          let first : at ≡ 0 = omega (arith, few, made.some, inside) in
+          first-turn (vec_len c.args.lines.now) (vec_len c.loop-at.lines) _ _ _ (was.some first)
+          (ap (λ (size : Size). main_room size) was.size) (turn (rw length-drop (omega (arith, few))));
       reports = omega (arith, was.reports, made.reports);
       capacity = omega (arith, was.capacity, made.capacity);
     }

@@ -1,8 +1,11 @@
-use Rattle.std.proofs.Common.{◌∙◌, ap, sym, arith}
+use Rattle.std.proofs.Common.{◌∙◌, vec_len, ap, sym, arith}
+use Rattle.vt_screen.specs.declared.size.Size.{Size}
+use Rattle.vt_xterm.specs.Limits.{lines_limit}
+use Rattle.vt_replay.specs.PageCuts.{character_room}
 use Rattle.std.specs.Option.{option_to_list}
-use Rattle.vt_term.specs.Text.{row_text_limit}
+use Rattle.vt_term.specs.Text.{row_text_limit, text_limit}
 use Rattle.vt_xterm.specs.Play.{FrontState}
-use Rattle.vt_replay.proofs.PagesFed.{front-byte, xterm-byte, text-fits}
+use Rattle.vt_replay.proofs.PagesFed.{front-byte, xterm-byte, text-fits, two-in-main}
 use Rattle.vt_replay.proofs.main_pages.main_byte.Goals as goal
 
 pub returns-clause-paged : goal.returns-clause-paged
@@ -37,3 +40,11 @@ returns-clause-other_size c =
 
 pub returns-clause-size : goal.returns-clause-size
 returns-clause-size c = c.main_some-2.ensures.size ∙ c.main_some.ensures.size
+
+pub returns-clause-bounded : goal.returns-clause-bounded
+returns-clause-bounded c =
+    let first = c.main_some.ensures in
+    let second = c.main_some-2.ensures in
+    let size = c.args.terminal.now.display.grid.size in
+    two-in-main _ _ (vec_len c.main_some-2.new.lines) _ (text_limit size) (lines_limit size) (text-fits size.rows (row_text_limit size))
+    (ap (λ (size : Size). character_room size) first.size) first.bounded second.bounded

@@ -1,4 +1,4 @@
-use Rattle.std.proofs.Common.{◌≡◌, ◌≤◌, ◌++◌, ◌∙◌, [], ℕ, List, take, length, vec_len, vec_capacity, ap, sym, arith}
+use Rattle.std.proofs.Common.{◌≡◌, ◌+◌, ◌≤◌, ◌++◌, ◌∙◌, [], ℕ, List, take, length, vec_len, vec_capacity, ap, sym, arith}
 use Rattle.std.proofs.lemmas.List.{length-take, take-take}
 use Rattle.std.proofs.lemmas.List.Elements.{All-take}
 use Rattle.vt_xterm.specs.Limits.{xterm_lines_limit}
@@ -45,5 +45,9 @@ returns-clause-some c =
       lines.ok,
     ) in
     goes-on fed.result (length piece) (xterm_lines_limit c.args.terminal.now.display.grid.size) (vec_len lines)
-    (vec_len fed.new.lines) (vec_capacity lines) (vec_capacity fed.new.lines) _ long fed.ensures.all none c.requires.room
-    (omega arith) fed.ensures.lines_capacity
+    (vec_len fed.new.lines) (vec_len lines + xterm_lines_limit c.args.terminal.now.display.grid.size) (vec_capacity fed.new.lines) _ long
+    fed.ensures.all none (omega arith) (omega (arith, c.xterm_lines_limit-most.ensures))
+    (omega (arith, c.requires.room, fed.ensures.lines_capacity))
+
+pub returns-clause-bounded : goal.returns-clause-bounded
+returns-clause-bounded c = omega (arith, c.xterm_lines_limit-most.ensures, c.feed_xterm_log_reserved.ensures.lines_bounded)

@@ -1,9 +1,12 @@
-use Rattle.std.proofs.Common.{◌≡◌, ◌<◌, ◌≤◌, take, vec_len, vec_capacity, arith}
+use Rattle.std.proofs.Common.{◌≡◌, ◌<◌, ◌≤◌, length, take, vec_len, vec_capacity, arith}
 use Rattle.std.proofs.lemmas.Grind.{common_steps}
 use Rattle.std.proofs.lemmas.List.{length-take, take-take}
 use Rattle.std.proofs.lemmas.List.Elements.{All-take}
 use Rattle.vt_term.specs.Text.{row_text_limit}
-use Rattle.vt_replay.proofs.PagesFed.{utf8-ascii, one-fits}
+use Rattle.vt_xterm.specs.Limits.{xterm_lines_limit}
+use Rattle.vt_term.specs.Text.{text_limit}
+use Rattle.vt_replay.proofs.LogResizing.{one_line}
+use Rattle.vt_replay.proofs.PagesFed.{utf8-ascii, one-fits, text-fits}
 use Rattle.vt_replay.proofs.page_characters.page_ascii.Goals as goal
 
 pub returns-clause-paged : goal.returns-clause-paged
@@ -34,3 +37,12 @@ returns-clause-reports c = grind (arith, common_steps)
 
 pub returns-clause-capacity : goal.returns-clause-capacity
 returns-clause-capacity c = grind (arith, common_steps)
+
+pub returns-clause-one : goal.returns-clause-one
+returns-clause-one c = λ one.
+    let fed = c.feed_pages_at.ensures in
+    let size = c.args.terminal.now.display.grid.size in
+    let most : text_limit size ≤ xterm_lines_limit size = omega (arith, text-fits size.rows (row_text_limit size)) in
+    let within : c.feed_pages_at.result ≤ length c.args.run.now = grind (arith, common_steps) in
+    let line = one_line (text_limit size) c.feed_pages_at.result (length c.args.run.now) (xterm_lines_limit size) within one most in
+    omega (arith, line, fed.lines_bounded)

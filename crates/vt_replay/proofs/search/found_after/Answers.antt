@@ -1,4 +1,4 @@
-use Rattle.std.proofs.Common.{◌≡◌, ◌∙◌, ◌++◌, ◌-◌, ℕ, List, length, take, drop, sym, arith, length-drop}
+use Rattle.std.proofs.Common.{◌≡◌, ◌∙◌, ◌++◌, ◌-◌, [], ℕ, List, length, take, drop, sym, arith, length-drop}
 use Rattle.std.proofs.lemmas.List.{take_all}
 use Rattle.std.proofs.lemmas.Result.{IfOk-weaker}
 use Rattle.vt_replay.specs.Playing.{language_of}
@@ -12,7 +12,7 @@ returns c =
     let all : List ℕ = c.args.content.now in
     let steps : List Step = c.args.steps.now in
     let find : List ℕ → List ℕ → List Step → List ℕ =
-    λ before content steps. searched c.args.host.size (language_of c.args.host.terminal c.args.host.encoding) c.args.log c.args.text.now before content steps in
+    λ before content steps. searched c.args.host.size [] (language_of c.args.host.terminal c.args.host.encoding) c.args.log c.args.text.now before content steps in
     let before = c.deref.ensures.value ∙ c.in_ok-before.ensures in
     let content : take (length all - start.content) (drop start.content all) ≡ drop start.content all =
     take_all (length all - start.content) (drop start.content all) (rw length-drop (omega arith)) in

@@ -14,8 +14,8 @@ loop-i-preserved g c =
       within = rw c.min.ensures (still_within c.event_at-step.result.length c.loop-i.at c.args.content.now kept.within);
       room = omega (arith, placed.capacity, kept.room);
       ahead =
-          one_more (λ bytes. first_place c.args.utf8 c.args.wanted.now (g.P.Player.session.played (g.P.Player.kept c.loop-i.player) bytes).state.display)
-          (λ bytes. first_place c.args.utf8 c.args.wanted.now (g.P.Player.session.played (g.P.Player.kept c.place_after.new.player) bytes).state.display)
+          one_more (λ bytes. first_place c.args.utf8 c.args.wanted.now (g.D.Viewed.shows c.loop-i.player bytes).display)
+          (λ bytes. first_place c.args.utf8 c.args.wanted.now (g.D.Viewed.shows c.place_after.new.player bytes).display)
           c.loop-i.clock _ c.loop-i.i c.loop-i.at _ c.loop-i.found _ _ c.event_at-step.result c.args.steps.now c.args.content.now _ _ _
           kept.within c.event_at-step.ensures (rw c.min.ensures refl)
           (λ bytes. ap (λ (s : State). first_place c.args.utf8 c.args.wanted.now s.display) (placed.on bytes))
@@ -25,6 +25,6 @@ loop-i-preserved g c =
 pub returns : goal.returns
 returns g c =
     on_ok_weaker c.push_left_open.result
-    (λ written. none_left (λ bytes. first_place c.args.utf8 c.args.wanted.now (g.P.Player.session.played (g.P.Player.kept c.loop-i.player) bytes).state.display) c.loop-i.clock c.loop-i.i
+    (λ written. none_left (λ bytes. first_place c.args.utf8 c.args.wanted.now (g.D.Viewed.shows c.loop-i.player bytes).display) c.loop-i.clock c.loop-i.i
     c.loop-i.found c.args.steps.now _ _ _ _ c.loop-i-test.false written c.loop-i.invariant.ahead)
     c.push_left_open.ensures

@@ -9,10 +9,10 @@ invariant-loop-i g l = record {
   within : l.at ≤ length l.content;
   room : 10 ≤ vec_capacity l.reports;
   ahead : l.out.items
-      ++ spans (λ bytes. first_place l.utf8 l.wanted (g.P.Player.session.played (g.P.Player.kept l.player) bytes).state.display) l.clock l.found
+      ++ spans (λ bytes. first_place l.utf8 l.wanted (g.D.Viewed.shows l.player bytes).display) l.clock l.found
       (events_of (drop l.i l.steps) (drop l.at l.content))
       ≡ l.initial.out.items
-      ++ spans (λ bytes. first_place l.utf8 l.wanted (g.P.Player.session.played (g.P.Player.kept l.initial.player) bytes).state.display) 0 None
+      ++ spans (λ bytes. first_place l.utf8 l.wanted (g.D.Viewed.shows l.initial.player bytes).display) 0 None
       (events_of l.steps l.content);
 }
 

@@ -1,6 +1,4 @@
-use Rattle.std.proofs.Common.{List, ap}
 use Rattle.vt_recording.specs.Gathered.{timeline_view}
-use Rattle.vt_replay.specs.Steps.{Step}
 use Rattle.vt_replay.proofs.steps.steps_taken.Goals as goal
 
 pub returns : goal.returns
@@ -9,5 +7,5 @@ returns c = λ make. record {
   taken = c.in_ok-taken.ensures;
   timeline = timeline_view c.in_ok-timeline.timeline;
   is_of = c.in_ok-timeline.ensures;
-  made_is = ap (λ (steps : List Step). make c.in_ok-taken.taken.content.items steps) c.in_ok-steps.ensures;
+  made_is = λ ι. make c.in_ok-taken.taken.content.items (c.in_ok-steps.ensures ι) (c.in_ok-changes.ensures ι);
 }

@@ -1,0 +1,14 @@
+use Rattle.std.proofs.Common.{◌≡◌, length, vec_len, rules}
+use Rattle.std.proofs.lemmas.Result.{on_ok_weaker}
+use Rattle.vt_picture.specs.Animation.{number_on_screen}
+use Rattle.vt_replay.proofs.Frames.{numbered_in}
+use Rattle.vt_replay.proofs.animated.push_screen.Goals as goal
+
+pub returns-clause-numbers : goal.returns-clause-numbers
+returns-clause-numbers c =
+    let s = c.args.t.now.display in
+    let long : length c.whole_frame.new.numbers ≡ s.grid.size.rows = search rules in
+    let is : vec_len c.resize.new.self ≡ s.grid.size.rows = search rules in
+    on_ok_weaker c.whole_frame.result
+    (λ are. numbered_in (λ row. number_on_screen c.args.number s row) s c.whole_frame.new.numbers c.resize.new.self.items _ long is are)
+    c.whole_frame.ensures.numbers

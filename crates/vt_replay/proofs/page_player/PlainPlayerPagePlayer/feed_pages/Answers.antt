@@ -1,0 +1,46 @@
+use Rattle.std.proofs.Common.{◌≡◌, ◌+◌, length, take, vec_len, vec_capacity, inl, ap, arith}
+use Rattle.vt_term.specs.Play.{Played}
+use Rattle.vt_term.specs.Text.{text_limit}
+use Rattle.vt_replay.specs.Pages.{pages}
+use Rattle.vt_replay.proofs.Players.{plain_on}
+use Rattle.vt_replay.proofs.PagesFed.{goes-on, no-lines, pages_after}
+use Rattle.vt_replay.proofs.LogResizing.{one_line}
+use Rattle.vt_replay.proofs.page_player.PlainPlayerPagePlayer.feed_pages.Goals as goal
+
+pub returns-clause-some : goal.returns-clause-some
+returns-clause-some c =
+    let fed = c.feed_pages_at in
+    let lines = c.args.lines.now in
+    let none : fed.result ≡ 0 → vec_len fed.new.lines ≡ vec_len lines =
+    λ zero. omega (
+      arith,
+      no-lines (λ bytes. pages c.args.self.now.terminal bytes) c.args.chunk.now lines.items fed.new.lines.items fed.result
+          (c.sized_pages_cut.ensures.none _ c.args.self.now.terminal c.width.ensures.sound)
+          fed.ensures.lines zero,
+      fed.new.lines.ok,
+      lines.ok,
+    ) in
+    goes-on fed.result (length c.args.chunk.now) (text_limit c.args.self.now.terminal.display.grid.size) (vec_len lines)
+    (vec_len fed.new.lines) (vec_len lines + 976650) (vec_capacity fed.new.lines) 976650 c.requires.some (λ less. inl (fed.ensures.all less)) none
+    (omega (arith, c.pages_fit.ensures.text)) (omega arith) (omega (arith, c.requires.room, fed.ensures.lines_capacity))
+
+pub returns-clause-lines_on : goal.returns-clause-lines_on
+returns-clause-lines_on c = λ more.
+    let fed = c.feed_pages_at in
+    (pages_after _ _ (take fed.result c.args.chunk.now) c.sized_cuts.ensures.two c.sized_pages_cut.ensures.two
+    c.sized_pages_cut.ensures.none c.sized_soundness.ensures.play c.width.ensures.sound fed.ensures.state).on more
+
+pub returns-clause-on : goal.returns-clause-on
+returns-clause-on c = λ more.
+    plain_on _ _ (take c.feed_pages_at.result c.args.chunk.now) more c.sized_cuts.ensures.two c.feed_pages_at.ensures.state
+
+pub returns-clause-after : goal.returns-clause-after
+returns-clause-after c = λ more.
+    ap (λ (p : Played). p.state)
+    (plain_on _ _ (take c.feed_pages_at.result c.args.chunk.now) more c.sized_cuts.ensures.two c.feed_pages_at.ensures.state)
+
+pub returns-clause-one : goal.returns-clause-one
+returns-clause-one c = λ one.
+    let fed = c.feed_pages_at.ensures in
+    let line = one_line _ _ _ _ fed.within one c.pages_fit.ensures.text in
+    omega (arith, line, fed.lines_bounded)

@@ -226,9 +226,16 @@ def signature(text):
     return head if CLAUSE.search(head) else re.split(r" \{\}?\n|;\n", head)[0]
 
 
+def offered(crate):
+    """Returns what the public modules of a crate export of its other modules: pairs of a module and a name."""
+    return {pair for module in exported(crate)[1] for pair in reexported(ROOT / crate / f"src/{module}.rt")}
+
+
 def public_items(crate):
     """Returns what a crate exports, in the order of its files."""
     names, modules = exported(crate)
+    there = offered(crate)
+    names = names | {name for _, name in there if name[0].isupper()}
     found = []
     for path in sorted((ROOT / crate / "src").glob("**/*.rt")):
         for text in parts(path.read_text()):
@@ -239,7 +246,7 @@ def public_items(crate):
                 continue
             extern, kind, name, trait, of = head.groups()
             is_root = path.name == "main.rt" or path.name == "lib.rt" and text.startswith("pub ")
-            if kind == "fn" and (extern or is_root or text.startswith("pub ") and (name in names or path.stem in modules)):
+            if kind == "fn" and (extern or is_root or text.startswith("pub ") and (name in names or path.stem in modules or (path.stem, name) in there)):
                 found.append(Item(path, kind, "", name, signature(text)))
             elif kind in ("trait", "struct", "enum", "const") and name in names:
                 found.append(Item(path, kind, "", name, text))

@@ -4,6 +4,7 @@ pub mod changes;
 pub mod compare;
 pub mod function;
 pub mod laws;
+pub mod limits;
 pub mod modes;
 pub mod paint;
 pub mod views;

@@ -6,6 +6,7 @@ pub mod laws;
 pub mod lines;
 pub mod names;
 pub mod observer;
+pub mod resizing;
 pub mod summary;
 pub mod tracing;
 pub mod utf8;

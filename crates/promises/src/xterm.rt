@@ -1,4 +1,5 @@
 //! The calls of vt_xterm.
+pub mod ascii;
 pub mod attributes;
 pub mod feeding;
 pub mod feeds;

@@ -11,8 +11,8 @@ pub mod Ttyrec
 pub mod Reached
 pub mod Moment
 pub mod Characters
+pub mod Changes
 pub mod Gathered
 pub mod Places
-pub mod Changes
 pub mod Reading
 pub mod Detection

@@ -2,13 +2,14 @@ pub mod Showing
 pub mod Playing
 pub mod Session
 pub mod Resizes
+pub mod Pages
+pub mod MainPage
 pub mod Due
 pub mod Status
 pub mod Encoding
 pub mod Words
 pub mod Log
-pub mod Pages
-pub mod MainPage
+pub mod Traces
 pub mod Host
 pub mod Request
 pub mod EventTable

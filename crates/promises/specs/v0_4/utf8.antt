@@ -4,6 +4,7 @@ pub mod Cells
 pub mod Similar
 pub mod Play
 pub mod Limits
+pub mod Sinks
 pub mod Text
 pub mod Showing
 pub mod Placing

@@ -1,6 +1,7 @@
-pub mod Attributes
 pub mod Pages
 pub mod Play
+pub mod Subparameters
+pub mod Attributes
 pub mod Front
 pub mod Sides
 pub mod Columns

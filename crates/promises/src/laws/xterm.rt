@@ -27,6 +27,7 @@ ghost use Rattle.vt_term.specs.State.{Display};
 ghost use Rattle.vt_xterm.specs.Pages.{Screens};
 ghost use Rattle.vt_xterm.specs.Play.{Whole};
 ghost use Rattle.vt_xterm.specs.declared.sides.Sides.{Sides};
+ghost use Rattle.vt_xterm.specs.declared.subparameters.Subparameters.TheVariants.{Outside};
 
 /// Promises what `vt_laws::xterm::scrolls` promises.
 pub fn scrolls()
@@ -61,22 +62,22 @@ pub fn scrolls()
 /// Promises what `vt_laws::xterm::comes_back` promises.
 pub fn comes_back()
     ensures display { (w : Whole) (bytes : List ℕ) → IsSoundWhole w → w.pages.alternate ≡ false → pending_after [] bytes ≡ []
-        → list_any is_page_function (events_of_characters Nothing (characters [] bytes)) ≡ false
+        → list_any is_page_function (events_of_characters Outside Nothing (characters [] bytes)) ≡ false
         → (play_xterm w [] (through_alternate bytes)).whole.state.display
         ≡ restored (bounds_of (screens_of (play_xterm w [] (into_alternate bytes)).whole))
         (with_page (page_of (save_cursor w.state.display)) (play_xterm w [] (into_alternate bytes)).whole.state.display) }
     ensures display_reset { (w : Whole) (bytes : List ℕ) → IsSoundWhole w → w.pages.sides ≡ None → w.pages.alternate ≡ false
         → pending_after [] bytes ≡ []
-        → list_any is_side_function (events_of_characters Nothing (characters [] bytes)) ≡ false
-        → list_any is_page_function (events_of_characters Nothing (characters [] bytes)) ≡ false
+        → list_any is_side_function (events_of_characters Outside Nothing (characters [] bytes)) ≡ false
+        → list_any is_page_function (events_of_characters Outside Nothing (characters [] bytes)) ≡ false
         → (play_xterm w [] (through_alternate bytes)).whole.state.display
         ≡ restore_cursor (with_page (page_of (save_cursor w.state.display))
         (play_xterm w [] (into_alternate bytes)).whole.state.display) }
     ensures cells { (w : Whole) (bytes : List ℕ) → IsSoundWhole w → w.pages.alternate ≡ false → pending_after [] bytes ≡ []
-        → list_any is_page_function (events_of_characters Nothing (characters [] bytes)) ≡ false
+        → list_any is_page_function (events_of_characters Outside Nothing (characters [] bytes)) ≡ false
         → (play_xterm w [] (through_alternate bytes)).whole.state.display.grid ≡ w.state.display.grid }
     ensures cursor { (w : Whole) (bytes : List ℕ) → IsSoundWhole w → w.pages.alternate ≡ false → pending_after [] bytes ≡ []
-        → list_any is_page_function (events_of_characters Nothing (characters [] bytes)) ≡ false
+        → list_any is_page_function (events_of_characters Outside Nothing (characters [] bytes)) ≡ false
         → w.state.display.modes.decom ≡ false
         → ((play_xterm w [] (through_alternate bytes)).whole.state.display.cursor.row ≡ w.state.display.cursor.row)
         × ((play_xterm w [] (through_alternate bytes)).whole.state.display.cursor.col ≡ w.state.display.cursor.col) }

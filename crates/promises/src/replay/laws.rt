@@ -3,7 +3,7 @@ ghost use Rattle.promises.specs.v0_4.replay.Encoding.{decoded};
 ghost use Rattle.promises.specs.v0_4.replay.Index.{made_at};
 ghost use Rattle.promises.specs.v0_4.replay.Pages.{blanks_screen, IsBlank, pages};
 ghost use Rattle.promises.specs.v0_4.replay.Playing.{language_of, played_as, played_at};
-ghost use Rattle.promises.specs.v0_4.replay.Search.{spans_at};
+ghost use Rattle.promises.specs.v0_4.replay.Search.{spans_with};
 ghost use Rattle.promises.specs.v0_4.replay.Session.{session_at};
 ghost use Rattle.promises.specs.v0_4.replay.Steps.{Step};
 ghost use Rattle.promises.specs.v0_4.term.Functions.{effect};
@@ -61,13 +61,13 @@ pub fn resumes()
 pub fn search_resumes()
     ensures dec { (size : Size) (wanted before first repaint rest content : List ℕ) (steps : List Step) → IsSize size
         → made_at size Dec first ≡ Some repaint
-        → spans_at size Dec wanted (before ++ (repaint ++ rest)) content steps ≡ spans_at size Dec wanted (first ++ rest) content steps }
+        → spans_with size [] Dec wanted (before ++ (repaint ++ rest)) content steps ≡ spans_with size [] Dec wanted (first ++ rest) content steps }
     ensures utf8 { (size : Size) (wanted before first repaint rest content : List ℕ) (steps : List Step) → IsSize size
         → pending_after [] before ≡ [] → made_at size Utf8 first ≡ Some repaint
-        → spans_at size Utf8 wanted (before ++ (repaint ++ rest)) content steps ≡ spans_at size Utf8 wanted (first ++ rest) content steps }
+        → spans_with size [] Utf8 wanted (before ++ (repaint ++ rest)) content steps ≡ spans_with size [] Utf8 wanted (first ++ rest) content steps }
     ensures xterm { (size : Size) (wanted before first repaint rest content : List ℕ) (steps : List Step) → IsSize size
         → pending_after [] before ≡ [] → made_at size Xterm first ≡ Some repaint
-        → spans_at size Xterm wanted (before ++ (repaint ++ rest)) content steps ≡ spans_at size Xterm wanted (first ++ rest) content steps }
+        → spans_with size [] Xterm wanted (before ++ (repaint ++ rest)) content steps ≡ spans_with size [] Xterm wanted (first ++ rest) content steps }
 {
     vt_replay::laws::search_resumes()
 }

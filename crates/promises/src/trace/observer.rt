@@ -5,6 +5,7 @@ ghost use Rattle.promises.specs.v0_4.trace.Observed.{traced_told, tracer_told};
 ghost use Rattle.std.specs.Prelude.{[], length, take, vec_capacity, vec_len, ◌*◌, ◌++◌, ◌+◌, ◌<◌, ◌^◌, ◌∷◌, ◌≡◌, ◌≤◌};
 ghost use Rattle.vt_term.specs.Observing.{Feeds};
 
+use vt_syntax::Parser;
 use vt_term::{Profile, SizedTerminal};
 use vt_trace::{Naming, TRACE_LIMIT, Tracer};
 
@@ -42,6 +43,7 @@ pub fn trace_as<P: Profile, N: Naming>(
 /// Promises what `vt_trace::trace_byte::<N>` promises.
 pub fn trace_byte<N: Naming>(
     terminal: &SizedTerminal,
+    parser: Parser,
     names: &N,
     tracer: &mut Tracer,
     byte: u8,
@@ -49,10 +51,11 @@ pub fn trace_byte<N: Naming>(
 )
     requires place { tracer.old.place + 1 < 2 ^ 64 }
     requires room { vec_len out.old + TRACE_LIMIT ≤ vec_capacity out.old }
-    ensures lines { out.new.items ≡ out.old.items ++ traced_told N.names tracer.old (happenings terminal.now (byte ∷ [])) }
-    ensures tracer { tracer.new ≡ tracer_told tracer.old (happenings terminal.now (byte ∷ [])) }
+    ensures lines { out.new.items ≡ out.old.items
+        ++ traced_told N.names tracer.old (happenings (record terminal.now { held = parser }) (byte ∷ [])) }
+    ensures tracer { tracer.new ≡ tracer_told tracer.old (happenings (record terminal.now { held = parser }) (byte ∷ [])) }
     ensures bounded { vec_len out.new ≤ vec_len out.old + TRACE_LIMIT }
     ensures capacity { vec_capacity out.old ≤ vec_capacity out.new }
 {
-    vt_trace::trace_byte::<N>(terminal, names, tracer, byte, out)
+    vt_trace::trace_byte::<N>(terminal, parser, names, tracer, byte, out)
 }

@@ -9,11 +9,21 @@ ghost use Rattle.std.specs.Bool.{OnFalse, OnTrue};
 ghost use Rattle.std.specs.Prelude.{drop, IsErrOf, IsTrue, OnErr, OnOk, vec_capacity, vec_len, ◌++◌, ◌+◌, ◌<◌, ◌↔◌};
 ghost use Rattle.std.specs.Prelude.{◌≡◌, ◌≢◌, ◌≤◌, ◌⊎◌};
 ghost use Rattle.std.specs.Str.{IsAscii};
+ghost use Rattle.vt_screen.specs.Sizes.{IsSize};
 ghost use Rattle.vt_syntax.specs.declared.held.Held.TheVariants.{Nothing};
 ghost use Rattle.vt_update.specs.Leads.{Updates};
 
+use vt_screen::Size;
 use vt_term::SizedTerminal;
 use vt_update::sized::SizedUpdateError;
+
+/// Promises what `vt_update::sized::update_limit` promises.
+pub fn update_limit(size: Size) -> usize
+    requires { IsSize size }
+    ensures { result ≡ update_limit size }
+{
+    vt_update::sized::update_limit(size)
+}
 
 /// Promises what `vt_update::sized::update` promises.
 pub fn update(

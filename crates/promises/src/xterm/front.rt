@@ -1,14 +1,39 @@
 //! The calls of vt_xterm/src/front.
-ghost use Rattle.promises.specs.v0_4.term.Pages.{with_page};
+ghost use Rattle.promises.specs.v0_4.term.Pages.{IsSoundSizedPage, with_page};
 ghost use Rattle.promises.specs.v0_4.term.State.{display_at_power_up, display_of, power_up, state_of};
 ghost use Rattle.promises.specs.v0_4.xterm.Play.{front_at_power_up, front_of};
 ghost use Rattle.promises.specs.v0_4.xterm.Sides.{bounds};
-ghost use Rattle.std.specs.Prelude.{IfOk, is_some, length, ◌≡◌, ◌≤◌};
+ghost use Rattle.std.specs.Bool.{OnFalse};
+ghost use Rattle.std.specs.Prelude.{IfOk, is_some, IsTrue, length, None, ◌↔◌, ◌≡◌, ◌≤◌};
 ghost use Rattle.vt_screen.specs.Sizes.{IsSize};
+ghost use Rattle.vt_xterm.specs.declared.subparameters.Subparameters.TheVariants.{Outside};
 
 use std::alloc::{AllocError, Global};
 use vt_term::{Size, SizedTerminal, Terminal};
-use vt_xterm::{Front, Sides, SizedFront};
+use vt_xterm::sized::SizedPages;
+use vt_xterm::{Front, Sides, SizedFront, Subparameters};
+
+/// Promises what `sized_pages.soundness` promises.
+pub fn sized_pages_soundness(sized_pages: &SizedPages)
+    ensures { IsSoundSizedPage sized_pages.now.other }
+{
+    sized_pages.soundness()
+}
+
+/// Promises what `sized_pages.has_sides` promises.
+pub fn sized_pages_has_sides(sized_pages: &SizedPages) -> bool
+    ensures value { result ≡ is_some sized_pages.now.sides }
+    ensures none { OnFalse result (sized_pages.now.sides ≡ None) }
+{
+    sized_pages.has_sides()
+}
+
+/// Promises what `sized_pages.is_outside` promises.
+pub fn sized_pages_is_outside(sized_pages: &SizedPages) -> bool
+    ensures { IsTrue result ↔ (sized_pages.now.subparameters ≡ Outside) }
+{
+    sized_pages.is_outside()
+}
 
 /// Promises what `SizedFront::new` promises.
 pub fn sized_front_new(alloc: Global, size: Size) -> Result<SizedFront, AllocError>
@@ -78,6 +103,13 @@ pub fn sized_front_sides(sized_front: &SizedFront) -> Option<Sides>
     ensures { result ≡ sized_front.now.pages.sides }
 {
     sized_front.sides()
+}
+
+/// Promises what `sized_front.subparameters` promises.
+pub fn sized_front_subparameters(sized_front: &SizedFront) -> Subparameters
+    ensures { result ≡ sized_front.now.pages.subparameters }
+{
+    sized_front.subparameters()
 }
 
 /// Promises what `sized_front.is_bounded` promises.

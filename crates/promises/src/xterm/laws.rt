@@ -15,6 +15,7 @@ ghost use Rattle.promises.specs.v0_4.xterm.Play.{nothing_played, play_bytes, pla
 ghost use Rattle.promises.specs.v0_4.xterm.Play.{xterm_log};
 ghost use Rattle.promises.specs.v0_4.xterm.Resizing.{whole_on, xterm_log_on};
 ghost use Rattle.promises.specs.v0_4.xterm.Sides.{FitsSides};
+ghost use Rattle.promises.specs.v0_4.xterm.Subparameters.{kept, Pass};
 ghost use Rattle.promises.specs.v0_4.xterm.Terminals.{PlaysTerminals};
 ghost use Rattle.std.specs.List.{list_any};
 ghost use Rattle.std.specs.Prelude.{[], All, false, if◌then◌else◌, List, None, true, ℕ, ◌++◌, ◌<◌, ◌≡◌};
@@ -27,6 +28,7 @@ ghost use Rattle.vt_term.specs.Sound.{IsSoundAt, IsSoundDisplayAt};
 ghost use Rattle.vt_term.specs.State.{Display};
 ghost use Rattle.vt_xterm.specs.Pages.{Screens};
 ghost use Rattle.vt_xterm.specs.Play.{IsSoundWholeAt, Whole};
+ghost use Rattle.vt_xterm.specs.declared.subparameters.Subparameters.TheVariants.{Outside};
 
 /// Promises what `vt_xterm::laws::sized_soundness` promises.
 pub fn sized_soundness()
@@ -67,8 +69,8 @@ pub fn cuts()
 
 /// Promises what `vt_xterm::laws::sized_transparent` promises.
 pub fn sized_transparent()
-    ensures ascii { (w : Whole) (bytes : List ℕ) → IsHeldPart w.state.held → All (λ b. b < 0x80) bytes
-        → play_xterm w [] bytes ≡ play_bytes w bytes }
+    ensures ascii { (w : Whole) (bytes : List ℕ) → IsHeldPart w.state.held → w.pages.subparameters ≡ Outside
+        → Pass w.state.held bytes → All (λ b. b < 0x80) bytes → play_xterm w [] bytes ≡ play_bytes w bytes }
     ensures terminals { (w : Whole) (bytes : List ℕ) → w.pages.sides ≡ None → PlaysTerminals w.state bytes → play_bytes w bytes ≡ record {
       whole = record w { state = (play w.state bytes).state };
       reports = (play w.state bytes).reports;
@@ -80,8 +82,8 @@ pub fn sized_transparent()
 
 /// Promises what `vt_xterm::laws::transparent` promises.
 pub fn transparent()
-    ensures ascii { (w : Whole) (bytes : List ℕ) → IsSound w.state → All (λ b. b < 0x80) bytes
-        → play_xterm w [] bytes ≡ play_bytes w bytes }
+    ensures ascii { (w : Whole) (bytes : List ℕ) → IsSound w.state → w.pages.subparameters ≡ Outside
+        → Pass w.state.held bytes → All (λ b. b < 0x80) bytes → play_xterm w [] bytes ≡ play_bytes w bytes }
     ensures terminals { (w : Whole) (bytes : List ℕ) → w.pages.sides ≡ None → PlaysTerminals w.state bytes → play_bytes w bytes ≡ record {
       whole = record w { state = (play w.state bytes).state };
       reports = (play w.state bytes).reports;
@@ -111,6 +113,7 @@ pub fn alternate()
             resizes = s.pages.resizes;
             brackets = s.pages.brackets;
             sides = (unwrapped s).pages.sides;
+            subparameters = s.pages.subparameters;
           };
         } }
     ensures reset { (s : Screens) (t : Display) → s.pages.sides ≡ None → s.pages.alternate ≡ false
@@ -123,6 +126,7 @@ pub fn alternate()
             resizes = s.pages.resizes;
             brackets = s.pages.brackets;
             sides = None;
+            subparameters = s.pages.subparameters;
           };
         } }
 {
@@ -185,6 +189,8 @@ pub fn resizes()
         → IsSoundAt size (whole_on size w).state × IsSoundPageAt size (whole_on size w).pages.other }
     ensures sides { (size : Size) (w : Whole) → IsSize size → IsSoundSized w.state → FitsSides w.state.display w.pages.sides
         → FitsSides (whole_on size w).state.display (whole_on size w).pages.sides }
+    ensures subparameters { (size : Size) (w : Whole) → kept w.state.held w.pages.subparameters ≡ w.pages.subparameters
+        → kept (whole_on size w).state.held (whole_on size w).pages.subparameters ≡ (whole_on size w).pages.subparameters }
 {
     vt_xterm::laws::resizes()
 }

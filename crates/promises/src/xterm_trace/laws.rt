@@ -6,6 +6,7 @@ ghost use Rattle.promises.specs.v0_4.xterm_trace.Trace.{PlaysVt220s, trace_xterm
 ghost use Rattle.std.specs.Prelude.{[], List, None, ℕ, ◌++◌, ◌≡◌};
 ghost use Rattle.vt_trace.specs.declared.tracing.Tracer.{Tracer};
 ghost use Rattle.vt_xterm.specs.Play.{Whole};
+ghost use Rattle.vt_xterm.specs.declared.subparameters.Subparameters.TheVariants.{Outside};
 
 /// Promises what `vt_xterm_trace::laws::cuts` promises.
 pub fn cuts()
@@ -21,9 +22,11 @@ pub fn cuts()
 
 /// Promises what `vt_xterm_trace::laws::transparent` promises.
 pub fn transparent()
-    ensures lines { (w : Whole) (t : Tracer) (pending bytes : List ℕ) → w.pages.sides ≡ None → PlaysVt220s w (characters pending bytes)
+    ensures lines { (w : Whole) (t : Tracer) (pending bytes : List ℕ) → w.pages.sides ≡ None → w.pages.subparameters ≡ Outside
+        → PlaysVt220s w (characters pending bytes)
         → trace_xterm w t pending bytes ≡ trace_utf8 w.state t pending bytes }
-    ensures tracer { (w : Whole) (t : Tracer) (pending bytes : List ℕ) → w.pages.sides ≡ None → PlaysVt220s w (characters pending bytes)
+    ensures tracer { (w : Whole) (t : Tracer) (pending bytes : List ℕ) → w.pages.sides ≡ None → w.pages.subparameters ≡ Outside
+        → PlaysVt220s w (characters pending bytes)
         → tracer_xterm w t pending bytes ≡ tracer_utf8 w.state t pending bytes }
 {
     vt_xterm_trace::laws::transparent()

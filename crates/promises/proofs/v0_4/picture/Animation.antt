@@ -129,6 +129,9 @@ row_is_blank-same = λ ι s row. is_empty ((trimmed-same ι) ((row_of-same ι) s
 pub first_number-same : frozen.first_number ≡ today.first_number
 first_number-same = λ ι size frame. (size.rows + 8) * frame
 
+pub next_number-same : frozen.next_number ≡ today.next_number
+next_number-same = refl
+
 pub number_on_screen-same : frozen.number_on_screen ≡ today.number_on_screen
 number_on_screen-same = λ ι frame s row. (first_number-same ι) s.grid.size frame + (if (row_is_blank-same ι) s row then 0 else (first_of_look-same ι) s row)
 
@@ -242,6 +245,11 @@ unfolding frozen.frame today.frame
 frame-same = λ ι shape duration columns number micros numbers before s.
     (frame_start-same ι) s.grid.size columns micros ((is_reversed-same ι) s) s.grid.width ++ (changes_drawn-same ι) shape duration number numbers before s ++ group_end
 
+pub whole_frame-same : frozen.whole_frame ≡ today.whole_frame
+unfolding frozen.whole_frame today.whole_frame
+whole_frame-same = λ ι shape duration columns number micros s.
+    (frame_start-same ι) s.grid.size columns micros ((is_reversed-same ι) s) s.grid.width ++ (screen_drawn-same ι) shape duration number s ++ group_end
+
 pub title_byte-same : frozen.title_byte ≡ today.title_byte
 title_byte-same = refl
 
@@ -278,12 +286,16 @@ unfolding frozen.first_screen today.first_screen
 first_screen-same = λ ι shape duration columns s.
     (first_start-same ι) s.grid.size columns ((is_reversed-same ι) s) s.grid.width ++ (screen_drawn-same ι) shape duration 0 s ++ group_end
 
-pub animation_head-same : frozen.animation_head ≡ today.animation_head
-unfolding frozen.animation_head today.animation_head
-animation_head-same = λ ι theme shape title duration columns first last.
-    (document_start-same ι) last.grid.size.rows columns ++ flat_map title_byte title ++ title_end
+pub animation_head_of-same : frozen.animation_head_of ≡ today.animation_head_of
+unfolding frozen.animation_head_of today.animation_head_of
+animation_head_of-same = λ ι theme shape title duration view columns first last.
+    (document_start-same ι) view.rows view.columns ++ flat_map title_byte title ++ title_end
     ++ (alternative-same ι) last.grid.size.rows last.grid ++ (style-same ι) ++ (moving_style-same ι) ++ (moving_start-same ι) theme duration
     ++ (first_screen-same ι) shape duration columns first
+
+pub animation_head-same : frozen.animation_head ≡ today.animation_head
+animation_head-same = λ ι theme shape title duration columns first last.
+    (animation_head_of-same ι) theme shape title duration (record { rows = last.grid.size.rows; columns = columns }) columns first last
 
 pub animation_end-same : frozen.animation_end ≡ today.animation_end
 animation_end-same = refl

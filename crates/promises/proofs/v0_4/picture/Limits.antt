@@ -29,6 +29,9 @@ frame_limit-same = refl
 pub animation_limit-same : frozen.animation_limit ≡ today.animation_limit
 animation_limit-same = refl
 
+pub animation_limit_of-same : frozen.animation_limit_of ≡ today.animation_limit_of
+animation_limit_of-same = refl
+
 pub place_limit-same : frozen.place_limit ≡ today.place_limit
 place_limit-same = λ ι rows. 23 + (row_digits-same ι) rows
 

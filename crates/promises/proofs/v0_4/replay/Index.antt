@@ -211,5 +211,5 @@ index_of-same = λ ι format host every opening broken bytes content steps.
 
 pub IsIndexed-same : frozen.IsIndexed ≡ today.IsIndexed
 IsIndexed-same = λ ι format host every opening timing bytes index broken replaced.
-    IsStepped (λ content steps. (index_of-same ι) format host every opening broken bytes content steps) format host.encoding None
+    IsStepped (λ content steps changes. (index_of-same ι) format host every opening broken bytes content steps) format host.encoding None
     timing bytes index broken replaced

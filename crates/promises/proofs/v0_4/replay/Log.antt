@@ -9,7 +9,7 @@ use Rattle.promises.proofs.v0_4.term.Text.{text-same}
 use Rattle.promises.proofs.v0_4.utf8.Play.{translated-same}
 use Rattle.promises.proofs.v0_4.xterm.Play.{front_of-same, xterm_log-same}
 use Rattle.promises.specs.v0_4.replay.Log as frozen
-use Rattle.std.proofs.Common.{◌≡◌}
+use Rattle.std.proofs.Common.{refl, ◌≡◌}
 use Rattle.std.specs.Prelude.{[], cond, drop, length, List, nat_lt, take, ℕ, ◌++◌, ◌∷◌}
 use Rattle.vt_replay.specs.Log as today
 use Rattle.vt_replay.specs.Resizes.{Session}
@@ -53,6 +53,9 @@ lines_on-at m k (r ∷ resizes) bytes = λ ι.
 
 pub lines_on-same : {K : Type 0} → frozen.lines_on {K = K} ≡ today.lines_on {K = K}
 lines_on-same = λ ι x1 x2 x3 x4. lines_on-at x1 x2 x3 x4 ι
+
+pub paged-same : {K : Type 0} → frozen.paged {K = K} ≡ today.paged {K = K}
+paged-same = refl
 
 pub lines_with-at : (x0 : Size) (x1 : List Resize) (x2 : Language) (x3 : List ℕ) → frozen.lines_with x0 x1 x2 x3 ≡ today.lines_with x0 x1 x2 x3
 lines_with-at size resizes Dec bytes = λ ι. (lines_on-same ι) (plain_session-same ι) ((state_of-same ι) size) resizes bytes

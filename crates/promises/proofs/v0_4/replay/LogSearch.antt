@@ -1,6 +1,6 @@
 -- 0.4: vt_replay/specs/LogSearch is today's.
 use Rattle.promises.proofs.v0_4.recording.Gathered.{events_of-same}
-use Rattle.promises.proofs.v0_4.replay.Log.{lines_at-same}
+use Rattle.promises.proofs.v0_4.replay.Log.{lines_with-same}
 use Rattle.promises.specs.v0_4.replay.LogSearch as frozen
 use Rattle.std.proofs.Common.{refl, ◌≡◌}
 use Rattle.std.specs.Prelude.{[], List, max, Option, ℕ, ◌++◌, ◌∷◌}
@@ -65,6 +65,7 @@ log_found-at find log clock number (e ∷ events) = λ ι.
 pub log_found-same : frozen.log_found ≡ today.log_found
 log_found-same = λ ι find log clock number x4. log_found-at find log clock number x4 ι
 
-pub log_found_at-same : frozen.log_found_at ≡ today.log_found_at
-log_found_at-same = λ ι size language utf8 wanted opening content steps.
-    (log_found-same ι) (λ line. column_in wanted (log_line utf8 line)) (λ bytes. scrolled_after ((lines_at-same ι) size language) opening bytes) 0 1 ((events_of-same ι) steps content)
+pub log_found_with-same : frozen.log_found_with ≡ today.log_found_with
+log_found_with-same = λ ι size resizes language utf8 wanted opening content steps.
+    (log_found-same ι) (λ line. column_in wanted (log_line utf8 line)) (λ bytes. scrolled_after ((lines_with-same ι) size resizes language) opening bytes) 0 1
+    ((events_of-same ι) steps content)

@@ -5,7 +5,7 @@ use Rattle.promises.proofs.v0_4.term.Text.{line_text-same}
 use Rattle.promises.proofs.v0_4.utf8.Decoding.{characters-same}
 use Rattle.promises.proofs.v0_4.xterm.Front.{xterm_effect-same}
 use Rattle.promises.proofs.v0_4.xterm.Pages.{is_bounded-same}
-use Rattle.promises.proofs.v0_4.xterm.Play.{play_character-same}
+use Rattle.promises.proofs.v0_4.xterm.Play.{held_before-same, play_character-same}
 use Rattle.promises.specs.v0_4.replay.MainPage as frozen
 use Rattle.std.proofs.Common.{refl, ◌≡◌}
 use Rattle.std.specs.Prelude.{[], Bool, false, flat_map, if◌then◌else◌, List, nat_lt, None, not, Option, Some, true}
@@ -78,7 +78,7 @@ pub pages_before-same : frozen.pages_before ≡ today.pages_before
 pages_before-same = λ ι x0 x1. pages_before-at x0 x1 ι
 
 pub pages_at_byte-same : frozen.pages_at_byte ≡ today.pages_at_byte
-pages_at_byte-same = λ ι w b. (pages_before-same ι) ((events_from-same ι) w.state.held (b ∷ [])) (screens_of w)
+pages_at_byte-same = λ ι w b. (pages_before-same ι) ((events_from-same ι) ((held_before-same ι) w b) (b ∷ [])) (screens_of w)
 
 pub page_at-same : frozen.page_at ≡ today.page_at
 page_at-same = λ ι w c. if nat_lt c 0x80 then (pages_at_byte-same ι) w c else []

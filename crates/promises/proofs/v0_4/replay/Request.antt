@@ -4,12 +4,11 @@ use Rattle.promises.proofs.v0_4.recording.Detection.{detected-same}
 use Rattle.promises.proofs.v0_4.replay.Animated.{IsAnimation-same}
 use Rattle.promises.proofs.v0_4.replay.Host.{host_of-same}
 use Rattle.promises.proofs.v0_4.replay.Index.{IsIndexed-same}
+use Rattle.promises.proofs.v0_4.replay.Resizes.{carried_out-same}
 use Rattle.promises.proofs.v0_4.replay.Words.{WordTable-same}
 use Rattle.promises.specs.v0_4.replay.Request as frozen
 use Rattle.std.proofs.Common.{refl, ◌≡◌}
-use Rattle.std.specs.Prelude.{[], Bool, false, length, List, min, None, Option, Some, take, true, ℕ}
-use Rattle.std.specs.Prelude.{◌+◌, ◌-◌, ◌^◌, ◌∷◌, ◌≡◌}
-use Rattle.vt_cli.specs.Source.{size_of}
+use Rattle.std.specs.Prelude.{[], Bool, false, length, List, None, Option, Some, true, ℕ, ◌≡◌}
 use Rattle.vt_cli.specs.declared.asked.Request.{Request}
 use Rattle.vt_cli.specs.declared.what.What.TheVariants.{Picture}
 use Rattle.vt_cli.specs.declared.what.Word.TheVariants.{Animation, Events, Index, Replay, Search}
@@ -17,7 +16,6 @@ use Rattle.vt_cli.specs.declared.what.Word.{Word}
 use Rattle.vt_device.specs.Runs.{Flags}
 use Rattle.vt_device.specs.declared.fault.Break.{Break}
 use Rattle.vt_recording.specs.Reached.{has_characters, IsAmong, IsTakenBetween, nothing_passed}
-use Rattle.vt_recording.specs.declared.changes.Change.{Change}
 use Rattle.vt_recording.specs.declared.format.Format.TheVariants as format
 use Rattle.vt_recording.specs.declared.format.Format.{Format}
 use Rattle.vt_replay.specs.Animated.{title_of}
@@ -25,8 +23,7 @@ use Rattle.vt_replay.specs.EventTable.{IsTableTaken}
 use Rattle.vt_replay.specs.Host.{opening, plain_host}
 use Rattle.vt_replay.specs.Playing.{language_of}
 use Rattle.vt_replay.specs.Request as today
-use Rattle.vt_replay.specs.Request.{keeps_size, most_changes, resize_then}
-use Rattle.vt_replay.specs.Request.{shown_format}
+use Rattle.vt_replay.specs.Request.{keeps_size, plays_one_size, shown_format}
 use Rattle.vt_replay.specs.Search.{IsSearched, text_of}
 use Rattle.vt_replay.specs.declared.host.Host.{Host}
 use Rattle.vt_replay.specs.declared.requests.Outcome.{Outcome}
@@ -85,36 +82,6 @@ IsPlayed-read o r host resizes content broken replaced w writer_failed ρ = reco
   replaces = ρ.replaces;
 }
 
-pub IsTakenBy-at : (x0 : Word) (x1 : Request) (x2 : Format) (x3 : Host) (timing : Option (List ℕ)) (bytes : List ℕ) (content : List ℕ) (broken : Option Break) (replaced : ℕ) → frozen.IsTakenBy x0 x1 x2 x3 timing bytes content broken replaced ≡ today.IsTakenBy x0 x1 x2 x3 timing bytes content broken replaced
-IsTakenBy-at Events r format host timing bytes content broken replaced = λ ι.
-    IsTableTaken format r.full r.from r.until timing bytes content broken replaced
-IsTakenBy-at (Animation looks) r format host timing bytes content broken replaced = λ ι.
-    (IsAnimation-same ι) looks (title_of r.title) (opening (Replay Picture) host) host.size (language_of host.terminal host.encoding) format host.encoding r.until
-    timing bytes content broken replaced
-IsTakenBy-at Search r format host timing bytes content broken replaced = λ ι.
-    IsSearched host.size r.log (text_of r.pattern) (opening (Replay Picture) host) (language_of host.terminal host.encoding) format host.encoding r.from
-    r.until timing bytes content broken replaced
-IsTakenBy-at Index r format host timing bytes content broken replaced = λ ι.
-    (IsIndexed-same ι) format host r.every (opening (Replay Picture) host) timing bytes content broken replaced
-IsTakenBy-at word r format host timing bytes content broken replaced = λ ι.
-    IsTakenBetween format host.encoding r.from r.until timing bytes content broken replaced
-
-pub IsTakenBy-same : frozen.IsTakenBy ≡ today.IsTakenBy
-IsTakenBy-same = λ ι x0 x1 x2 x3 timing bytes content broken replaced. IsTakenBy-at x0 x1 x2 x3 timing bytes content broken replaced ι
-
-pub resize_then-same : frozen.resize_then ≡ today.resize_then
-resize_then-same = refl
-
-pub resizes_of-at : (before : ℕ) (at : ℕ) (x2 : List Change) → frozen.resizes_of before at x2 ≡ today.resizes_of before at x2
-unfolding frozen.resizes_of today.resizes_of
-resizes_of-at before at [] = λ ι. []
-resizes_of-at before at (c ∷ changes) = λ ι.
-    resize_then (size_of c.window.columns c.window.rows) (min (before + (c.place - at)) (2 ^ 64 - 1)) ((resizes_of-at before at changes ι))
-    ((resizes_of-at 0 c.place changes ι))
-
-pub resizes_of-same : frozen.resizes_of ≡ today.resizes_of
-resizes_of-same = λ ι before at x2. resizes_of-at before at x2 ι
-
 pub has_sizes-same : frozen.has_sizes ≡ today.has_sizes
 has_sizes-same = refl
 
@@ -124,18 +91,34 @@ changes_size-same = refl
 pub keeps_size-same : frozen.keeps_size ≡ today.keeps_size
 keeps_size-same = refl
 
-pub most_changes-same : frozen.most_changes ≡ today.most_changes
-most_changes-same = refl
+pub IsTakenBy-at : (x0 : Word) (x1 : Request) (x2 : Format) (x3 : Host) (timing : Option (List ℕ)) (bytes : List ℕ) (content : List ℕ) (broken : Option Break) (replaced : ℕ) → frozen.IsTakenBy x0 x1 x2 x3 timing bytes content broken replaced ≡ today.IsTakenBy x0 x1 x2 x3 timing bytes content broken replaced
+IsTakenBy-at Events r format host timing bytes content broken replaced = λ ι.
+    IsTableTaken format r.full r.from r.until timing bytes content broken replaced
+IsTakenBy-at (Animation looks) r format host timing bytes content broken replaced = λ ι.
+    (IsAnimation-same ι) looks (keeps_size r format) (title_of r.title) (opening (Replay Picture) host) host.size (language_of host.terminal host.encoding) format
+    host.encoding r.until timing bytes content broken replaced
+IsTakenBy-at Search r format host timing bytes content broken replaced = λ ι.
+    IsSearched host.size (keeps_size r format) r.log (text_of r.pattern) (opening (Replay Picture) host) (language_of host.terminal host.encoding) format host.encoding r.from
+    r.until timing bytes content broken replaced
+IsTakenBy-at Index r format host timing bytes content broken replaced = λ ι.
+    (IsIndexed-same ι) format host r.every (opening (Replay Picture) host) timing bytes content broken replaced
+IsTakenBy-at word r format host timing bytes content broken replaced = λ ι.
+    IsTakenBetween format host.encoding r.from r.until timing bytes content broken replaced
 
-pub AreResizes-at : (keeps : Bool) (x1 : Request) (x2 : Format) (timing : Option (List ℕ)) (bytes : List ℕ) (x5 : Host) (resizes : List Resize) → frozen.AreResizes keeps x1 x2 timing bytes x5 resizes ≡ today.AreResizes keeps x1 x2 timing bytes x5 resizes
+pub IsTakenBy-same : frozen.IsTakenBy ≡ today.IsTakenBy
+IsTakenBy-same = λ ι x0 x1 x2 x3 timing bytes content broken replaced. IsTakenBy-at x0 x1 x2 x3 timing bytes content broken replaced ι
+
+pub plays_one_size-same : frozen.plays_one_size ≡ today.plays_one_size
+plays_one_size-same = refl
+
+pub AreResizes-at : (none : Bool) (x1 : Request) (x2 : Format) (timing : Option (List ℕ)) (bytes : List ℕ) (x5 : Host) (resizes : List Resize) → frozen.AreResizes none x1 x2 timing bytes x5 resizes ≡ today.AreResizes none x1 x2 timing bytes x5 resizes
 AreResizes-at true r format timing bytes host resizes = λ ι. resizes ≡ []
 AreResizes-at false r format timing bytes host resizes = λ ι.
     IsAmong format timing bytes (λ events. resizes
-    ≡ (resizes_of-same ι) (length (opening r.word host)) 0
-    (take most_changes ((changes_in-same ι) (has_characters format host.encoding) r.until nothing_passed events)))
+    ≡ (carried_out-same ι) false (length (opening r.word host)) ((changes_in-same ι) (has_characters format host.encoding) r.until nothing_passed events))
 
 pub AreResizes-same : frozen.AreResizes ≡ today.AreResizes
-AreResizes-same = λ ι keeps x1 x2 timing bytes x5 resizes. AreResizes-at keeps x1 x2 timing bytes x5 resizes ι
+AreResizes-same = λ ι none x1 x2 timing bytes x5 resizes. AreResizes-at none x1 x2 timing bytes x5 resizes ι
 
 pub IsPrepared-made : (r : Request) (format : Format) (timing : Option (List ℕ)) (b : List ℕ) (host : Host) (resizes : List Resize) (bytes : List ℕ) (broken : Option Break) (replaced : ℕ) → frozen.IsPrepared' r format timing b host resizes bytes broken replaced → today.IsPrepared r format timing b host resizes bytes broken replaced
 IsPrepared-made r format timing b host resizes bytes broken replaced ρ = record {
@@ -143,7 +126,7 @@ IsPrepared-made r format timing b host resizes bytes broken replaced ρ = record
   content = ρ.content;
   taken = coe 0 1 (ι. (IsTakenBy-same ι) r.word r format host timing b ρ.content broken replaced) ρ.taken;
   joined = ρ.joined;
-  resized = coe 0 1 (ι. (AreResizes-same ι) (keeps_size r format) r format timing b host resizes) ρ.resized;
+  resized = coe 0 1 (ι. (AreResizes-same ι) (plays_one_size r format) r format timing b host resizes) ρ.resized;
 }
 
 pub IsPrepared-read : (r : Request) (format : Format) (timing : Option (List ℕ)) (b : List ℕ) (host : Host) (resizes : List Resize) (bytes : List ℕ) (broken : Option Break) (replaced : ℕ) → today.IsPrepared r format timing b host resizes bytes broken replaced → frozen.IsPrepared' r format timing b host resizes bytes broken replaced
@@ -152,7 +135,7 @@ IsPrepared-read r format timing b host resizes bytes broken replaced ρ = record
   content = ρ.content;
   taken = coe 1 0 (ι. (IsTakenBy-same ι) r.word r format host timing b ρ.content broken replaced) ρ.taken;
   joined = ρ.joined;
-  resized = coe 1 0 (ι. (AreResizes-same ι) (keeps_size r format) r format timing b host resizes) ρ.resized;
+  resized = coe 1 0 (ι. (AreResizes-same ι) (plays_one_size r format) r format timing b host resizes) ρ.resized;
 }
 
 pub IsTakenApart-made : (o : Outcome) (r : Request) (format : Format) (timing : Option (List ℕ)) (b w : List ℕ) (f : Flags) → frozen.IsTakenApart' o r format timing b w f → today.IsTakenApart o r format timing b w f

@@ -1,8 +1,8 @@
 -- 0.4: vt_replay/specs/Search is today's.
 use Rattle.promises.proofs.v0_4.recording.Gathered.{events_of-same}
 use Rattle.promises.proofs.v0_4.recording.Reached.{passed-same}
-use Rattle.promises.proofs.v0_4.replay.LogSearch.{log_found_at-same}
-use Rattle.promises.proofs.v0_4.replay.Playing.{played_at-same}
+use Rattle.promises.proofs.v0_4.replay.LogSearch.{log_found_with-same}
+use Rattle.promises.proofs.v0_4.replay.Resizes.{carried_out-same, seen_with-same}
 use Rattle.promises.proofs.v0_4.screen.Grid.{row_of-same}
 use Rattle.promises.proofs.v0_4.term.Text.{trimmed-same}
 use Rattle.promises.proofs.v0_4.utf8.Cells.{cells-same}
@@ -23,6 +23,7 @@ use Rattle.vt_replay.specs.Search as today
 use Rattle.vt_replay.specs.Search.{first_place, in_cells, is_before, is_utf8, line_end, spans, steps_left}
 use Rattle.vt_replay.specs.Steps.{IsStepped, Step}
 use Rattle.vt_replay.specs.declared.language.Language.{Language}
+use Rattle.vt_replay.specs.declared.resized.Resize.{Resize}
 use Rattle.vt_screen.specs.declared.size.Size.{Size}
 use Rattle.vt_term.specs.Text.{glyphs_of}
 
@@ -60,14 +61,15 @@ lines-same = λ ι utf8 s. flat_map (λ row. (line_of-same ι) utf8 s row) (rang
 pub until_column-same : frozen.until_column ≡ today.until_column
 until_column-same = refl
 
-pub spans_at-same : frozen.spans_at ≡ today.spans_at
-spans_at-same = λ ι size language wanted opening content steps.
-    spans (λ bytes. first_place (is_utf8 language) wanted ((played_at-same ι) size language (opening ++ bytes)).state.display) 0 None ((events_of-same ι) steps content)
+pub spans_with-same : frozen.spans_with ≡ today.spans_with
+spans_with-same = λ ι size resizes language wanted opening content steps.
+    spans (λ bytes. first_place (is_utf8 language) wanted ((seen_with-same ι) size resizes language (opening ++ bytes)).display) 0 None
+    ((events_of-same ι) steps content)
 
 pub searched-same : frozen.searched ≡ today.searched
-searched-same = λ ι size language log text opening content steps.
-    let found = (spans_at-same ι) size language ((wanted-same ι) language text) opening content steps in
-    if log then found ++ (log_found_at-same ι) size language (is_utf8 language) ((wanted-same ι) language text) opening content steps else found
+searched-same = λ ι size resizes language log text opening content steps.
+    let found = (spans_with-same ι) size resizes language ((wanted-same ι) language text) opening content steps in
+    if log then found ++ (log_found_with-same ι) size resizes language (is_utf8 language) ((wanted-same ι) language text) opening content steps else found
 
 pub is_before-same : frozen.is_before ≡ today.is_before
 is_before-same = refl
@@ -89,14 +91,15 @@ steps_left-same = refl
 
 pub searched_after-same : frozen.searched_after ≡ today.searched_after
 searched_after-same = λ ι from size language log text opening content steps.
-    (split_at-same ι) (λ before content steps. (searched-same ι) size language log text (opening ++ before) content (steps_left content steps)) from 0 [] content steps
+    (split_at-same ι) (λ before content steps. (searched-same ι) size [] language log text (opening ++ before) content (steps_left content steps)) from 0 [] content steps
 
-pub searched_from-at : (x0 : Option Moment) (x1 : Size) (x2 : Language) (log : Bool) (text : List ℕ) (opening : List ℕ) (content : List ℕ) (x7 : List Step) → frozen.searched_from x0 x1 x2 log text opening content x7 ≡ today.searched_from x0 x1 x2 log text opening content x7
-searched_from-at None size language log text opening content steps = λ ι. (searched-same ι) size language log text opening content steps
-searched_from-at (Some from) size language log text opening content steps = λ ι. (searched_after-same ι) from size language log text opening content steps
+pub searched_from-at : (x0 : Option Moment) (x1 : Size) (x2 : List Resize) (x3 : Language) (log : Bool) (text : List ℕ) (opening : List ℕ) (content : List ℕ) (x8 : List Step) → frozen.searched_from x0 x1 x2 x3 log text opening content x8 ≡ today.searched_from x0 x1 x2 x3 log text opening content x8
+searched_from-at None size resizes language log text opening content steps = λ ι. (searched-same ι) size resizes language log text opening content steps
+searched_from-at (Some from) size resizes language log text opening content steps = λ ι.
+    (searched_after-same ι) from size language log text opening content steps
 
 pub searched_from-same : frozen.searched_from ≡ today.searched_from
-searched_from-same = λ ι x0 x1 x2 log text opening content x7. searched_from-at x0 x1 x2 log text opening content x7 ι
+searched_from-same = λ ι x0 x1 x2 x3 log text opening content x8. searched_from-at x0 x1 x2 x3 log text opening content x8 ι
 
 pub BeginsBy-at : (x0 : Option Moment) (x1 : Format) (x2 : Encoding) (timing : Option (List ℕ)) (bytes : List ℕ) (begin : Option Moment) → frozen.BeginsBy x0 x1 x2 timing bytes begin ≡ today.BeginsBy x0 x1 x2 timing bytes begin
 BeginsBy-at None format encoding timing bytes begin = λ ι. begin ≡ None
@@ -112,16 +115,16 @@ BeginsBy-at (Some (moment.Marker n)) format encoding timing bytes begin = λ ι.
 pub BeginsBy-same : frozen.BeginsBy ≡ today.BeginsBy
 BeginsBy-same = λ ι x0 x1 x2 timing bytes begin. BeginsBy-at x0 x1 x2 timing bytes begin ι
 
-pub IsSearched-made : (size : Size) (log : Bool) (text opening : List ℕ) (language : Language) (format : Format) (encoding : Encoding) (from until : Option Moment) (timing : Option (List ℕ)) (bytes lines : List ℕ) (broken : Option Break) (replaced : ℕ) → frozen.IsSearched' size log text opening language format encoding from until timing bytes lines broken replaced → today.IsSearched size log text opening language format encoding from until timing bytes lines broken replaced
-IsSearched-made size log text opening language format encoding from until timing bytes lines broken replaced ρ = record {
+pub IsSearched-made : (size : Size) (keeps : Bool) (log : Bool) (text opening : List ℕ) (language : Language) (format : Format) (encoding : Encoding) (from until : Option Moment) (timing : Option (List ℕ)) (bytes lines : List ℕ) (broken : Option Break) (replaced : ℕ) → frozen.IsSearched' size keeps log text opening language format encoding from until timing bytes lines broken replaced → today.IsSearched size keeps log text opening language format encoding from until timing bytes lines broken replaced
+IsSearched-made size keeps log text opening language format encoding from until timing bytes lines broken replaced ρ = record {
   begin = ρ.begin;
   begins = coe 0 1 (ι. (BeginsBy-same ι) from format encoding timing bytes ρ.begin) ρ.begins;
-  stepped = coe 0 1 (ι. IsStepped (λ content steps. (searched_from-same ι) ρ.begin size language log text opening content steps) format encoding until timing bytes lines broken replaced) ρ.stepped;
+  stepped = coe 0 1 (ι. IsStepped (λ content steps changes. (searched_from-same ι) ρ.begin size ((carried_out-same ι) keeps (length opening) changes) language log text opening content steps) format encoding until timing bytes lines broken replaced) ρ.stepped;
 }
 
-pub IsSearched-read : (size : Size) (log : Bool) (text opening : List ℕ) (language : Language) (format : Format) (encoding : Encoding) (from until : Option Moment) (timing : Option (List ℕ)) (bytes lines : List ℕ) (broken : Option Break) (replaced : ℕ) → today.IsSearched size log text opening language format encoding from until timing bytes lines broken replaced → frozen.IsSearched' size log text opening language format encoding from until timing bytes lines broken replaced
-IsSearched-read size log text opening language format encoding from until timing bytes lines broken replaced ρ = record {
+pub IsSearched-read : (size : Size) (keeps : Bool) (log : Bool) (text opening : List ℕ) (language : Language) (format : Format) (encoding : Encoding) (from until : Option Moment) (timing : Option (List ℕ)) (bytes lines : List ℕ) (broken : Option Break) (replaced : ℕ) → today.IsSearched size keeps log text opening language format encoding from until timing bytes lines broken replaced → frozen.IsSearched' size keeps log text opening language format encoding from until timing bytes lines broken replaced
+IsSearched-read size keeps log text opening language format encoding from until timing bytes lines broken replaced ρ = record {
   begin = ρ.begin;
   begins = coe 1 0 (ι. (BeginsBy-same ι) from format encoding timing bytes ρ.begin) ρ.begins;
-  stepped = coe 1 0 (ι. IsStepped (λ content steps. (searched_from-same ι) ρ.begin size language log text opening content steps) format encoding until timing bytes lines broken replaced) ρ.stepped;
+  stepped = coe 1 0 (ι. IsStepped (λ content steps changes. (searched_from-same ι) ρ.begin size ((carried_out-same ι) keeps (length opening) changes) language log text opening content steps) format encoding until timing bytes lines broken replaced) ρ.stepped;
 }

@@ -1,21 +1,16 @@
 -- 0.4: vt_replay/specs/Words is today's.
 use Rattle.promises.proofs.v0_4.replay.Encoding.{decoded-same}
-use Rattle.promises.proofs.v0_4.replay.Log.{lines_with-same, screen_at-same, screen_with-same}
-use Rattle.promises.proofs.v0_4.replay.MainPage.{xterm_pages-same}
-use Rattle.promises.proofs.v0_4.replay.Pages.{pages-same}
-use Rattle.promises.proofs.v0_4.replay.Resizes.{replayed_with-same}
+use Rattle.promises.proofs.v0_4.replay.Log.{lines_on-same, lines_with-same, screen_with-same}
+use Rattle.promises.proofs.v0_4.replay.Resizes.{plain_session-same, replayed_with-same, utf8_begun-same}
+use Rattle.promises.proofs.v0_4.replay.Resizes.{utf8_session-same, xterm_begun-same, xterm_session-same}
+use Rattle.promises.proofs.v0_4.replay.Traces.{trace_end_with-same, trace_with-same}
 use Rattle.promises.proofs.v0_4.term.State.{state_of-same}
 use Rattle.promises.proofs.v0_4.trace.Summary.{summary_on-same}
-use Rattle.promises.proofs.v0_4.trace.Trace.{end_lines-same, trace-same, tracer_all-same}
-use Rattle.promises.proofs.v0_4.trace.Utf8.{summary_utf8_by-same, summary_utf8_on-same, trace_utf8-same}
-use Rattle.promises.proofs.v0_4.trace.Utf8.{tracer_utf8-same}
-use Rattle.promises.proofs.v0_4.utf8.Play.{translated-same}
-use Rattle.promises.proofs.v0_4.xterm.Play.{front_of-same}
+use Rattle.promises.proofs.v0_4.trace.Utf8.{summary_utf8_by-same, summary_utf8_on-same}
 use Rattle.promises.proofs.v0_4.xterm_trace.Names.{xterm_listing-same}
-use Rattle.promises.proofs.v0_4.xterm_trace.Trace.{trace_xterm-same, tracer_xterm-same}
 use Rattle.promises.specs.v0_4.replay.Words as frozen
 use Rattle.std.proofs.Common.{◌≡◌}
-use Rattle.std.specs.Prelude.{[], List, Result, ℕ}
+use Rattle.std.specs.Prelude.{List, Result, ℕ}
 use Rattle.vt_cli.specs.declared.what.Word.TheVariants.{Animation, Content, Events, Index, Log, Pages, Replay, Search}
 use Rattle.vt_cli.specs.declared.what.Word.TheVariants.{Summary, Trace}
 use Rattle.vt_cli.specs.declared.what.Word.{Word}
@@ -26,6 +21,7 @@ use Rattle.vt_recording.specs.declared.format.Encoding.TheVariants.{Dec}
 use Rattle.vt_recording.specs.declared.format.Encoding.{Encoding}
 use Rattle.vt_recording.specs.declared.format.TerminalType.TheVariants.{Xterm}
 use Rattle.vt_recording.specs.declared.format.TerminalType.{TerminalType}
+use Rattle.vt_replay.specs.Log.{paged}
 use Rattle.vt_replay.specs.Playing.{language_of}
 use Rattle.vt_replay.specs.Showing.{ShownTable}
 use Rattle.vt_replay.specs.Words as today
@@ -33,32 +29,14 @@ use Rattle.vt_replay.specs.declared.language.Language.TheVariants as language
 use Rattle.vt_replay.specs.declared.language.Language.{Language}
 use Rattle.vt_replay.specs.declared.resized.Resize.{Resize}
 use Rattle.vt_screen.specs.declared.size.Size.{Size}
-use Rattle.vt_trace.specs.Trace.{tracer_at_start}
-use Rattle.vt_xterm.specs.Play.{behind}
 
-pub pages_at-at : (x0 : Size) (x1 : Language) (x2 : List ℕ) → frozen.pages_at x0 x1 x2 ≡ today.pages_at x0 x1 x2
-pages_at-at size language.Dec bytes = λ ι. (pages-same ι) ((state_of-same ι) size) bytes
-pages_at-at size language.Utf8 bytes = λ ι. (pages-same ι) ((state_of-same ι) size) ((translated-same ι) ((state_of-same ι) size) [] bytes)
-pages_at-at size language.Xterm bytes = λ ι. (xterm_pages-same ι) (behind ((state_of-same ι) size) ((front_of-same ι) size)) [] bytes
+pub pages_with-at : (x0 : Size) (x1 : List Resize) (x2 : Language) (x3 : List ℕ) → frozen.pages_with x0 x1 x2 x3 ≡ today.pages_with x0 x1 x2 x3
+pages_with-at size resizes language.Dec bytes = λ ι. (lines_on-same ι) (paged (plain_session-same ι)) ((state_of-same ι) size) resizes bytes
+pages_with-at size resizes language.Utf8 bytes = λ ι. (lines_on-same ι) (paged (utf8_session-same ι)) ((utf8_begun-same ι) size) resizes bytes
+pages_with-at size resizes language.Xterm bytes = λ ι. (lines_on-same ι) (paged (xterm_session-same ι)) ((xterm_begun-same ι) size) resizes bytes
 
-pub pages_at-same : frozen.pages_at ≡ today.pages_at
-pages_at-same = λ ι x0 x1 x2. pages_at-at x0 x1 x2 ι
-
-pub trace_at-at : (x0 : Size) (x1 : Language) (x2 : List ℕ) → frozen.trace_at x0 x1 x2 ≡ today.trace_at x0 x1 x2
-trace_at-at size language.Dec bytes = λ ι. (trace-same ι) ((state_of-same ι) size) tracer_at_start bytes
-trace_at-at size language.Utf8 bytes = λ ι. (trace_utf8-same ι) ((state_of-same ι) size) tracer_at_start [] bytes
-trace_at-at size language.Xterm bytes = λ ι. (trace_xterm-same ι) (behind ((state_of-same ι) size) ((front_of-same ι) size)) tracer_at_start [] bytes
-
-pub trace_at-same : frozen.trace_at ≡ today.trace_at
-trace_at-same = λ ι x0 x1 x2. trace_at-at x0 x1 x2 ι
-
-pub trace_end_at-at : (x0 : Size) (x1 : Language) (x2 : List ℕ) → frozen.trace_end_at x0 x1 x2 ≡ today.trace_end_at x0 x1 x2
-trace_end_at-at size language.Dec bytes = λ ι. (end_lines-same ι) ((tracer_all-same ι) ((state_of-same ι) size) tracer_at_start bytes)
-trace_end_at-at size language.Utf8 bytes = λ ι. (end_lines-same ι) ((tracer_utf8-same ι) ((state_of-same ι) size) tracer_at_start [] bytes)
-trace_end_at-at size language.Xterm bytes = λ ι. (end_lines-same ι) ((tracer_xterm-same ι) (behind ((state_of-same ι) size) ((front_of-same ι) size)) tracer_at_start [] bytes)
-
-pub trace_end_at-same : frozen.trace_end_at ≡ today.trace_end_at
-trace_end_at-same = λ ι x0 x1 x2. trace_end_at-at x0 x1 x2 ι
+pub pages_with-same : frozen.pages_with ≡ today.pages_with
+pages_with-same = λ ι x0 x1 x2 x3. pages_with-at x0 x1 x2 x3 ι
 
 pub summary_at-at : (x0 : Size) (x1 : Language) (x2 : List ℕ) → frozen.summary_at x0 x1 x2 ≡ today.summary_at x0 x1 x2
 summary_at-at size language.Dec bytes = λ ι. (summary_on-same ι) size.rows bytes
@@ -83,10 +61,10 @@ due_of-at Log size resizes terminal encoding = λ ι.
     record { written = (lines_with-same ι) size resizes language; ending = (screen_with-same ι) size resizes language; there = always }
 due_of-at Pages size resizes terminal encoding = λ ι.
     let language = language_of terminal encoding in
-    record { written = (pages_at-same ι) size language; ending = (screen_at-same ι) size language; there = always }
+    record { written = (pages_with-same ι) size resizes language; ending = (screen_with-same ι) size resizes language; there = always }
 due_of-at Trace size resizes terminal encoding = λ ι.
     let language = language_of terminal encoding in
-    record { written = (trace_at-same ι) size language; ending = (trace_end_at-same ι) size language; there = always }
+    record { written = (trace_with-same ι) size resizes language; ending = (trace_end_with-same ι) size resizes language; there = always }
 due_of-at Summary size resizes terminal encoding = λ ι.
     let language = language_of terminal encoding in
     record { written = nothing; ending = (summary_at-same ι) size language; there = always }

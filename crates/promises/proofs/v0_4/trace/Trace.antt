@@ -166,6 +166,15 @@ tracer_all-at s t (b ∷ bytes) = λ ι. (tracer_all-at ((play-same ι) s (b ∷
 pub tracer_all-same : frozen.tracer_all ≡ today.tracer_all
 tracer_all-same = λ ι x0 x1 x2. tracer_all-at x0 x1 x2 ι
 
+pub size_column-same : frozen.size_column ≡ today.size_column
+size_column-same = refl
+
+pub size_lines-same : frozen.size_lines ≡ today.size_lines
+size_lines-same = refl
+
+pub tracer_resized-same : frozen.tracer_resized ≡ today.tracer_resized
+tracer_resized-same = refl
+
 pub IsAfter-made : (bytes : List ℕ) (t : Tracer) → frozen.IsAfter' bytes t → today.IsAfter bytes t
 IsAfter-made bytes t ρ = record {
   place = ρ.place;

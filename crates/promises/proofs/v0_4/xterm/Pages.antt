@@ -14,6 +14,7 @@ use Rattle.vt_term.specs.State.{last_column}
 use Rattle.vt_xterm.specs.Pages as today
 use Rattle.vt_xterm.specs.Pages.{restored, side_mode, sided_origin_mode, unwrapped, with_full_sides}
 use Rattle.vt_xterm.specs.Pages.{allow_column_mode, autowrap_mode_between, bracket_pastes, is_window_wide, on_display}
+use Rattle.vt_xterm.specs.declared.subparameters.Subparameters.TheVariants.{Outside}
 
 pub PagesState-made : frozen.PagesState' → today.PagesState
 PagesState-made ρ = record {
@@ -22,6 +23,7 @@ PagesState-made ρ = record {
   resizes = ρ.resizes;
   brackets = ρ.brackets;
   sides = ρ.sides;
+  subparameters = ρ.subparameters;
 }
 
 pub PagesState-read : today.PagesState → frozen.PagesState'
@@ -31,10 +33,18 @@ PagesState-read ρ = record {
   resizes = ρ.resizes;
   brackets = ρ.brackets;
   sides = ρ.sides;
+  subparameters = ρ.subparameters;
 }
 
 pub pages_of-same : frozen.pages_of ≡ today.pages_of
-pages_of-same = λ ι size. record { other = (blank_page-same ι) size; alternate = false; resizes = false; brackets = false; sides = None }
+pages_of-same = λ ι size. record {
+  other = (blank_page-same ι) size;
+  alternate = false;
+  resizes = false;
+  brackets = false;
+  sides = None;
+  subparameters = Outside;
+}
 
 pub Screens-made : frozen.Screens' → today.Screens
 Screens-made ρ = record {
@@ -50,6 +60,9 @@ Screens-read ρ = record {
 
 pub on_display-same : frozen.on_display ≡ today.on_display
 on_display-same = refl
+
+pub with_subparameters-same : frozen.with_subparameters ≡ today.with_subparameters
+with_subparameters-same = refl
 
 pub sided-same : frozen.sided ≡ today.sided
 sided-same = refl
@@ -158,7 +171,10 @@ is_window_wide-same = refl
 pub reset_to_initial_state-same : frozen.reset_to_initial_state ≡ today.reset_to_initial_state
 reset_to_initial_state-same = λ ι s. record {
   display = (column_mode-same ι) (is_window_wide s) ((display_of-same ι) s.display.grid.size);
-  pages = record ((pages_of-same ι) s.display.grid.size) { resizes = s.pages.resizes };
+  pages = record ((pages_of-same ι) s.display.grid.size) {
+    resizes = s.pages.resizes;
+    subparameters = s.pages.subparameters;
+  };
 }
 
 pub screens-same : frozen.screens ≡ today.screens

@@ -11,16 +11,18 @@ use Rattle.promises.proofs.v0_4.xterm.Bounded.{writing_beyond-same}
 use Rattle.promises.proofs.v0_4.xterm.Front.{xterm_effect-same}
 use Rattle.promises.proofs.v0_4.xterm.Log.{xterm_lines_off-same}
 use Rattle.promises.proofs.v0_4.xterm.Pages.{bounds_of-same, pages_of-same}
+use Rattle.promises.proofs.v0_4.xterm.Subparameters.{after-same, before-same, passed-same}
 use Rattle.promises.specs.v0_4.xterm.Play as frozen
 use Rattle.std.proofs.Common.{refl, ◌≡◌}
-use Rattle.std.specs.Prelude.{[], flat_map, if◌then◌else◌, List, nat_lt, None, Option, Some, ℕ, ◌∷◌}
+use Rattle.std.specs.Prelude.{[], flat_map, if◌then◌else◌, List, nat_lt, None, Option, Some, ℕ, ◌∷◌, ◌≡◌}
 use Rattle.vt_screen.specs.Sizes.{vt220_size}
 use Rattle.vt_screen.specs.declared.size.Size.{Size}
+use Rattle.vt_syntax.specs.declared.held.Held.{Held}
 use Rattle.vt_term.specs.Machines.{screens_after}
 use Rattle.vt_xterm.specs.Bounded.{beyond_in, held_beyond}
 use Rattle.vt_xterm.specs.Pages.{shown_by}
 use Rattle.vt_xterm.specs.Play as today
-use Rattle.vt_xterm.specs.Play.{both, nothing_played, screens_of, Whole}
+use Rattle.vt_xterm.specs.Play.{both, nothing_played, outside, reading_on, screens_of, Whole}
 use Rattle.vt_xterm.specs.declared.sides.Sides.{Sides}
 
 pub Whole-made : frozen.Whole' → today.Whole
@@ -40,6 +42,7 @@ IsSoundWholeAt-made size w ρ = record {
   state = ρ.state;
   other = ρ.other;
   sides = ρ.sides;
+  subparameters = ρ.subparameters;
 }
 
 pub IsSoundWholeAt-read : (size : Size) (w : Whole) → today.IsSoundWholeAt size w → frozen.IsSoundWholeAt' size w
@@ -47,6 +50,7 @@ IsSoundWholeAt-read size w ρ = record {
   state = ρ.state;
   other = ρ.other;
   sides = ρ.sides;
+  subparameters = ρ.subparameters;
 }
 
 pub IsSoundWhole-same : frozen.IsSoundWhole ≡ today.IsSoundWhole
@@ -140,9 +144,31 @@ play_beyond-at w (Some m) c = λ ι. (play_between-same ι) m c w
 pub play_beyond-same : frozen.play_beyond ≡ today.play_beyond
 play_beyond-same = λ ι x0 x1 x2. play_beyond-at x0 x1 x2 ι
 
+pub held_on-at : (x0 : Held) (x1 : List ℕ) → frozen.held_on x0 x1 ≡ today.held_on x0 x1
+held_on-at h [] = λ ι. h
+held_on-at h (b ∷ bytes) = λ ι. (held_from-same ι) h (b ∷ bytes)
+
+pub held_on-same : frozen.held_on ≡ today.held_on
+held_on-same = λ ι x0 x1. held_on-at x0 x1 ι
+
+pub held_before-same : frozen.held_before ≡ today.held_before
+held_before-same = λ ι w b. (held_on-same ι) w.state.held ((before-same ι) w.pages.subparameters w.state.held b)
+
+pub reading_on-same : frozen.reading_on ≡ today.reading_on
+reading_on-same = refl
+
+pub play_ascii-same : frozen.play_ascii ≡ today.play_ascii
+unfolding frozen.play_ascii today.play_ascii
+play_ascii-same = λ ι w b.
+    reading_on ((after-same ι) w.pages.subparameters w.state.held b)
+    ((play_bytes-same ι) w ((passed-same ι) w.pages.subparameters w.state.held b))
+
+pub outside-same : frozen.outside ≡ today.outside
+outside-same = refl
+
 pub play_character-same : frozen.play_character ≡ today.play_character
 unfolding frozen.play_character today.play_character
-play_character-same = λ ι w c. if nat_lt c 0x80 then (play_bytes-same ι) w (c ∷ []) else (play_beyond-same ι) w ((bounds_of-same ι) (screens_of w)) c
+play_character-same = λ ι w c. if nat_lt c 0x80 then (play_ascii-same ι) w c else (play_beyond-same ι) (outside w) ((bounds_of-same ι) (screens_of w)) c
 
 pub both-same : frozen.both ≡ today.both
 both-same = refl

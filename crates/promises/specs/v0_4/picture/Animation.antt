@@ -8,9 +8,10 @@ use Rattle.promises.specs.v0_4.screen.Same.{same_bool, same_rendition, when}
 use Rattle.promises.specs.v0_4.term.Modes.{is_set, private_values}
 use Rattle.std.specs.Int.{div_ceil}
 use Rattle.std.specs.List.{range_with_len}
-use Rattle.std.specs.Prelude.{[], Bool, codes, decimal, false, flat_map, if◌then◌else◌, length, List, nat_le, nat_lt}
-use Rattle.std.specs.Prelude.{not, slice_index_or, suc, true, zero, ℕ, ◌%◌, ◌&&◌, ◌*◌, ◌++◌, ◌+◌, ◌-◌, ◌/◌, ◌<◌, ◌==◌}
-use Rattle.std.specs.Prelude.{◌||◌, ◌∷◌, ◌≡◌}
+use Rattle.std.specs.Prelude.{[], Bool, codes, decimal, false, flat_map, if◌then◌else◌, length, List, min, nat_le}
+use Rattle.std.specs.Prelude.{nat_lt, not, slice_index_or, suc, true, zero, ℕ, ◌%◌, ◌&&◌, ◌*◌, ◌++◌, ◌+◌, ◌-◌, ◌/◌}
+use Rattle.std.specs.Prelude.{◌<◌, ◌==◌, ◌^◌, ◌||◌, ◌∷◌, ◌≡◌}
+use Rattle.vt_picture.specs.declared.animation.ViewBox.{ViewBox}
 use Rattle.vt_picture.specs.declared.looks.CursorShape.TheVariants.{Block, Hidden, Outline, Underline}
 use Rattle.vt_picture.specs.declared.looks.CursorShape.{CursorShape}
 use Rattle.vt_picture.specs.declared.looks.Theme.TheVariants.{Amber, Dark, Green, Light}
@@ -141,6 +142,11 @@ row_is_blank s row = is_empty (trimmed (row_of s.grid row))
 abbrev pub first_number : Size → (frame : ℕ) → ℕ
 first_number size frame = (size.rows + 8) * frame
 
+-- the number of the frame after one, on a screen of this size: the least one whose numbers come after all those of the frame before.
+-- On a screen of the same size it is one more. It stops at 2^32 - 1
+abbrev pub next_number : (number : ℕ) → (before size : Size) → ℕ
+next_number number before size = min (div_ceil ((before.rows + 8) * (number + 1)) (size.rows + 8)) (2 ^ 32 - 1)
+
 -- the number of a row of a whole screen, in a frame of this number. The paper under the screen has that of a blank row
 abbrev pub number_on_screen : (frame : ℕ) → Display → (row : ℕ) → ℕ
 number_on_screen frame s row = first_number s.grid.size frame + (if row_is_blank s row then 0 else first_of_look s row)
@@ -263,6 +269,11 @@ unfoldable pub frame : CursorShape → (duration columns number micros : ℕ) �
 frame shape duration columns number micros numbers before s =
     frame_start s.grid.size columns micros (is_reversed s) s.grid.width ++ changes_drawn shape duration number numbers before s ++ group_end
 
+-- a frame that draws the whole screen
+unfoldable pub whole_frame : CursorShape → (duration columns number micros : ℕ) → Display → List ℕ
+whole_frame shape duration columns number micros s =
+    frame_start s.grid.size columns micros (is_reversed s) s.grid.width ++ screen_drawn shape duration number s ++ group_end
+
 -- a byte of the title; &, < and > by the entities of XML, and a space for a control character, which XML lacks
 abbrev pub title_byte : ℕ → List ℕ
 title_byte b =
@@ -312,12 +323,18 @@ unfoldable pub first_screen : CursorShape → (duration columns : ℕ) → Displ
 first_screen shape duration columns s =
     first_start s.grid.size columns (is_reversed s) s.grid.width ++ screen_drawn shape duration 0 s ++ group_end
 
--- everything up to the first frame, in a picture of so many columns: the text alternative is that of the last screen
-unfoldable pub animation_head : Theme → CursorShape → (title : List ℕ) → (duration columns : ℕ) → Display → Display → List ℕ
-animation_head theme shape title duration columns first last =
-    document_start last.grid.size.rows columns ++ flat_map title_byte title ++ title_end
+-- everything up to the first frame, in a picture with this view box. The first screen is drawn as wide as so many columns. The text
+-- alternative is that of the last screen
+unfoldable pub animation_head_of : Theme → CursorShape → (title : List ℕ) → (duration : ℕ) → ViewBox → (columns : ℕ) → Display → Display → List ℕ
+animation_head_of theme shape title duration view columns first last =
+    document_start view.rows view.columns ++ flat_map title_byte title ++ title_end
     ++ alternative last.grid.size.rows last.grid ++ style ++ moving_style ++ moving_start theme duration
     ++ first_screen shape duration columns first
+
+-- the same, in a picture of so many columns for screens of one size
+abbrev pub animation_head : Theme → CursorShape → (title : List ℕ) → (duration columns : ℕ) → Display → Display → List ℕ
+animation_head theme shape title duration columns first last =
+    animation_head_of theme shape title duration (record { rows = last.grid.size.rows; columns = columns }) columns first last
 
 abbrev pub animation_end : List ℕ
 animation_end = group_end ++ codes "</svg>" ++ line_feed

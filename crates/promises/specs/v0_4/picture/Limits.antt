@@ -36,6 +36,10 @@ frame_limit size = size.rows * drawn_row_limit size + 500
 abbrev pub animation_limit : Size → ℕ
 animation_limit size = alternative_limit size + frame_limit size + 2000
 
+-- the same, if the first screen has another size than the last one
+abbrev pub animation_limit_of : (first last : Size) → ℕ
+animation_limit_of first last = alternative_limit last + frame_limit first + 2000
+
 -- the limit of a place of a drawing: CUP, twelve for the attributes and four for the character
 abbrev pub place_limit : ℕ → ℕ
 place_limit rows = 23 + row_digits rows

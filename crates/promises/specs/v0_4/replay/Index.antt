@@ -243,5 +243,5 @@ index_of format host every opening broken bytes content steps =
 abbrev pub IsIndexed : Format → Host → (every : ℕ) → (opening : List ℕ) → (timing : Option (List ℕ)) → (bytes index : List ℕ)
     → (broken : Option Break) → (replaced : ℕ) → Type 0
 IsIndexed format host every opening timing bytes index broken replaced =
-    IsStepped (λ content steps. index_of format host every opening broken bytes content steps) format host.encoding None
+    IsStepped (λ content steps changes. index_of format host every opening broken bytes content steps) format host.encoding None
     timing bytes index broken replaced

@@ -4,13 +4,14 @@ use Rattle.promises.specs.v0_4.glyph.Tables.{space}
 use Rattle.promises.specs.v0_4.recording.Gathered.{events_of}
 use Rattle.promises.specs.v0_4.recording.Reached.{length_of}
 use Rattle.promises.specs.v0_4.replay.EventTable.{time_column}
-use Rattle.promises.specs.v0_4.replay.Log.{lines_at}
+use Rattle.promises.specs.v0_4.replay.Log.{lines_with}
 use Rattle.promises.specs.v0_4.replay.Session.{is_empty}
 use Rattle.promises.specs.v0_4.replay.Steps.{Step}
 use Rattle.std.specs.Prelude.{Option, option_map, Some, take, true, ℕ, ◌++◌, ◌+◌, ◌-◌, ◌==◌, ◌^◌, ◌∷◌}
 use Rattle.std.specs.Prelude.{[], Bool, codes, cond, decimal, drop, if◌then◌else◌, length, List, max, min, None}
 use Rattle.vt_recording.specs.Timeline.{Event}
 use Rattle.vt_replay.specs.declared.language.Language.{Language}
+use Rattle.vt_replay.specs.declared.resized.Resize.{Resize}
 use Rattle.vt_screen.specs.declared.size.Size.{Size}
 
 -- the column, from 1, that comes after these bytes of a row
@@ -71,8 +72,9 @@ log_found find log clock number (e ∷ events) =
     found_in_lines find (max clock e.micros) number [] (log e.text)
     ++ log_found find (λ bytes. scrolled_after log e.text bytes) (max clock e.micros) (number_after number (log e.text)) events
 
--- what is found in the log of steps, which have the bytes of a content, on a terminal of a size. The lines of the
--- opening before it aren't counted
-abbrev pub log_found_at : Size → Language → (utf8 : Bool) → (wanted opening content : List ℕ) → List Step → List ℕ
-log_found_at size language utf8 wanted opening content steps =
-    log_found (λ line. column_in wanted (log_line utf8 line)) (λ bytes. scrolled_after (lines_at size language) opening bytes) 0 1 (events_of steps content)
+-- what is found in the log of steps, which have the bytes of a content, on a terminal of a size, whose screen has these
+-- changes. A line that leaves at a change has the time of the event before it. The lines of the opening aren't counted
+abbrev pub log_found_with : Size → List Resize → Language → (utf8 : Bool) → (wanted opening content : List ℕ) → List Step → List ℕ
+log_found_with size resizes language utf8 wanted opening content steps =
+    log_found (λ line. column_in wanted (log_line utf8 line)) (λ bytes. scrolled_after (lines_with size resizes language) opening bytes) 0 1
+    (events_of steps content)

@@ -7,7 +7,7 @@ use Rattle.promises.specs.v0_4.term.Text.{line_text}
 use Rattle.promises.specs.v0_4.utf8.Decoding.{characters}
 use Rattle.promises.specs.v0_4.xterm.Front.{xterm_effect}
 use Rattle.promises.specs.v0_4.xterm.Pages.{is_bounded}
-use Rattle.promises.specs.v0_4.xterm.Play.{play_character, screens_of}
+use Rattle.promises.specs.v0_4.xterm.Play.{held_before, play_character, screens_of}
 use Rattle.std.specs.Prelude.{Option, Some, true, ℕ, ◌&&◌, ◌++◌, ◌==◌, ◌||◌, ◌∷◌}
 use Rattle.std.specs.Prelude.{[], Bool, false, flat_map, if◌then◌else◌, length, List, nat_le, nat_lt, None, not}
 use Rattle.vt_syntax.specs.declared.event.Event.TheVariants.{Control, Escape, Print, Sequence}
@@ -75,7 +75,7 @@ pages_before (event ∷ events) s = page_before event s ++ pages_before events (
 
 -- the pages and lines of a byte, which completes at most one event. An event that blanks the page scrolls no line off
 abbrev pub pages_at_byte : Whole → ℕ → List ℕ
-pages_at_byte w b = pages_before (events_from w.state.held (b ∷ [])) (screens_of w)
+pages_at_byte w b = pages_before (events_from (held_before w b) (b ∷ [])) (screens_of w)
 
 -- the page before the event of a character; one beyond ASCII blanks no page
 abbrev pub page_at : Whole → ℕ → List ℕ

@@ -1,5 +1,4 @@
 -- 0.4: vt_replay/specs/Request.
-use Rattle.promises.specs.v0_4.cli.Source.{size_of}
 use Rattle.promises.specs.v0_4.recording.Changes.{changes_in}
 use Rattle.promises.specs.v0_4.recording.Detection.{detected}
 use Rattle.promises.specs.v0_4.recording.Format.{has_times}
@@ -10,10 +9,11 @@ use Rattle.promises.specs.v0_4.replay.EventTable.{IsTableTaken}
 use Rattle.promises.specs.v0_4.replay.Host.{host_of, opening, plain_host}
 use Rattle.promises.specs.v0_4.replay.Index.{IsIndexed}
 use Rattle.promises.specs.v0_4.replay.Playing.{language_of}
+use Rattle.promises.specs.v0_4.replay.Resizes.{carried_out}
 use Rattle.promises.specs.v0_4.replay.Search.{text_of}
 use Rattle.promises.specs.v0_4.replay.Words.{WordTable}
-use Rattle.std.specs.Prelude.{[], Bool, Err, false, is_some, length, List, min, None, not, Ok, Option, Result, Some}
-use Rattle.std.specs.Prelude.{take, true, ℕ, ◌&&◌, ◌++◌, ◌+◌, ◌-◌, ◌^◌, ◌||◌, ◌∷◌, ◌≡◌, ◌≤◌, ◌⊎◌}
+use Rattle.std.specs.Prelude.{[], Bool, Err, false, is_some, length, List, None, not, Ok, Option, Result, Some, true}
+use Rattle.std.specs.Prelude.{ℕ, ◌&&◌, ◌++◌, ◌||◌, ◌≡◌, ◌≤◌, ◌⊎◌}
 use Rattle.vt_cli.specs.declared.asked.Request.{Request}
 use Rattle.vt_cli.specs.declared.what.What.TheVariants.{Picture}
 use Rattle.vt_cli.specs.declared.what.Word.TheVariants.{Animation, Content, Events, Index, Log, Pages, Replay, Search}
@@ -24,7 +24,6 @@ use Rattle.vt_device.specs.declared.fault.Break.{Break}
 use Rattle.vt_device.specs.declared.fault.Fault.TheVariants as fault
 use Rattle.vt_device.specs.declared.fault.Fault.{Fault}
 use Rattle.vt_recording.specs.Reached.{IsAmong, IsTakenBetween}
-use Rattle.vt_recording.specs.declared.changes.Change.{Change}
 use Rattle.vt_recording.specs.declared.detection.Detected.TheVariants.{Compressed, Recording}
 use Rattle.vt_recording.specs.declared.detection.Detected.{Detected}
 use Rattle.vt_recording.specs.declared.format.Format.TheVariants as format
@@ -36,7 +35,6 @@ use Rattle.vt_replay.specs.Search.{IsSearched}
 use Rattle.vt_replay.specs.declared.host.Host.{Host}
 use Rattle.vt_replay.specs.declared.requests.Outcome.{Outcome}
 use Rattle.vt_replay.specs.declared.resized.Resize.{Resize}
-use Rattle.vt_screen.specs.declared.size.Size.{Size}
 
 -- 132 columns were asked for
 abbrev pub asks_wide : Option Bool → Bool
@@ -91,35 +89,6 @@ pub record IsPlayed' (o : Outcome) (r : Request) (host : Host) (resizes : List R
   pub ended : o.ended ≡ ended_of broken played
   pub replaces : o.replaced ≡ replaced
 
--- what is taken out of a recording for a word: the table of its events, a picture that moves, the spans of a search, an index, or its content
-abbrev pub IsTakenBy : Word → Request → Format → Host → (timing : Option (List ℕ)) → (bytes content : List ℕ)
-    → (broken : Option Break) → (replaced : ℕ) → Type 0
-IsTakenBy Events r format host timing bytes content broken replaced =
-    IsTableTaken format r.full r.from r.until timing bytes content broken replaced
-IsTakenBy (Animation looks) r format host timing bytes content broken replaced =
-    IsAnimation looks (title_of r.title) (opening (Replay Picture) host) host.size (language_of host.terminal host.encoding) format host.encoding r.until
-    timing bytes content broken replaced
-IsTakenBy Search r format host timing bytes content broken replaced =
-    IsSearched host.size r.log (text_of r.pattern) (opening (Replay Picture) host) (language_of host.terminal host.encoding) format host.encoding r.from
-    r.until timing bytes content broken replaced
-IsTakenBy Index r format host timing bytes content broken replaced =
-    IsIndexed format host r.every (opening (Replay Picture) host) timing bytes content broken replaced
-IsTakenBy word r format host timing bytes content broken replaced =
-    IsTakenBetween format host.encoding r.from r.until timing bytes content broken replaced
-
--- the changes from one on: an impossible size isn't used, and the next change comes after the one before it
-abbrev pub resize_then : Option Size → (after : ℕ) → (skipped taken : List Resize) → List Resize
-resize_then None after skipped taken = skipped
-resize_then (Some size) after skipped taken = record { after = after; size = size } ∷ taken
-
--- changes at places of the content as changes of the screen, after bytes that aren't of the content, and after a place of it. The number
--- of bytes stops at 2^64 - 1
-unfoldable pub resizes_of : (before at : ℕ) → List Change → List Resize
-resizes_of before at [] = []
-resizes_of before at (c ∷ changes) =
-    resize_then (size_of c.window.columns c.window.rows) (min (before + (c.place - at)) (2 ^ 64 - 1)) (resizes_of before at changes)
-    (resizes_of 0 c.place changes)
-
 -- only asciinema and script(1) write sizes
 abbrev pub has_sizes : Format → Bool
 has_sizes format.Script = true
@@ -129,25 +98,45 @@ has_sizes format = false
 -- the word carries out changes of the size
 abbrev pub changes_size : Word → Bool
 changes_size (Replay what) = true
+changes_size (Animation looks) = true
 changes_size Log = true
+changes_size Pages = true
+changes_size Trace = true
+changes_size Search = true
 changes_size word = false
 
--- the screen keeps its size: one was asked for, or a width, or no change is carried out. A word that begins in the middle plays no screen
+-- the screen keeps its size: one was asked for, or a width, or no change is carried out. A word that begins in the middle carries none out
 abbrev pub keeps_size : Request → Format → Bool
 keeps_size r format =
     is_some r.size || (is_some r.wide || (is_some r.from || (not (changes_size r.word) || not (has_sizes format))))
 
--- so many changes are carried out at most: each has a screen from the beginning
-abbrev pub most_changes : ℕ
-most_changes = 1000
+-- what is taken out of a recording for a word: the table of its events, a picture that moves, the spans of a search, an index, or its content
+abbrev pub IsTakenBy : Word → Request → Format → Host → (timing : Option (List ℕ)) → (bytes content : List ℕ)
+    → (broken : Option Break) → (replaced : ℕ) → Type 0
+IsTakenBy Events r format host timing bytes content broken replaced =
+    IsTableTaken format r.full r.from r.until timing bytes content broken replaced
+IsTakenBy (Animation looks) r format host timing bytes content broken replaced =
+    IsAnimation looks (keeps_size r format) (title_of r.title) (opening (Replay Picture) host) host.size (language_of host.terminal host.encoding) format
+    host.encoding r.until timing bytes content broken replaced
+IsTakenBy Search r format host timing bytes content broken replaced =
+    IsSearched host.size (keeps_size r format) r.log (text_of r.pattern) (opening (Replay Picture) host) (language_of host.terminal host.encoding) format host.encoding r.from
+    r.until timing bytes content broken replaced
+IsTakenBy Index r format host timing bytes content broken replaced =
+    IsIndexed format host r.every (opening (Replay Picture) host) timing bytes content broken replaced
+IsTakenBy word r format host timing bytes content broken replaced =
+    IsTakenBetween format host.encoding r.from r.until timing bytes content broken replaced
+
+-- no change comes between the bytes that are played: the screen keeps its size, or the changes are carried out in what is made of the
+-- whole recording
+abbrev pub plays_one_size : Request → Format → Bool
+plays_one_size r format = takes_whole r.word || keeps_size r format
 
 -- the first changes that a recording has up to the moment
-abbrev pub AreResizes : (keeps : Bool) → Request → Format → (timing : Option (List ℕ)) → (bytes : List ℕ) → Host → (resizes : List Resize) → Type 0
+abbrev pub AreResizes : (none : Bool) → Request → Format → (timing : Option (List ℕ)) → (bytes : List ℕ) → Host → (resizes : List Resize) → Type 0
 AreResizes true r format timing bytes host resizes = resizes ≡ []
 AreResizes false r format timing bytes host resizes =
     IsAmong format timing bytes (λ events. resizes
-    ≡ resizes_of (length (opening r.word host)) 0
-    (take most_changes (changes_in (has_characters format host.encoding) r.until nothing_passed events)))
+    ≡ carried_out false (length (opening r.word host)) (changes_in (has_characters format host.encoding) r.until nothing_passed events))
 
 -- what is played of a recording: the opening and the content, and the changes of the size
 pub record IsPrepared' (r : Request) (format : Format) (timing : Option (List ℕ)) (b : List ℕ) (host : Host) (resizes : List Resize)
@@ -156,7 +145,7 @@ pub record IsPrepared' (r : Request) (format : Format) (timing : Option (List �
   pub content : List ℕ
   pub taken : IsTakenBy r.word r format host timing b content broken replaced
   pub joined : bytes ≡ opening r.word host ++ content
-  pub resized : AreResizes (keeps_size r format) r format timing b host resizes
+  pub resized : AreResizes (plays_one_size r format) r format timing b host resizes
 
 -- the input was read whole and taken apart, and the word was carried out on what is played of it
 pub record IsTakenApart' (o : Outcome) (r : Request) (format : Format) (timing : Option (List ℕ)) (b w : List ℕ) (f : Flags) : Type 0 where

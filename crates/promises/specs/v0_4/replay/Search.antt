@@ -3,8 +3,8 @@ use Rattle.promises.specs.v0_4.glyph.Tables.{space}
 use Rattle.promises.specs.v0_4.recording.Gathered.{events_of}
 use Rattle.promises.specs.v0_4.recording.Reached.{has_characters, nothing_passed, passed}
 use Rattle.promises.specs.v0_4.replay.EventTable.{time_column}
-use Rattle.promises.specs.v0_4.replay.LogSearch.{log_found_at}
-use Rattle.promises.specs.v0_4.replay.Playing.{played_at}
+use Rattle.promises.specs.v0_4.replay.LogSearch.{log_found_with}
+use Rattle.promises.specs.v0_4.replay.Resizes.{carried_out, seen_with}
 use Rattle.promises.specs.v0_4.replay.Session.{is_empty}
 use Rattle.promises.specs.v0_4.replay.Steps.{Step}
 use Rattle.promises.specs.v0_4.screen.Cells.{blank}
@@ -29,6 +29,7 @@ use Rattle.vt_replay.specs.Search.{first_place, spans}
 use Rattle.vt_replay.specs.Steps.{IsStepped}
 use Rattle.vt_replay.specs.declared.language.Language.TheVariants.{Dec, Utf8, Xterm}
 use Rattle.vt_replay.specs.declared.language.Language.{Language}
+use Rattle.vt_replay.specs.declared.resized.Resize.{Resize}
 use Rattle.vt_screen.specs.declared.cell.Cell.{Cell}
 use Rattle.vt_screen.specs.declared.size.Size.{Size}
 use Rattle.vt_term.specs.State.{Display}
@@ -81,17 +82,18 @@ abbrev pub until_column : Option ℕ → List ℕ
 until_column None = codes "-"
 until_column (Some clock) = time_column true clock
 
--- the lines of the spans of steps, which have the bytes of a content, on a terminal of a size. The opening comes before
--- the content
-abbrev pub spans_at : Size → Language → (wanted opening content : List ℕ) → List Step → List ℕ
-spans_at size language wanted opening content steps =
-    spans (λ bytes. first_place (is_utf8 language) wanted (played_at size language (opening ++ bytes)).state.display) 0 None (events_of steps content)
+-- the lines of the spans of steps, which have the bytes of a content, on a terminal of a size, whose screen has these changes. The
+-- opening comes before the content. A change that comes after an event is on the screen after the next one
+abbrev pub spans_with : Size → List Resize → Language → (wanted opening content : List ℕ) → List Step → List ℕ
+spans_with size resizes language wanted opening content steps =
+    spans (λ bytes. first_place (is_utf8 language) wanted (seen_with size resizes language (opening ++ bytes)).display) 0 None
+    (events_of steps content)
 
 -- what is found: the spans, and after them the lines of the log, if it is asked for
-abbrev pub searched : Size → Language → (log : Bool) → (text opening content : List ℕ) → List Step → List ℕ
-searched size language log text opening content steps =
-    let found = spans_at size language (wanted language text) opening content steps in
-    if log then found ++ log_found_at size language (is_utf8 language) (wanted language text) opening content steps else found
+abbrev pub searched : Size → List Resize → Language → (log : Bool) → (text opening content : List ℕ) → List Step → List ℕ
+searched size resizes language log text opening content steps =
+    let found = spans_with size resizes language (wanted language text) opening content steps in
+    if log then found ++ log_found_with size resizes language (is_utf8 language) (wanted language text) opening content steps else found
 
 -- a step comes before a moment: its time, or the content up to its end, is before that. An event or a marker is a number of bytes here
 abbrev pub is_before : Moment → (clock end : ℕ) → Bool
@@ -115,14 +117,16 @@ split_at make from clock before content (s ∷ steps) =
 abbrev pub steps_left : (content : List ℕ) → List Step → List Step
 steps_left content steps = cond (is_empty content) [] steps
 
--- what comes before the moment is played like an opening: it isn't searched, and its lines of the log aren't counted
+-- what comes before the moment is played like an opening: it isn't searched, and its lines of the log aren't counted. No change is
+-- carried out
 abbrev pub searched_after : Moment → Size → Language → (log : Bool) → (text opening content : List ℕ) → List Step → List ℕ
 searched_after from size language log text opening content steps =
-    split_at (λ before content steps. searched size language log text (opening ++ before) content (steps_left content steps)) from 0 [] content steps
+    split_at (λ before content steps. searched size [] language log text (opening ++ before) content (steps_left content steps)) from 0 [] content steps
 
-abbrev pub searched_from : Option Moment → Size → Language → (log : Bool) → (text opening content : List ℕ) → List Step → List ℕ
-searched_from None size language log text opening content steps = searched size language log text opening content steps
-searched_from (Some from) size language log text opening content steps = searched_after from size language log text opening content steps
+abbrev pub searched_from : Option Moment → Size → List Resize → Language → (log : Bool) → (text opening content : List ℕ) → List Step → List ℕ
+searched_from None size resizes language log text opening content steps = searched size resizes language log text opening content steps
+searched_from (Some from) size resizes language log text opening content steps =
+    searched_after from size language log text opening content steps
 
 -- a moment as a time or a number of bytes: an event or a marker begins with its own bytes
 abbrev pub BeginsBy : Option Moment → Format → Encoding → (timing : Option (List ℕ)) → (bytes : List ℕ) → (begin : Option Moment) → Type 0
@@ -137,8 +141,9 @@ BeginsBy (Some (moment.Marker n)) format encoding timing bytes begin =
     ≡ Some (moment.Bytes (passed false (has_characters format encoding) (moment.Marker n) nothing_passed events).content))
 
 -- in a recording from a moment on and up to another one, and where that breaks its format
-pub record IsSearched' (size : Size) (log : Bool) (text opening : List ℕ) (language : Language) (format : Format) (encoding : Encoding)
+pub record IsSearched' (size : Size) (keeps : Bool) (log : Bool) (text opening : List ℕ) (language : Language) (format : Format) (encoding : Encoding)
     (from until : Option Moment) (timing : Option (List ℕ)) (bytes lines : List ℕ) (broken : Option Break) (replaced : ℕ) : Type 0 where
   pub begin : Option Moment
   pub begins : BeginsBy from format encoding timing bytes begin
-  pub stepped : IsStepped (λ content steps. searched_from begin size language log text opening content steps) format encoding until timing bytes lines broken replaced
+  pub stepped : IsStepped (λ content steps changes. searched_from begin size (carried_out keeps (length opening) changes) language log text opening content steps)
+      format encoding until timing bytes lines broken replaced

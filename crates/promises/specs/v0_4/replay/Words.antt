@@ -1,21 +1,17 @@
 -- 0.4: vt_replay/specs/Words.
 use Rattle.promises.specs.v0_4.device.Output.{all, always, nothing, OutputTable}
 use Rattle.promises.specs.v0_4.replay.Encoding.{decoded}
-use Rattle.promises.specs.v0_4.replay.Log.{lines_with, screen_at, screen_with}
-use Rattle.promises.specs.v0_4.replay.MainPage.{xterm_pages}
-use Rattle.promises.specs.v0_4.replay.Pages.{pages}
+use Rattle.promises.specs.v0_4.replay.Log.{lines_on, lines_with, paged, screen_with}
 use Rattle.promises.specs.v0_4.replay.Playing.{language_of}
-use Rattle.promises.specs.v0_4.replay.Resizes.{replayed_with}
+use Rattle.promises.specs.v0_4.replay.Resizes.{plain_session, replayed_with, utf8_begun, utf8_session, xterm_begun}
+use Rattle.promises.specs.v0_4.replay.Resizes.{xterm_session}
 use Rattle.promises.specs.v0_4.replay.Showing.{ShownTable}
+use Rattle.promises.specs.v0_4.replay.Traces.{trace_end_with, trace_with}
 use Rattle.promises.specs.v0_4.term.State.{state_of}
 use Rattle.promises.specs.v0_4.trace.Summary.{summary_on}
-use Rattle.promises.specs.v0_4.trace.Trace.{end_lines, trace, tracer_all, tracer_at_start}
-use Rattle.promises.specs.v0_4.trace.Utf8.{summary_utf8_by, summary_utf8_on, trace_utf8, tracer_utf8}
-use Rattle.promises.specs.v0_4.utf8.Play.{translated}
-use Rattle.promises.specs.v0_4.xterm.Play.{behind, front_of}
+use Rattle.promises.specs.v0_4.trace.Utf8.{summary_utf8_by, summary_utf8_on}
 use Rattle.promises.specs.v0_4.xterm_trace.Names.{xterm_listing}
-use Rattle.promises.specs.v0_4.xterm_trace.Trace.{trace_xterm, tracer_xterm}
-use Rattle.std.specs.Prelude.{[], List, Result, ℕ}
+use Rattle.std.specs.Prelude.{List, Result, ℕ}
 use Rattle.vt_cli.specs.declared.what.Word.TheVariants.{Animation, Content, Events, Index, Log, Pages, Replay, Search}
 use Rattle.vt_cli.specs.declared.what.Word.TheVariants.{Summary, Trace}
 use Rattle.vt_cli.specs.declared.what.Word.{Word}
@@ -31,24 +27,11 @@ use Rattle.vt_replay.specs.declared.language.Language.{Language}
 use Rattle.vt_replay.specs.declared.resized.Resize.{Resize}
 use Rattle.vt_screen.specs.declared.size.Size.{Size}
 
--- the lines and pages of the host's bytes in each language, on a screen of a size
-abbrev pub pages_at : Size → Language → List ℕ → List ℕ
-pages_at size language.Dec bytes = pages (state_of size) bytes
-pages_at size language.Utf8 bytes = pages (state_of size) (translated (state_of size) [] bytes)
-pages_at size language.Xterm bytes = xterm_pages (behind (state_of size) (front_of size)) [] bytes
-
--- the trace of the host's bytes in each language, on a screen of a size: the events have the host's own characters and
--- places
-abbrev pub trace_at : Size → Language → List ℕ → List ℕ
-trace_at size language.Dec bytes = trace (state_of size) tracer_at_start bytes
-trace_at size language.Utf8 bytes = trace_utf8 (state_of size) tracer_at_start [] bytes
-trace_at size language.Xterm bytes = trace_xterm (behind (state_of size) (front_of size)) tracer_at_start [] bytes
-
--- the end of a text, if the last line is one, and the line of a sequence or string that is still open
-abbrev pub trace_end_at : Size → Language → List ℕ → List ℕ
-trace_end_at size language.Dec bytes = end_lines (tracer_all (state_of size) tracer_at_start bytes)
-trace_end_at size language.Utf8 bytes = end_lines (tracer_utf8 (state_of size) tracer_at_start [] bytes)
-trace_end_at size language.Xterm bytes = end_lines (tracer_xterm (behind (state_of size) (front_of size)) tracer_at_start [] bytes)
+-- the lines and pages of the host's bytes in each language, on a screen of a size that has these changes
+abbrev pub pages_with : Size → List Resize → Language → List ℕ → List ℕ
+pages_with size resizes language.Dec bytes = lines_on (paged plain_session) (state_of size) resizes bytes
+pages_with size resizes language.Utf8 bytes = lines_on (paged utf8_session) (utf8_begun size) resizes bytes
+pages_with size resizes language.Xterm bytes = lines_on (paged xterm_session) (xterm_begun size) resizes bytes
 
 -- the summary of the host's bytes in each language. Under TERM=xterm the events have its names
 abbrev pub summary_at : Size → Language → List ℕ → List ℕ
@@ -65,7 +48,7 @@ of_decoded encoding written ending = record {
 }
 
 -- what is due by each word, a row a word, for a terminal of a size, whose screen changes its size, and in an encoding.
--- A replay and a log carry the changes out. A picture that moves, the table of events, the spans of a search and an index are
+-- A replay, a log, its pages and a trace carry the changes out. A picture that moves, the table of events, the spans of a search and an index are
 -- ready before they are written. What content writes under TERM=xterm is below
 abbrev pub due_of : Word → Size → List Resize → TerminalType → Encoding → Due
 due_of (Replay what) size resizes terminal encoding = replayed_with size resizes (language_of terminal encoding) what
@@ -75,10 +58,10 @@ due_of Log size resizes terminal encoding =
     record { written = lines_with size resizes language; ending = screen_with size resizes language; there = always }
 due_of Pages size resizes terminal encoding =
     let language = language_of terminal encoding in
-    record { written = pages_at size language; ending = screen_at size language; there = always }
+    record { written = pages_with size resizes language; ending = screen_with size resizes language; there = always }
 due_of Trace size resizes terminal encoding =
     let language = language_of terminal encoding in
-    record { written = trace_at size language; ending = trace_end_at size language; there = always }
+    record { written = trace_with size resizes language; ending = trace_end_with size resizes language; there = always }
 due_of Summary size resizes terminal encoding =
     let language = language_of terminal encoding in
     record { written = nothing; ending = summary_at size language; there = always }

@@ -13,6 +13,7 @@ use Rattle.promises.specs.v0_4.trace.Skipped.{code_of, cut_sequence, is_empty, s
 use Rattle.std.specs.List.{flat_map}
 use Rattle.std.specs.Prelude.{[], Bool, codes, decimal, false, if◌then◌else◌, length, List, nat_le, nat_lt, not, take}
 use Rattle.std.specs.Prelude.{true, ℕ, ◌&&◌, ◌++◌, ◌+◌, ◌==◌, ◌||◌, ◌∷◌, ◌≡◌}
+use Rattle.vt_screen.specs.declared.size.Size.{Size}
 use Rattle.vt_syntax.specs.declared.event.Event.TheVariants.{Control, Escape, Print, Sequence}
 use Rattle.vt_syntax.specs.declared.event.Event.{Event}
 use Rattle.vt_syntax.specs.declared.held.Held.TheVariants as held
@@ -175,6 +176,18 @@ trace s t (b ∷ bytes) = traced s t b ++ trace (play s (b ∷ [])).state (trace
 unfoldable pub tracer_all : State → Tracer → List ℕ → Tracer
 tracer_all s t [] = t
 tracer_all s t (b ∷ bytes) = tracer_all (play s (b ∷ [])).state (tracer_after s t b) bytes
+
+-- a size is written as its columns and rows, with `x` between them. After a change both widths are equal
+abbrev pub size_column : Size → List ℕ
+size_column size = decimal size.wide ++ (0x78 ∷ decimal size.rows)
+
+-- what is written of a change to a size: the end of a text, and a line
+abbrev pub size_lines : Tracer → Size → List ℕ
+size_lines t size = text_end t.in_text ++ line t.place (codes "size") (size_column size)
+
+-- the tracer after a change: no text goes on, and what is held does
+abbrev pub tracer_resized : Tracer → Tracer
+tracer_resized t = record t { in_text = false }
 
 -- what a tracer keeps of bytes, by their split. Of what is left it has the place, the first bytes, and the C1 control
 -- of a string. The place is the length of the items before what is left

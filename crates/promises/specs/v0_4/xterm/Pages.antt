@@ -15,18 +15,29 @@ use Rattle.vt_term.specs.Pages.{PageState}
 use Rattle.vt_term.specs.State.{Display, State}
 use Rattle.vt_xterm.specs.Pages.{PagesState, Screens}
 use Rattle.vt_xterm.specs.declared.sides.Sides.{Sides}
+use Rattle.vt_xterm.specs.declared.subparameters.Subparameters.TheVariants.{Outside}
+use Rattle.vt_xterm.specs.declared.subparameters.Subparameters.{Subparameters}
 
 -- the page that isn't shown; whether the alternate page is the one that is shown; whether DECCOLM has an effect;
--- whether pasted text is wanted in brackets; the left and right margins, if DECLRMM is set
+-- whether pasted text is wanted in brackets; the left and right margins, if DECLRMM is set; how far subparameters have
+-- come, of which no event knows
 pub record PagesState' : Type 0 where
   pub other : PageState
   pub alternate : Bool
   pub resizes : Bool
   pub brackets : Bool
   pub sides : Option Sides
+  pub subparameters : Subparameters
 
 abbrev pub pages_of : Size → PagesState
-pages_of size = record { other = blank_page size; alternate = false; resizes = false; brackets = false; sides = None }
+pages_of size = record {
+  other = blank_page size;
+  alternate = false;
+  resizes = false;
+  brackets = false;
+  sides = None;
+  subparameters = Outside;
+}
 
 -- the display, and the pages behind it: what events change
 pub record Screens' : Type 0 where
@@ -36,6 +47,10 @@ pub record Screens' : Type 0 where
 -- a function of the display alone
 abbrev pub on_display : (Display → Display) → Screens → Screens
 on_display f s = record s { display = f s.display }
+
+-- how far subparameters have come
+abbrev pub with_subparameters : Subparameters → PagesState → PagesState
+with_subparameters k pages = record pages { subparameters = k }
 
 -- other margins, or none
 abbrev pub sided : Option Sides → Screens → Screens
@@ -178,7 +193,10 @@ is_window_wide s = not s.pages.resizes && s.display.grid.width == s.display.grid
 abbrev pub reset_to_initial_state : Screens → Screens
 reset_to_initial_state s = record {
   display = column_mode (is_window_wide s) (display_of s.display.grid.size);
-  pages = record (pages_of s.display.grid.size) { resizes = s.pages.resizes };
+  pages = record (pages_of s.display.grid.size) {
+    resizes = s.pages.resizes;
+    subparameters = s.pages.subparameters;
+  };
 }
 
 abbrev pub screens : State → PagesState → Screens

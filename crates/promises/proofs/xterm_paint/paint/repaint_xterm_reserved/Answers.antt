@@ -4,6 +4,7 @@ use Rattle.promises.proofs.xterm_paint.paint.repaint_xterm_reserved.Goals as goa
 use Rattle.std.specs.Prelude.{vec_capacity, vec_len, ◌++◌, ◌+◌, ◌≡◌, ◌≤◌}
 use Rattle.vt_xterm.specs.Play.{behind}
 use Rattle.vt_xterm.specs.Sides.{FitsSides}
+use Rattle.vt_xterm.specs.declared.subparameters.Subparameters.TheVariants.{Outside}
 
 pub repaint_xterm_reserved-requires-clause-room : goal.repaint_xterm_reserved-requires-clause-room
 repaint_xterm_reserved-requires-clause-room c = coe 0 1 (ι. vec_len c.args.out.now + (xterm_paint_limit-same ι) c.args.t.now.display.grid.size ≤ vec_capacity c.args.out.now) c.requires.room
@@ -12,7 +13,7 @@ pub returns-clause-items : goal.returns-clause-items
 returns-clause-items c = coe 1 0 (ι. c.repaint_xterm_reserved.new.out.items ≡ c.args.out.now.items ++ (xterm_repaint-same ι) (behind c.args.t.now c.args.front.now)) c.repaint_xterm_reserved.ensures.items
 
 pub returns-clause-rebuilds : goal.returns-clause-rebuilds
-returns-clause-rebuilds c = coe 1 0 (ι. FitsSides c.args.t.now.display c.args.front.now.pages.sides → (IsRebuiltAt-same ι) c.args.t.now.display.grid.size (behind c.args.t.now c.args.front.now)) c.repaint_xterm_reserved.ensures.rebuilds
+returns-clause-rebuilds c = coe 1 0 (ι. FitsSides c.args.t.now.display c.args.front.now.pages.sides → c.args.front.now.pages.subparameters ≡ Outside → (IsRebuiltAt-same ι) c.args.t.now.display.grid.size (behind c.args.t.now c.args.front.now)) c.repaint_xterm_reserved.ensures.rebuilds
 
 pub returns-clause-scratch : goal.returns-clause-scratch
 returns-clause-scratch c = coe 1 0 (ι. c.repaint_xterm_reserved.new.scratch ≡ (showing_other-same ι) c.args.front.now.pages) c.repaint_xterm_reserved.ensures.scratch

@@ -5,6 +5,7 @@ import base64
 import io
 import json
 import os
+import pathlib
 import random
 import re
 import subprocess
@@ -220,8 +221,8 @@ def a_recording_has_the_changes(url, _):
     check((head["width"], head["height"]) == (120, 40) and all(each[1] == "o" for each in events), f"then with the size there: {head} {events}")
 
 
-# A command that writes the size of its line when it begins and whenever that changes. A shell runs a trap when what it waits for has ended.
-TELLS = ["sh", "-c", "trap 'stty size' WINCH; stty -echo; stty size; while :; do read -r x && printf \"$x\"; done"]
+# A command that writes the size of its line when it begins and whenever that changes, and each line that it reads.
+TELLS = [str(pathlib.Path(__file__).resolve().parents[3] / "tests/tell-size")]
 
 
 def resized(url, *words):

@@ -29,6 +29,8 @@ from vt220.watchdog import MARK
 sys.path.append(str(pathlib.Path(__file__).resolve().parents[2] / "rows"))
 from vectors import vectors  # noqa: E402
 
+# Writes the size of its window when it begins and whenever that changes.
+TELL_SIZE = str(pathlib.Path(__file__).resolve().parents[3] / "tests/tell-size")
 # Limits that only say that something hangs.
 LONG = 300
 # Shows the bytes that it gets, after it has written its first argument.
@@ -101,7 +103,9 @@ def test_132_columns_directory_and_environment(tmp_path):
 
 
 def test_another_size_and_a_window_that_changes():
-    with shell("trap 'stty size' WINCH; stty size; printf '\\033[40;1Hlow'; read x; read x; echo end", rows=40, columns=120) as rig:
+    with run(TELL_SIZE, rows=40, columns=120) as rig:
+        rig.wait("40 120")
+        rig.keys("\\033[40;1Hlow\r")
         rig.wait("low", row=40)
         screen = rig.last
         assert (screen.width, len(screen.rows), screen.rows[0], screen.rows[39], rig.rows, rig.columns) == (120, 40, "40 120", "low", 40, 120)

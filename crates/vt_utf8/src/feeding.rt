@@ -20,7 +20,6 @@ ghost use Rattle.vt_utf8.specs.Private.Cut.{IsCut};
 ghost use Rattle.vt_utf8.specs.Private.Feeds.{FeedsUtf8, utf8_off};
 ghost use Rattle.vt_utf8.specs.Sinks.{point, Feeds, FitsFeed, Grows};
 
-use crate::ascii::ascii_run;
 use crate::coded::coded;
 use crate::decoder::{Decoder, whole_character};
 use crate::laws::{sized_silence, sized_writes};
@@ -184,19 +183,6 @@ pub fn feed_characters<L: Log, S: Sink<L>>(
     at
 }
 
-/// Returns how many bytes at the front of a chunk that isn't empty are ASCII. Speed: no search begins at a byte that isn't.
-#[inline(always)]
-fn ascii_front(piece: &[u8]) -> usize
-    requires { 1 ≤ length piece.now }
-    ensures within { result ≤ length piece.now }
-    ensures ascii { All (λ b. b < 0x80) (take result piece.now) }
-{
-    if piece[0] < 0x80 {
-        return ascii_run(piece);
-    }
-    0
-}
-
 /// Returns how many ASCII bytes at the front of a chunk that isn't empty a sink takes as one run. Speed: no search begins at a byte that
 /// isn't ASCII.
 #[inline(always)]
@@ -339,16 +325,18 @@ fn feed_whole<L: Log, S: Sink<L>>(
     }
 }
 
-/// Returns how many ASCII bytes at the front of a chunk that isn't empty cut off one pending byte: none if it isn't cut off.
+/// Returns how many ASCII bytes at the front of a chunk that isn't empty cut off one pending byte, and are taken as one
+/// run: none if it isn't cut off.
 #[inline(always)]
-fn cut_front(decoder: &Decoder, piece: &[u8]) -> usize
+fn cut_front<L: Log, S: Sink<L>>(decoder: &Decoder, piece: &[u8]) -> usize
     requires { 1 ≤ length piece.now }
     ensures within { result ≤ length piece.now }
     ensures ascii { All (λ b. b < 0x80) (take result piece.now) }
+    ensures run { 1 ≤ result → S.IsRun (take result piece.now) }
     ensures cut { 1 ≤ result → IsCut decoder.now (slice_index piece.now 0) }
 {
     if decoder.is_cut_by(piece[0]) {
-        return ascii_front(piece);
+        return run_front::<L, S>(piece);
     }
     0
 }
@@ -379,7 +367,7 @@ fn feed_pending<L: Log, S: Sink<L>>(
     if log.is_full(limit) {
         return 0;
     }
-    let run = cut_front(decoder, piece);
+    let run = cut_front::<L, S>(decoder, piece);
     if run == 0 {
         feed_byte(terminal, sink, decoder, piece[0], log, out);
         return 1;
@@ -388,7 +376,8 @@ fn feed_pending<L: Log, S: Sink<L>>(
     feed_cut(terminal, sink, &piece[..run], log, out)
 }
 
-/// Plays U+FFFD for one byte that ASCII cuts off, and one of the ASCII bytes, or more of them. Returns how many of these it played.
+/// Plays U+FFFD for one byte that a run of ASCII cuts off, and the first byte of the run, or more of them. Returns how
+/// many bytes of the run it played.
 #[inline(always)]
 fn feed_cut<L: Log, S: Sink<L>>(
     terminal: &mut SizedTerminal,
@@ -399,6 +388,7 @@ fn feed_cut<L: Log, S: Sink<L>>(
 ) -> usize
     requires some { 1 ≤ length run.now }
     requires ascii { All (λ b. b < 0x80) run.now }
+    requires run { S.IsRun run.now }
     requires room { vec_len out.old + 10 * length run.now ≤ vec_capacity out.old }
     requires lines_room { L.HasRoom log.old (2 * S.most terminal.old.display.grid.size) }
     requires one_size { S.OneSize terminal.old sink.old }
@@ -506,6 +496,7 @@ pub fn feed_character<L: Log, S: Sink<L>>(
         (point terminal.new sink.new log.new out.new.items) }
     ensures grows { Grows out.old out.new 10 }
 {
+    sink.lone_byte();
     if (c as u32) < 0x80 {
         let _ = sink.take_some(terminal, &[c as u8], log, out);
     } else {

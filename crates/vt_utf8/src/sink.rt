@@ -51,7 +51,7 @@ pub trait Sink<L: Log> {
             (point terminal.new self.new log.new out.new.items) }
         ensures grows { Grows out.old out.new (10 * result) };
 
-    /// Takes one of the ASCII bytes, or more of them. Returns how many bytes it took.
+    /// Takes the first byte of such a run, or more of its bytes. Returns how many bytes it took.
     fn take_some(
         &mut self,
         terminal: &mut SizedTerminal,
@@ -61,6 +61,7 @@ pub trait Sink<L: Log> {
     ) -> usize
         requires some { 1 ≤ length run.now }
         requires ascii { All (λ b. b < 0x80) run.now }
+        requires run { IsRun run.now }
         requires room { vec_len out.old + 10 * length run.now ≤ vec_capacity out.old }
         requires lines_room { L.HasRoom log.old (most terminal.old.display.grid.size) }
         requires one_size { OneSize terminal.old self.old }
@@ -92,6 +93,10 @@ pub trait Sink<L: Log> {
     /// States that characters may be taken in parts. It does nothing when it runs.
     fn in_turn(&self)
         ensures { AreInTurn Takes OneSize };
+
+    /// States that an ASCII byte alone is a run. It does nothing when it runs.
+    fn lone_byte(&self)
+        ensures { (b : ℕ) → b < 0x80 → IsRun (b ∷ []) };
 }
 
 /// A VT220 takes characters as the bytes that they are translated to.
@@ -160,4 +165,7 @@ impl<L: BytesLog> Sink<L> for Vt220 {
         played_cuts();
         played_soundness();
     }
+
+    #[inline(always)]
+    fn lone_byte(&self) {}
 }

@@ -177,6 +177,16 @@ calm-tail b bytes calm (suc k) less colon = elim (calm (suc (suc k)) (omega (ari
       )
 ]
 
+-- what is left of a run is one
+pub calm-rest : (run : List ℕ) (at : ℕ) → IsCalmRun run → IsCalmRun (drop at run)
+calm-rest run zero calm = calm
+calm-rest [] (suc at) calm = calm
+calm-rest (b ∷ bytes) (suc at) calm = calm-rest bytes at (calm-tail b bytes calm)
+
+-- a byte alone is a run
+pub calm-one : (b : ℕ) → IsCalmRun (b ∷ [])
+calm-one b k less colon = inl (omega (arith, less))
+
 -- the first byte begins none
 abbrev pub BeginsNone : Held → List ℕ → Type 0
 BeginsNone held run = 1 ≤ length run → (takes_values held && (slice_index run 0 == 0x3A)) ≡ false

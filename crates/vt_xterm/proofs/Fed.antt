@@ -4,7 +4,7 @@ use Rattle.std.specs.Prelude.{◌≤◌, nat_lt, slice_index}
 use Rattle.std.proofs.lemmas.Bool.Decides.{nat_tests}
 use Rattle.std.proofs.Common.{append-nil}
 use Rattle.std.proofs.Math.Seq.{take-add}
-use Rattle.std.proofs.lemmas.List.{take_all, take-take, length-take}
+use Rattle.std.proofs.lemmas.List.{take_all}
 use Rattle.std.proofs.lemmas.List.Elements.{All-take}
 use Rattle.vt_syntax.specs.declared.event.Event.{Event}
 use Rattle.vt_syntax.specs.declared.event.Event.TheVariants.{Sequence}
@@ -147,15 +147,12 @@ pub one-byte : (n b : ℕ) → 1 ≤ n → take n (b ∷ []) ≡ b ∷ []
 one-byte n b some = take_all n (b ∷ []) (omega (arith, some))
 
 -- the front of those that pass as they are
-pub leaves-front : SplitLaw → (w v : Whole) (run : List ℕ) (n k : ℕ) (before after : List ℕ) → IsHeldPart w.state.held
-    → w.pages.subparameters ≡ Outside → Pass w.state.held (take n run) → All (λ b. b < 0x80) run → n ≤ length run
-    → k ≤ length (take n run) → FeedsBytes w (take k (take n run)) v before after
-    → Leaves (play_characters w (take k run)) v before after
-leaves-front split w v run n k before after held none pass all low within fed =
-    let few = simp length-take at within in
-    subst (λ (bytes : List ℕ). Leaves (play_characters w bytes) v before after) (take-take k n run (omega (arith, few, low)))
-    (leaves-passed split w v (take k (take n run)) before after held none (shorter-pass w.state.held k (take n run) pass)
-    (All-take (λ b. b < 0x80) k (take n run) (All-take (λ b. b < 0x80) n run all)) fed)
+pub leaves-front : SplitLaw → (w v : Whole) (run : List ℕ) (n : ℕ) (before after : List ℕ) → IsHeldPart w.state.held
+    → w.pages.subparameters ≡ Outside → Pass w.state.held run → All (λ b. b < 0x80) run → FeedsBytes w (take n run) v before after
+    → Leaves (play_characters w (take n run)) v before after
+leaves-front split w v run n before after held none pass all fed =
+    leaves-passed split w v (take n run) before after held none (shorter-pass w.state.held n run pass)
+    (All-take (λ b. b < 0x80) n run all) fed
 
 pub first-byte : (run : List ℕ) → 1 ≤ length run → take 1 run ≡ slice_index run 0 ∷ []
 first-byte [] some = absurd (omega (arith, some))

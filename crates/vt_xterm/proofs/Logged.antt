@@ -1,8 +1,7 @@
 -- The lines that are kept, in parts.
-use Rattle.std.proofs.Common.{◌≡◌, ℕ, ◌+◌, List, [], ◌∷◌, ◌++◌, take, drop, sym, ap, ◌∙◌, subst, append-nil, arith, All, ◌<◌, Bool, true, false, Option, Some, None}
+use Rattle.std.proofs.Common.{◌≡◌, ℕ, ◌+◌, List, [], ◌∷◌, ◌++◌, take, drop, sym, ap, ◌∙◌, subst, append-nil, All, ◌<◌, Bool, true, false, Option, Some, None}
 use Rattle.std.specs.Prelude.{flat_map, ◌≤◌, length, slice_index, if◌then◌else◌}
 use Rattle.std.proofs.Math.Seq.{take-add}
-use Rattle.std.proofs.lemmas.List.{take-take, length-take}
 use Rattle.std.proofs.lemmas.List.Elements.{All-take}
 use Rattle.std.proofs.lemmas.Grind.{flat_map-append}
 use Rattle.vt_syntax.specs.Laws.{SplitLaw}
@@ -82,15 +81,11 @@ module _ {O : Type 0} (Keeps : O → Rows → O → Type 0) (HasRoom IsFull : O 
   keeps-passed split w bytes o p held none pass all keeps =
       subst (λ (x : WholePlayed). Keeps o x.lines p) (sym (characters-passed split w bytes held none pass all)) keeps
 
-  pub keeps-front : SplitLaw → (w : Whole) (run : List ℕ) (n k : ℕ) (o p : O) → IsHeldPart w.state.held
-      → w.pages.subparameters ≡ Outside → Pass w.state.held (take n run) → All (λ b. b < 0x80) run → n ≤ length run
-      → k ≤ length (take n run) → Keeps o (play_bytes w (take k (take n run))).lines p
-      → Keeps o (play_characters w (take k run)).lines p
-  keeps-front split w run n k o p held none pass all low within keeps =
-      let few = simp length-take at within in
-      subst (λ (bytes : List ℕ). Keeps o (play_characters w bytes).lines p) (take-take k n run (omega (arith, few, low)))
-      (keeps-passed split w (take k (take n run)) o p held none (shorter-pass w.state.held k (take n run) pass)
-      (All-take (λ b. b < 0x80) k (take n run) (All-take (λ b. b < 0x80) n run all)) keeps)
+  pub keeps-front : SplitLaw → (w : Whole) (run : List ℕ) (n : ℕ) (o p : O) → IsHeldPart w.state.held
+      → w.pages.subparameters ≡ Outside → Pass w.state.held run → All (λ b. b < 0x80) run
+      → Keeps o (play_bytes w (take n run)).lines p → Keeps o (play_characters w (take n run)).lines p
+  keeps-front split w run n o p held none pass all keeps =
+      keeps-passed split w (take n run) o p held none (shorter-pass w.state.held n run pass) (All-take (λ b. b < 0x80) n run all) keeps
 
   pub keeps-first : (w : Whole) (run : List ℕ) (o p : O) → 1 ≤ length run
       → Keeps o (play_characters w (slice_index run 0 ∷ [])).lines p → Keeps o (play_characters w (take 1 run)).lines p

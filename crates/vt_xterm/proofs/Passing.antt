@@ -4,8 +4,6 @@ use Rattle.std.specs.Prelude.{◌==◌, ◌&&◌, if◌then◌else◌}
 use Rattle.std.proofs.lemmas.Bool.Decides.{nat_tests}
 use Rattle.std.proofs.Math.Seq.{take-length}
 use Rattle.std.proofs.lemmas.List.{take_all, take-append-drop}
-use Rattle.std.proofs.lemmas.List.Elements.{All-nil, All-cons}
-use Rattle.memchr.specs.Find.{Nowhere, Passes, is_byte}
 use Rattle.vt_syntax.specs.declared.event.Event.{Event}
 use Rattle.vt_syntax.specs.declared.event.EventKind.{EventKind}
 use Rattle.vt_syntax.specs.Event.{event_of, event_in}
@@ -121,27 +119,11 @@ no-colon-pass held (b ∷ bytes) none = (
   no-colon-pass (held_from held (b ∷ [])) bytes (λ k d less. none (suc k) d (omega (arith, less))),
 )
 
-pub none-pass : (held : Held) → Pass held []
-unfolding Pass
-none-pass held = tt
-
 pub shorter-pass : (held : Held) (n : ℕ) (bytes : List ℕ) → Pass held bytes → Pass held (take n bytes)
 unfolding Pass
 shorter-pass held zero bytes pass = tt
 shorter-pass held (suc n) [] pass = tt
 shorter-pass held (suc n) (b ∷ bytes) pass = (pass.0, shorter-pass (held_from held (b ∷ [])) n bytes pass.1)
-
--- the bytes before the first colon
-no-pass : (b : Bool) → ¬ (b ≡ true) → b ≡ false
-no-pass true not = absurd (not refl)
-no-pass false not = refl
-
-pub before-colon : (bytes : List ℕ) (at : ℕ) → Nowhere (Passes (is_byte 0x3A) bytes) 0 at → HaveNoColon (take at bytes)
-before-colon bytes zero nowhere = All-nil (λ b. (b == 0x3A) ≡ false)
-before-colon [] (suc at) nowhere = All-nil (λ b. (b == 0x3A) ≡ false)
-before-colon (b ∷ bytes) (suc at) nowhere =
-    All-cons (λ b. (b == 0x3A) ≡ false) b (take at bytes) (no-pass (b == 0x3A) (nowhere 0 (omega arith) (omega arith)))
-    (before-colon bytes at (λ k low less. nowhere (suc k) (omega arith) (omega (arith, less))))
 
 -- bytes and more bytes
 pub pass-append : SplitLaw → (h : Held) (a b : List ℕ) → IsHeldPart h → Pass h a → Pass (held_from h a) b → Pass h (a ++ b)

@@ -1,19 +1,17 @@
 //! ASCII of what a host sends: most of it passes to the terminal as it is, and subparameters as other bytes.
-ghost use Rattle.std.specs.Prelude.{◌≡◌, ◌<◌, ◌+◌, ◌*◌, ◌≤◌, ◌++◌, ◌==◌, ◌&&◌, [], ◌∷◌, All, length, take, slice_index, true, false, vec_len, vec_capacity};
-ghost use Rattle.std.specs.Bool.{OnTrue, OnFalse};
-ghost use Rattle.vt_syntax.specs.declared.held.Held.TheVariants.{Nothing};
+ghost use Rattle.std.specs.Prelude.{◌≡◌, ◌<◌, ◌+◌, ◌*◌, ◌≤◌, ◌==◌, ◌&&◌, [], ◌∷◌, All, length, take, slice_index, true, false, vec_len, vec_capacity};
+ghost use Rattle.std.specs.Bool.{OnTrue};
 ghost use Rattle.vt_syntax.specs.Held.{IsHeldPart, events_from, held_from};
 ghost use Rattle.vt_xterm.specs.declared.subparameters.Subparameters.TheVariants.{Outside};
 ghost use Rattle.vt_xterm.specs.Subparameters.{Pass, takes_values, itself};
-ghost use Rattle.vt_xterm.specs.Private.Calm.{IsCalm, IsCalmBehind, IsCalmRun};
+ghost use Rattle.vt_xterm.specs.Private.Calm.{IsCalmRun};
 ghost use Rattle.vt_xterm.specs.Limits.{lines_limit, xterm_lines_limit};
-ghost use Rattle.vt_xterm.specs.Play.{play_bytes, play_ascii, play_characters, held_before, whole_of};
+ghost use Rattle.vt_xterm.specs.Play.{play_bytes, play_characters, held_before, whole_of};
 ghost use Rattle.vt_xterm.specs.Private.Feeds.{Leaves, FeedsBytes, KeepSizes};
 
 use crate::front::SizedPages;
 use crate::log::PageLog;
 use crate::subparameters::{after, before, is_apart, takes_values};
-use memchr::memchr;
 use vt_syntax::laws::one_split;
 use vt_syntax::{Held, Parser, Values};
 use vt_term::SizedTerminal;
@@ -93,8 +91,8 @@ fn begins(held: &Held, run: &[u8]) -> bool
     run[0] == b':' && takes_values(held)
 }
 
-/// Plays ASCII. Returns how many bytes it played: fewer if the log is full. Speed: it is for subparameters, since most runs pass as
-/// they are.
+/// Plays a run of ASCII byte by byte until what is left passes as it is. Returns how many bytes it played: fewer if the
+/// log is full. Speed: it is for subparameters, since most runs pass as they are.
 #[inline(never)]
 fn feed_run<L: PageLog>(
     terminal: &mut SizedTerminal,
@@ -105,6 +103,7 @@ fn feed_run<L: PageLog>(
     out: &mut Vec<u8>,
 ) -> usize
     requires ascii { All (λ b. b < 0x80) run.now }
+    requires calm { IsCalmRun run.now }
     requires room { vec_len out.old + 10 * length run.now ≤ vec_capacity out.old }
     requires one_size { pages.old.other.grid.size ≡ terminal.old.display.grid.size }
     requires limit { limit ≡ xterm_lines_limit terminal.old.display.grid.size }
@@ -128,8 +127,8 @@ fn feed_run<L: PageLog>(
     at
 }
 
-/// Plays the front of ASCII that isn't empty: bytes that pass as they are, or one byte. Returns how many it played: none if the log is
-/// full.
+/// Plays the front of a run of ASCII that isn't empty: one byte, or the run if it passes as it is. Returns how many bytes it
+/// played: none if the log is full.
 #[inline(always)]
 fn feed_front_run<L: PageLog>(
     terminal: &mut SizedTerminal,
@@ -141,6 +140,7 @@ fn feed_front_run<L: PageLog>(
 ) -> usize
     requires some { 1 ≤ length run.now }
     requires ascii { All (λ b. b < 0x80) run.now }
+    requires calm { IsCalmRun run.now }
     requires room { vec_len out.old + 10 * length run.now ≤ vec_capacity out.old }
     requires one_size { pages.old.other.grid.size ≡ terminal.old.display.grid.size }
     requires limit { limit ≡ xterm_lines_limit terminal.old.display.grid.size }
@@ -155,9 +155,8 @@ fn feed_front_run<L: PageLog>(
 {
     let _ = terminal.width();
     one_split();
-    let passed = passed_run(terminal, pages, run);
-    if passed > 0 {
-        return log.play(terminal, pages, &run[..passed], limit, out);
+    if passes(terminal, pages, run) {
+        return log.play(terminal, pages, run, limit, out);
     }
     if log.is_full(limit) {
         return 0;
@@ -166,110 +165,8 @@ fn feed_front_run<L: PageLog>(
     1
 }
 
-/// Returns how many bytes of ASCII pass as they are: up to the first colon that may begin subparameters. Returns 0 if some have come.
-#[inline(always)]
-pub(crate) fn passed_run(terminal: &SizedTerminal, pages: &SizedPages, run: &[u8]) -> usize
-    requires ascii { All (λ b. b < 0x80) run.now }
-    ensures within { result ≤ length run.now }
-    ensures outside { 1 ≤ result → pages.now.subparameters ≡ Outside }
-    ensures pass { Pass terminal.now.held (take result run.now) }
-{
-    if !pages.is_outside() {
-        return 0;
-    }
-    passed_front(terminal.held(), run)
-}
-
-/// Returns how many bytes of ASCII pass as they are, if no subparameters have come: up to the first colon that begins some.
-#[inline(always)]
-fn passed_front(held: &Held, run: &[u8]) -> usize
-    requires held_part { IsHeldPart held.now }
-    requires ascii { All (λ b. b < 0x80) run.now }
-    ensures within { result ≤ length run.now }
-    ensures pass { Pass held.now (take result run.now) }
-{
-    one_split();
-    if !has(run, b':') {
-        return run.len();
-    }
-    if is_nothing(held) && !has(run, 0x1B) {
-        return run.len();
-    }
-    calm_run(held, run, !takes_values(held))
-}
-
-/// Returns whether nothing is held.
-#[inline(always)]
-fn is_nothing(held: &Held) -> bool
-    ensures { OnTrue result (held.now ≡ Nothing) }
-{
-    matches!(held, Held::Nothing)
-}
-
-/// Returns whether a byte is among others.
-#[inline(always)]
-fn has(run: &[u8], byte: u8) -> bool
-    ensures { OnFalse result (All (λ b. (b == byte) ≡ false) run.now) }
-{
-    match memchr(byte, run) {
-        Some(_) => true,
-        None => false,
-    }
-}
-
-/// Returns how many bytes of ASCII pass as they are: up to the first colon that may begin subparameters. `calm` is whether no
-/// parameters are being read before them.
-fn calm_run(held: &Held, run: &[u8], calm: bool) -> usize
-    requires held_part { IsHeldPart held.now }
-    requires ascii { All (λ b. b < 0x80) run.now }
-    requires calm { calm ≡ true → takes_values held.now ≡ false }
-    ensures within { result ≤ length run.now }
-    ensures pass { Pass held.now (take result run.now) }
-{
-    one_split();
-    let mut calm = calm;
-    let mut at = 0;
-    while at < run.len() {
-        let Some(count) = memchr(b':', &run[at..]) else {
-            return run.len();
-        };
-        if !is_calm_behind(&run[at..at + count], calm) {
-            return at + count;
-        }
-        calm = true;
-        at += count + 1;
-    }
-    at
-}
-
-/// Returns whether no parameters are being read after ASCII, where `calm` is whether none are before it.
-fn is_calm_behind(bytes: &[u8], calm: bool) -> bool
-    ensures { OnTrue result (IsCalmBehind calm bytes.now) }
-{
-    let mut at = bytes.len();
-    while at > 0 {
-        let b = bytes[at - 1];
-        if is_calm(b) {
-            return true;
-        }
-        if b == b'[' {
-            return false;
-        }
-        at -= 1;
-    }
-    calm
-}
-
-/// Returns whether no parameters are being read after a byte: it is an intermediate, or a final byte other than `[`.
-#[inline(always)]
-pub(crate) fn is_calm(b: u8) -> bool
-    ensures { OnTrue result (IsCalm b) }
-{
-    matches!(b, 0x20..=0x2F | 0x40..=0x5A | 0x5C..=0x7E)
-}
-
-/// Plays one of ASCII bytes, or more of them. Returns how many it played.
-pub(crate) fn feed_some_run<L: PageLog>(
+/// Plays the first byte of a run of ASCII, or more of its bytes. Returns how many it played.
+pub(crate) fn feed_some_calm<L: PageLog>(
     terminal: &mut SizedTerminal,
     pages: &mut SizedPages,
     run: &[u8],
@@ -278,6 +175,7 @@ pub(crate) fn feed_some_run<L: PageLog>(
 ) -> usize
     requires some { 1 ≤ length run.now }
     requires ascii { All (λ b. b < 0x80) run.now }
+    requires calm { IsCalmRun run.now }
     requires room { vec_len out.old + 10 * length run.now ≤ vec_capacity out.old }
     requires lines_room { L.HasRoom log.old (lines_limit terminal.old.display.grid.size) }
     requires one_size { pages.old.other.grid.size ≡ terminal.old.display.grid.size }
@@ -292,9 +190,8 @@ pub(crate) fn feed_some_run<L: PageLog>(
 {
     let _ = terminal.width();
     one_split();
-    let passed = passed_run(terminal, pages, run);
-    if passed > 0 {
-        return log.play_some(terminal, pages, &run[..passed], out);
+    if passes(terminal, pages, run) {
+        return log.play_some(terminal, pages, run, out);
     }
     feed_inside(terminal, pages, run[0], log, out);
     1

@@ -3,9 +3,8 @@ ghost use Rattle.std.specs.Prelude.{◌≡◌, ◌+◌, ◌<◌, ◌≤◌, All,
 ghost use Rattle.std.specs.Bool.{OnTrue};
 ghost use Rattle.std.specs.List.{prefix_len};
 ghost use Rattle.std.specs.Simd.Lanes.{mask_l};
-ghost use Rattle.vt_xterm.specs.Private.Calm.{IsCalmAt, IsCalmRun, is_stop};
+ghost use Rattle.vt_xterm.specs.Private.Calm.{IsCalm, IsCalmAt, IsCalmRun, is_stop};
 
-use crate::ascii::is_calm;
 use std::simd::prelude::*;
 
 /// Returns a bit for each byte that is beyond ASCII or a colon.
@@ -88,6 +87,14 @@ fn stop_from(piece: &[u8], from: usize) -> usize
         return from + stops.trailing_zeros() as usize;
     }
     stop_far(piece, from + 16)
+}
+
+/// Returns whether no parameters are being read after a byte: it is an intermediate, or a final byte other than `[`.
+#[inline(always)]
+fn is_calm(b: u8) -> bool
+    ensures { OnTrue result (IsCalm b) }
+{
+    matches!(b, 0x20..=0x2F | 0x40..=0x5A | 0x5C..=0x7E)
 }
 
 /// Returns whether a byte is a colon that is the first byte, or right behind one after which no parameters are being read.

@@ -8,7 +8,7 @@ ghost use Rattle.vt_xterm.specs.Play.{play_characters, whole_of};
 ghost use Rattle.vt_xterm.specs.Private.Feeds.{Leaves, TakesXterm};
 ghost use Rattle.vt_xterm.specs.declared.subparameters.Subparameters.TheVariants.{Outside};
 
-use crate::ascii::{feed_calm, feed_some_run};
+use crate::ascii::{feed_calm, feed_some_calm};
 use crate::bounded::character_between;
 use crate::front::SizedPages;
 use crate::log::PageLog;
@@ -60,7 +60,7 @@ impl<L: PageLog> Sink<L> for SizedPages {
         log: &mut L,
         out: &mut Vec<u8>,
     ) -> usize {
-        feed_some_run(terminal, self, run, log, out)
+        feed_some_calm(terminal, self, run, log, out)
     }
 
     #[inline(always)]
@@ -93,6 +93,9 @@ impl<L: PageLog> Sink<L> for SizedPages {
 
     #[inline(always)]
     fn in_turn(&self) {}
+
+    #[inline(always)]
+    fn lone_byte(&self) {}
 }
 
 /// Plays a character beyond ASCII if no subparameters are being read. It causes no report.

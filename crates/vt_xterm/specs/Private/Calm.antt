@@ -1,20 +1,9 @@
 -- Bytes after which no parameters are being read.
-use Rattle.std.specs.Prelude.{◌≡◌, ℕ, ◌-◌, ◌<◌, ◌≤◌, ◌⊎◌, ◌==◌, ◌||◌, nat_lt, List, Bool, true, false, All, length, drop, slice_index}
+use Rattle.std.specs.Prelude.{◌≡◌, ℕ, ◌-◌, ◌<◌, ◌≤◌, ◌⊎◌, ◌==◌, ◌||◌, nat_lt, List, Bool, true, length, slice_index}
 
 -- whatever was held before them: an intermediate, or 40..7E other than the `[` of CSI (ECMA-48 5.3 and 5.4)
 abbrev pub IsCalm : ℕ → Type 0
 IsCalm b = ((0x20 ≤ b) × (b ≤ 0x2F)) ⊎ (((0x40 ≤ b) × (b ≤ 0x5A)) ⊎ ((0x5C ≤ b) × (b ≤ 0x7E)))
-
--- if none were before it: no byte of ASCII but `[` begins any
-abbrev pub IsNoBracket : ℕ → Type 0
-IsNoBracket b = (b == 0x5B) ≡ false
-
--- none are after these bytes, if it is calm before them or after one of them, and the further ones are none of `[`
-pub record IsCalmBehind (calm : Bool) (bytes : List ℕ) : Type 0 where
-  pub at : ℕ
-  pub within : at ≤ length bytes
-  pub begins : ((at ≡ 0) × (calm ≡ true)) ⊎ ((1 ≤ at) × IsCalm (slice_index bytes (at - 1)))
-  pub keeps : All IsNoBracket (drop at bytes)
 
 -- ---- runs of ASCII
 

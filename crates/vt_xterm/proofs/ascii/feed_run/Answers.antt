@@ -6,6 +6,7 @@ use Rattle.vt_xterm.specs.Play.{whole_of}
 use Rattle.vt_xterm.proofs.Fed.{characters-more, characters-none}
 use Rattle.vt_utf8.proofs.Logged.{keeps-nothing}
 use Rattle.vt_xterm.proofs.Logged.{keeps-more-characters}
+use Rattle.vt_xterm.proofs.CalmRuns.{calm-rest}
 use Rattle.vt_xterm.proofs.Limits.{limit-stays}
 use Rattle.vt_xterm.proofs.OfOneSize.{keep-nothing, keep-both, still-one}
 use Rattle.vt_xterm.proofs.ascii.feed_run.Goals as goal
@@ -19,6 +20,10 @@ pub feed_front_run-count-requires-clause-limit : goal.feed_front_run-count-requi
 feed_front_run-count-requires-clause-limit g c =
     limit-stays c.args.terminal.now.display.grid.size c.loop-at.terminal.display.grid.size c.args.limit
     c.loop-at.invariant.sizes.shown c.requires.limit
+
+pub feed_front_run-count-requires-clause-calm : goal.feed_front_run-count-requires-clause-calm
+feed_front_run-count-requires-clause-calm g c =
+    rw (rest-of c.args.run.now c.loop-at.at) (calm-rest c.args.run.now c.loop-at.at c.requires.calm)
 
 pub loop-at-init : goal.loop-at-init
 loop-at-init g c = record {

@@ -25,7 +25,7 @@ use crate::decoder::{Decoder, whole_character};
 use crate::laws::{sized_silence, sized_writes};
 use crate::log::{BytesLog, Log};
 use crate::sink::Sink;
-use crate::translation::{BYTE_LIMIT, TRANSLATION_LIMIT, is_at_end, translation};
+use crate::translation::{BYTE_LIMIT, TRANSLATION_LIMIT, has_one_cell_left, translation};
 use std::alloc::AllocError;
 use vt_syntax::Held;
 use vt_term::laws::{sized_cuts as played_cuts, sized_log_cuts};
@@ -535,7 +535,7 @@ pub fn feed_beyond_ascii(terminal: &mut SizedTerminal, c: char, out: &mut Vec<u8
                 terminal.write_glyph(Glyph::encoded(found.code));
                 return;
             }
-            if !is_at_end(terminal) {
+            if !has_one_cell_left(terminal) {
                 write_both(terminal, Glyph::encoded(found.code));
                 return;
             }
@@ -626,7 +626,7 @@ pub fn feed_beyond_ascii_log(
                 write_logged(terminal, Glyph::encoded(found.code), lines);
                 return;
             }
-            if !is_at_end(terminal) {
+            if !has_one_cell_left(terminal) {
                 write_both_logged(terminal, Glyph::encoded(found.code), lines);
                 return;
             }

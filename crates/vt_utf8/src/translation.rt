@@ -122,7 +122,7 @@ fn append_both(c: char, sets: &Sets, bytes: &mut Bytes)
 
 /// Returns whether one cell is left in the cursor's row.
 #[inline(always)]
-pub(crate) fn is_at_end(terminal: &SizedTerminal) -> bool
+pub(crate) fn has_one_cell_left(terminal: &SizedTerminal) -> bool
     ensures { result ≡ is_at_end terminal.now.display }
 {
     let cursor = terminal.cursor();
@@ -135,7 +135,7 @@ fn append_wide(c: char, terminal: &SizedTerminal, bytes: &mut Bytes)
     ensures items { bytes.new.items ≡ bytes.old.items ++ written_wide (shown c) terminal.now.display }
 {
     let sets = terminal.sets();
-    if !is_at_end(terminal) {
+    if !has_one_cell_left(terminal) {
         append_both(c, sets, bytes);
     } else if terminal.modes().decawm {
         append(&[ESC, b'E'], bytes);

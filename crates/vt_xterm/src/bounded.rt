@@ -565,7 +565,7 @@ fn write_wide(terminal: &mut SizedTerminal, pages: &mut SizedPages, sides: Sides
     ensures terminal { terminal.new ≡ shown_by (writing_wide glyph sides (screens terminal.old pages.old)) terminal.old.held }
     ensures pages { pages.new ≡ (writing_wide glyph sides (screens terminal.old pages.old)).pages }
 {
-    if !sides.is_at_end(terminal) {
+    if !sides.has_one_cell_left(terminal) {
         write_both(terminal, pages, sides, glyph);
     } else if terminal.modes().decawm {
         sides.next_line(terminal);

@@ -412,7 +412,7 @@ impl Sides {
     }
 
     /// Returns whether one cell is left in the row, up to the last column that the cursor reaches.
-    pub(crate) fn is_at_end(&self, terminal: &SizedTerminal) -> bool
+    pub(crate) fn has_one_cell_left(&self, terminal: &SizedTerminal) -> bool
         ensures { result ≡ is_at_end self.now terminal.now.display }
     {
         terminal.cursor().col == self.last_reached(terminal) && !self.is_pending(terminal)

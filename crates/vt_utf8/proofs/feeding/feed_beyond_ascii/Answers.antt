@@ -15,11 +15,11 @@ returns-then-found-eq1-clause-state c =
     (c.in-Some.ensures.cells ∙ c.if-found-eq1.true))
     (c.encoded.ensures ∙ c.in-Some.ensures.glyph) c.write_glyph.ensures
 
-pub returns-then-not-is_at_end-clause-state : goal.returns-then-not-is_at_end-clause-state
-returns-then-not-is_at_end-clause-state c =
+pub returns-then-not-has_one_cell_left-clause-state : goal.returns-then-not-has_one_cell_left-clause-state
+returns-then-not-has_one_cell_left-clause-state c =
     let is = c.if-writes_glyphs.ensures in
     let fits : is_at_end c.args.terminal.now.display ≡ false = search rules in
-    wide-itself c.args.terminal.now c.write_both.new.terminal c.args.c c.encoded-then-not-is_at_end.result fits
+    wide-itself c.args.terminal.now c.write_both.new.terminal c.args.c c.encoded-then-not-has_one_cell_left.result fits
     (c.sized_writes.ensures.two c.args.terminal.now.display.grid.size c.args.terminal.now c.args.c c.width.ensures.sound is.0 is.1 c.requires.beyond
     (c.in-Some.ensures.cells ∙ omega (arith, c.in-Some.ensures.some, c.in-Some.ensures.few, c.if-found-eq1.false)))
-    (c.encoded-then-not-is_at_end.ensures ∙ c.in-Some.ensures.glyph) c.write_both.ensures
+    (c.encoded-then-not-has_one_cell_left.ensures ∙ c.in-Some.ensures.glyph) c.write_both.ensures

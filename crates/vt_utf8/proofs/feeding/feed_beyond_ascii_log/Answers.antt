@@ -32,18 +32,18 @@ returns-then-found-eq1-clause-lines c =
     (sym (c.sized_writes.ensures.off c.args.terminal.now.display.grid.size c.args.terminal.now c.args.c c.width.ensures.sound is.0 c.requires.beyond
     (c.in-Some.ensures.cells ∙ c.if-found-eq1.true)))
 
-pub returns-then-not-is_at_end-clause-state : goal.returns-then-not-is_at_end-clause-state
-returns-then-not-is_at_end-clause-state c =
+pub returns-then-not-has_one_cell_left-clause-state : goal.returns-then-not-has_one_cell_left-clause-state
+returns-then-not-has_one_cell_left-clause-state c =
     let is = c.if-writes_glyphs.ensures in
     let fits : is_at_end c.args.terminal.now.display ≡ false = search rules in
-    wide-itself c.args.terminal.now c.write_both_logged.new.terminal c.args.c c.encoded-then-not-is_at_end.result fits
+    wide-itself c.args.terminal.now c.write_both_logged.new.terminal c.args.c c.encoded-then-not-has_one_cell_left.result fits
     (c.sized_writes.ensures.two c.args.terminal.now.display.grid.size c.args.terminal.now c.args.c c.width.ensures.sound is.0 is.1 c.requires.beyond
     (c.in-Some.ensures.cells ∙ omega (arith, c.in-Some.ensures.some, c.in-Some.ensures.few, c.if-found-eq1.false)))
-    (c.encoded-then-not-is_at_end.ensures ∙ c.in-Some.ensures.glyph) c.write_both_logged.ensures.terminal
+    (c.encoded-then-not-has_one_cell_left.ensures ∙ c.in-Some.ensures.glyph) c.write_both_logged.ensures.terminal
 
-pub returns-then-not-is_at_end-clause-lines : goal.returns-then-not-is_at_end-clause-lines
+pub returns-then-not-has_one_cell_left-clause-lines : goal.returns-then-not-has_one_cell_left-clause-lines
 unfolding log
-returns-then-not-is_at_end-clause-lines c =
+returns-then-not-has_one_cell_left-clause-lines c =
     let is = c.if-writes_glyphs.ensures in
     let fits : is_at_end c.args.terminal.now.display ≡ false = search rules in
     c.write_both_logged.ensures.lines

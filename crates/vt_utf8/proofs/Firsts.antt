@@ -1,6 +1,6 @@
 -- First bytes: with nothing pending, and after one that they cut off.
-use Rattle.std.proofs.Common.{◌≡◌, ℕ, ◌≤◌, ◌<◌, List, [], ◌∷◌, ◌++◌, length, Some, None, true, false, refl, sym, ◌∙◌, arith}
-use Rattle.std.specs.Prelude.{Bool, Option, IfSome, nat_lt, ◌==◌, if◌then◌else◌}
+use Rattle.std.proofs.Common.{◌≡◌, ℕ, ◌≤◌, ◌<◌, ◌⊎◌, List, [], ◌∷◌, length, Some, None, true, false, inl, inr, refl, sym, ◌∙◌, arith}
+use Rattle.std.specs.Prelude.{Bool, Option, IfSome, nat_lt, ◌==◌}
 use Rattle.std.specs.Option.{option_to_list}
 use Rattle.std.proofs.lemmas.Bool.Decides.{nat_tests}
 use Rattle.bstr.specs.Utf8.{decoded, continues, second, replacement}
@@ -14,14 +14,14 @@ pub first-ascii : (b : ℕ) → b < 0x80 → read_first b ≡ record { character
 unfolding is_begun
 first-ascii b low = let is : nat_lt b 0x80 ≡ true = grind (arith, nat_tests) in rw is refl
 
-pub first-none : (b : ℕ) → 0x80 ≤ b → b < 0xC2 → read_first b ≡ record { characters = replacement ∷ []; pending = [] }
+first-none : (b : ℕ) → 0x80 ≤ b → b < 0xC2 → read_first b ≡ record { characters = replacement ∷ []; pending = [] }
 unfolding is_begun
 first-none b low high =
     let e : nat_lt b 0x80 ≡ false = grind (arith, nat_tests) in
     let f : nat_lt b 0xC2 ≡ true = grind (arith, nat_tests) in
     rw (e, f) refl
 
-pub first-over : (b : ℕ) → 0xF4 < b → read_first b ≡ record { characters = replacement ∷ []; pending = [] }
+first-over : (b : ℕ) → 0xF4 < b → read_first b ≡ record { characters = replacement ∷ []; pending = [] }
 unfolding is_begun
 first-over b over =
     let a : nat_lt b 0x80 ≡ false = grind (arith, nat_tests) in
@@ -31,6 +31,11 @@ first-over b over =
     let h : nat_lt b 0xF5 ≡ false = grind (arith, nat_tests) in
     let i : nat_lt 0xF4 b ≡ true = grind (arith, nat_tests) in
     rw (a, e, f, g, h, i) refl
+
+-- it begins no character
+pub first-apart : (b : ℕ) → 0x80 ≤ b → (b < 0xC2) ⊎ (0xF4 < b) → read_first b ≡ record { characters = replacement ∷ []; pending = [] }
+first-apart b beyond (inl low) = first-none b beyond low
+first-apart b beyond (inr over) = first-over b over
 
 pub first-begun : (b : ℕ) → 0xC2 ≤ b → b ≤ 0xF4 → read_first b ≡ record { characters = []; pending = b ∷ [] }
 unfolding is_begun

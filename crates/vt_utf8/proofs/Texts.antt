@@ -25,13 +25,13 @@ use Rattle.vt_term.specs.Writing.{write_glyph, write_glyphs, IsAfterGlyphs}
 use Rattle.vt_term.specs.Play.{Played, play, both}
 use Rattle.vt_utf8.specs.Cells.{cells}
 use Rattle.vt_utf8.specs.Similar.{shown}
-use Rattle.vt_utf8.specs.Decoding.{Read, read, read_first, characters, pending_after, IsWhole}
+use Rattle.vt_utf8.specs.Decoding.{Read, read, characters, pending_after, IsWhole}
 use Rattle.vt_utf8.specs.Translation.{written, translation, glyph_off, is_at_end, reads_ascii, write_wide}
 use Rattle.vt_utf8.specs.Play.{translated_all}
 use Rattle.vt_utf8.specs.Private.Cut.{IsCut}
 use Rattle.vt_utf8.specs.Text.{glyphs_of, IsInText, IsReady, ReadsText, WritesCharacter, WritesText}
 use Rattle.vt_utf8.proofs.CutOff.{told, left}
-use Rattle.vt_utf8.proofs.Firsts.{first-none, first-over, first-begun, read-nothing}
+use Rattle.vt_utf8.proofs.Firsts.{first-apart, first-begun, read-nothing}
 use Rattle.vt_utf8.proofs.Cuts.{characters-append, pending-append, translation-ascii, ascii-characters, ascii-pending}
 use Rattle.vt_utf8.proofs.Written.{off-written, writes-one, off-one, unshifted-same}
 use Rattle.vt_utf8.proofs.Wide.{silently, KeepsSoundAt, PlaysTwo, plays-glyph, plays-wide, off-wide}
@@ -285,16 +285,12 @@ reads-whole ascii piece c n codes after whole writes = record {
 
 -- ---- ill-formed bytes
 
-lone : (b : ℕ) → 0x80 ≤ b → (b < 0xC2) ⊎ (0xF4 < b) → read_first b ≡ record { characters = replacement ∷ []; pending = [] }
-lone b beyond (inl low) = first-none b beyond low
-lone b beyond (inr over) = first-over b over
-
 -- a byte that begins no character is U+FFFD
 pub lone-whole : (piece : List ℕ) → 1 ≤ length piece → 0x80 ≤ slice_index piece 0
     → (slice_index piece 0 < 0xC2) ⊎ (0xF4 < slice_index piece 0) → IsWhole piece replacement 1
 lone-whole [] some beyond is = absurd (omega (arith, some))
 lone-whole (b ∷ rest) some beyond is =
-    let own : read [] b ≡ record { characters = replacement ∷ []; pending = [] } = read-nothing b ∙ lone b beyond is in
+    let own : read [] b ≡ record { characters = replacement ∷ []; pending = [] } = read-nothing b ∙ first-apart b beyond is in
     record {
       some = omega arith;
       within = omega arith;

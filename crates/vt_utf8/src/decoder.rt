@@ -1,6 +1,6 @@
 //! Decoding: from bytes, one at a time, to characters.
-ghost use Rattle.std.specs.Prelude.{◌≡◌, ◌<◌, ◌≤◌, ◌++◌, [], ◌∷◌, ◌==◌, length, IfSome};
-ghost use Rattle.std.specs.Bool.{OnTrue};
+ghost use Rattle.std.specs.Prelude.{◌≡◌, ◌<◌, ◌≤◌, ◌⊎◌, ◌++◌, [], ◌∷◌, ◌==◌, length, IfSome};
+ghost use Rattle.std.specs.Bool.{OnTrue, OnFalse};
 ghost use Rattle.std.specs.Option.{option_to_list};
 ghost use Rattle.bstr.specs.Utf8.{continues, decoded, lead_len, replacement};
 ghost use Rattle.vt_utf8.specs.Decoding.{IsWhole};
@@ -45,6 +45,15 @@ fn lead_len(b: u8) -> usize
     } else {
         0
     }
+}
+
+/// Returns whether a byte may be the first of a character beyond ASCII.
+#[inline(always)]
+pub(crate) fn begins_beyond(b: u8) -> bool
+    ensures first { OnTrue result ((0xC2 ≤ b) × (b ≤ 0xF4)) }
+    ensures apart { OnFalse result ((b < 0xC2) ⊎ (0xF4 < b)) }
+{
+    matches!(b, 0xC2..=0xF4)
 }
 
 /// Returns whether bytes begin a character that more bytes have to complete. `size` is the size that they decode to.
@@ -219,10 +228,7 @@ impl Decoder {
         if b < 0x80 {
             return Some(b as char);
         }
-        if b < 0xC2 {
-            return Some('\u{FFFD}');
-        }
-        if b > 0xF4 {
+        if !begins_beyond(b) {
             return Some('\u{FFFD}');
         }
         self.pending.push(b);

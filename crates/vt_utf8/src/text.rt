@@ -5,7 +5,7 @@ ghost use Rattle.arrayvec.specs.ArrayVec.{array_vec_len};
 ghost use Rattle.vt_utf8.specs.Text.{IsReady, ReadsText, WritesCharacter, WritesText};
 
 use crate::coded::coded;
-use crate::decoder::whole_character;
+use crate::decoder::{begins_beyond, whole_character};
 use crate::feeding::writes_glyphs;
 use crate::translation::reads_ascii;
 use arrayvec::ArrayVec;
@@ -112,8 +112,7 @@ fn read_ill_formed(piece: &[u8], room: usize, ascii: bool, text: &mut Text) -> u
     ensures room { array_vec_len text.new ≤ room }
     ensures text { ReadsText ascii (take result piece.now) text.old.items text.new.items }
 {
-    let b = piece[0];
-    if 0xC2 <= b && b <= 0xF4 {
+    if begins_beyond(piece[0]) {
         return read_cut_off(piece, room, ascii, text);
     }
     if append_codes('\u{FFFD}', room, text) {

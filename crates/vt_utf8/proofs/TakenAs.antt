@@ -1,5 +1,5 @@
 -- A VT220 as a sink: it takes characters as the bytes that they are translated to.
-use Rattle.std.proofs.Common.{◌≡◌, ℕ, ◌+◌, List, [], ◌∷◌, ◌++◌, refl, sym, ap, ◌∙◌, arith, append_assoc, append-nil, subst}
+use Rattle.std.proofs.Common.{◌≡◌, ℕ, List, [], ◌∷◌, ◌++◌, refl, sym, ap, ◌∙◌, arith, append_assoc, append-nil, subst}
 use Rattle.std.specs.Prelude.{⊤}
 use Rattle.vt_screen.specs.declared.size.Size.{Size}
 use Rattle.vt_term.specs.State.{State}

@@ -1,5 +1,4 @@
-use Rattle.std.proofs.Common.{◌≡◌, ◌∙◌, ◌∷◌, [], true, sym, ap}
-use Rattle.std.specs.Prelude.{◌==◌}
+use Rattle.std.proofs.Common.{◌∙◌, ◌∷◌, [], sym, ap}
 use Rattle.std.specs.Option.{option_to_list}
 use Rattle.bstr.specs.Utf8.{replacement}
 use Rattle.vt_utf8.specs.Decoding.{Read}

@@ -1,11 +1,10 @@
 -- The summary of bytes in two parts, of which the first were counted.
-use Rattle.std.proofs.Common.{◌≡◌, ℕ, ◌+◌, ◌<◌, List, [], ◌∷◌, ◌++◌, Bool, cond, get_or, length, refl, sym, ap, ◌∙◌, arith}
+use Rattle.std.proofs.Common.{◌≡◌, ℕ, ◌+◌, List, [], ◌∷◌, ◌++◌, Bool, cond, refl, sym, ap, ◌∙◌, arith}
 use Rattle.std.proofs.Common.{add-zero, append-nil, append_assoc}
 use Rattle.std.specs.Prelude.{count_by, fold, ◌==◌}
 use Rattle.std.specs.List.{sum_by}
-use Rattle.vt_syntax.specs.declared.event.Event.{Event}
 use Rattle.vt_syntax.specs.declared.held.Held.{Held}
-use Rattle.vt_syntax.specs.Reading.{events_of}
+use Rattle.vt_syntax.specs.declared.held.Held.TheVariants.{Nothing}
 use Rattle.vt_syntax.specs.Held.{held_of, held_after, held_from, events_from}
 use Rattle.vt_syntax.specs.Laws.{SplitLaw}
 use Rattle.vt_syntax.specs.Split.{split_of}
@@ -14,11 +13,13 @@ use Rattle.vt_trace.specs.Names.{Listing, numbered_in}
 use Rattle.vt_trace.specs.Skipped.{code_of, item_kinds, kinds_of}
 use Rattle.vt_trace.specs.Trace.{is_nothing, is_string, open_kind, code_after}
 use Rattle.vt_trace.specs.Runs.{byte_kind}
-use Rattle.vt_trace.specs.Summary.{has_name_by, is_ignored_kind_by, times_named_by, times_ignored_by, times_skipped, counted, all_ignored_by}
-use Rattle.vt_trace.specs.Summary.{ignored_lines, named_lines, named_line, count_line, event_summary_by, summary_by}
-use Rattle.vt_trace.specs.Counted.{HasCountedBy, kinds_from, summary_after}
+use Rattle.vt_trace.specs.Summary.{has_name_by, is_ignored_kind_by, times_named_by, times_ignored_by, times_skipped, counted}
+use Rattle.vt_trace.specs.Spans.{Span, bytes_in, times_ignored_in, times_named_in, summary_in}
+use Rattle.vt_trace.specs.Counted.{HasCountedIn, kinds_from, summary_after}
 use Rattle.vt_trace.specs.declared.summary.Summary.{Summary}
-use Rattle.vt_trace.proofs.Counts.{events_more, held_more, flat_agree}
+use Rattle.vt_trace.proofs.Counts.{held_more}
+use Rattle.vt_trace.proofs.Spans.{bytes_both, times_and_coming}
+use Rattle.vt_trace.proofs.Summed.{same_lines}
 use Rattle.vt_trace.proofs.ItemKinds.{kinds_of_byte, code_of_byte, open_rest}
 
 -- ---- counts of lists in two parts
@@ -43,13 +44,6 @@ count_cons p x xs = sum_cons (λ x. cond (p x) 1 0) x xs
 
 pub count_append : {A : Type 0} (p : A → Bool) (xs ys : List A) → count_by p (xs ++ ys) ≡ count_by p xs + count_by p ys
 count_append p xs ys = fold_append (λ n x. n + cond (p x) 1 0) 0 xs ys ∙ sum_from (λ x. cond (p x) 1 0) (count_by p xs) ys
-
--- a count that goes on from one that stays at the largest number
-joined : (a b c d e f : ℕ) → e ≡ a + c → f ≡ b + d → counted (counted (a + b) + (c + d)) ≡ counted (e + f)
-joined a b c d e f h k = omega (arith, h, k)
-
-joined_names : (a c e : ℕ) → e ≡ a + c → counted (counted a + c) ≡ counted e
-joined_names a c e h = omega (arith, h)
 
 -- ---- the kinds of items without a function
 
@@ -81,43 +75,40 @@ kinds_more bytes (b ∷ more) code held law is_code is_held =
 
 -- ---- the summary
 
-module _ (d : Listing) (s : Summary) (bytes more : List ℕ) (law : SplitLaw) (was : HasCountedBy d s.rows bytes s) where
-  abbrev come : List Event
-  come = events_from s.parser more
+regrouped : (z t b c e x y : ℕ) → x ≡ z + (t + c) → y ≡ b + e → counted (counted (z + (t + b)) + (c + e)) ≡ counted (x + y)
+regrouped z t b c e x y h k = omega (arith, h, k)
 
-  abbrev kinds_come : List ℕ
-  kinds_come = kinds_from s.code s.parser more
+regrouped_name : (z t c x : ℕ) → x ≡ z + (t + c) → counted (counted (z + t) + c) ≡ counted x
+regrouped_name z t c x h = omega (arith, h)
 
-  ignored_so : (k : ℕ) → counted (get_or s.ignored.items k 0 + (times_ignored_by d.called s.rows k come + times_skipped k kinds_come))
-      ≡ all_ignored_by d.called s.rows (events_of bytes ++ come) (item_kinds bytes ++ kinds_come) k
-  unfolding times_ignored_by times_skipped
-  ignored_so k =
-      ap (λ n. counted (n + (times_ignored_by d.called s.rows k come + times_skipped k kinds_come))) (was.counts.of_ignored k)
-      ∙ joined _ _ _ _ _ _ (count_append (is_ignored_kind_by d.called s.rows k) (events_of bytes) come)
-      (count_append (λ kind. kind == k) (item_kinds bytes) kinds_come)
-
-  named_so : (k : ℕ) → k < length d.listed → counted (get_or s.named k 0 + times_named_by d.called s.rows (numbered_in d k) come)
-      ≡ counted (times_named_by d.called s.rows (numbered_in d k) (events_of bytes ++ come))
-  unfolding times_named_by
-  named_so k low =
-      ap (λ n. counted (n + times_named_by d.called s.rows (numbered_in d k) come)) (was.counts.of_named k low)
-      ∙ joined_names _ _ _ (count_append (has_name_by d.called s.rows (numbered_in d k)) (events_of bytes) come)
-
-  -- the bytes that come go on
-  pub goes_on : summary_after d s more ≡ summary_by d s.rows (bytes ++ more)
-  unfolding summary_by
-  goes_on =
-      let events = events_of bytes ++ come in
-      let kinds = item_kinds bytes ++ kinds_come in
-      let named_before : ℕ → ℕ = λ n. counted (get_or s.named n 0 + times_named_by d.called s.rows (numbered_in d n) come) in
-      let named_after : ℕ → ℕ = λ n. counted (times_named_by d.called s.rows (numbered_in d n) events) in
-      let ignored_before : ℕ → ℕ =
-      λ k. counted (get_or s.ignored.items k 0 + (times_ignored_by d.called s.rows k come + times_skipped k kinds_come)) in
-      let same : ignored_before ≡ all_ignored_by d.called s.rows events kinds = λ i k. ignored_so k i in
-      ap (λ (f : ℕ → ℕ). ignored_lines f ++ named_lines d named_before) same
-      ∙ ap (λ (l : List ℕ). ignored_lines (all_ignored_by d.called s.rows events kinds) ++ l)
-      (flat_agree (named_line d named_before) (named_line d named_after) 0 (length d.listed)
-      (λ k low high. ap (λ n. count_line n (numbered_in d k)) (named_so k (omega (arith, high)))))
-      ∙ ap (λ (es : List Event). event_summary_by d s.rows es kinds) (sym (events_more s.parser bytes more law was.held))
-      ∙ ap (λ (l : List ℕ). event_summary_by d s.rows (events_of (bytes ++ more)) l)
-      (sym (kinds_more bytes more s.code s.parser law was.code was.held))
+-- the spans that come go on
+pub goes_on : (d : Listing) (s : Summary) (before : List Span) (bytes more : List ℕ) (rest : List Span) → SplitLaw → HasCountedIn d before s.rows bytes s
+    → summary_after d s (record { rows = s.rows; bytes = more } ∷ rest)
+    ≡ summary_in d (before ++ record { rows = s.rows; bytes = bytes ++ more } ∷ rest)
+unfolding summary_in times_named_by times_ignored_by times_skipped
+goes_on d s before bytes more rest law was =
+    let all = bytes_in before ++ bytes in
+    let come : List ℕ = more ++ bytes_in rest in
+    let spans : List Span = before ++ record { rows = s.rows; bytes = bytes ++ more } ∷ rest in
+    let events = events_from (held_after (bytes_in before)) bytes in
+    let joined : bytes_in spans ≡ all ++ come =
+    bytes_both before (record { rows = s.rows; bytes = bytes ++ more } ∷ rest)
+    ∙ ap (λ (l : List ℕ). bytes_in before ++ l) (append_assoc bytes more (bytes_in rest))
+    ∙ sym (append_assoc (bytes_in before) bytes come) in
+    let kinds : kinds_of (bytes_in spans) ≡ item_kinds all ++ kinds_from s.code s.parser come =
+    ap (λ (l : List ℕ). kinds_of l) joined ∙ kinds_more all come s.code s.parser law was.code was.held in
+    same_lines d _ _ _ _
+    (λ k.
+    let p = is_ignored_kind_by d.called s.rows k in
+    ap (λ n. counted (n + (times_ignored_in d.called k s.parser (record { rows = s.rows; bytes = more } ∷ rest)
+    + times_skipped k (kinds_from s.code s.parser come)))) (was.counts.of_ignored k)
+    ∙ regrouped (times_ignored_in d.called k Nothing before) (times_ignored_by d.called s.rows k events) _ _ _ _ _
+    (times_and_coming law (λ r es. times_ignored_by d.called r k es) before rest s.rows bytes more s.parser (λ xs ys. count_append p xs ys) was.held)
+    (ap (λ (l : List ℕ). times_skipped k l) kinds
+    ∙ count_append (λ kind. kind == k) (item_kinds all) (kinds_from s.code s.parser come)))
+    (λ k low.
+    let p = has_name_by d.called s.rows (numbered_in d k) in
+    ap (λ n. counted (n + times_named_in d.called (numbered_in d k) s.parser (record { rows = s.rows; bytes = more } ∷ rest))) (was.counts.of_named k low)
+    ∙ regrouped_name (times_named_in d.called (numbered_in d k) Nothing before) (times_named_by d.called s.rows (numbered_in d k) events) _ _
+    (times_and_coming law (λ r es. times_named_by d.called r (numbered_in d k) es) before rest s.rows bytes more s.parser (λ xs ys. count_append p xs ys)
+    was.held))

@@ -6,7 +6,8 @@ use Rattle.vt_utf8.specs.Decoding.{read, characters, pending_after, IsWhole}
 use Rattle.vt_utf8.proofs.Cuts.{characters-append, pending-append, ascii-characters}
 use Rattle.vt_trace.specs.declared.summary.Summary.{Summary}
 use Rattle.vt_trace.specs.Names.{Listing}
-use Rattle.vt_trace.specs.Counted.{HasCountedBy}
+use Rattle.vt_trace.specs.Counted.{HasCountedIn}
+use Rattle.vt_trace.specs.Spans.{Span}
 use Rattle.vt_trace.specs.Utf8.{counted_as, counted_bytes}
 use Rattle.vt_trace.specs.Private.Traces.{CountsUtf8}
 use Rattle.vt_trace.proofs.Beyond.{is_ascii, tail_of}
@@ -35,7 +36,7 @@ counted-ascii bytes all = ap (λ (cs : List ℕ). map counted_as cs) (ascii-char
 pub counts_none : (d : Listing) (pending : List ℕ) (s : Summary) → CountsUtf8 d pending [] pending s s
 counts_none d pending s = record {
   left = refl;
-  counted = λ rows front was. rw (append-nil front) was;
+  counted = λ before rows front was. rw (append-nil front) was;
 }
 
 pub counts_both : (d : Listing) (pending after left a b : List ℕ) (s t u : Summary) → CountsUtf8 d pending a after s t → CountsUtf8 d after b left t u
@@ -47,29 +48,29 @@ counts_both d pending after left a b s t u first second =
     ∙ sym (counted-append pending a b)) in
     record {
       left = second.left ∙ ap (λ (q : List ℕ). pending_after q b) first.left ∙ sym (pending-append pending a b);
-      counted = λ rows front was. rw (joined front) at (second.counted rows (front ++ counted_bytes pending a) (first.counted rows front was));
+      counted = λ before rows front was. rw (joined front) at (second.counted before rows (front ++ counted_bytes pending a) (first.counted before rows front was));
     }
 
 pub counts_ascii : (d : Listing) (pending bytes : List ℕ) (s u : Summary) → pending ≡ [] → All (λ b. b < 0x80) bytes → pending_after [] bytes ≡ []
-    → ((rows : ℕ) (front : List ℕ) → HasCountedBy d rows front s → HasCountedBy d rows (front ++ bytes) u) → CountsUtf8 d pending bytes pending s u
+    → ((before : List Span) (rows : ℕ) (front : List ℕ) → HasCountedIn d before rows front s → HasCountedIn d before rows (front ++ bytes) u) → CountsUtf8 d pending bytes pending s u
 counts_ascii d pending bytes s u nothing all left counts = rw nothing (record {
   left = sym left;
-  counted = λ rows front was. rw (counted-ascii bytes all) (counts rows front was);
+  counted = λ before rows front was. rw (counted-ascii bytes all) (counts before rows front was);
 })
 
 -- a whole character
 pub counts_whole : (d : Listing) (pending piece : List ℕ) (c n : ℕ) (s u : Summary) → pending ≡ [] → IsWhole piece c n
-    → ((rows : ℕ) (front : List ℕ) → HasCountedBy d rows front s → HasCountedBy d rows (front ++ counted_as c ∷ []) u) → CountsUtf8 d pending (take n piece) pending s u
+    → ((before : List Span) (rows : ℕ) (front : List ℕ) → HasCountedIn d before rows front s → HasCountedIn d before rows (front ++ counted_as c ∷ []) u) → CountsUtf8 d pending (take n piece) pending s u
 counts_whole d pending piece c n s u nothing whole counts = rw nothing (record {
   left = sym whole.pending;
-  counted = λ rows front was. rw whole.characters (counts rows front was);
+  counted = λ before rows front was. rw whole.characters (counts before rows front was);
 })
 
 -- a byte, by the characters that it completes, in two parts
 pub counts_byte : (d : Listing) (pending : List ℕ) (b : ℕ) (lost last : Option ℕ) (after : List ℕ) (s t u : Summary)
     → option_to_list lost ++ option_to_list last ≡ (read pending b).characters → after ≡ (read pending b).pending
-    → ((rows : ℕ) (front : List ℕ) → HasCountedBy d rows front s → HasCountedBy d rows (front ++ map counted_as (option_to_list lost)) t)
-    → ((rows : ℕ) (front : List ℕ) → HasCountedBy d rows front t → HasCountedBy d rows (front ++ map counted_as (option_to_list last)) u)
+    → ((before : List Span) (rows : ℕ) (front : List ℕ) → HasCountedIn d before rows front s → HasCountedIn d before rows (front ++ map counted_as (option_to_list lost)) t)
+    → ((before : List Span) (rows : ℕ) (front : List ℕ) → HasCountedIn d before rows front t → HasCountedIn d before rows (front ++ map counted_as (option_to_list last)) u)
     → CountsUtf8 d pending (b ∷ []) after s u
 counts_byte d pending b lost last after s t u are left first second =
     let xs = option_to_list lost in
@@ -80,15 +81,15 @@ counts_byte d pending b lost last after s t u are left first second =
     ∙ ap (λ (l : List ℕ). front ++ l) (sym (map_both xs ys) ∙ ap (λ (cs : List ℕ). map counted_as cs) (sym all)) in
     record {
       left = left;
-      counted = λ rows front was. rw (joined front) at (second rows (front ++ map counted_as xs) (first rows front was));
+      counted = λ before rows front was. rw (joined front) at (second before rows (front ++ map counted_as xs) (first before rows front was));
     }
 
 -- the first byte of a piece
 pub counts_first : (d : Listing) (pending piece : List ℕ) (lost last : Option ℕ) (after : List ℕ) (s t u : Summary) → 1 ≤ length piece
     → option_to_list lost ++ option_to_list last ≡ (read pending (slice_index piece 0)).characters
     → after ≡ (read pending (slice_index piece 0)).pending
-    → ((rows : ℕ) (front : List ℕ) → HasCountedBy d rows front s → HasCountedBy d rows (front ++ map counted_as (option_to_list lost)) t)
-    → ((rows : ℕ) (front : List ℕ) → HasCountedBy d rows front t → HasCountedBy d rows (front ++ map counted_as (option_to_list last)) u)
+    → ((before : List Span) (rows : ℕ) (front : List ℕ) → HasCountedIn d before rows front s → HasCountedIn d before rows (front ++ map counted_as (option_to_list lost)) t)
+    → ((before : List Span) (rows : ℕ) (front : List ℕ) → HasCountedIn d before rows front t → HasCountedIn d before rows (front ++ map counted_as (option_to_list last)) u)
     → CountsUtf8 d pending (take 1 piece) after s u
 counts_first d pending piece lost last after s t u some are left first second =
     rw (first_of piece some) (counts_byte d pending (slice_index piece 0) lost last after s t u are left first second)

@@ -1,6 +1,6 @@
 -- The counts after one more event.
 use Rattle.std.proofs.Common.{◌≡◌, ◌≢◌, ℕ, zero, suc, ◌+◌, ◌-◌, ◌^◌, ◌<◌, ◌≤◌, ◌⊎◌, List, [], ◌∷◌, ◌++◌, Bool, true, false, ◌&&◌, ◌||◌, not}
-use Rattle.std.proofs.Common.{Option, Some, None, refl, sym, ap, ◌∙◌, inl, inr, arith, length, get_or, set, min, nat_eq, eqb, add-zero, append-nil, append_assoc, take, drop, replicate}
+use Rattle.std.proofs.Common.{Option, Some, None, refl, sym, ap, subst, ◌∙◌, inl, inr, arith, length, get_or, set, min, nat_eq, eqb, add-zero, append-nil, append_assoc, take, drop, replicate}
 use Rattle.std.proofs.Math.Seq.{take-add}
 use Rattle.std.proofs.lemmas.List.{length-replicate}
 use Rattle.std.specs.Prelude.{count_by, fold, cond, ◌==◌}
@@ -13,7 +13,6 @@ use Rattle.vt_syntax.specs.declared.event.Event.{Event}
 use Rattle.std.specs.List.{flat_map}
 use Rattle.vt_syntax.specs.declared.held.Held.{Held}
 use Rattle.vt_syntax.specs.declared.held.Held.TheVariants.{Nothing}
-use Rattle.vt_syntax.specs.Reading.{events_of}
 use Rattle.vt_syntax.specs.Held.{IsHeldPart, events_from, held_from, held_after}
 use Rattle.vt_syntax.specs.Laws.{SplitLaw}
 use Rattle.vt_glyph.proofs.Lists.{all_in_range}
@@ -21,12 +20,11 @@ use Rattle.vt_trace.specs.Lines.{Names}
 use Rattle.vt_trace.specs.Names.{Listing, numbered_in, AreApart}
 use Rattle.std.specs.Option.{option_to_list}
 use Rattle.vt_syntax.specs.Split.{split_of}
-use Rattle.vt_trace.specs.Skipped.{item_kinds, rest_kind, kinds_of}
+use Rattle.vt_trace.specs.Skipped.{code_of, item_kinds}
 use Rattle.vt_trace.specs.Runs.{times_at}
 use Rattle.vt_trace.specs.Summary.{kind_number, has_name_by, is_ignored_kind_by, times_named_by, times_ignored_by, times_skipped, counted}
-use Rattle.vt_trace.specs.Summary.{all_ignored_by}
-use Rattle.vt_trace.specs.Summary.{ignored_lines, named_lines, named_line, count_line, summary_by}
-use Rattle.vt_trace.specs.Counted.{AreCounts, HasCountedBy}
+use Rattle.vt_trace.specs.Spans.{Span, bytes_in, times_in, times_ignored_in, times_named_in}
+use Rattle.vt_trace.specs.Counted.{AreCounts, HasCountedIn}
 use Rattle.vt_trace.specs.declared.summary.Summary.{Summary}
 
 -- ---- one more event
@@ -126,18 +124,20 @@ is_equal n k same = go (eqb_tells n k)
     go (inl t) = t.0
     go (inr f) = absurd (f.1 same)
 
-module _ (d : Listing) {rows : ℕ} (events : List Event) (kinds ignored named : List ℕ) (counts : AreCounts d rows events kinds ignored named) where
+module _ (d : Listing) {before : List Span} {rows : ℕ} (events : List Event) (kinds ignored named : List ℕ)
+    (counts : AreCounts d before rows events kinds ignored named) where
   -- an item without a function
   pub counts-skipped : (n : ℕ) (more : List ℕ) → n < 13312 → IsSet ignored n more → length more ≡ length ignored
-      → AreCounts d rows events (kinds ++ n ∷ []) more named
+      → AreCounts d before rows events (kinds ++ n ∷ []) more named
   unfolding times_named_by times_ignored_by times_skipped
   counts-skipped n more within inside len = record {
     size = len ∙ counts.size;
     of_ignored = λ k.
         let size : length ignored ≡ 13312 = counts.size in
+        let z = times_ignored_in d.called k Nothing before in
         let a = count_by (is_ignored_kind_by d.called rows k) events in
         let b = count_by (λ m. m == k) kinds in
-        set_at ignored more n k (a + b) (a + count_by (λ m. m == k) (kinds ++ n ∷ [])) inside (omega (arith, within, size))
+        set_at ignored more n k (z + (a + b)) (z + (a + count_by (λ m. m == k) (kinds ++ n ∷ []))) inside (omega (arith, within, size))
         (counts.of_ignored k)
         (λ same. let one = counts_one (λ m. m == k) kinds n (is_equal n k same) in omega (arith, one))
         (λ other. let none = counts_none (λ m. m == k) kinds n (not_equal n k other) in omega (arith, none));
@@ -147,39 +147,43 @@ module _ (d : Listing) {rows : ℕ} (events : List Event) (kinds ignored named :
   module _ (e : Event) where
     -- an event with a name
     pub counts-named : (n : ℕ) (more : List ℕ) → AreApart d → d.called rows e ≡ Some (numbered_in d n) → n < length d.listed → n < length named
-        → more ≡ set named n (min (get_or named n 0 + 1) (2 ^ 64 - 1)) → AreCounts d rows (events ++ e ∷ []) kinds ignored more
+        → more ≡ set named n (min (get_or named n 0 + 1) (2 ^ 64 - 1)) → AreCounts d before rows (events ++ e ∷ []) kinds ignored more
     unfolding times_named_by times_ignored_by times_skipped
     counts-named n more law is within inside was = record {
       size = counts.size;
-      of_ignored = λ k. counts.of_ignored k ∙ ap (λ m. counted (m + count_by (λ i. i == k) kinds))
+      of_ignored = λ k. counts.of_ignored k ∙ ap (λ m. counted (times_ignored_in d.called k Nothing before + (m + count_by (λ i. i == k) kinds)))
           (sym (counts_none (is_ignored_kind_by d.called rows k) events e (not_ignored d.called rows k e (numbered_in d n) is)));
-      of_named = λ k low. set_at named more n k (count_by (has_name_by d.called rows (numbered_in d k)) events)
-          (count_by (has_name_by d.called rows (numbered_in d k)) (events ++ e ∷ [])) (λ h. was) inside (counts.of_named k low)
-          (λ same. counts_one (has_name_by d.called rows (numbered_in d k)) events e
+      of_named = λ k low.
+          let z = times_named_in d.called (numbered_in d k) Nothing before in
+          set_at named more n k (z + count_by (has_name_by d.called rows (numbered_in d k)) events)
+          (z + count_by (has_name_by d.called rows (numbered_in d k)) (events ++ e ∷ [])) (λ h. was) inside (counts.of_named k low)
+          (λ same. let one = counts_one (has_name_by d.called rows (numbered_in d k)) events e
           (named_by d.called rows (numbered_in d k) (numbered_in d n) e is ∙ ap (λ m. pointwise nat_eq (numbered_in d k) (numbered_in d m)) same
-          ∙ itself (numbered_in d k)))
-          (λ other. counts_none (has_name_by d.called rows (numbered_in d k)) events e
-          (named_by d.called rows (numbered_in d k) (numbered_in d n) e is ∙ law k n low within (λ h. other (sym h))));
+          ∙ itself (numbered_in d k)) in omega (arith, one))
+          (λ other. ap (λ m. z + m) (counts_none (has_name_by d.called rows (numbered_in d k)) events e
+          (named_by d.called rows (numbered_in d k) (numbered_in d n) e is ∙ law k n low within (λ h. other (sym h)))));
     }
 
     -- an event that is ignored
     pub counts-ignored : (n : ℕ) (more : List ℕ) → d.called rows e ≡ None → kind_number e ≡ n
-        → n < 13312 → IsSet ignored n more → length more ≡ length ignored → AreCounts d rows (events ++ e ∷ []) kinds more named
+        → n < 13312 → IsSet ignored n more → length more ≡ length ignored → AreCounts d before rows (events ++ e ∷ []) kinds more named
     unfolding times_named_by times_ignored_by times_skipped
     counts-ignored n more is kind within inside len = record {
       size = len ∙ counts.size;
       of_ignored = λ k.
           let size : length ignored ≡ 13312 = counts.size in
+          let z = times_ignored_in d.called k Nothing before in
           let a = count_by (is_ignored_kind_by d.called rows k) events in
           let b = count_by (λ m. m == k) kinds in
-          set_at ignored more n k (a + b) (count_by (is_ignored_kind_by d.called rows k) (events ++ e ∷ []) + b) inside (omega (arith, within, size))
+          set_at ignored more n k (z + (a + b)) (z + (count_by (is_ignored_kind_by d.called rows k) (events ++ e ∷ []) + b)) inside (omega (arith, within, size))
           (counts.of_ignored k)
           (λ same. let one = counts_one (is_ignored_kind_by d.called rows k) events e
           (ignored_by d.called rows k e is ∙ ap (λ m. m == k) kind ∙ is_equal n k same) in omega (arith, one))
           (λ other. let none = counts_none (is_ignored_kind_by d.called rows k) events e
           (ignored_by d.called rows k e is ∙ ap (λ m. m == k) kind ∙ not_equal n k other) in omega (arith, none));
       of_named = λ k low. counts.of_named k low
-          ∙ ap counted (sym (counts_none (has_name_by d.called rows (numbered_in d k)) events e (not_named d.called rows (numbered_in d k) e is)));
+          ∙ ap (λ m. counted (times_named_in d.called (numbered_in d k) Nothing before + m))
+          (sym (counts_none (has_name_by d.called rows (numbered_in d k)) events e (not_named d.called rows (numbered_in d k) e is)));
     }
 
 -- ---- bytes
@@ -187,22 +191,37 @@ module _ (d : Listing) {rows : ℕ} (events : List Event) (kinds ignored named :
 pub nothing-held : IsHeldPart Nothing
 nothing-held = record { rest = None; is_rest = tt; of_rest = refl }
 
--- the bytes after those counted
-pub events_more : (held : Held) (bytes front : List ℕ) → SplitLaw → held ≡ held_after bytes
-    → events_of (bytes ++ front) ≡ events_of bytes ++ events_from held front
-events_more held bytes front law is =
-    law.events_append Nothing bytes front ∙ ap (λ (h : Held). events_of bytes ++ events_from h front) (sym is)
-
+-- what is held after more bytes
 pub held_more : (held : Held) (bytes front : List ℕ) → SplitLaw → held ≡ held_after bytes
     → held_after (bytes ++ front) ≡ held_from held front
 held_more held bytes front law is =
     law.held_append Nothing bytes front ∙ ap (λ (h : Held). held_from h front) (sym is)
 
-pub counted_more : (d : Listing) {rows : ℕ} (s : Summary) (bytes chunk : List ℕ) (at n : ℕ)
-    → HasCountedBy d rows ((bytes ++ take at chunk) ++ take n (drop at chunk)) s
-    → HasCountedBy d rows (bytes ++ take (at + n) chunk) s
+pub counted_more : (d : Listing) {before : List Span} {rows : ℕ} (s : Summary) (bytes chunk : List ℕ) (at n : ℕ)
+    → HasCountedIn d before rows ((bytes ++ take at chunk) ++ take n (drop at chunk)) s
+    → HasCountedIn d before rows (bytes ++ take (at + n) chunk) s
 counted_more d s bytes chunk at n was =
     rw (take-add at n chunk, sym (append_assoc bytes (take at chunk) (take n (drop at chunk)))) was
+
+-- the summary of more bytes, by what it is after all that came
+pub counted_front : (d : Listing) {before : List Span} {rows : ℕ} (s t : Summary) (bytes front : List ℕ) → SplitLaw → HasCountedIn d before rows bytes s
+    → t.rows ≡ rows → t.parser ≡ held_after ((bytes_in before ++ bytes) ++ front) → t.code ≡ code_of (split_of ((bytes_in before ++ bytes) ++ front)).rest
+    → AreCounts d before rows (events_from (held_after (bytes_in before)) bytes ++ events_from s.parser front)
+    (item_kinds ((bytes_in before ++ bytes) ++ front)) t.ignored.items t.named
+    → HasCountedIn d before rows (bytes ++ front) t
+counted_front d {before} {rows} s t bytes front law was rows_are held code counts =
+    let first : Held = held_after (bytes_in before) in
+    let all : (bytes_in before ++ bytes) ++ front ≡ bytes_in before ++ (bytes ++ front) = append_assoc (bytes_in before) bytes front in
+    let events : events_from first bytes ++ events_from s.parser front ≡ events_from first (bytes ++ front) =
+    ap (λ (h : Held). events_from first bytes ++ events_from h front) (was.held ∙ law.held_append Nothing (bytes_in before) bytes)
+    ∙ sym (law.events_append first bytes front) in
+    record {
+      rows_are = rows_are;
+      held = held ∙ ap (λ (l : List ℕ). held_after l) all;
+      code = code ∙ ap (λ (l : List ℕ). code_of (split_of l).rest) all;
+      counts = subst (λ (l : List ℕ). AreCounts d before rows (events_from first (bytes ++ front)) (item_kinds l) t.ignored.items t.named) all
+          (subst (λ (es : List Event). AreCounts d before rows es (item_kinds ((bytes_in before ++ bytes) ++ front)) t.ignored.items t.named) events counts);
+    }
 
 abbrev none_at : ℕ → ℕ → ℕ
 none_at n k = get_or (replicate n 0) k 0
@@ -219,8 +238,8 @@ zeros_long : (n : ℕ) → length (zeros_of n) ≡ n
 zeros_long n = length-replicate n zero
 
 -- no events
-pub none_counted : (d : Listing) (rows most : ℕ) → AreCounts d rows [] [] (replicate 13312 0) (replicate most 0)
-unfolding times_named_by times_ignored_by times_skipped
+pub none_counted : (d : Listing) (rows most : ℕ) → AreCounts d [] rows [] [] (replicate 13312 0) (replicate most 0)
+unfolding times_in times_named_by times_ignored_by times_skipped
 none_counted d rows most = record {
   size = zeros_long 13312;
   of_ignored = λ k. zeros 13312 k;
@@ -287,49 +306,29 @@ chain before a b c x y z first second third =
 abbrev pub found_at : List ℕ → ℕ → ℕ
 found_at counts number = get_or counts number 0
 
--- what is open at the end
-last_counted : (d : Listing) {rows : ℕ} (events : List Event) (kinds ignored named : List ℕ) (kind : ℕ) → AreCounts d rows events kinds ignored named
-    → (k : ℕ) (v : Bool) → eqb kind k ≡ v
-    → cond v (counted (get_or ignored k 0 + 1)) (get_or ignored k 0) ≡ all_ignored_by d.called rows events (kinds ++ kind ∷ []) k
-unfolding times_skipped
-last_counted d {rows} events kinds ignored named kind counts k true is =
-    let one = counts_one (λ m. m == k) kinds kind is in
-    ap (λ n. counted (n + 1)) (counts.of_ignored k)
-    ∙ sym (one_more (times_ignored_by d.called rows k events + count_by (λ m. m == k) kinds))
-    ∙ ap (λ n. counted n) (omega (arith, one))
-last_counted d {rows} events kinds ignored named kind counts k false is =
-    counts.of_ignored k ∙ ap (λ n. counted (times_ignored_by d.called rows k events + n)) (sym (counts_none (λ m. m == k) kinds kind is))
+-- the times of what was ignored
+abbrev all_ignored_after : Listing → List Span → ℕ → List Event → List ℕ → ℕ → ℕ
+all_ignored_after d before rows events kinds k =
+    counted (times_ignored_in d.called k Nothing before + (times_ignored_by d.called rows k events + times_skipped k kinds))
 
-with_last : (d : Listing) {rows : ℕ} (events : List Event) (kinds ignored named : List ℕ) (last : Option ℕ) → AreCounts d rows events kinds ignored named
-    → (k : ℕ) → times_at ignored last k ≡ all_ignored_by d.called rows events (kinds ++ option_to_list last) k
-with_last d {rows} events kinds ignored named None counts k =
-    counts.of_ignored k ∙ ap (λ (l : List ℕ). all_ignored_by d.called rows events l k) (sym (append-nil kinds))
-with_last d {rows} events kinds ignored named (Some kind) counts k = last_counted d events kinds ignored named kind counts k (eqb kind k) refl
+module _ (d : Listing) {before : List Span} {rows : ℕ} (events : List Event) (kinds ignored named : List ℕ)
+    (counts : AreCounts d before rows events kinds ignored named) where
+  -- what is open at the end
+  last_counted : (kind k : ℕ) (v : Bool) → eqb kind k ≡ v
+      → cond v (counted (get_or ignored k 0 + 1)) (get_or ignored k 0) ≡ all_ignored_after d before rows events (kinds ++ kind ∷ []) k
+  unfolding times_skipped
+  last_counted kind k true is =
+      let z = times_ignored_in d.called k Nothing before in
+      let one = counts_one (λ m. m == k) kinds kind is in
+      ap (λ n. counted (n + 1)) (counts.of_ignored k)
+      ∙ sym (one_more (z + (times_ignored_by d.called rows k events + count_by (λ m. m == k) kinds)))
+      ∙ ap (λ n. counted n) (omega (arith, one))
+  last_counted kind k false is =
+      counts.of_ignored k
+      ∙ ap (λ n. counted (times_ignored_in d.called k Nothing before + (times_ignored_by d.called rows k events + n)))
+      (sym (counts_none (λ m. m == k) kinds kind is))
 
-pub same_ignored : (d : Listing) {rows : ℕ} (events : List Event) (kinds ignored named : List ℕ) (last : Option ℕ) → AreCounts d rows events kinds ignored named
-    → ignored_lines (times_at ignored last) ≡ ignored_lines (all_ignored_by d.called rows events (kinds ++ option_to_list last))
-same_ignored d {rows} events kinds ignored named last counts =
-    let same : times_at ignored last ≡ all_ignored_by d.called rows events (kinds ++ option_to_list last) =
-    λ i number. with_last d events kinds ignored named last counts number i in
-    ap ignored_lines same
-
-pub same_named : (d : Listing) {rows : ℕ} (events : List Event) (kinds ignored named : List ℕ) → AreCounts d rows events kinds ignored named
-    → named_lines d (found_at named) ≡ named_lines d (λ number. counted (times_named_by d.called rows (numbered_in d number) events))
-same_named d {rows} events kinds ignored named counts =
-    flat_agree (named_line d (found_at named)) (named_line d (λ number. counted (times_named_by d.called rows (numbered_in d number) events))) 0 (length d.listed)
-    (λ k low high. ap (λ n. count_line n (numbered_in d k)) (counts.of_named k (omega (arith, high))))
-
-pub summed : (d : Listing) {rows : ℕ} (s : Summary) (bytes before first out : List ℕ) (last : Option ℕ) → HasCountedBy d rows bytes s
-    → option_to_list last ≡ rest_kind (split_of bytes).rest
-    → first ≡ before ++ ignored_lines (times_at s.ignored.items last) → out ≡ first ++ named_lines d (found_at s.named)
-    → out ≡ before ++ summary_by d rows bytes
-unfolding summary_by
-summed d {rows} s bytes before first out last was is one two =
-    let events = events_of bytes in
-    two ∙ ap (λ (l : List ℕ). l ++ named_lines d (found_at s.named)) one
-    ∙ append_assoc before (ignored_lines (times_at s.ignored.items last)) (named_lines d (found_at s.named))
-    ∙ ap (λ (l : List ℕ). before ++ (l ++ named_lines d (found_at s.named)))
-    (same_ignored d events (item_kinds bytes) s.ignored.items s.named last was.counts
-    ∙ ap (λ (l : List ℕ). ignored_lines (all_ignored_by d.called rows events (item_kinds bytes ++ l))) is)
-    ∙ ap (λ (l : List ℕ). before ++ (ignored_lines (all_ignored_by d.called rows events (kinds_of bytes)) ++ l))
-    (same_named d events (item_kinds bytes) s.ignored.items s.named was.counts)
+  pub with_last : (last : Option ℕ) (k : ℕ) → times_at ignored last k ≡ all_ignored_after d before rows events (kinds ++ option_to_list last) k
+  with_last None k =
+      counts.of_ignored k ∙ ap (λ (l : List ℕ). all_ignored_after d before rows events l k) (sym (append-nil kinds))
+  with_last (Some kind) k = last_counted kind k (eqb kind k) refl

@@ -2,6 +2,8 @@ pub mod Tables
 mod TracedBytes
 mod Traces
 pub mod Counts
+mod Spans
+pub mod Summed
 pub mod Coming
 pub mod Contents
 mod Leaves

@@ -4,6 +4,7 @@ pub mod Lines
 pub mod Skipped
 pub mod Trace
 pub mod Summary
+pub mod Spans
 pub mod Counted
 pub mod Runs
 pub mod Observed

@@ -12,6 +12,7 @@ use Rattle.vt_trace.specs.Trace.{between, open_lines, text_of, traced_at, tracer
 use Rattle.vt_screen.specs.Grid.{last_row}
 use Rattle.vt_trace.specs.Names.{Listing, vt220_listing}
 use Rattle.vt_trace.specs.Summary.{summary_by}
+use Rattle.vt_trace.specs.Spans.{Span, summary_in}
 
 -- ---- bytes of characters beyond ASCII, and ill-formed bytes
 
@@ -122,6 +123,16 @@ summary_utf8_by d rows bytes = summary_by d rows (counted_bytes [] bytes)
 -- the summary of a host's UTF-8 by a VT220's names, on a screen of so many rows
 abbrev pub summary_utf8_on : ℕ → List ℕ → List ℕ
 summary_utf8_on rows bytes = summary_utf8_by vt220_listing rows bytes
+
+-- the spans that are counted for spans of UTF-8 after a pending part
+abbrev pub counted_spans : (pending : List ℕ) → List Span → List Span
+counted_spans pending [] = []
+counted_spans pending (span ∷ spans) =
+    record { rows = span.rows; bytes = counted_bytes pending span.bytes } ∷ counted_spans (pending_after pending span.bytes) spans
+
+-- the summary of a host's UTF-8 that comes in spans
+unfoldable pub summary_utf8_in : Listing → List Span → List ℕ
+summary_utf8_in d spans = summary_in d (counted_spans [] spans)
 
 -- the summary of a host's UTF-8 on a VT220
 abbrev pub summary_utf8 : List ℕ → List ℕ

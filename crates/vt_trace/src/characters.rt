@@ -2,7 +2,9 @@
 ghost use Rattle.std.specs.Prelude.{◌≡◌, ◌≤◌, ◌++◌, List, ℕ, length, map, take};
 ghost use Rattle.std.specs.Option.{option_to_list};
 ghost use Rattle.vt_utf8.specs.Decoding.{pending_after};
-ghost use Rattle.vt_trace.specs.Counted.{HasCountedBy, HasCountedOn};
+ghost use Rattle.vt_trace.specs.Counted.{HasCountedBy, HasCountedIn, HasCountedOn};
+ghost use Rattle.vt_trace.specs.Names.{vt220_listing};
+ghost use Rattle.vt_trace.specs.Spans.{Span};
 ghost use Rattle.vt_trace.specs.Utf8.{counted_as, counted_bytes};
 ghost use Rattle.vt_trace.specs.Private.Traces.{CountsUtf8};
 
@@ -17,6 +19,8 @@ impl Summary {
     pub fn count_utf8(&mut self, decoder: &mut Decoder, chunk: &[u8])
         ensures counted { (rows : ℕ) (bytes : List ℕ) → HasCountedOn rows bytes self.old
             → HasCountedOn rows (bytes ++ counted_bytes decoder.old chunk.now) self.new }
+        ensures counted_in { (before : List Span) (rows : ℕ) (bytes : List ℕ) → HasCountedIn vt220_listing before rows bytes self.old
+            → HasCountedIn vt220_listing before rows (bytes ++ counted_bytes decoder.old chunk.now) self.new }
         ensures pending { decoder.new ≡ pending_after decoder.old chunk.now }
     {
         self.count_utf8_by(&Vt220Names, decoder, chunk)
@@ -26,6 +30,8 @@ impl Summary {
     pub fn count_utf8_by<L: Listed>(&mut self, names: &L, decoder: &mut Decoder, chunk: &[u8])
         ensures counted { (rows : ℕ) (bytes : List ℕ) → HasCountedBy L.listing rows bytes self.old
             → HasCountedBy L.listing rows (bytes ++ counted_bytes decoder.old chunk.now) self.new }
+        ensures counted_in { (before : List Span) (rows : ℕ) (bytes : List ℕ) → HasCountedIn L.listing before rows bytes self.old
+            → HasCountedIn L.listing before rows (bytes ++ counted_bytes decoder.old chunk.now) self.new }
         ensures pending { decoder.new ≡ pending_after decoder.old chunk.now }
     {
         cuts();
@@ -63,8 +69,8 @@ impl Summary {
 
     /// Counts a character, if there is one.
     fn count_character<L: Listed>(&mut self, names: &L, character: Option<char>)
-        ensures { (rows : ℕ) (bytes : List ℕ) → HasCountedBy L.listing rows bytes self.old
-            → HasCountedBy L.listing rows (bytes ++ map counted_as (option_to_list character)) self.new }
+        ensures { (before : List Span) (rows : ℕ) (bytes : List ℕ) → HasCountedIn L.listing before rows bytes self.old
+            → HasCountedIn L.listing before rows (bytes ++ map counted_as (option_to_list character)) self.new }
     {
         if let Some(c) = character {
             self.count_by(names, &[counted_as(c)]);

@@ -5,14 +5,15 @@ ghost use Rattle.std.specs.Prelude.{IfOk, IfSome, vec_len, vec_capacity, if◌th
 ghost use Rattle.std.specs.Option.{option_to_list};
 ghost use Rattle.vt_syntax.specs.declared.event.Event.{Event};
 ghost use Rattle.vt_syntax.specs.Event.{event_in, event_of};
-ghost use Rattle.vt_trace.specs.Names.{Listing, numbered_in};
+ghost use Rattle.vt_trace.specs.Names.{Listing, numbered_in, vt220_listing};
 ghost use Rattle.vt_trace.specs.Summary.{kind_number, inter_number, marker_number, summary_by, summary_on, count_line, ignored_line, single_line};
 ghost use Rattle.vt_trace.specs.Summary.{optionally, intermediates, markers, ignored_bytes, ignored_escapes, ignored_sequences};
 ghost use Rattle.vt_trace.specs.Summary.{ignored_lines, named_lines};
 ghost use Rattle.vt_syntax.specs.Spelling.{IsEvent};
 ghost use Rattle.vt_trace.specs.Trace.{is_nothing, open_kind};
 ghost use Rattle.vt_trace.specs.Runs.{times_at};
-ghost use Rattle.vt_trace.specs.Counted.{AreCounts, HasCounted, HasCountedBy, HasCountedOn};
+ghost use Rattle.vt_trace.specs.Counted.{AreCounts, HasCounted, HasCountedBy, HasCountedIn, HasCountedOn};
+ghost use Rattle.vt_trace.specs.Spans.{Span, summary_in};
 
 use crate::bytes::{push_bytes, push_number, push_shown};
 use crate::functions::FUNCTIONS;
@@ -31,7 +32,7 @@ const KINDS: usize = 13312;
 /// The counts of events by name, and of what is ignored by kind.
 #[derive(Drop)]
 pub struct Summary {
-    /// The number of rows of the screen.
+    /// The number of rows of the screen at the next byte.
     rows: usize,
     parser: Parser,
     /// The C1 control that opened the string that is held, and 0 if none is.
@@ -73,15 +74,19 @@ impl Summary {
     /// Counts the events of a chunk of the host's bytes, and its items without a function. It never fails, and it allocates
     /// nothing.
     pub fn count(&mut self, chunk: &[u8])
-        ensures { (rows : ℕ) (bytes : List ℕ) → HasCountedOn rows bytes self.old → HasCountedOn rows (bytes ++ chunk.now) self.new }
+        ensures counted { (rows : ℕ) (bytes : List ℕ) → HasCountedOn rows bytes self.old → HasCountedOn rows (bytes ++ chunk.now) self.new }
+        ensures counted_in { (before : List Span) (rows : ℕ) (bytes : List ℕ) → HasCountedIn vt220_listing before rows bytes self.old
+            → HasCountedIn vt220_listing before rows (bytes ++ chunk.now) self.new }
     {
         self.count_by(&Vt220Names, chunk)
     }
 
     /// Counts a chunk as `count` does, by the names of a list.
     pub fn count_by<L: Listed>(&mut self, names: &L, chunk: &[u8])
-        ensures { (rows : ℕ) (bytes : List ℕ) → HasCountedBy L.listing rows bytes self.old
+        ensures counted { (rows : ℕ) (bytes : List ℕ) → HasCountedBy L.listing rows bytes self.old
             → HasCountedBy L.listing rows (bytes ++ chunk.now) self.new }
+        ensures counted_in { (before : List Span) (rows : ℕ) (bytes : List ℕ) → HasCountedIn L.listing before rows bytes self.old
+            → HasCountedIn L.listing before rows (bytes ++ chunk.now) self.new }
     {
         one_split();
         let mut values = Values::new();
@@ -91,13 +96,22 @@ impl Summary {
         }
     }
 
+    /// Sets the number of rows of the screen from the next byte on. A sequence or string that is open goes on.
+    pub fn set_rows(&mut self, rows: usize)
+        ensures { (d : Listing) (before : List Span) (own : ℕ) (bytes : List ℕ) → HasCountedIn d before own bytes self.old
+            → HasCountedIn d (before ++ record { rows = own; bytes = bytes } ∷ []) rows [] self.new }
+    {
+        one_split();
+        self.rows = rows;
+    }
+
     /// Counts the front of a chunk that isn't empty: graphic bytes, an event, or a byte. Returns how many bytes it read.
     fn count_front<L: Listed>(&mut self, names: &L, piece: &[u8], values: &mut Values) -> usize
         requires { 1 ≤ length piece.now }
         ensures some { 1 ≤ result }
         ensures within { result ≤ length piece.now }
-        ensures counted { (rows : ℕ) (bytes : List ℕ) → HasCountedBy L.listing rows bytes self.old
-            → HasCountedBy L.listing rows (bytes ++ take result piece.now) self.new }
+        ensures counted { (before : List Span) (rows : ℕ) (bytes : List ℕ) → HasCountedIn L.listing before rows bytes self.old
+            → HasCountedIn L.listing before rows (bytes ++ take result piece.now) self.new }
     {
         let count = self.count_run(names, piece);
         if count > 0 {
@@ -115,8 +129,8 @@ impl Summary {
     #[inline(always)]
     fn count_run<L: Listed>(&mut self, names: &L, piece: &[u8]) -> usize
         ensures within { result ≤ length piece.now }
-        ensures counted { (rows : ℕ) (bytes : List ℕ) → HasCountedBy L.listing rows bytes self.old
-            → HasCountedBy L.listing rows (bytes ++ take result piece.now) self.new }
+        ensures counted { (before : List Span) (rows : ℕ) (bytes : List ℕ) → HasCountedIn L.listing before rows bytes self.old
+            → HasCountedIn L.listing before rows (bytes ++ take result piece.now) self.new }
     {
         one_split();
         spelled();
@@ -136,8 +150,8 @@ impl Summary {
         requires { 1 ≤ length piece.now }
         ensures within { result ≤ length piece.now }
         ensures none { result ≡ 0 → self.new ≡ self.old }
-        ensures counted { 1 ≤ result → (rows : ℕ) (bytes : List ℕ) → HasCountedBy L.listing rows bytes self.old
-            → HasCountedBy L.listing rows (bytes ++ take result piece.now) self.new }
+        ensures counted { 1 ≤ result → (before : List Span) (rows : ℕ) (bytes : List ℕ) → HasCountedIn L.listing before rows bytes self.old
+            → HasCountedIn L.listing before rows (bytes ++ take result piece.now) self.new }
     {
         one_split();
         spelled();
@@ -164,8 +178,8 @@ impl Summary {
 
     /// Counts the event that a byte completes, and the item without a function that it cuts off or ends.
     fn count_byte<L: Listed>(&mut self, names: &L, b: u8, values: &mut Values)
-        ensures { (rows : ℕ) (bytes : List ℕ) → HasCountedBy L.listing rows bytes self.old
-            → HasCountedBy L.listing rows (bytes ++ b ∷ []) self.new }
+        ensures { (before : List Span) (rows : ℕ) (bytes : List ℕ) → HasCountedIn L.listing before rows bytes self.old
+            → HasCountedIn L.listing before rows (bytes ++ b ∷ []) self.new }
     {
         one_split();
         let step = read(self.code, &mut self.parser, b, values);
@@ -195,6 +209,8 @@ impl Summary {
         requires { vec_len out.old + SUMMARY_LIMIT ≤ vec_capacity out.old }
         ensures items { (rows : ℕ) (bytes : List ℕ) → HasCountedOn rows bytes self.now
             → out.new.items ≡ out.old.items ++ summary_on rows bytes }
+        ensures items_in { (before : List Span) (rows : ℕ) (bytes : List ℕ) → HasCountedIn vt220_listing before rows bytes self.now
+            → out.new.items ≡ out.old.items ++ summary_in vt220_listing (before ++ record { rows = rows; bytes = bytes } ∷ []) }
         ensures bounded { vec_len out.new ≤ vec_len out.old + SUMMARY_LIMIT }
         ensures capacity { vec_capacity out.old ≤ vec_capacity out.new }
     {
@@ -206,9 +222,12 @@ impl Summary {
         requires { vec_len out.old + (IGNORED_LIMIT + 45 * length L.listing.listed) ≤ vec_capacity out.old }
         ensures items { (rows : ℕ) (bytes : List ℕ) → HasCountedBy L.listing rows bytes self.now
             → out.new.items ≡ out.old.items ++ summary_by L.listing rows bytes }
+        ensures items_in { (before : List Span) (rows : ℕ) (bytes : List ℕ) → HasCountedIn L.listing before rows bytes self.now
+            → out.new.items ≡ out.old.items ++ summary_in L.listing (before ++ record { rows = rows; bytes = bytes } ∷ []) }
         ensures bounded { vec_len out.new ≤ vec_len out.old + (IGNORED_LIMIT + 45 * length L.listing.listed) }
         ensures capacity { vec_capacity out.old ≤ vec_capacity out.new }
     {
+        one_split();
         push_ignored_lines(&self.ignored, self.last(), out);
         push_named_lines(names, &self.named, out);
     }
@@ -227,8 +246,9 @@ impl Summary {
 
 /// Counts an item without a function, if there is one.
 fn count_skipped(kind: Option<u8>, ignored: &mut Vec<u64>)
-    ensures { (d : Listing) (rows : ℕ) (events : List Event) (kinds named : List ℕ) → AreCounts d rows events kinds ignored.old.items named
-        → AreCounts d rows events (kinds ++ option_to_list kind) ignored.new.items named }
+    ensures { (d : Listing) (before : List Span) (rows : ℕ) (events : List Event) (kinds named : List ℕ)
+        → AreCounts d before rows events kinds ignored.old.items named
+        → AreCounts d before rows events (kinds ++ option_to_list kind) ignored.new.items named }
 {
     if let Some(kind) = kind {
         count_ignored(ignored, as_number(kind));
@@ -253,8 +273,8 @@ fn count_event<L: Listed>(
     named: &mut [u64; NAMES],
 )
     requires { IfSome event (λ kind. IsEvent (event_of kind values.now)) }
-    ensures { (events : List Event) (kinds : List ℕ) → AreCounts L.listing rows events kinds ignored.old.items named.old
-        → AreCounts L.listing rows (events ++ event_in event values.now) kinds ignored.new.items named.new }
+    ensures { (before : List Span) (events : List Event) (kinds : List ℕ) → AreCounts L.listing before rows events kinds ignored.old.items named.old
+        → AreCounts L.listing before rows (events ++ event_in event values.now) kinds ignored.new.items named.new }
 {
     if let Some(kind) = event {
         count_kind(names, rows, kind, values, ignored, named);
@@ -272,8 +292,8 @@ fn count_kind<L: Listed>(
     named: &mut [u64; NAMES],
 )
     requires { IsEvent (event_of kind values.now) }
-    ensures { (events : List Event) (kinds : List ℕ) → AreCounts L.listing rows events kinds ignored.old.items named.old
-        → AreCounts L.listing rows (events ++ event_of kind values.now ∷ []) kinds ignored.new.items named.new }
+    ensures { (before : List Span) (events : List Event) (kinds : List ℕ) → AreCounts L.listing before rows events kinds ignored.old.items named.old
+        → AreCounts L.listing before rows (events ++ event_of kind values.now ∷ []) kinds ignored.new.items named.new }
 {
     names.apart();
     match names.number_of(rows, kind, values) {

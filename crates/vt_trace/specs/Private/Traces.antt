@@ -4,7 +4,8 @@ use Rattle.vt_trace.specs.declared.tracing.Tracer.{Tracer}
 use Rattle.vt_utf8.specs.Decoding.{pending_after}
 use Rattle.vt_trace.specs.declared.summary.Summary.{Summary}
 use Rattle.vt_trace.specs.Names.{Listing}
-use Rattle.vt_trace.specs.Counted.{HasCountedBy}
+use Rattle.vt_trace.specs.Counted.{HasCountedIn}
+use Rattle.vt_trace.specs.Spans.{Span}
 use Rattle.vt_trace.specs.Utf8.{traced_beyond, tracer_beyond, counted_bytes}
 
 -- what is written of bytes of characters beyond ASCII
@@ -20,5 +21,5 @@ beyond_tracer t (b ∷ bytes) = beyond_tracer (tracer_beyond t b) bytes
 -- bytes of UTF-8 were counted
 pub record CountsUtf8 (d : Listing) (pending bytes after : List ℕ) (s u : Summary) : Type 0 where
   pub left : after ≡ pending_after pending bytes
-  pub counted : (rows : ℕ) (front : List ℕ) → HasCountedBy d rows front s
-      → HasCountedBy d rows (front ++ counted_bytes pending bytes) u
+  pub counted : (before : List Span) (rows : ℕ) (front : List ℕ) → HasCountedIn d before rows front s
+      → HasCountedIn d before rows (front ++ counted_bytes pending bytes) u

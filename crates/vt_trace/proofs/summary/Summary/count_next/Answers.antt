@@ -7,7 +7,7 @@ pub returns-then-run-gt0-clause-counts : goal.returns-then-run-gt0-clause-counts
 returns-then-run-gt0-clause-counts g c =
     let empty : length c.args.decoder.now ≡ 0 = search rules in
     counts_ascii g.L.Listed.listing c.args.decoder.now _ c.args.self.now c.count_by.new.self (no_items c.args.decoder.now empty) c.ascii_run-run.ensures.ascii
-    (c.ascii.ensures.pending _ c.ascii_run-run.ensures.ascii) c.count_by.ensures
+    (c.ascii.ensures.pending _ c.ascii_run-run.ensures.ascii) c.count_by.ensures.counted_in
 
 pub returns-clause-counts : goal.returns-clause-counts
 returns-clause-counts g c =

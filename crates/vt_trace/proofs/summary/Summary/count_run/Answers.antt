@@ -3,7 +3,7 @@ use Rattle.vt_trace.proofs.CountedRuns.{run_counted}
 use Rattle.vt_trace.proofs.summary.Summary.count_run.Goals as goal
 
 pub returns-clause-counted : goal.returns-clause-counted
-returns-clause-counted g c = λ rows bytes was.
+returns-clause-counted g c = λ before rows bytes was.
     let s = c.args.self.now in
     let long : length s.named ≡ 96 = search rules in
     let made = c.text.ensures in
@@ -13,4 +13,4 @@ returns-clause-counted g c = λ rows bytes was.
     c.graphic_run-count.ensures.graphic c.count_named.ensures was
 
 pub returns-then-not-is_between-clause-counted : goal.returns-then-not-is_between-clause-counted
-returns-then-not-is_between-clause-counted g c = λ rows bytes was. rw (append-nil bytes) was
+returns-then-not-is_between-clause-counted g c = λ before rows bytes was. rw (append-nil bytes) was

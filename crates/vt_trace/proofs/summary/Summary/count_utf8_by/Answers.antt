@@ -1,6 +1,6 @@
-use Rattle.std.proofs.Common.{◌++◌, ℕ, List, take, drop, arith, length-drop, subst}
+use Rattle.std.proofs.Common.{[], ◌++◌, ℕ, List, take, drop, arith, length-drop, subst}
 use Rattle.std.proofs.lemmas.List.{take_all}
-use Rattle.vt_trace.specs.Counted.{HasCountedBy}
+use Rattle.vt_trace.specs.Counted.{HasCountedIn}
 use Rattle.vt_trace.specs.Utf8.{counted_bytes}
 use Rattle.std.proofs.Math.Seq.{take-add}
 use Rattle.vt_trace.proofs.Traces.{rest-of}
@@ -27,8 +27,11 @@ loop-at-preserved g c =
           c.loop-at.invariant.counts (rw rest at made.ensures.counts));
     }
 
-pub returns-clause-counted : goal.returns-clause-counted
-returns-clause-counted g c = λ rows bytes was.
-    subst (λ (front : List ℕ). HasCountedBy g.L.Listed.listing rows (bytes ++ counted_bytes c.args.decoder.now front) c.loop-at.self)
+pub returns-clause-counted_in : goal.returns-clause-counted_in
+returns-clause-counted_in g c = λ before rows bytes was.
+    subst (λ (front : List ℕ). HasCountedIn g.L.Listed.listing before rows (bytes ++ counted_bytes c.args.decoder.now front) c.loop-at.self)
     (take_all c.loop-at.at c.args.chunk.now (omega (arith, c.loop-at-test.false)))
-    (c.loop-at.invariant.counts.counted rows bytes was)
+    (c.loop-at.invariant.counts.counted before rows bytes was)
+
+pub returns-clause-counted : goal.returns-clause-counted
+returns-clause-counted g c = returns-clause-counted_in g c []

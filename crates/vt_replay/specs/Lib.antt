@@ -18,5 +18,6 @@ pub mod Showing
 pub mod Sized
 pub mod Status
 pub mod Steps
+pub mod Summaries
 pub mod Traces
 pub mod Words

@@ -2,9 +2,6 @@
 use Rattle.std.specs.Prelude.{ℕ, List, Result}
 use Rattle.vt_device.specs.Runs.{Flags}
 use Rattle.vt_term.specs.State.{state_of}
-use Rattle.vt_trace.specs.Summary.{summary_on}
-use Rattle.vt_trace.specs.Utf8.{summary_utf8_by, summary_utf8_on}
-use Rattle.vt_xterm_trace.specs.Names.{xterm_listing}
 use Rattle.vt_replay.specs.declared.language.Language.{Language}
 use Rattle.vt_replay.specs.declared.language.Language.TheVariants as language
 use Rattle.vt_recording.specs.declared.format.TerminalType.{TerminalType}
@@ -22,6 +19,7 @@ use Rattle.vt_replay.specs.Playing.{Due, language_of}
 use Rattle.vt_replay.specs.Resizes.{plain_session, utf8_session, xterm_session, utf8_begun, xterm_begun, replayed_with}
 use Rattle.vt_replay.specs.declared.resized.Resize.{Resize}
 use Rattle.vt_replay.specs.Showing.{ShownTable}
+use Rattle.vt_replay.specs.Summaries.{summary_with}
 use Rattle.vt_replay.specs.Traces.{trace_with, trace_end_with}
 
 -- ---- pages
@@ -31,14 +29,6 @@ abbrev pub pages_with : Size → List Resize → Language → List ℕ → List 
 pages_with size resizes language.Dec bytes = lines_on (paged plain_session) (state_of size) resizes bytes
 pages_with size resizes language.Utf8 bytes = lines_on (paged utf8_session) (utf8_begun size) resizes bytes
 pages_with size resizes language.Xterm bytes = lines_on (paged xterm_session) (xterm_begun size) resizes bytes
-
--- ---- summary
-
--- the summary of the host's bytes in each language. Under TERM=xterm the events have its names
-abbrev pub summary_at : Size → Language → List ℕ → List ℕ
-summary_at size language.Dec bytes = summary_on size.rows bytes
-summary_at size language.Utf8 bytes = summary_utf8_on size.rows bytes
-summary_at size language.Xterm bytes = summary_utf8_by xterm_listing size.rows bytes
 
 -- ---- words
 
@@ -51,7 +41,7 @@ of_decoded encoding written ending = record {
 }
 
 -- what is due by each word, a row a word, for a terminal of a size, whose screen changes its size, and in an encoding.
--- A replay, a log, its pages and a trace carry the changes out. A picture that moves, the table of events, the spans of a search and an index are
+-- A replay, a log, its pages, a trace and a summary carry the changes out. A picture that moves, the table of events, the spans of a search and an index are
 -- ready before they are written. What content writes under TERM=xterm is below
 abbrev pub due_of : Word → Size → List Resize → TerminalType → Encoding → Due
 due_of (Replay what) size resizes terminal encoding = replayed_with size resizes (language_of terminal encoding) what
@@ -67,7 +57,7 @@ due_of Trace size resizes terminal encoding =
     record { written = trace_with size resizes language; ending = trace_end_with size resizes language; there = always }
 due_of Summary size resizes terminal encoding =
     let language = language_of terminal encoding in
-    record { written = nothing; ending = summary_at size language; there = always }
+    record { written = nothing; ending = summary_with size resizes language; there = always }
 due_of Events size resizes terminal encoding = of_decoded Dec all nothing
 due_of Content size resizes terminal encoding = of_decoded encoding all nothing
 due_of Search size resizes terminal encoding = of_decoded Dec all nothing

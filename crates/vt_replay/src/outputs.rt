@@ -2,25 +2,16 @@
 ghost use Rattle.std.specs.Prelude.{◌≡◌, ◌+◌, ◌*◌, ◌^◌, ◌≤◌, ◌<◌, ◌++◌, [], true, false, IfOk, List, ℕ, Bool};
 ghost use Rattle.std.specs.Io.KnownBytes.{IsAtEnd};
 ghost use Rattle.vt_device.specs.Runs.{Moves};
-ghost use Rattle.vt_device.specs.Output.{OutputTable, always, all, nothing};
+ghost use Rattle.vt_device.specs.Output.{always, all, nothing};
 ghost use Rattle.vt_replay.specs.Encoding.{EncodedTable};
 ghost use Rattle.vt_recording.specs.declared.format.Encoding.TheVariants.{Dec};
-ghost use Rattle.vt_replay.specs.declared.language.Language.TheVariants as language;
-ghost use Rattle.vt_replay.specs.Words.{summary_at};
-ghost use Rattle.vt_screen.specs.declared.size.Size.{Size};
-ghost use Rattle.vt_screen.specs.Sizes.{IsSize};
-ghost use Rattle.vt_trace.specs.Counted.{HasCountedSome, summary_after};
-ghost use Rattle.vt_trace.specs.Names.{vt220_listing};
 
-use crate::output::{AS_THEY_COME, write_output_from};
+use crate::output::write_output_from;
 use std::alloc::{AllocError, Global};
 use std::io::Write;
 use vt_cli::Encoding;
 use vt_device::{Output, Source, Watched};
 use vt_recording::Fault;
-use vt_syntax::laws::one_split;
-use vt_term::Size;
-use vt_trace::{SUMMARY_LIMIT, Summary};
 
 /// The output of a word of the command line.
 pub(crate) trait WordOutput: Output {
@@ -65,115 +56,6 @@ pub(crate) fn write_word<O: WordOutput, S: Source, W: Write>(
 {
     let mut output = O::new(alloc, piece)?;
     write_output_from(alloc, &mut output, encoding, reader, writer, piece, limit)
-}
-
-/// The output of a word of the command line that plays a screen of any size.
-pub(crate) trait SizedWordOutput: Output {
-    /// The bytes that the word writes of those that come, on a screen of a size.
-    ghost writes: { Size → List ℕ → List ℕ };
-
-    /// The bytes that the word writes at the end of those that come.
-    ghost ends: { Size → List ℕ → List ℕ };
-
-    /// Returns the output before any byte came, with memory for chunks of so many bytes. `Err` means that allocation failed.
-    fn new(alloc: Global, size: Size, piece: usize) -> Result<Self, AllocError>
-        requires piece_in_range { (1 ≤ piece) × (piece ≤ 65536) }
-        requires size_in_range { IsSize size }
-        ensures written { IfOk result (λ o. Self.written o ≡ writes size) }
-        ensures ending { IfOk result (λ o. Self.ending o ≡ ends size) }
-        ensures there { IfOk result (λ o. Self.there o ≡ always) }
-        ensures none { IfOk result (λ o. Self.written o [] ≡ []) }
-        ensures takes { IfOk result (λ o. 1 ≤ Self.most o) }
-        ensures counts { IfOk result (λ o. Self.counted o ≡ 0) };
-}
-
-/// Gives a source's bytes to the output of a word on a screen of a size, and writes what it makes of them.
-pub(crate) fn write_word_at<O: SizedWordOutput, S: Source, W: Write>(
-    alloc: Global,
-    reader: &mut S,
-    writer: &mut Watched<W>,
-    size: Size,
-    piece: usize,
-    limit: u64,
-) -> Result<(), Fault>
-    requires reader_works { S.failed reader.old ≡ false }
-    requires reader_goes_on { S.ended reader.old ≡ false }
-    requires writer_works { writer.old.failed ≡ false }
-    requires size_in_range { IsSize size }
-    requires piece_in_range { (1 ≤ piece) × (piece ≤ 65536) }
-    requires limit_in_range { limit ≤ 1099511627776 }
-    ensures answer { Moves (S.remaining reader.old) (S.remaining reader.new) (W.contents writer.old.device)
-        (W.contents writer.new.device)
-        (λ b w. OutputTable (O.writes size) (O.ends size) always result piece b w (record { reader_failed = S.failed reader.new; reader_ended = S.ended reader.new; writer_failed = writer.new.failed }) limit) }
-    ensures whole { S.ended reader.new ≡ true → IsAtEnd (S.remaining reader.new) }
-{
-    let mut output = O::new(alloc, size, piece)?;
-    write_output_from(
-        alloc,
-        &mut output,
-        AS_THEY_COME,
-        reader,
-        writer,
-        piece,
-        limit,
-    )
-}
-
-/// The output of the summary.
-#[derive(Drop)]
-pub(crate) struct SummaryOutput {
-    counts: Summary,
-    ghost some: { HasCountedSome vt220_listing counts },
-}
-
-impl Output for SummaryOutput {
-    ghost use Rattle.vt_trace.specs.declared.summary.TheConstants.{SUMMARY_LIMIT};
-
-    ghost written = { λ o bytes. [] };
-
-    ghost ending = { λ o bytes. summary_after vt220_listing o.counts bytes };
-
-    ghost there = { λ o bytes. true };
-
-    ghost most = { λ o. 65536 };
-
-    ghost counted = { λ o. 0 };
-
-    ghost reserve = { λ o. SUMMARY_LIMIT };
-
-    fn capacity(&self) -> usize {
-        SUMMARY_LIMIT
-    }
-
-    fn feed(&mut self, chunk: &[u8], out: &mut Vec<u8>) -> usize {
-        let _ = out;
-        one_split();
-        self.counts.count(chunk);
-        chunk.len()
-    }
-
-    fn is_there(&self) -> bool {
-        true
-    }
-
-    fn end(&mut self, out: &mut Vec<u8>) {
-        one_split();
-        self.counts.push_summary(out)
-    }
-}
-
-impl SizedWordOutput for SummaryOutput {
-    ghost writes = { λ size. nothing };
-
-    ghost ends = { λ size. summary_at size language.Dec };
-
-    fn new(alloc: Global, size: Size, piece: usize) -> Result<SummaryOutput, AllocError> {
-        let _ = piece;
-        one_split();
-        Ok(SummaryOutput {
-            counts: Summary::new_on(alloc, size.rows)?,
-        })
-    }
 }
 
 /// The most bytes of the content that are written at once.

@@ -11,8 +11,8 @@ ghost use Rattle.vt_replay.specs.Host.{opening};
 
 use crate::animated::{animation_taken, title_of};
 use crate::changes::carried_out;
-use crate::characters::write_summary;
 use crate::converting::Converter;
+use crate::counting::write_summary;
 use crate::engine::run_at;
 use crate::events::events_taken;
 use crate::host::{Host, host_for, opening, plain_host};
@@ -67,7 +67,9 @@ fn carry_out_word<S: Source, W: Write>(
             write_pages_at(alloc, reader, writer, language, size, resizes, piece, limit)
         }
         Word::Trace => { write_trace(alloc, reader, writer, language, size, resizes, piece, limit) }
-        Word::Summary => write_summary(alloc, reader, writer, language, size, piece, limit),
+        Word::Summary => {
+            write_summary(alloc, reader, writer, language, size, resizes, piece, limit)
+        }
         Word::Events | Word::Animation(_) | Word::Search | Word::Index => {
             write_word::<ContentOutput, S, W>(alloc, reader, writer, Encoding::Dec, piece, limit)
         }
@@ -193,11 +195,11 @@ pub fn lacks_times(format: Format, timed: bool, until: Option<Moment>) -> bool
 /// that moves, a search and an index. If the request leaves the size to a recording, they are on the size that its
 /// first line names, if a screen may have that. DECCOLM leaves the width of such a screen, unless it is a VT220's.
 ///
-/// A replay, a picture that moves, a log, its pages, a trace and a search carry out the changes of the size that a recording has up to
-/// the moment, each after the content that comes before it. They don't if a size or a width is asked for, or if the request begins in
-/// the middle.
-/// DECCOLM leaves the width of a screen after a change. A change to a size that no screen may have is passed over. All
-/// other words are of the first size.
+/// A replay, a picture that moves, a log, its pages, a trace, a summary and a search carry out the changes of the size that a recording
+/// has up to the moment, each after the content that comes before it. They don't if a size or a width is asked for, or if the request
+/// begins in the middle.
+/// DECCOLM leaves the width of a screen after a change. A change to a size that no screen may have is passed over. An index
+/// is of the first size.
 ///
 /// The word is carried out on the bytes of raw input as they come, if all of it is wanted and 132 columns weren't asked
 /// for. Otherwise the input is read whole, and the word is carried out on its content between the moments. If the
@@ -290,6 +292,7 @@ fn changes_size(word: Word) -> bool
         Word::Log => true,
         Word::Pages => true,
         Word::Trace => true,
+        Word::Summary => true,
         Word::Search => true,
         _ => false,
     }

@@ -94,7 +94,7 @@ pub(crate) struct Resized<P: Drop> {
 }
 
 /// Returns whether the next change comes before the next byte.
-pub(crate) fn is_now<P: Player>(left: usize, later: &VecDeque<Later<P>>) -> bool
+pub(crate) fn is_now<L>(left: usize, later: &VecDeque<L>) -> bool
     ensures { not result ≡ is_settled left later.now.items }
 {
     match later.front() {
@@ -115,7 +115,7 @@ pub(crate) fn bytes_before<P: Player>(later: &VecDeque<Later<P>>) -> usize
 }
 
 /// Returns how many of so many bytes come before the next change.
-pub(crate) fn front_of<P: Player>(later: &VecDeque<Later<P>>, left: usize, count: usize) -> usize
+pub(crate) fn front_of<L>(later: &VecDeque<L>, left: usize, count: usize) -> usize
     ensures takes { is_before result left later.now.items ≡ true }
     ensures within { result ≤ count }
     ensures some { is_settled left later.now.items ≡ true → 1 ≤ count → 1 ≤ result }

@@ -151,7 +151,7 @@ pub(crate) fn feed_counting(terminal: &mut SizedTerminal, piece: &[u8], out: &mu
     ensures bounded { vec_len out.new ≤ vec_len out.old + 10 * length piece.now }
     ensures capacity { vec_capacity out.old ≤ vec_capacity out.new }
 {
-    let _ = terminal.width();
+    terminal.soundness();
     sized_happened();
     let mut bells = Bells { count: 0 };
     terminal.feed_observed(piece, &mut bells, out);
@@ -187,7 +187,7 @@ pub(crate) fn feed_log_counting(
     ensures reports_capacity { vec_capacity reports.old ≤ vec_capacity reports.new }
     ensures lines_capacity { vec_capacity lines.old ≤ vec_capacity lines.new }
 {
-    let _ = terminal.width();
+    terminal.soundness();
     sized_happened();
     sized_log_cuts();
     let end = lines.len().saturating_add(most);

@@ -99,7 +99,7 @@ impl Player for Decoder {
     }
 
     fn rings(&self, terminal: &SizedTerminal, b: u8) -> usize {
-        let _ = terminal.width();
+        terminal.soundness();
         played_soundness();
         controls();
         one_split();
@@ -112,7 +112,7 @@ impl Player for Decoder {
     }
 
     fn feed(&mut self, terminal: &mut SizedTerminal, piece: &[u8], reports: &mut Vec<u8>) {
-        let _ = terminal.width();
+        terminal.soundness();
         sized_soundness();
         feed_utf8_reserved(terminal, self, piece, reports);
     }
@@ -125,7 +125,7 @@ impl Player for Decoder {
         lines: &mut Vec<u8>,
         most: usize,
     ) -> usize {
-        let _ = terminal.width();
+        terminal.soundness();
         sized_soundness();
         feed_utf8_log_reserved(terminal, self, piece, reports, lines, most)
     }

@@ -114,7 +114,7 @@ fn log_turn<P: Player>(
     ensures fits { written + result.written ≤ length out.old }
     ensures capacity { vec_capacity room.old ≤ vec_capacity room.new }
 {
-    let _ = inner.terminal.width();
+    inner.terminal.soundness();
     player.cuts();
     let most = ((out.len() - written) / REPORT_LIMIT).min(CHUNK);
     inner.reports.clear();
@@ -211,7 +211,7 @@ pub(crate) fn play_byte<P: Player>(
         result.written }
     ensures all { (result.taken ≡ 1) ⊎ (length out.old < result.written + REPORT_LIMIT) }
 {
-    let _ = inner.terminal.width();
+    inner.terminal.soundness();
     player.cuts();
     if out.len() < REPORT_LIMIT {
         return Fed {
@@ -249,7 +249,7 @@ pub(crate) fn play<P: Player>(
         ⊎ ((logs ≡ true) × (length lines.old < result.lines_written + P.room inner.old.display.grid.size)) }
     ensures capacity { vec_capacity room.old ≤ vec_capacity room.new }
 {
-    let _ = inner.terminal.width();
+    inner.terminal.soundness();
     player.cuts();
     let limit = player.lines_limit(&inner.terminal);
     let mut done = Logged {

@@ -219,7 +219,7 @@ fn play_byte_xterm(inner: &mut Inner, front: &mut SizedFront, byte: u8, out: &mu
     ensures written { result.written ≡ length (xterm_played inner.old front.old (take result.taken (byte ∷ []))).reports }
     ensures all { (result.taken ≡ 1) ⊎ (length out.old < result.written + REPORT_LIMIT) }
 {
-    let _ = inner.terminal.width();
+    inner.terminal.soundness();
     ascii();
     sized_transparent();
     spelled();

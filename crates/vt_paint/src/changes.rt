@@ -181,7 +181,7 @@ fn push_changes<const R: usize, const C: usize>(
     ensures bounded { vec_len out.new ≤ vec_len out.old + paint_limit t.now.display.grid.size }
     ensures capacity { vec_capacity out.old ≤ vec_capacity out.new }
 {
-    let _ = t.width();
+    t.soundness();
     Function::soft_reset().push(out);
     Function::mode(DECAWM, true).push(out);
     push_bytes(SPELLING_SETS, out);

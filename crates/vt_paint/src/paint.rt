@@ -108,8 +108,8 @@ pub(crate) fn push_last(t: &SizedTerminal, known: bool, out: &mut Vec<u8>)
     ensures bounded { vec_len out.new ≤ vec_len out.old + 154 }
     ensures capacity { vec_capacity out.old ≤ vec_capacity out.new }
 {
-    // The width's contract gives the soundness of the state, and so the bounds of the margins.
-    let _ = t.width();
+    // For the bounds of the margins.
+    t.soundness();
     push_margins(t.size().rows, t.margins(), out);
     let cursor = t.cursor();
     push_placed(t, known, cursor.col, cursor.wrap, out);
@@ -153,8 +153,7 @@ pub fn repaint_reserved(t: &SizedTerminal, out: &mut Vec<u8>)
     ensures capacity { vec_capacity out.old ≤ vec_capacity out.new }
 {
     sized_rebuilds();
-    // The width's contract gives the soundness of the state.
-    let _ = t.width();
+    t.soundness();
     Function::reset().push(out);
     repaint_items_reserved(t, out);
 }

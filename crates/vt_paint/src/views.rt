@@ -81,8 +81,7 @@ pub fn changed_places(
     ensures count { result ≡ differing a.now.display.grid b.now.display.grid }
     ensures bounded { result ≤ ROWS * COLUMNS }
 {
-    // The width's contract gives the soundness of the state.
-    let _ = b.width();
+    b.soundness();
     sized_changed_places(&a.sized, &b.sized, marks, counts)
 }
 

@@ -63,7 +63,7 @@ fn push_end(pen: Pen, was_shown: bool, t: &SizedTerminal, out: &mut Vec<u8>)
 {
     let cursor = t.cursor();
     let is_shown = t.modes().dectcem;
-    let _ = t.width();
+    t.soundness();
     push_go(pen, cursor.row, cursor.col, out);
     push_change(pen.look, Rendition::plain(), out);
     if was_shown != is_shown {

@@ -84,7 +84,7 @@ impl Repainted for PlainSession {
 
     fn repaint(&mut self, out: &mut Vec<u8>) -> Result<bool, AllocError> {
         sized_cuts();
-        let _ = self.terminal.width();
+        self.terminal.soundness();
         out.clear();
         if !self.terminal.is_between() {
             return Ok(false);
@@ -118,7 +118,7 @@ impl Repainted for Utf8Session {
     fn repaint(&mut self, out: &mut Vec<u8>) -> Result<bool, AllocError> {
         utf8_cuts();
         let terminal = &self.player.terminal;
-        let _ = terminal.width();
+        terminal.soundness();
         out.clear();
         if !is_between_characters(terminal, self.player.decoder.pending()) {
             return Ok(false);

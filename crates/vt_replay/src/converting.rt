@@ -55,7 +55,7 @@ fn copy_between(terminal: &Terminal, target: &mut Terminal, reports: &mut Vec<u8
     ensures capacity { vec_capacity reports.old ≤ vec_capacity reports.new }
 {
     spelled();
-    let _ = terminal.width();
+    terminal.soundness();
     target.copy_from(terminal);
     play_silently(target, CANCEL, reports);
 }

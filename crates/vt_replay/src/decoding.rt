@@ -77,7 +77,7 @@ fn decode_chunk(
     ensures reports { vec_capacity reports.old ≤ vec_capacity reports.new }
     ensures capacity { vec_capacity bytes.old ≤ vec_capacity bytes.new }
 {
-    let _ = terminal.width();
+    terminal.soundness();
     utf8_cuts();
     let mut at = 0;
     while at < chunk.len() {
@@ -156,7 +156,7 @@ fn decode_byte(
     ensures reports { vec_capacity reports.old ≤ vec_capacity reports.new }
     ensures capacity { vec_capacity bytes.old ≤ vec_capacity bytes.new }
 {
-    let _ = terminal.width();
+    terminal.soundness();
     cuts();
     one_byte();
     let (lost, completed) = decoder.push(byte);
@@ -192,7 +192,7 @@ pub(crate) fn play_silently(terminal: &mut Terminal, bytes: &[u8], reports: &mut
     ensures state { terminal.new ≡ (play terminal.old bytes.now).state }
     ensures capacity { vec_capacity reports.old ≤ vec_capacity reports.new }
 {
-    let _ = terminal.width();
+    terminal.soundness();
     cuts();
     let most = reports.capacity() / REPORT_LIMIT;
     let mut at = 0;

@@ -95,7 +95,8 @@ fn push_moved(terminal: &SizedTerminal, size: Size, lines: &mut Vec<u8>)
     ensures capacity { vec_capacity lines.old ≤ vec_capacity lines.new }
 {
     resizes();
-    let _ = (terminal.size(), terminal.width());
+    let _ = terminal.size();
+    terminal.soundness();
     terminal.log_on(size, lines).unwrap();
 }
 
@@ -109,7 +110,8 @@ fn push_moved_xterm(terminal: &SizedTerminal, front: &SizedFront, size: Size, li
     ensures capacity { vec_capacity lines.old ≤ vec_capacity lines.new }
 {
     resizes();
-    let _ = (terminal.size(), terminal.width());
+    let _ = terminal.size();
+    terminal.soundness();
     front.log_on(terminal, size, lines).unwrap();
 }
 
@@ -123,7 +125,7 @@ impl LogPlayer for PlainPlayer {
     }
 
     fn feed_log(&mut self, chunk: &[u8], reports: &mut Vec<u8>, lines: &mut Vec<u8>) -> usize {
-        let _ = self.terminal.width();
+        self.terminal.soundness();
         lines_fit(&self.terminal);
         sized_cuts();
         sized_log_cuts();
@@ -137,7 +139,8 @@ impl LogPlayer for PlainPlayer {
 
     fn rows(&self) {
         sized_log_cuts();
-        let _ = (self.terminal.size(), self.terminal.width());
+        let _ = self.terminal.size();
+        self.terminal.soundness();
     }
 }
 
@@ -151,7 +154,7 @@ impl LogPlayer for Utf8Player {
     }
 
     fn feed_log(&mut self, chunk: &[u8], reports: &mut Vec<u8>, lines: &mut Vec<u8>) -> usize {
-        let _ = self.terminal.width();
+        self.terminal.soundness();
         lines_fit(&self.terminal);
         utf8_cuts();
         sized_log_cuts();
@@ -172,7 +175,8 @@ impl LogPlayer for Utf8Player {
 
     fn rows(&self) {
         sized_log_cuts();
-        let _ = (self.terminal.size(), self.terminal.width());
+        let _ = self.terminal.size();
+        self.terminal.soundness();
     }
 }
 
@@ -207,6 +211,7 @@ impl LogPlayer for XtermPlayer {
 
     fn rows(&self) {
         xterm_log_cuts();
-        let _ = (self.terminal.size(), self.terminal.width());
+        let _ = self.terminal.size();
+        self.terminal.soundness();
     }
 }

@@ -130,7 +130,7 @@ fn main_text(
     ensures reports { vec_capacity reports.old ≤ vec_capacity reports.new }
     ensures capacity { vec_capacity lines.old ≤ vec_capacity lines.new }
 {
-    let _ = terminal.width();
+    terminal.soundness();
     one_split();
     spelled();
     cuts();

@@ -42,7 +42,8 @@ pub(crate) fn feed_utf8_pages(
     ensures reports { vec_capacity reports.old ≤ vec_capacity reports.new }
     ensures capacity { vec_capacity lines.old ≤ vec_capacity lines.new }
 {
-    let _ = (terminal.width(), terminal.size());
+    let _ = terminal.size();
+    terminal.soundness();
     utf8_cuts();
     sized_soundness();
     sized_pages_cut();
@@ -107,7 +108,7 @@ fn page_ascii(
     ensures reports { vec_capacity reports.old ≤ vec_capacity reports.new }
     ensures capacity { vec_capacity lines.old ≤ vec_capacity lines.new }
 {
-    let _ = terminal.width();
+    terminal.soundness();
     let _ = decoder;
     ascii();
     sized_pages_cut();
@@ -132,7 +133,7 @@ fn page_byte(
     ensures reports { vec_capacity reports.old ≤ vec_capacity reports.new }
     ensures capacity { vec_capacity lines.old ≤ vec_capacity lines.new }
 {
-    let _ = terminal.width();
+    terminal.soundness();
     sized_cuts();
     sized_one_byte();
     sized_soundness();
@@ -160,7 +161,7 @@ fn page_character(
     ensures reports { vec_capacity reports.old ≤ vec_capacity reports.new }
     ensures capacity { vec_capacity lines.old ≤ vec_capacity lines.new }
 {
-    let _ = terminal.width();
+    terminal.soundness();
     sized_cuts();
     sized_pages_cut();
     match character {
@@ -215,7 +216,7 @@ fn page_beyond(terminal: &mut SizedTerminal, c: char, reports: &mut Vec<u8>, lin
     ensures reports { vec_capacity reports.old ≤ vec_capacity reports.new }
     ensures capacity { vec_capacity lines.old ≤ vec_capacity lines.new }
 {
-    let _ = terminal.width();
+    terminal.soundness();
     beyond_ascii();
     reports.clear();
     feed_beyond_ascii_log(terminal, c, reports, lines);

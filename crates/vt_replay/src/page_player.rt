@@ -61,7 +61,7 @@ pub(crate) trait PagePlayer: LogPlayer {
 
 impl PagePlayer for PlainPlayer {
     fn feed_pages(&mut self, chunk: &[u8], reports: &mut Vec<u8>, lines: &mut Vec<u8>) -> usize {
-        let _ = self.terminal.width();
+        self.terminal.soundness();
         pages_fit(&self.terminal);
         sized_cuts();
         sized_pages_cut();
@@ -71,13 +71,13 @@ impl PagePlayer for PlainPlayer {
 
     fn no_pages(&self) {
         sized_pages_cut();
-        let _ = self.terminal.width();
+        self.terminal.soundness();
     }
 }
 
 impl PagePlayer for Utf8Player {
     fn feed_pages(&mut self, chunk: &[u8], reports: &mut Vec<u8>, lines: &mut Vec<u8>) -> usize {
-        let _ = self.terminal.width();
+        self.terminal.soundness();
         pages_fit(&self.terminal);
         utf8_cuts();
         sized_pages_cut();
@@ -88,7 +88,7 @@ impl PagePlayer for Utf8Player {
 
     fn no_pages(&self) {
         sized_pages_cut();
-        let _ = self.terminal.width();
+        self.terminal.soundness();
     }
 }
 

@@ -81,7 +81,7 @@ pub fn feed_pages_reserved(
     ensures reports_capacity { vec_capacity reports.old ≤ vec_capacity reports.new }
     ensures lines_capacity { vec_capacity lines.old ≤ vec_capacity lines.new }
 {
-    let _ = terminal.width();
+    terminal.soundness();
     one_split();
     sized_happened();
     let limit = PAGE_LIMIT;
@@ -111,7 +111,8 @@ pub(crate) fn feed_pages_at(
     ensures reports_capacity { vec_capacity reports.old ≤ vec_capacity reports.new }
     ensures lines_capacity { vec_capacity lines.old ≤ vec_capacity lines.new }
 {
-    let _ = (terminal.width(), terminal.size());
+    let _ = terminal.size();
+    terminal.soundness();
     one_split();
     sized_happened();
     let limit = terminal.text_limit();

@@ -91,13 +91,13 @@ impl Player for PlainPlayer {
     fn feed(&mut self, chunk: &[u8], out: &mut Vec<u8>) {
         sized_cuts();
         sized_soundness();
-        let _ = self.terminal.width();
+        self.terminal.soundness();
         self.terminal.feed_reserved(chunk, out);
     }
 
     fn sized(&self) -> &SizedTerminal {
         sized_cuts();
-        let _ = self.terminal.width();
+        self.terminal.soundness();
         &self.terminal
     }
 
@@ -134,7 +134,7 @@ impl Player for Utf8Player {
     /// Speed: this is the only call of `feed_utf8_reserved`, so the compiler inlines its loop.
     #[inline(never)]
     fn feed(&mut self, chunk: &[u8], out: &mut Vec<u8>) {
-        let _ = self.terminal.width();
+        self.terminal.soundness();
         utf8_cuts();
         utf8_soundness();
         feed_utf8_reserved(&mut self.terminal, &mut self.decoder, chunk, out);
@@ -142,7 +142,7 @@ impl Player for Utf8Player {
 
     fn sized(&self) -> &SizedTerminal {
         utf8_cuts();
-        let _ = self.terminal.width();
+        self.terminal.soundness();
         &self.terminal
     }
 

@@ -58,7 +58,7 @@ impl TracePlayer for PlainPlayer {
         reports: &mut Vec<u8>,
         out: &mut Vec<u8>,
     ) -> usize {
-        let _ = self.terminal.width();
+        self.terminal.soundness();
         sized_soundness();
         sized_cuts();
         trace_cuts();
@@ -76,7 +76,7 @@ impl TracePlayer for Utf8Player {
         reports: &mut Vec<u8>,
         out: &mut Vec<u8>,
     ) -> usize {
-        let _ = self.terminal.width();
+        self.terminal.soundness();
         utf8_cuts();
         utf8_trace_cuts();
         trace_utf8_reserved(

@@ -17,7 +17,7 @@ fn copy_columns(screen: &mut Screen, from: usize, to: usize, left: usize, right:
     requires columns { (1 ≤ left) × (left ≤ right) × (right ≤ screen.old.width) }
     ensures { screen.new ≡ changed screen.old (rectangle to to left right) (λ r c. cell_at screen.old from c) }
 {
-    let _ = screen.width();
+    screen.soundness();
     for col in left..right + 1 {
         let cell = screen.cell(from, col);
         screen.put(to, col, cell);
@@ -30,7 +30,7 @@ fn blank_columns(screen: &mut Screen, row: usize, left: usize, right: usize)
     requires columns { (1 ≤ left) × (left ≤ right) × (right ≤ screen.old.width) }
     ensures { screen.new ≡ changed screen.old (rectangle row row left right) (λ r c. blank) }
 {
-    let _ = screen.width();
+    screen.soundness();
     for col in left..right + 1 {
         screen.put(row, col, Cell::blank());
     }
@@ -44,7 +44,7 @@ pub fn columns_up(screen: &mut Screen, top: usize, bottom: usize, left: usize, r
     ensures grid { screen.new ≡ columns_up screen.old top bottom left right n }
     ensures sound { IsSoundGrid screen.new }
 {
-    let _ = screen.width();
+    screen.soundness();
     let n = n as usize;
     for row in top..bottom + 1 {
         if row + n <= bottom {
@@ -53,7 +53,7 @@ pub fn columns_up(screen: &mut Screen, top: usize, bottom: usize, left: usize, r
             blank_columns(screen, row, left, right);
         }
     }
-    let _ = screen.width();
+    screen.soundness();
 }
 
 /// Moves the rows from `top` to `bottom` down by `n`, between two columns. Blank cells come in at the top.
@@ -71,7 +71,7 @@ pub fn columns_down(
     ensures grid { screen.new ≡ columns_down screen.old top bottom left right n }
     ensures sound { IsSoundGrid screen.new }
 {
-    let _ = screen.width();
+    screen.soundness();
     let n = n as usize;
     for done in 0..bottom + 1 - top {
         let row = bottom - done;
@@ -81,7 +81,7 @@ pub fn columns_down(
             blank_columns(screen, row, left, right);
         }
     }
-    let _ = screen.width();
+    screen.soundness();
 }
 
 // ---- cells of one row
@@ -94,7 +94,7 @@ pub fn insert_between(screen: &mut Screen, row: usize, col: usize, right: usize,
     ensures grid { screen.new ≡ insert_between screen.old row col right n }
     ensures sound { IsSoundGrid screen.new }
 {
-    let _ = screen.width();
+    screen.soundness();
     let n = n as usize;
     for done in 0..right + 1 - col {
         let c = right - done;
@@ -105,7 +105,7 @@ pub fn insert_between(screen: &mut Screen, row: usize, col: usize, right: usize,
         };
         screen.put(row, c, cell);
     }
-    let _ = screen.width();
+    screen.soundness();
 }
 
 /// Removes `n` cells, starting at a place. Those after them move left, and blank cells come in at the right margin.
@@ -116,7 +116,7 @@ pub fn delete_between(screen: &mut Screen, row: usize, col: usize, right: usize,
     ensures grid { screen.new ≡ delete_between screen.old row col right n }
     ensures sound { IsSoundGrid screen.new }
 {
-    let _ = screen.width();
+    screen.soundness();
     let n = n as usize;
     for c in col..right + 1 {
         let cell = if c + n <= right {
@@ -126,7 +126,7 @@ pub fn delete_between(screen: &mut Screen, row: usize, col: usize, right: usize,
         };
         screen.put(row, c, cell);
     }
-    let _ = screen.width();
+    screen.soundness();
 }
 
 /// Inserts a cell at a place. Those at and after it move right, and the one at the right margin is lost.

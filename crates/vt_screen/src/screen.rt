@@ -147,6 +147,15 @@ impl Screen {
         self.cells[start..start + count].copy_from_slice(&other.row(from)[..count]);
     }
 
+    /// States that the grid is sound, for proofs. It does nothing when it runs.
+    #[inline(always)]
+    pub(crate) fn soundness(&self)
+        ensures grid { IsGrid self.now }
+        ensures sound { IsSoundGrid self.now }
+    {
+        let _ = &self.order;
+    }
+
     /// Returns the number of columns.
     pub fn width(&self) -> usize
         ensures width { result ≡ self.now.width }

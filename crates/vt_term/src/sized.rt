@@ -52,7 +52,7 @@ impl SizedTerminal {
 
     /// States that the terminal is sound, for proofs. It does nothing when it runs.
     #[inline(always)]
-    pub(crate) fn soundness(&self)
+    pub fn soundness(&self)
         ensures { IsSoundSized self.now }
     {
         self.display.soundness();

@@ -52,7 +52,7 @@ impl Model for Terminal {
 impl Terminal {
     /// States that the terminal is sound, for proofs. It does nothing when it runs.
     #[inline(always)]
-    pub(crate) fn soundness(&self)
+    pub fn soundness(&self)
         ensures { IsSound self.now }
     {
         self.sized.soundness();

@@ -93,7 +93,7 @@ impl Traceable<Vt220Names> for Vt220 {
         reports: &mut Vec<u8>,
         out: &mut Vec<u8>,
     ) -> usize {
-        let _ = terminal.width();
+        terminal.soundness();
         sized_cuts();
         sized_soundness();
         ascii();

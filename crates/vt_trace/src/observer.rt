@@ -117,7 +117,7 @@ pub fn trace_byte<N: Naming>(
     ensures capacity { vec_capacity out.old ≤ vec_capacity out.new }
 {
     // The contracts of these two give the soundness of the state.
-    let _ = terminal.width();
+    terminal.soundness();
     let _ = parser.held();
     one_split();
     let piece = [byte];

@@ -191,7 +191,7 @@ pub fn trace_reserved(
     ensures reports_capacity { vec_capacity reports.old ≤ vec_capacity reports.new }
     ensures capacity { vec_capacity out.old ≤ vec_capacity out.new }
 {
-    let _ = terminal.width();
+    terminal.soundness();
     play_cuts();
     sized_cuts();
     let mut at = 0;

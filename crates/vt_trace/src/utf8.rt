@@ -48,7 +48,7 @@ pub fn trace_utf8_reserved(
     ensures reports_capacity { vec_capacity reports.old ≤ vec_capacity reports.new }
     ensures capacity { vec_capacity out.old ≤ vec_capacity out.new }
 {
-    let _ = terminal.width();
+    terminal.soundness();
     sized_cuts();
     sized_soundness();
     trace_dialect::<Vt220Names, Vt220>(terminal, &mut Vt220, tracer, decoder, chunk, reports, out)

@@ -48,7 +48,7 @@ impl Scroll {
         requires fits { to.now.display.grid.size.rows ≤ R }
         requires rows { R ≤ MOST }
     {
-        let _ = to.width();
+        to.soundness();
         let Margins { top, bottom } = to.margins();
         let votes = Votes::new(rows, shown, to);
         let mut most = FEW;

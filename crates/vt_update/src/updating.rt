@@ -91,13 +91,6 @@ fn small_limit(to: &SizedTerminal, count: usize) -> usize
     changes_limit(to.size(), count)
 }
 
-/// States that a terminal is sound, for proofs. It does nothing when it runs.
-pub(crate) fn soundness(t: &SizedTerminal)
-    ensures { IsSoundSized t.now }
-{
-    let _ = t.width();
-}
-
 /// Plays the bytes of `out` that begin at `start`. Returns whether there was no report. `out` has capacity for the
 /// reports of a chunk, and no report stays there.
 #[inline(never)]
@@ -203,8 +196,8 @@ pub fn update(
     }
     out.reserve(update_limit(size))
         .map_err(|_| SizedUpdateError::Memory)?;
-    soundness(shown);
-    soundness(to);
+    shown.soundness();
+    to.soundness();
     bring::<MOST, MOST>(shown, to, out);
     Ok(())
 }
@@ -237,8 +230,8 @@ pub fn update_reserved(shown: &mut SizedTerminal, to: &SizedTerminal, out: &mut 
     if !shown.size().same(to.size()) {
         return false;
     }
-    soundness(shown);
-    soundness(to);
+    shown.soundness();
+    to.soundness();
     let size = to.size();
     if size.rows <= ROWS && size.wide <= STOPS {
         bring::<ROWS, STOPS>(shown, to, out);
@@ -414,8 +407,8 @@ fn send_repaint(shown: &mut SizedTerminal, to: &SizedTerminal, out: &mut Vec<u8>
 {
     sized_leading();
     sized_spoken();
-    soundness(shown);
-    soundness(to);
+    shown.soundness();
+    to.soundness();
     let start = out.len();
     repaint_reserved(to, out);
     let _ = play_back(start, shown, out);

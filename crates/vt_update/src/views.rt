@@ -7,7 +7,7 @@ ghost use Rattle.vt_paint.specs.Changes.{differing};
 ghost use Rattle.vt_paint.specs.Spoken.{Speaks};
 ghost use Rattle.vt_update.specs.Leads.{Updates, HasOtherColumns};
 
-use crate::updating::{UPDATE_LIMIT, UpdateError, bring, soundness};
+use crate::updating::{UPDATE_LIMIT, UpdateError, bring};
 use vt_term::{ROWS, STOPS, Terminal};
 
 /// Appends to `out` bytes that lead from `shown` to `to`, and brings `shown` into the state of `to`.
@@ -68,7 +68,7 @@ pub fn update_reserved(shown: &mut Terminal, to: &Terminal, out: &mut Vec<u8>)
     ensures bounded { vec_len out.new ≤ vec_len out.old + UPDATE_LIMIT }
     ensures capacity { vec_capacity out.old ≤ vec_capacity out.new }
 {
-    soundness(&shown.sized);
-    soundness(&to.sized);
+    shown.sized.soundness();
+    to.sized.soundness();
     bring::<ROWS, STOPS>(&mut shown.sized, &to.sized, out);
 }

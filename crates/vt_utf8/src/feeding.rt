@@ -170,7 +170,7 @@ pub fn feed_characters<L: Log, S: Sink<L>>(
         (point terminal.new sink.new log.new out.new.items) decoder.new }
     ensures grows { Grows out.old out.new (10 * result) }
 {
-    let _ = terminal.width();
+    terminal.soundness();
     sink.in_turn();
     let mut at = 0;
     while at < piece.len() {
@@ -277,7 +277,7 @@ fn feed_beyond<L: Log, S: Sink<L>>(
         (point terminal.new sink.new log.new out.new.items) decoder.new }
     ensures grows { Grows out.old out.new (10 * result) }
 {
-    let _ = terminal.width();
+    terminal.soundness();
     sink.in_turn();
     let text = sink.take_text(terminal, piece);
     if text > 0 {
@@ -308,7 +308,7 @@ fn feed_whole<L: Log, S: Sink<L>>(
         (point terminal.new sink.new log.new out.new.items) decoder.new }
     ensures grows { Grows out.old out.new (10 * result) }
 {
-    let _ = terminal.width();
+    terminal.soundness();
     sink.in_turn();
     if log.is_full(limit) {
         return 0;
@@ -362,7 +362,7 @@ fn feed_pending<L: Log, S: Sink<L>>(
         (point terminal.new sink.new log.new out.new.items) decoder.new }
     ensures grows { Grows out.old out.new (10 * result) }
 {
-    let _ = terminal.width();
+    terminal.soundness();
     sink.in_turn();
     if log.is_full(limit) {
         return 0;
@@ -399,7 +399,7 @@ fn feed_cut<L: Log, S: Sink<L>>(
         (point terminal.new sink.new log.new out.new.items) [] }
     ensures grows { Grows out.old out.new (10 * result) }
 {
-    let _ = terminal.width();
+    terminal.soundness();
     sink.in_turn();
     sink.take_beyond(terminal, '\u{FFFD}', log, out);
     sink.take_some(terminal, run, log, out)
@@ -421,7 +421,7 @@ fn feed_byte<L: Log, S: Sink<L>>(
         (point terminal.new sink.new log.new out.new.items) decoder.new }
     ensures grows { Grows out.old out.new 10 }
 {
-    let _ = terminal.width();
+    terminal.soundness();
     sink.in_turn();
     let (lost, character) = decoder.push(b);
     feed_lost(terminal, sink, lost, log, out);
@@ -446,7 +446,7 @@ fn feed_lost<L: Log, S: Sink<L>>(
     ensures out { out.new.items ≡ out.old.items }
     ensures capacity { vec_capacity out.old ≤ vec_capacity out.new }
 {
-    let _ = terminal.width();
+    terminal.soundness();
     sink.in_turn();
     match lost {
         Some(c) => {
@@ -473,7 +473,7 @@ fn feed_completed<L: Log, S: Sink<L>>(
         (point terminal.new sink.new log.new out.new.items) }
     ensures grows { Grows out.old out.new 10 }
 {
-    let _ = terminal.width();
+    terminal.soundness();
     sink.in_turn();
     match character {
         Some(c) => feed_character(terminal, sink, c, log, out),
@@ -526,7 +526,7 @@ pub fn feed_beyond_ascii(terminal: &mut SizedTerminal, c: char, out: &mut Vec<u8
     ensures out { out.new.items ≡ out.old.items }
     ensures capacity { vec_capacity out.old ≤ vec_capacity out.new }
 {
-    let _ = terminal.width();
+    terminal.soundness();
     sized_silence();
     sized_writes();
     if writes_glyphs(terminal) {
@@ -564,7 +564,7 @@ fn feed_translated(terminal: &mut SizedTerminal, c: char, out: &mut Vec<u8>)
     ensures out { out.new.items ≡ out.old.items }
     ensures capacity { vec_capacity out.old ≤ vec_capacity out.new }
 {
-    let _ = terminal.width();
+    terminal.soundness();
     sized_silence();
     let bytes = translation(terminal, c);
     feed_silently(terminal, bytes.as_slice(), out);
@@ -578,7 +578,7 @@ fn feed_silently(terminal: &mut SizedTerminal, bytes: &[u8], out: &mut Vec<u8>)
     ensures out { out.new.items ≡ out.old.items }
     ensures capacity { vec_capacity out.old ≤ vec_capacity out.new }
 {
-    let _ = terminal.width();
+    terminal.soundness();
     played_cuts();
     let most = (out.capacity() - out.len()) / REPORT_LIMIT;
     let mut at = 0;
@@ -617,7 +617,7 @@ pub fn feed_beyond_ascii_log(
     ensures capacity { vec_capacity out.old ≤ vec_capacity out.new }
     ensures lines_capacity { vec_capacity lines.old ≤ vec_capacity lines.new }
 {
-    let _ = terminal.width();
+    terminal.soundness();
     sized_silence();
     sized_writes();
     if writes_glyphs(terminal) {
@@ -683,7 +683,7 @@ fn feed_translated_log(
     ensures capacity { vec_capacity out.old ≤ vec_capacity out.new }
     ensures lines_capacity { vec_capacity lines.old ≤ vec_capacity lines.new }
 {
-    let _ = terminal.width();
+    terminal.soundness();
     sized_silence();
     let bytes = translation(terminal, c);
     feed_silently_log(terminal, bytes.as_slice(), out, lines);
@@ -707,7 +707,7 @@ fn feed_silently_log(
     ensures capacity { vec_capacity out.old ≤ vec_capacity out.new }
     ensures lines_capacity { vec_capacity lines.old ≤ vec_capacity lines.new }
 {
-    let _ = terminal.width();
+    terminal.soundness();
     played_cuts();
     sized_log_cuts();
     let most = (out.capacity() - out.len()) / REPORT_LIMIT;

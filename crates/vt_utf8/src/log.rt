@@ -124,7 +124,7 @@ impl<A: Observer + Drop> Log for Lines<'_, A> {
 impl BytesLog for Lines<'_, Nobody> {
     #[inline(always)]
     fn feed(&mut self, terminal: &mut SizedTerminal, piece: &[u8], out: &mut Vec<u8>) -> usize {
-        let _ = terminal.width();
+        terminal.soundness();
         sized_happened();
         self.limit = terminal.row_text_limit();
         terminal.feed_observed(piece, self, out)

@@ -143,7 +143,7 @@ impl<L: BytesLog> Sink<L> for Vt220 {
 
     #[inline(always)]
     fn take_text(&self, terminal: &mut SizedTerminal, piece: &[u8]) -> usize {
-        let _ = terminal.width();
+        terminal.soundness();
         played_cuts();
         sized_text();
         write_text(terminal, piece)

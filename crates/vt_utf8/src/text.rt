@@ -175,7 +175,7 @@ pub fn write_text(terminal: &mut SizedTerminal, piece: &[u8]) -> usize
     ensures within { result ≤ length piece.now }
     ensures text { WritesText terminal.old (take result piece.now) terminal.new }
 {
-    let _ = terminal.width();
+    terminal.soundness();
     let room = text_room(terminal);
     if room == 0 {
         return 0;

@@ -40,7 +40,7 @@ pub(crate) fn feed_calm<L: PageLog>(
     ensures bounded { vec_len out.new ≤ vec_len out.old + 10 * result }
     ensures capacity { vec_capacity out.old ≤ vec_capacity out.new }
 {
-    let _ = terminal.width();
+    terminal.soundness();
     one_split();
     if passes(terminal, pages, run) {
         return log.play(terminal, pages, run, limit, out);
@@ -153,7 +153,7 @@ fn feed_front_run<L: PageLog>(
     ensures bounded { vec_len out.new ≤ vec_len out.old + 10 * result }
     ensures capacity { vec_capacity out.old ≤ vec_capacity out.new }
 {
-    let _ = terminal.width();
+    terminal.soundness();
     one_split();
     if passes(terminal, pages, run) {
         return log.play(terminal, pages, run, limit, out);
@@ -188,7 +188,7 @@ pub(crate) fn feed_some_calm<L: PageLog>(
     ensures bounded { vec_len out.new ≤ vec_len out.old + 10 * result }
     ensures capacity { vec_capacity out.old ≤ vec_capacity out.new }
 {
-    let _ = terminal.width();
+    terminal.soundness();
     one_split();
     if passes(terminal, pages, run) {
         return log.play_some(terminal, pages, run, out);
@@ -218,7 +218,7 @@ fn feed_inside<L: PageLog>(
     ensures bounded { vec_len out.new ≤ vec_len out.old + 10 }
     ensures capacity { vec_capacity out.old ≤ vec_capacity out.new }
 {
-    let _ = terminal.width();
+    terminal.soundness();
     one_split();
     let k = pages.subparameters;
     let apart = is_apart(k, terminal.held(), b);
@@ -232,7 +232,7 @@ fn feed_inside<L: PageLog>(
 pub fn parser_before(terminal: &SizedTerminal, pages: &SizedPages, b: u8) -> Parser
     ensures { result ≡ held_before (whole_of terminal.now pages.now) b }
 {
-    let _ = terminal.width();
+    terminal.soundness();
     one_split();
     let mut parser = terminal.parser();
     let mut values = Values::new();
@@ -269,7 +269,7 @@ fn feed_itself<L: PageLog>(
     ensures bounded { vec_len out.new ≤ vec_len out.old + 10 }
     ensures capacity { vec_capacity out.old ≤ vec_capacity out.new }
 {
-    let _ = terminal.width();
+    terminal.soundness();
     one_split();
     if apart {
         return;

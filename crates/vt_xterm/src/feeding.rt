@@ -256,7 +256,7 @@ pub(crate) fn feed_bytes<L: LineLog>(
     ensures bounded { vec_len out.new ≤ vec_len out.old + 10 * result }
     ensures capacity { vec_capacity out.old ≤ vec_capacity out.new }
 {
-    let _ = terminal.width();
+    terminal.soundness();
     one_split();
     let mut at = 0;
     while at < piece.len() {
@@ -327,7 +327,7 @@ fn feed_sided<L: LineLog>(
     ensures capacity { vec_capacity out.old ≤ vec_capacity out.new }
 {
     one_split();
-    let _ = terminal.width();
+    terminal.soundness();
     if log.is_full(limit) {
         return 0;
     }

@@ -149,7 +149,7 @@ pub(crate) fn feed_terminals(terminal: &mut SizedTerminal, piece: &[u8], out: &m
     ensures bounded { vec_len out.new ≤ vec_len out.old + 10 * result }
     ensures capacity { vec_capacity out.old ≤ vec_capacity out.new }
 {
-    let _ = terminal.width();
+    terminal.soundness();
     sized_happened();
     terminal.feed_observed(piece, &mut Finder, out)
 }
@@ -157,7 +157,7 @@ pub(crate) fn feed_terminals(terminal: &mut SizedTerminal, piece: &[u8], out: &m
 impl LineLog for Lines<'_, Finder> {
     #[inline(always)]
     fn feed(&mut self, terminal: &mut SizedTerminal, piece: &[u8], out: &mut Vec<u8>) -> usize {
-        let _ = terminal.width();
+        terminal.soundness();
         sized_happened();
         self.limit = terminal.row_text_limit();
         terminal.feed_observed(piece, self, out)
@@ -234,7 +234,7 @@ fn push_rows(terminal: &SizedTerminal, n: u16, lines: &mut Vec<u8>)
     ensures bounded { vec_len lines.new ≤ vec_len lines.old + text_limit terminal.now.display.grid.size }
     ensures capacity { vec_capacity lines.old ≤ vec_capacity lines.new }
 {
-    let _ = terminal.width();
+    terminal.soundness();
     let margins = terminal.margins();
     if margins.top == 1 {
         push_first(terminal, margins.bottom.min(n as usize), lines);

@@ -180,7 +180,7 @@ fn modes_keep_size(terminal: &SizedTerminal, pages: &SizedPages, on: bool)
         ≡ (change_page_modes on params (screens terminal.now pages.now)).display.grid.size }
 {
     let _ = on;
-    let _ = terminal.width();
+    terminal.soundness();
     pages.soundness();
     glyphs();
     sets_soundness();

@@ -42,7 +42,7 @@ pub(crate) fn feed_pages(
     ensures bounded { vec_len out.new ≤ vec_len out.old + 10 * result }
     ensures capacity { vec_capacity out.old ≤ vec_capacity out.new }
 {
-    let _ = terminal.width();
+    terminal.soundness();
     one_split();
     let mut at = 0;
     while at < piece.len() {
@@ -71,7 +71,7 @@ pub(crate) fn feed_block(
     ensures capacity { vec_capacity out.old ≤ vec_capacity out.new }
 {
     one_split();
-    let _ = terminal.width();
+    terminal.soundness();
     if pages.sides.is_some() {
         return feed_one(terminal, pages, piece, out);
     }
@@ -133,7 +133,7 @@ fn feed_before(
     ensures capacity { vec_capacity out.old ≤ vec_capacity out.new }
 {
     one_split();
-    let _ = terminal.width();
+    terminal.soundness();
     let end = BLOCK.min(piece.len());
     let played = feed_written(terminal, pages, &piece[..end], out);
     if played == end {
@@ -189,7 +189,7 @@ fn feed_written(
     ensures bounded { vec_len out.new ≤ vec_len out.old + 10 * result }
     ensures capacity { vec_capacity out.old ≤ vec_capacity out.new }
 {
-    let _ = terminal.width();
+    terminal.soundness();
     pages.soundness();
     pages.keeps_size();
     one_split();
@@ -227,7 +227,7 @@ pub(crate) fn carry_out_whole(
     ensures bounded { vec_len out.new ≤ vec_len out.old + 10 }
     ensures capacity { vec_capacity out.old ≤ vec_capacity out.new }
 {
-    let _ = terminal.width();
+    terminal.soundness();
     pages.soundness();
     size_stays();
     carry_out(terminal, pages, kind, values, out);

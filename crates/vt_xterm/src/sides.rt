@@ -145,7 +145,7 @@ impl Sides {
         requires fits { AreSides terminal.old.display.grid.width self.now }
         ensures { terminal.new ≡ record terminal.old { display = between.home self.now terminal.old.display } }
     {
-        let _ = terminal.width();
+        terminal.soundness();
         if terminal.modes().decom {
             terminal.move_to(terminal.margins().top, self.left);
         } else {
@@ -205,7 +205,7 @@ impl Sides {
         requires fits { AreSides terminal.old.display.grid.width self.now }
         ensures { terminal.new ≡ record terminal.old { display = between.cursor_position line col self.now terminal.old.display } }
     {
-        let _ = terminal.width();
+        terminal.soundness();
         let line = (line as usize).max(1);
         let margins = terminal.margins();
         let row = if terminal.modes().decom {
@@ -297,7 +297,7 @@ impl Sides {
         ensures { terminal.new ≡ record terminal.old { display = between.rows_up n self.now terminal.old.display } }
     {
         let top = terminal.margins().top;
-        let _ = terminal.width();
+        terminal.soundness();
         terminal.columns_up(top, self.left, self.right, n);
     }
 
@@ -308,7 +308,7 @@ impl Sides {
         ensures { terminal.new ≡ record terminal.old { display = between.rows_down n self.now terminal.old.display } }
     {
         let top = terminal.margins().top;
-        let _ = terminal.width();
+        terminal.soundness();
         terminal.columns_down(top, self.left, self.right, n);
     }
 
@@ -488,7 +488,7 @@ impl Sides {
         ensures { terminal.new ≡ record terminal.old { display = between.back_tab self.now terminal.old.display } }
     {
         let cursor = terminal.cursor();
-        let _ = terminal.width();
+        terminal.soundness();
         let first = if terminal.modes().decom { self.left } else { 1 };
         let col = stop_before(terminal.stops(), cursor.col).max(first);
         terminal.move_to(cursor.row, col);

@@ -65,7 +65,7 @@ impl<L: PageLog> Sink<L> for SizedPages {
 
     #[inline(always)]
     fn take_text(&self, terminal: &mut SizedTerminal, piece: &[u8]) -> usize {
-        let _ = terminal.width();
+        terminal.soundness();
         spelled();
         glyph_runs();
         played_soundness();

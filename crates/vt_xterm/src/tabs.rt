@@ -31,7 +31,7 @@ fn back_tab(terminal: &mut SizedTerminal)
     ensures { terminal.new ≡ record terminal.old { display = back_tab terminal.old.display } }
 {
     let cursor = terminal.cursor();
-    let _ = terminal.width();
+    terminal.soundness();
     let col = stop_before(terminal.stops(), cursor.col);
     terminal.move_to(cursor.row, col);
 }

@@ -75,8 +75,8 @@ fn soundness(t: &SizedTerminal, front: &SizedFront, scratch: &SizedTerminal)
     ensures { FitsSides t.now.display front.now.pages.sides → front.now.pages.subparameters ≡ Outside
         → IsSoundWholeAt t.now.display.grid.size (behind t.now front.now) }
 {
-    let _ = t.width();
-    let _ = scratch.width();
+    t.soundness();
+    scratch.soundness();
 }
 
 /// Appends the items of the page that isn't shown, of the size of `t`. `scratch` then shows a copy of it.
@@ -173,8 +173,8 @@ fn column_named(t: &SizedTerminal, sides: Option<Sides>) -> usize
     ensures column { result ≡ column_named sides t.now.display }
     ensures few { result ≤ 255 }
 {
-    // The width's contract gives the soundness of the state, and so the bound of the column.
-    let _ = t.width();
+    // For the bound of the column.
+    t.soundness();
     let col = t.cursor().col;
     let Some(sides) = sides else {
         return col;

@@ -43,7 +43,7 @@ impl Traceable<XtermNames> for SizedPages {
         reports: &mut Vec<u8>,
         out: &mut Vec<u8>,
     ) -> usize {
-        let _ = terminal.width();
+        terminal.soundness();
         self.soundness();
         self.keeps_size();
         one_split();
@@ -68,7 +68,7 @@ impl Traceable<XtermNames> for SizedPages {
 
     #[inline(always)]
     fn feed_beyond(&mut self, terminal: &mut SizedTerminal, c: char, reports: &mut Vec<u8>) {
-        let _ = terminal.width();
+        terminal.soundness();
         sized_silence();
         feed_xterm_character(terminal, self, c, reports);
     }

@@ -10,7 +10,7 @@ returns-clause-bells c =
     let bytes = take c.feed_observed.result piece in
     let rung : c.feed_observed.new.observer.count ≡ bells c.args.terminal.now.held bytes =
     all-rang c.args.terminal.now bytes c.feed_observed.new.observer.count
-    (c.sized_happened.ensures.events _ c.args.terminal.now bytes c.width.ensures.sound) fed.saw in
+    (c.sized_happened.ensures.events _ c.args.terminal.now bytes c.soundness.ensures) fed.saw in
     rung ∙ ap (λ (l : List ℕ). bells c.args.terminal.now.held l)
     (all-taken c.feed_observed.result piece fed.within fed.all)
 

@@ -17,8 +17,8 @@ returns-clause-lines c =
     let lines : c.feed_observed-taken.new.observer.lines.now.items
     ≡ c.args.lines.now.items ++ flat_map line_text (scrolled_off s bytes) =
     saw.3.lines (happenings-short _ s.display.grid.size _
-    (c.sized_happened.ensures.size s.display.grid.size s bytes c.width.ensures.sound) (omega (arith, c.row_text_limit-limit.ensures))) ∙ ap (λ (rows : List (List Cell)). c.args.lines.now.items ++ flat_map line_text rows)
-    (c.sized_happened.ensures.lines s.display.grid.size s bytes c.width.ensures.sound) in
+    (c.sized_happened.ensures.size s.display.grid.size s bytes c.soundness.ensures) (omega (arith, c.row_text_limit-limit.ensures))) ∙ ap (λ (rows : List (List Cell)). c.args.lines.now.items ++ flat_map line_text rows)
+    (c.sized_happened.ensures.lines s.display.grid.size s bytes c.soundness.ensures) in
     search (rules, lines, saw.0)
 
 pub returns-clause-bells : goal.returns-clause-bells
@@ -26,7 +26,7 @@ returns-clause-bells c =
     let s = c.args.terminal.now in
     let bytes = take c.feed_observed-taken.result c.args.piece.now in
     all-rang s bytes c.feed_observed-taken.new.observer.beside.count
-    (c.sized_happened.ensures.events s.display.grid.size s bytes c.width.ensures.sound) c.feed_observed-taken.ensures.saw.1
+    (c.sized_happened.ensures.events s.display.grid.size s bytes c.soundness.ensures) c.feed_observed-taken.ensures.saw.1
 
 pub returns-clause-few_bells : goal.returns-clause-few_bells
 returns-clause-few_bells c =

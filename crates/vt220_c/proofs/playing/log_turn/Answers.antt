@@ -14,7 +14,7 @@ returns-clause-some g c =
     let one : 1 ≤ k = omega arith in
     let none : fed.result ≡ 0 → vec_len fed.new.lines ≡ 0 = λ zero.
     let empty : length fed.new.lines.items ≡ 0 = none-off g.P.Player.told c.cuts.ensures c.inner.inside.terminal
-    c.args.player.now piece c.clear-2.new.self.items fed.new.lines.items fed.result c.width.ensures.sound zero
+    c.args.player.now piece c.clear-2.new.self.items fed.new.lines.items fed.result c.soundness.ensures zero
     c.clear-2.ensures.items fed.ensures.lines in
     omega (arith, empty, fed.new.lines.ok) in
     let enough : g.P.Player.room c.args.inner.now.display.grid.size ≤ vec_capacity c.clear-2.new.self =

@@ -8,7 +8,7 @@ pub loop-done-init : goal.loop-done-init
 loop-done-init g c = record {
   within = omega arith;
   fed = plays-nothing g.P.Player.told c.cuts.ensures c.args.logs c.args.counts c.args.inner.now c.args.player.now
-      c.args.out.now c.args.lines.now (rw c.inner.view_is at c.width.ensures.sound);
+      c.args.out.now c.args.lines.now (rw c.inner.view_is at c.soundness.ensures);
   fits = omega arith;
   few = omega arith;
   size = refl;
@@ -31,7 +31,7 @@ loop-done-preserved g c =
       fed = plays-turn g.P.Player.told c.cuts.ensures c.args.logs c.args.counts c.args.inner.now c.loop-done.inner
           c.any_turn-sent.new.inner c.args.player.now c.loop-done.player c.any_turn-sent.new.player piece taken n
           c.args.out.now c.loop-done.out c.any_turn-sent.new.out c.args.lines.now c.loop-done.lines
-          c.any_turn-sent.new.lines _ _ _ _ _ _ (rw c.inner.view_is at c.width.ensures.sound) before.fed (record {
+          c.any_turn-sent.new.lines _ _ _ _ _ _ (rw c.inner.view_is at c.soundness.ensures) before.fed (record {
             state = sent.state;
             kept = sent.kept;
             sent = sent.sent;

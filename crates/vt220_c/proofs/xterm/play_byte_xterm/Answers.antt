@@ -9,7 +9,7 @@ use Rattle.vt220_c.proofs.xterm.play_byte_xterm.Goals as goal
 
 pub returns-then-is_printed-clause-state : goal.returns-then-is_printed-clause-state
 returns-then-is_printed-clause-state c =
-    let sound : IsHeldPart c.args.inner.now.held = rw c.inner.view_is at c.width.ensures.sound.held in
+    let sound : IsHeldPart c.args.inner.now.held = rw c.inner.view_is at c.soundness.ensures.held in
     let fact = rw c.if-is_printed.true at c.is_printed.ensures in
     let between : c.args.inner.now.held ≡ Nothing = rw c.inner.view_is at (sym c.held.ensures.held ∙ fact.2) in
     let none : c.args.front.now.pending ≡ [] =
@@ -22,7 +22,7 @@ returns-then-is_printed-clause-state c =
 
 pub returns-then-is_printed-clause-front : goal.returns-then-is_printed-clause-front
 returns-then-is_printed-clause-front c =
-    let sound : IsHeldPart c.args.inner.now.held = rw c.inner.view_is at c.width.ensures.sound.held in
+    let sound : IsHeldPart c.args.inner.now.held = rw c.inner.view_is at c.soundness.ensures.held in
     let fact = rw c.if-is_printed.true at c.is_printed.ensures in
     let between : c.args.inner.now.held ≡ Nothing = rw c.inner.view_is at (sym c.held.ensures.held ∙ fact.2) in
     let none : c.args.front.now.pending ≡ [] =
@@ -35,7 +35,7 @@ returns-then-is_printed-clause-front c =
 
 pub returns-then-is_printed-clause-reports : goal.returns-then-is_printed-clause-reports
 returns-then-is_printed-clause-reports c =
-    let sound : IsHeldPart c.args.inner.now.held = rw c.inner.view_is at c.width.ensures.sound.held in
+    let sound : IsHeldPart c.args.inner.now.held = rw c.inner.view_is at c.soundness.ensures.held in
     let fact = rw c.if-is_printed.true at c.is_printed.ensures in
     let between : c.args.inner.now.held ≡ Nothing = rw c.inner.view_is at (sym c.held.ensures.held ∙ fact.2) in
     let none : c.args.front.now.pending ≡ [] =
@@ -48,7 +48,7 @@ returns-then-is_printed-clause-reports c =
 
 pub returns-then-is_printed-clause-written : goal.returns-then-is_printed-clause-written
 returns-then-is_printed-clause-written c =
-    let sound : IsHeldPart c.args.inner.now.held = rw c.inner.view_is at c.width.ensures.sound.held in
+    let sound : IsHeldPart c.args.inner.now.held = rw c.inner.view_is at c.soundness.ensures.held in
     let fact = rw c.if-is_printed.true at c.is_printed.ensures in
     let between : c.args.inner.now.held ≡ Nothing = rw c.inner.view_is at (sym c.held.ensures.held ∙ fact.2) in
     let none : c.args.front.now.pending ≡ [] =

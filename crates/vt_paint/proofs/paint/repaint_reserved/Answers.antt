@@ -9,4 +9,4 @@ returns-clause-items c =
 
 pub returns-clause-rebuilds : goal.returns-clause-rebuilds
 returns-clause-rebuilds c =
-    c.sized_rebuilds.ensures c.args.t.now.display.grid.size c.args.t.now c.width.ensures.sound c.requires.between
+    c.sized_rebuilds.ensures c.args.t.now.display.grid.size c.args.t.now c.soundness.ensures c.requires.between

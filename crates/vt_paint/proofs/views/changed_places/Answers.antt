@@ -37,7 +37,7 @@ returns-clause-count c =
 
 pub returns-clause-bounded : goal.returns-clause-bounded
 returns-clause-bounded c =
-    let sound = c.width.ensures.sound.display in
+    let sound = c.soundness.ensures.display in
     let few = width-bounds _ _ sound.grid.shape.size sound.grid.shape.width in
     let wide : c.args.b.now.display.grid.size.wide ≡ 132 = ap (λ (z : Size). z.wide) sound.of_size in
     let all : c.changed_places.result ≤ 24 * c.args.b.now.display.grid.width =

@@ -5,4 +5,4 @@ use Rattle.vt_replay.proofs.converting.copy_between.Goals as goal
 pub returns-clause-state : goal.returns-clause-state
 returns-clause-state c =
     rw c.copy_from.ensures at c.play_silently.ensures.state
-    ∙ cancelled c.args.terminal.now c.spelled.ensures c.width.ensures.sound
+    ∙ cancelled c.args.terminal.now c.spelled.ensures c.soundness.ensures

@@ -6,5 +6,5 @@ returns-clause-decoded c =
     let first = c.decode_character.ensures in
     let second = c.decode_character-2.ensures in
     decodes-byte c.cuts.ensures.none c.cuts.ensures.two _ _ _ _ _ _ _ _ _ _ _
-    (c.one_byte.ensures _ _ _ _ _ c.width.ensures.sound c.push-lost.ensures.characters)
+    (c.one_byte.ensures _ _ _ _ _ c.soundness.ensures c.push-lost.ensures.characters)
     c.push-lost.ensures.pending first.state first.bytes second.state second.bytes

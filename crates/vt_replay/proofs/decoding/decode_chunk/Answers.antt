@@ -7,7 +7,7 @@ pub loop-at-init : goal.loop-at-init
 loop-at-init c = record {
   within = omega arith;
   decoded = decodes-nothing c.cuts.ensures.none c.cuts.ensures.two c.cuts.ensures.pending c.cuts.ensures.translated
-      _ _ _ c.width.ensures.sound;
+      _ _ _ c.soundness.ensures;
   bounded = omega arith;
   reports = omega arith;
   capacity = omega arith;
@@ -20,7 +20,7 @@ loop-at-preserved c =
     record {
       within = omega (arith, inside);
       decoded = decodes-more c.cuts.ensures.none c.cuts.ensures.two c.cuts.ensures.pending
-          c.cuts.ensures.translated _ _ _ _ _ _ _ _ _ _ _ _ c.width.ensures.sound c.loop-at.invariant.decoded
+          c.cuts.ensures.translated _ _ _ _ _ _ _ _ _ _ _ _ c.soundness.ensures c.loop-at.invariant.decoded
           (rw rest at c.decode_next-at.ensures.decoded);
       bounded = omega arith;
       reports = omega arith;

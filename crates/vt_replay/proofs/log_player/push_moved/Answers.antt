@@ -10,7 +10,7 @@ unwrap-requires c =
     c.log_on.ensures.has_room
     (moved_fits (vec_len c.args.lines.now) (vec_capacity c.args.lines.now) s.display.cursor.row (count_off c.args.size s.display)
     (state_on c.args.size s).display.cursor.row (row_text_limit s.display.grid.size) (sym (c.resizes.ensures.line c.args.size s))
-    (c.resizes.ensures.sound c.args.size s c.requires.size c.width.ensures.sound).display.cursor.row_1
+    (c.resizes.ensures.sound c.args.size s c.requires.size c.soundness.ensures).display.cursor.row_1
     (omega (arith, c.size.ensures.sound.columns)) c.requires.room)
 
 pub returns-clause-lines : goal.returns-clause-lines

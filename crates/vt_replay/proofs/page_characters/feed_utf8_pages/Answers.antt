@@ -12,7 +12,7 @@ loop-at-init c = record {
   some = λ zero. refl;
   limit = c.xterm_lines_limit-limit.ensures;
   size = refl;
-  paged = utf8-nothing c.sized_pages_cut.ensures.two _ _ _ c.sized_cuts.ensures.none c.sized_pages_cut.ensures.none c.width.ensures.sound;
+  paged = utf8-nothing c.sized_pages_cut.ensures.two _ _ _ c.sized_cuts.ensures.none c.sized_pages_cut.ensures.none c.soundness.ensures;
   one = λ few some. absurd (omega (arith, some));
   reports = omega arith;
   capacity = omega arith;
@@ -35,7 +35,7 @@ loop-at-preserved c =
       size = made.size ∙ was.size;
       paged = rw (take-add at n chunk)
           (utf8-both c.sized_pages_cut.ensures.two _ _ _ _ _ _ (take at chunk) (take n (drop at chunk)) _ _ _ c.sized_cuts.ensures.two
-          c.sized_cuts.ensures.translated c.width.ensures.sound was.paged (rw rest at made.paged));
+          c.sized_cuts.ensures.translated c.soundness.ensures was.paged (rw rest at made.paged));
       one = λ few some.
           let first : at ≡ 0 = omega (arith, few, made.some, inside) in
           first-turn (vec_len c.args.lines.now) (vec_len c.loop-at.lines) _ _ _ (was.some first)

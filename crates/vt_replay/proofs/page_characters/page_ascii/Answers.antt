@@ -24,7 +24,7 @@ returns-clause-paged c =
 
 pub returns-clause-some : goal.returns-clause-some
 returns-clause-some c =
-    let none = c.sized_pages_cut.ensures.none _ c.args.terminal.now c.width.ensures.sound in
+    let none = c.sized_pages_cut.ensures.none _ c.args.terminal.now c.soundness.ensures in
     let size = c.args.terminal.now.display.grid.size in
     let room = one-fits size.rows (row_text_limit size) (vec_len c.args.lines.now) (vec_capacity c.args.lines.now) c.requires.room in
     grind (arith, common_steps, none, room)

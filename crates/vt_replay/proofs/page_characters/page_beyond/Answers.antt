@@ -15,7 +15,7 @@ pub returns-clause-lines : goal.returns-clause-lines
 returns-clause-lines c =
     c.feed_beyond_ascii_log.ensures.lines
     ∙ ap (λ (l : List ℕ). c.args.lines.now.items ++ l)
-    (sym (c.beyond_ascii.ensures c.args.terminal.now c.args.c c.width.ensures.sound c.requires.beyond))
+    (sym (c.beyond_ascii.ensures c.args.terminal.now c.args.c c.soundness.ensures c.requires.beyond))
 
 pub returns-clause-bounded : goal.returns-clause-bounded
 returns-clause-bounded c =

@@ -9,7 +9,7 @@ returns-clause-paged c =
     let first = c.page_character.ensures in
     let second = c.page_character-2.ensures in
     utf8-byte c.sized_pages_cut.ensures.two _ _ _ _ _ _ _ _ _ _ _ c.sized_cuts.ensures.two
-    (c.sized_one_byte.ensures _ _ _ _ _ _ c.width.ensures.sound c.push-lost.ensures.characters)
+    (c.sized_one_byte.ensures _ _ _ _ _ _ c.soundness.ensures c.push-lost.ensures.characters)
     c.push-lost.ensures.pending first.state first.lines second.state second.lines
 
 pub returns-clause-size : goal.returns-clause-size

@@ -19,10 +19,10 @@ returns-in-Some-clause-lines c =
 
 pub returns-in-None-clause-state : goal.returns-in-None-clause-state
 returns-in-None-clause-state c =
-    rw c.in-None.is (sym (ap (λ (p : Played). p.state) (c.sized_cuts.ensures.none _ c.args.terminal.now c.width.ensures.sound)))
+    rw c.in-None.is (sym (ap (λ (p : Played). p.state) (c.sized_cuts.ensures.none _ c.args.terminal.now c.soundness.ensures)))
 
 pub returns-in-None-clause-lines : goal.returns-in-None-clause-lines
 returns-in-None-clause-lines c =
     rw c.in-None.is
     (sym (append-nil c.args.lines.now.items)
-    ∙ ap (λ (l : List ℕ). c.args.lines.now.items ++ l) (sym (c.sized_pages_cut.ensures.none _ c.args.terminal.now c.width.ensures.sound)))
+    ∙ ap (λ (l : List ℕ). c.args.lines.now.items ++ l) (sym (c.sized_pages_cut.ensures.none _ c.args.terminal.now c.soundness.ensures)))

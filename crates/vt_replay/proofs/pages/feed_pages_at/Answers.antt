@@ -11,8 +11,8 @@ returns-clause-lines c =
     let lines : c.feed_observed.new.observer.lines.now.items
     ≡ c.args.lines.now.items ++ pages c.args.terminal.now (take c.feed_observed.result c.args.piece.now) =
     pages-written c.one_split.ensures c.text_limit-limit.result c.args.terminal.now
-    (take c.feed_observed.result c.args.piece.now) _ _ c.text_limit-limit.ensures c.size.ensures.sound c.width.ensures.sound
-    (c.sized_happened.ensures.size _ _ _ c.width.ensures.sound) c.feed_observed.ensures.saw.2 in
+    (take c.feed_observed.result c.args.piece.now) _ _ c.text_limit-limit.ensures c.size.ensures.sound c.soundness.ensures
+    (c.sized_happened.ensures.size _ _ _ c.soundness.ensures) c.feed_observed.ensures.saw.2 in
     search (rules, lines, c.feed_observed.ensures.saw.0)
 
 pub returns-clause-size : goal.returns-clause-size

@@ -4,7 +4,7 @@ use Rattle.vt_screen.proofs.Steps.{front_none, front_put}
 use Rattle.vt_screen.proofs.between.blank_columns.Goals as goal
 
 pub loop-col-init : goal.loop-col-init
-loop-col-init c = front_none c.args.screen.now c.args.row c.args.left (λ r col. blank) c.width.ensures.grid
+loop-col-init c = front_none c.args.screen.now c.args.row c.args.left (λ r col. blank) c.soundness.ensures.grid
 
 pub loop-col-preserved : goal.loop-col-preserved
 loop-col-preserved c =

@@ -10,7 +10,7 @@ use Rattle.vt_screen.proofs.between.columns_down.Goals as goal
 pub loop-done-init : goal.loop-done-init
 loop-done-init c =
     lower_none c.args.screen.now c.args.bottom c.args.left c.args.right (from_above c.args.screen.now c.args.top c.args.n)
-    c.width.ensures.grid
+    c.soundness.ensures.grid
 
 pub loop-done-preserved : goal.loop-done-preserved
 loop-done-preserved c =

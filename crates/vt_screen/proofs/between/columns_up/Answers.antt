@@ -10,7 +10,7 @@ use Rattle.vt_screen.proofs.between.columns_up.Goals as goal
 pub loop-row-init : goal.loop-row-init
 loop-row-init c =
     upper_none c.args.screen.now c.args.top c.args.left c.args.right (from_below c.args.screen.now c.args.bottom c.args.n)
-    c.width.ensures.grid
+    c.soundness.ensures.grid
 
 pub loop-row-preserved : goal.loop-row-preserved
 loop-row-preserved c =

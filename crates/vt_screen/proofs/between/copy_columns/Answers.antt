@@ -6,7 +6,7 @@ use Rattle.vt_screen.proofs.between.copy_columns.Goals as goal
 
 pub loop-col-init : goal.loop-col-init
 loop-col-init c =
-    front_none c.args.screen.now c.args.to c.args.left (λ r col. cell_at c.args.screen.now c.args.from col) c.width.ensures.grid
+    front_none c.args.screen.now c.args.to c.args.left (λ r col. cell_at c.args.screen.now c.args.from col) c.soundness.ensures.grid
 
 pub loop-col-preserved : goal.loop-col-preserved
 loop-col-preserved c =

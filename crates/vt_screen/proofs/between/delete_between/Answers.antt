@@ -6,7 +6,7 @@ use Rattle.vt_screen.proofs.between.delete_between.Goals as goal
 
 pub loop-c-init : goal.loop-c-init
 loop-c-init c =
-    front_none c.args.screen.now c.args.row c.args.col (from_right c.args.screen.now c.args.right c.args.n) c.width.ensures.grid
+    front_none c.args.screen.now c.args.row c.args.col (from_right c.args.screen.now c.args.right c.args.n) c.soundness.ensures.grid
 
 pub loop-c-preserved : goal.loop-c-preserved
 loop-c-preserved c =

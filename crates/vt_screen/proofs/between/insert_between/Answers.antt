@@ -6,7 +6,7 @@ use Rattle.vt_screen.proofs.between.insert_between.Goals as goal
 
 pub loop-done-init : goal.loop-done-init
 loop-done-init c =
-    behind_none c.args.screen.now c.args.row c.args.right (from_left c.args.screen.now c.args.col c.args.n) c.width.ensures.grid
+    behind_none c.args.screen.now c.args.row c.args.right (from_left c.args.screen.now c.args.col c.args.n) c.soundness.ensures.grid
 
 pub loop-done-preserved : goal.loop-done-preserved
 loop-done-preserved c =

@@ -12,7 +12,7 @@ pub returns-in-Some-clause-lines : goal.returns-in-Some-clause-lines
 returns-in-Some-clause-lines g c =
     let a = c.args in
     let s : State = record a.terminal.now { held = a.parser } in
-    let sound : IsSoundSized s = record { display = c.width.ensures.sound.display; held = c.held.ensures.held_part } in
+    let sound : IsSoundSized s = record { display = c.soundness.ensures.display; held = c.held.ensures.held_part } in
     let next = c.next-event.ensures in
     let read : events_from s.held (a.byte ∷ []) ≡ event_of c.in-Some.kind c.as_slice.result.now ∷ [] =
     rw c.as_slice.ensures.value (one-event s.held _ a.byte _ _ c.copied-ahead.ensures (next.some (omega arith)) next.within
@@ -28,7 +28,7 @@ pub returns-in-Some-clause-tracer : goal.returns-in-Some-clause-tracer
 returns-in-Some-clause-tracer g c =
     let a = c.args in
     let s : State = record a.terminal.now { held = a.parser } in
-    let sound : IsSoundSized s = record { display = c.width.ensures.sound.display; held = c.held.ensures.held_part } in
+    let sound : IsSoundSized s = record { display = c.soundness.ensures.display; held = c.held.ensures.held_part } in
     let next = c.next-event.ensures in
     let read : events_from s.held (a.byte ∷ []) ≡ event_of c.in-Some.kind c.as_slice.result.now ∷ [] =
     rw c.as_slice.ensures.value (one-event s.held _ a.byte _ _ c.copied-ahead.ensures (next.some (omega arith)) next.within
@@ -43,7 +43,7 @@ pub returns-in-Some-clause-bounded : goal.returns-in-Some-clause-bounded
 returns-in-Some-clause-bounded g c =
     let a = c.args in
     let s : State = record a.terminal.now { held = a.parser } in
-    let sound : IsSoundSized s = record { display = c.width.ensures.sound.display; held = c.held.ensures.held_part } in
+    let sound : IsSoundSized s = record { display = c.soundness.ensures.display; held = c.held.ensures.held_part } in
     let next = c.next-event.ensures in
     let read : events_from s.held (a.byte ∷ []) ≡ event_of c.in-Some.kind c.as_slice.result.now ∷ [] =
     rw c.as_slice.ensures.value (one-event s.held _ a.byte _ _ c.copied-ahead.ensures (next.some (omega arith)) next.within
@@ -57,7 +57,7 @@ pub returns-in-Some-clause-capacity : goal.returns-in-Some-clause-capacity
 returns-in-Some-clause-capacity g c =
     let a = c.args in
     let s : State = record a.terminal.now { held = a.parser } in
-    let sound : IsSoundSized s = record { display = c.width.ensures.sound.display; held = c.held.ensures.held_part } in
+    let sound : IsSoundSized s = record { display = c.soundness.ensures.display; held = c.held.ensures.held_part } in
     let next = c.next-event.ensures in
     let read : events_from s.held (a.byte ∷ []) ≡ event_of c.in-Some.kind c.as_slice.result.now ∷ [] =
     rw c.as_slice.ensures.value (one-event s.held _ a.byte _ _ c.copied-ahead.ensures (next.some (omega arith)) next.within
@@ -71,7 +71,7 @@ pub returns-in-None-clause-lines : goal.returns-in-None-clause-lines
 returns-in-None-clause-lines g c =
     let a = c.args in
     let s : State = record a.terminal.now { held = a.parser } in
-    let sound : IsSoundSized s = record { display = c.width.ensures.sound.display; held = c.held.ensures.held_part } in
+    let sound : IsSoundSized s = record { display = c.soundness.ensures.display; held = c.held.ensures.held_part } in
     let next = c.next-event.ensures in
     let read : events_from s.held (a.byte ∷ []) ≡ [] =
     one-event s.held _ a.byte _ [] c.copied-ahead.ensures (next.some (omega arith)) next.within (rw c.in-None.is at next.event) in
@@ -85,7 +85,7 @@ pub returns-in-None-clause-tracer : goal.returns-in-None-clause-tracer
 returns-in-None-clause-tracer g c =
     let a = c.args in
     let s : State = record a.terminal.now { held = a.parser } in
-    let sound : IsSoundSized s = record { display = c.width.ensures.sound.display; held = c.held.ensures.held_part } in
+    let sound : IsSoundSized s = record { display = c.soundness.ensures.display; held = c.held.ensures.held_part } in
     let next = c.next-event.ensures in
     let read : events_from s.held (a.byte ∷ []) ≡ [] =
     one-event s.held _ a.byte _ [] c.copied-ahead.ensures (next.some (omega arith)) next.within (rw c.in-None.is at next.event) in
@@ -98,7 +98,7 @@ pub returns-in-None-clause-bounded : goal.returns-in-None-clause-bounded
 returns-in-None-clause-bounded g c =
     let a = c.args in
     let s : State = record a.terminal.now { held = a.parser } in
-    let sound : IsSoundSized s = record { display = c.width.ensures.sound.display; held = c.held.ensures.held_part } in
+    let sound : IsSoundSized s = record { display = c.soundness.ensures.display; held = c.held.ensures.held_part } in
     let next = c.next-event.ensures in
     let read : events_from s.held (a.byte ∷ []) ≡ [] =
     one-event s.held _ a.byte _ [] c.copied-ahead.ensures (next.some (omega arith)) next.within (rw c.in-None.is at next.event) in
@@ -110,7 +110,7 @@ pub returns-in-None-clause-capacity : goal.returns-in-None-clause-capacity
 returns-in-None-clause-capacity g c =
     let a = c.args in
     let s : State = record a.terminal.now { held = a.parser } in
-    let sound : IsSoundSized s = record { display = c.width.ensures.sound.display; held = c.held.ensures.held_part } in
+    let sound : IsSoundSized s = record { display = c.soundness.ensures.display; held = c.held.ensures.held_part } in
     let next = c.next-event.ensures in
     let read : events_from s.held (a.byte ∷ []) ≡ [] =
     one-event s.held _ a.byte _ [] c.copied-ahead.ensures (next.some (omega arith)) next.within (rw c.in-None.is at next.event) in

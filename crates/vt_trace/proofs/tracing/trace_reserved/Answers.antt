@@ -9,7 +9,7 @@ use Rattle.vt_trace.proofs.tracing.trace_reserved.Goals as goal
 pub loop-at-init : goal.loop-at-init
 unfolding trace tracer_all
 loop-at-init c =
-    let nothing = c.sized_cuts.ensures.none c.args.terminal.now.display.grid.size c.args.terminal.now c.width.ensures.sound in
+    let nothing = c.sized_cuts.ensures.none c.args.terminal.now.display.grid.size c.args.terminal.now c.soundness.ensures in
     let old = c.args.reports.now.items in
     record {
       within = omega arith;
@@ -40,7 +40,7 @@ loop-at-preserved c =
     let inside = simp length-drop at fits in
     let next : take (c.loop-at.at + n) chunk ≡ front ++ part = take-add c.loop-at.at n chunk in
     let tracer : c.trace_front-at.new.tracer ≡ tracer_all s t (take (c.loop-at.at + n) chunk) = rw next (more-tracer (c.sized_cuts-2.ensures.tracer c.args.terminal.now.display.grid.size) s c.loop-at.terminal t c.loop-at.tracer
-    c.trace_front-at.new.tracer front part c.width.ensures.sound was.state was.tracer (rw rest at made.tracer)) in
+    c.trace_front-at.new.tracer front part c.soundness.ensures was.state was.tracer (rw rest at made.tracer)) in
     let place : c.trace_front-at.new.tracer.place ≡ t.place + length (take (c.loop-at.at + n) chunk) =
     ap (λ (t : Tracer). t.place) tracer ∙ place_of_all s t (take (c.loop-at.at + n) chunk) in
     let len = length-take (c.loop-at.at + n) chunk in
@@ -51,7 +51,7 @@ loop-at-preserved c =
       reports = rw next (more-reports c.sized_cuts.ensures.two s c.loop-at.terminal front part c.args.reports.now.items
           c.loop-at.reports.items c.trace_front-at.new.reports.items was.state was.reports (rw rest at made.reports));
       lines = rw next (more-lines (c.sized_cuts-2.ensures.lines c.args.terminal.now.display.grid.size) s c.loop-at.terminal t c.loop-at.tracer front part
-          c.args.out.now.items c.loop-at.out.items c.trace_front-at.new.out.items c.width.ensures.sound was.state was.tracer
+          c.args.out.now.items c.loop-at.out.items c.trace_front-at.new.out.items c.soundness.ensures was.state was.tracer
           was.lines (rw rest at made.lines));
       tracer = tracer;
       place = omega (arith, place, len, inside);

@@ -9,7 +9,7 @@ returns-clause-state c =
     let cuts = c.sized_cuts.ensures in
     c.trace_dialect.ensures.traced.state
     ∙ utf8_state (cuts.none size) cuts.two (c.sized_soundness.ensures.play size) s c.args.decoder.now
-    (take c.trace_dialect.result c.args.chunk.now) c.width.ensures.sound
+    (take c.trace_dialect.result c.args.chunk.now) c.soundness.ensures
 
 pub returns-clause-reports : goal.returns-clause-reports
 returns-clause-reports c =
@@ -19,4 +19,4 @@ returns-clause-reports c =
     c.trace_dialect.ensures.traced.reports
     ∙ ap (λ (l : List ℕ). c.args.reports.now.items ++ l)
     (utf8_reports (cuts.none size) cuts.two (c.sized_soundness.ensures.play size) s c.args.decoder.now
-    (take c.trace_dialect.result c.args.chunk.now) c.width.ensures.sound)
+    (take c.trace_dialect.result c.args.chunk.now) c.soundness.ensures)

@@ -20,4 +20,4 @@ returns-clause-fed g c =
     let text = c.take_text-text in
     let zero : text.result ≡ 0 = omega (arith, c.if-text-gt0.false) in
     feeds-next g.S.Sink.Takes g.S.Sink.OneSize c.in_turn.ensures _ _ _ c.args.decoder.now c.args.piece.now _ _ text.result
-    c.width.ensures.sound zero (text.ensures.takes c.args.log.now c.args.out.now.items) c.feed_whole.ensures.fed
+    c.soundness.ensures zero (text.ensures.takes c.args.log.now c.args.out.now.items) c.feed_whole.ensures.fed

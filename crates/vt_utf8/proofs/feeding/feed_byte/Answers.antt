@@ -13,5 +13,5 @@ feed_completed-requires-clause-one_size g c = c.in_turn.ensures.one_size _ _ _ c
 
 pub returns-clause-fed : goal.returns-clause-fed
 returns-clause-fed g c =
-    feeds-byte g.S.Sink.Takes g.S.Sink.OneSize c.in_turn.ensures _ _ _ c.args.decoder.now c.args.b _ _ _ c.width.ensures.sound
+    feeds-byte g.S.Sink.Takes g.S.Sink.OneSize c.in_turn.ensures _ _ _ c.args.decoder.now c.args.b _ _ _ c.soundness.ensures
     c.push-lost.ensures.characters c.push-lost.ensures.pending c.feed_lost.ensures.takes c.feed_completed.ensures.takes

@@ -4,4 +4,4 @@ pub returns-in-Some-clause-takes : goal.returns-in-Some-clause-takes
 returns-in-Some-clause-takes g c = rw c.in-Some.is c.feed_character.ensures.takes
 
 pub returns-in-None-clause-takes : goal.returns-in-None-clause-takes
-returns-in-None-clause-takes g c = rw c.in-None.is (c.in_turn.ensures.nothing _ c.width.ensures.sound)
+returns-in-None-clause-takes g c = rw c.in-None.is (c.in_turn.ensures.nothing _ c.soundness.ensures)

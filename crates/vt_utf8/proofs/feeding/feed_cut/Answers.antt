@@ -27,7 +27,7 @@ take_some-requires-clause-room g c =
 
 pub returns-clause-fed : goal.returns-clause-fed
 returns-clause-fed g c = λ pending cut.
-    feeds-cut g.S.Sink.Takes g.S.Sink.OneSize c.in_turn.ensures _ _ _ pending c.args.run.now c.take_some.result c.width.ensures.sound
+    feeds-cut g.S.Sink.Takes g.S.Sink.OneSize c.in_turn.ensures _ _ _ pending c.args.run.now c.take_some.result c.soundness.ensures
     c.take_some.ensures.some c.take_some.ensures.within cut c.requires.ascii c.take_beyond.ensures.takes c.take_some.ensures.takes
 
 pub returns-clause-grows : goal.returns-clause-grows

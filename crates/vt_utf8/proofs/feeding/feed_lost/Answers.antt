@@ -17,7 +17,7 @@ returns-in-Some-clause-left g c =
     (room-each g.L.Log.Keeps g.L.Log.HasRoom g.L.Log.IsFull g.met.L.Log.kept c.args.log.now limit c.requires.lines_room)
 
 pub returns-in-None-clause-takes : goal.returns-in-None-clause-takes
-returns-in-None-clause-takes g c = rw c.in-None.is (c.in_turn.ensures.nothing _ c.width.ensures.sound)
+returns-in-None-clause-takes g c = rw c.in-None.is (c.in_turn.ensures.nothing _ c.soundness.ensures)
 
 pub returns-in-None-clause-left : goal.returns-in-None-clause-left
 returns-in-None-clause-left g c =

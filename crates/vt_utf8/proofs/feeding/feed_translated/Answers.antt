@@ -6,4 +6,4 @@ pub feed_silently-requires-clause-silent : goal.feed_silently-requires-clause-si
 feed_silently-requires-clause-silent c =
     ap (λ (bytes : List ℕ). (play c.args.terminal.now bytes).reports)
     (c.as_slice.ensures.value ∙ c.translation-bytes.ensures)
-    ∙ c.sized_silence.ensures.silent c.args.terminal.now.display.grid.size c.args.terminal.now c.args.c c.width.ensures.sound c.requires.beyond
+    ∙ c.sized_silence.ensures.silent c.args.terminal.now.display.grid.size c.args.terminal.now c.args.c c.soundness.ensures c.requires.beyond

@@ -8,7 +8,7 @@ pub feed_silently_log-requires-clause-silent : goal.feed_silently_log-requires-c
 feed_silently_log-requires-clause-silent c =
     ap (λ (bytes : List ℕ). (play c.args.terminal.now bytes).reports)
     (c.as_slice.ensures.value ∙ c.translation-bytes.ensures)
-    ∙ c.sized_silence.ensures.silent c.args.terminal.now.display.grid.size c.args.terminal.now c.args.c c.width.ensures.sound c.requires.beyond
+    ∙ c.sized_silence.ensures.silent c.args.terminal.now.display.grid.size c.args.terminal.now c.args.c c.soundness.ensures c.requires.beyond
 
 -- a line for each of 22 bytes at most
 at-most : (limit count : ℕ) → count ≤ 22 → limit * count ≤ 22 * limit

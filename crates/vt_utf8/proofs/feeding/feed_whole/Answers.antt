@@ -7,7 +7,7 @@ use Rattle.vt_utf8.proofs.feeding.feed_whole.Goals as goal
 pub returns-then-is_full-clause-fed : goal.returns-then-is_full-clause-fed
 returns-then-is_full-clause-fed g c =
     feeds-nothing g.S.Sink.Takes g.S.Sink.OneSize c.in_turn.ensures
-    (point c.args.terminal.now c.args.sink.now c.args.log.now c.args.out.now.items) c.args.decoder.now c.width.ensures.sound
+    (point c.args.terminal.now c.args.sink.now c.args.log.now c.args.out.now.items) c.args.decoder.now c.soundness.ensures
 
 pub take_beyond-requires-clause-lines_room : goal.take_beyond-requires-clause-lines_room
 take_beyond-requires-clause-lines_room g c =

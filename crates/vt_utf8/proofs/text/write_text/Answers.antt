@@ -5,10 +5,10 @@ use Rattle.vt_utf8.proofs.Texts.{writes-none, writes-read}
 use Rattle.vt_utf8.proofs.text.write_text.Goals as goal
 
 pub returns-then-room-eq0-clause-text : goal.returns-then-room-eq0-clause-text
-returns-then-room-eq0-clause-text c = writes-none c.args.terminal.now c.width.ensures.sound.display.cursor.col_last
+returns-then-room-eq0-clause-text c = writes-none c.args.terminal.now c.soundness.ensures.display.cursor.col_last
 
 pub returns-then-taken-eq0-clause-text : goal.returns-then-taken-eq0-clause-text
-returns-then-taken-eq0-clause-text c = writes-none c.args.terminal.now c.width.ensures.sound.display.cursor.col_last
+returns-then-taken-eq0-clause-text c = writes-none c.args.terminal.now c.soundness.ensures.display.cursor.col_last
 
 pub returns-clause-text : goal.returns-clause-text
 returns-clause-text c =

@@ -25,10 +25,10 @@ pub loop-at-init : goal.loop-at-init
 loop-at-init g c =
     let w = whole_of c.args.terminal.now c.args.pages.now in record {
       within = omega arith;
-      fed = feeds-nothing c.one_split.ensures w c.args.out.now.items c.width.ensures.sound.held;
+      fed = feeds-nothing c.one_split.ensures w c.args.out.now.items c.soundness.ensures.held;
       sizes = keep-nothing c.args.terminal.now c.args.pages.now;
       keeps = keeps-nothing g.L.Log.Keeps g.L.Log.HasRoom g.L.Log.IsFull g.met.L.Log.kept c.args.log.now (play_bytes w []).lines
-          (ap (λ (x : WholePlayed). x.lines) (bytes-nothing c.one_split.ensures w c.width.ensures.sound.held));
+          (ap (λ (x : WholePlayed). x.lines) (bytes-nothing c.one_split.ensures w c.soundness.ensures.held));
       bounded = omega arith;
       capacity = omega arith;
     }

@@ -5,5 +5,5 @@ use Rattle.vt_xterm.proofs.log.feed_terminals.Goals as goal
 pub returns-clause-terminals : goal.returns-clause-terminals
 returns-clause-terminals c =
     subst AreTerminals
-    (c.sized_happened.ensures.events c.args.terminal.now.display.grid.size c.args.terminal.now (take c.feed_observed.result c.args.piece.now) c.width.ensures.sound)
+    (c.sized_happened.ensures.events c.args.terminal.now.display.grid.size c.args.terminal.now (take c.feed_observed.result c.args.piece.now) c.soundness.ensures)
     c.feed_observed.ensures.saw

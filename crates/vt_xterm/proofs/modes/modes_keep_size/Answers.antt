@@ -9,7 +9,7 @@ pub returns : goal.returns
 returns c = λ params.
     let t : State = c.args.terminal.now in
     let pages : PagesState = c.args.pages.now in
-    let after = change_page_modes-keeps c.glyphs.ensures c.soundness-2.ensures c.args.on params t.display.grid.size
+    let after = change_page_modes-keeps c.glyphs.ensures c.soundness-3.ensures c.args.on params t.display.grid.size
     (screens t pages)
-    (c.width.ensures.sound.display, subst (λ z. IsSoundPageAt z pages.other) c.requires c.soundness.ensures) in
+    (c.soundness.ensures.display, subst (λ z. IsSoundPageAt z pages.other) c.requires c.soundness-2.ensures) in
     after.1.of_size ∙ sym after.0.of_size

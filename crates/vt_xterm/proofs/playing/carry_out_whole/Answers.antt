@@ -7,7 +7,7 @@ use Rattle.vt_xterm.proofs.playing.carry_out_whole.Goals as goal
 
 pub returns-clause-sizes : goal.returns-clause-sizes
 returns-clause-sizes c =
-    let one = sound-one c.args.terminal.now c.args.pages.now c.width.ensures.sound c.soundness.ensures c.requires.one_size in
+    let one = sound-one c.args.terminal.now c.args.pages.now c.soundness.ensures c.soundness-2.ensures c.requires.one_size in
     let event = event_of c.args.kind c.args.values.now in
     record {
       shown = ap (λ (s : State). s.display.grid.size) c.carry_out.ensures.terminal ∙ c.size_stays.ensures.size event _ one;

@@ -14,7 +14,7 @@ pub loop-at-init : goal.loop-at-init
 loop-at-init c = record {
   within = omega arith;
   fed = feeds-nothing c.one_split.ensures (whole_of c.args.terminal.now c.args.pages.now) c.args.out.now.items
-      c.width.ensures.sound.held;
+      c.soundness.ensures.held;
   sizes = keep-nothing c.args.terminal.now c.args.pages.now;
   bounded = omega arith;
   capacity = omega arith;

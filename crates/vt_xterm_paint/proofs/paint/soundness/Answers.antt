@@ -8,10 +8,10 @@ use Rattle.vt_xterm_paint.proofs.paint.soundness.Goals as goal
 
 pub returns : goal.returns
 returns c = λ fits none.
-    let own = subst (λ (s : Display). IsSoundDisplayAt s.grid.size s) c.requires.scratch c.width-2.ensures.sound.display in
+    let own = subst (λ (s : Display). IsSoundDisplayAt s.grid.size s) c.requires.scratch c.soundness-2.ensures.display in
     let other = subst (λ (z : Size). IsSoundDisplayAt z (other_shown c.args.front.now.pages)) c.requires.size own in
     record {
-      state = c.width.ensures.sound;
+      state = c.soundness.ensures;
       other = record { of_size = other.of_size; grid = other.grid; saved = other.saved; saved_sets = other.saved_sets };
       sides = fits;
       subparameters = kept-none c.args.t.now.held c.args.front.now.pages.subparameters none;

@@ -16,17 +16,17 @@ returns-clause-state c =
 
 pub returns-clause-quiet : goal.returns-clause-quiet
 returns-clause-quiet c =
-    lines-quiet c.one_split.ensures c.controls.ensures c.args.self.now.held _ (rw (← c.self.view_is) c.width.ensures.sound.held)
+    lines-quiet c.one_split.ensures c.controls.ensures c.args.self.now.held _ (rw (← c.self.view_is) c.soundness.ensures.held)
     c.pass_unseen-unseen.ensures.lines
 
 pub returns-then-not-looks-clause-state : goal.returns-then-not-looks-clause-state
 returns-then-not-looks-clause-state c =
-    sym (ap (λ (p : Played). p.state) (c.sized_cuts.ensures.none c.args.self.now.display.grid.size c.args.self.now (rw (← c.self.view_is) c.width.ensures.sound)))
+    sym (ap (λ (p : Played). p.state) (c.sized_cuts.ensures.none c.args.self.now.display.grid.size c.args.self.now (rw (← c.self.view_is) c.soundness.ensures)))
 
 pub returns-then-not-looks-clause-silent : goal.returns-then-not-looks-clause-silent
 returns-then-not-looks-clause-silent c =
-    ap (λ (p : Played). p.reports) (c.sized_cuts.ensures.none c.args.self.now.display.grid.size c.args.self.now (rw (← c.self.view_is) c.width.ensures.sound))
+    ap (λ (p : Played). p.reports) (c.sized_cuts.ensures.none c.args.self.now.display.grid.size c.args.self.now (rw (← c.self.view_is) c.soundness.ensures))
 
 pub returns-then-not-looks-clause-quiet : goal.returns-then-not-looks-clause-quiet
 returns-then-not-looks-clause-quiet c =
-    bells-nil c.one_split.ensures c.args.self.now.held (rw (← c.self.view_is) c.width.ensures.sound.held)
+    bells-nil c.one_split.ensures c.args.self.now.held (rw (← c.self.view_is) c.soundness.ensures.held)

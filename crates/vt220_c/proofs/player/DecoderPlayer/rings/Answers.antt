@@ -18,4 +18,4 @@ returns-clause-bells c =
     (rw c.held.ensures.held at c.rings_in_character.ensures.bells)
     ∙ sym (utf8-rings size c.one_split.ensures c.controls.ensures c.spelled.ensures (c.sized_soundness.ensures.play size)
     c.sized_silence.ensures.plain held (c.sized_one_byte.ensures size) one_cell c.args.terminal.now c.args.self.now c.args.b c.push-character.result.0
-    c.push-character.result.1 c.width.ensures.sound c.push-character.ensures.lost characters)
+    c.push-character.result.1 c.soundness.ensures c.push-character.ensures.lost characters)

@@ -15,7 +15,7 @@ returns-clause-some c =
     λ zero. omega (
       arith,
       no-lines (λ bytes. log c.args.self.now.terminal bytes) c.args.chunk.now lines.items fed.new.lines.items fed.result
-          (c.sized_log_cuts.ensures.none _ c.args.self.now.terminal c.width.ensures.sound)
+          (c.sized_log_cuts.ensures.none _ c.args.self.now.terminal c.soundness.ensures)
           fed.ensures.lines zero,
       fed.new.lines.ok,
       lines.ok,

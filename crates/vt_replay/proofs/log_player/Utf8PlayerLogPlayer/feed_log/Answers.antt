@@ -14,7 +14,7 @@ returns-clause-some c =
     λ zero. omega (
       arith,
       no-lines (λ bytes. log c.args.self.now.terminal (translated c.args.self.now.terminal c.args.self.now.decoder bytes)) c.args.chunk.now lines.items fed.new.lines.items fed.result
-          (utf8_log_none c.args.self.now.terminal c.args.self.now.decoder c.sized_log_cuts.ensures.none c.width.ensures.sound)
+          (utf8_log_none c.args.self.now.terminal c.args.self.now.decoder c.sized_log_cuts.ensures.none c.soundness.ensures)
           fed.ensures.lines zero,
       fed.new.lines.ok,
       lines.ok,
@@ -27,19 +27,19 @@ pub returns-clause-lines_on : goal.returns-clause-lines_on
 returns-clause-lines_on c = λ more.
     let fed = c.feed_utf8_log_reserved in
     utf8_lines _ _ _ _ (take fed.result c.args.chunk.now) more c.sized_cuts.ensures.translated c.sized_log_cuts.ensures.two
-    c.width.ensures.sound fed.ensures.state fed.ensures.pending
+    c.soundness.ensures fed.ensures.state fed.ensures.pending
 
 pub returns-clause-on : goal.returns-clause-on
 returns-clause-on c = λ more.
     let fed = c.feed_utf8_log_reserved in
-    utf8_on _ _ _ _ (take fed.result c.args.chunk.now) more c.sized_cuts.ensures.two c.width.ensures.sound fed.ensures.state
+    utf8_on _ _ _ _ (take fed.result c.args.chunk.now) more c.sized_cuts.ensures.two c.soundness.ensures fed.ensures.state
     fed.ensures.pending
 
 pub returns-clause-after : goal.returns-clause-after
 returns-clause-after c = λ more.
     let fed = c.feed_utf8_log_reserved in
     utf8_kept _ _ _ _ (take fed.result c.args.chunk.now) more c.sized_cuts.ensures.two c.sized_cuts.ensures.pending
-    c.width.ensures.sound fed.ensures.state fed.ensures.pending
+    c.soundness.ensures fed.ensures.state fed.ensures.pending
 
 pub returns-clause-one : goal.returns-clause-one
 returns-clause-one c = λ one. c.feed_utf8_log_reserved.ensures.lines_bounded

@@ -15,7 +15,7 @@ returns-clause-some c =
     λ zero. omega (
       arith,
       no-lines (λ bytes. pages c.args.self.now.terminal bytes) c.args.chunk.now lines.items fed.new.lines.items fed.result
-          (c.sized_pages_cut.ensures.none _ c.args.self.now.terminal c.width.ensures.sound)
+          (c.sized_pages_cut.ensures.none _ c.args.self.now.terminal c.soundness.ensures)
           fed.ensures.lines zero,
       fed.new.lines.ok,
       lines.ok,
@@ -28,7 +28,7 @@ pub returns-clause-lines_on : goal.returns-clause-lines_on
 returns-clause-lines_on c = λ more.
     let fed = c.feed_pages_at in
     (pages_after _ _ (take fed.result c.args.chunk.now) c.sized_cuts.ensures.two c.sized_pages_cut.ensures.two
-    c.sized_pages_cut.ensures.none c.sized_soundness.ensures.play c.width.ensures.sound fed.ensures.state).on more
+    c.sized_pages_cut.ensures.none c.sized_soundness.ensures.play c.soundness.ensures fed.ensures.state).on more
 
 pub returns-clause-on : goal.returns-clause-on
 returns-clause-on c = λ more.

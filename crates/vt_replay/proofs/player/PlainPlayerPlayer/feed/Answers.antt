@@ -13,4 +13,4 @@ returns-clause-after c = λ more.
 
 pub returns-clause-screen : goal.returns-clause-screen
 returns-clause-screen c =
-    plain_stays _ _ c.args.chunk.now c.sized_soundness.ensures.play c.width.ensures.sound c.feed_reserved.ensures.state
+    plain_stays _ _ c.args.chunk.now c.sized_soundness.ensures.play c.soundness.ensures c.feed_reserved.ensures.state

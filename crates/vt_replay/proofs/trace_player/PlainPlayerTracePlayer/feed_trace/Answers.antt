@@ -15,12 +15,12 @@ returns-clause-some c =
 pub returns-clause-lines_on : goal.returns-clause-lines_on
 returns-clause-lines_on c = λ more.
     let fed = c.trace_reserved.ensures in
-    plain_trace _ _ _ _ (take c.trace_reserved.result c.args.chunk.now) more c.width.ensures.sound fed.state fed.tracer c.sized_cuts-2.ensures.lines
+    plain_trace _ _ _ _ (take c.trace_reserved.result c.args.chunk.now) more c.soundness.ensures fed.state fed.tracer c.sized_cuts-2.ensures.lines
 
 pub returns-clause-tracer_on : goal.returns-clause-tracer_on
 returns-clause-tracer_on c = λ more.
     let fed = c.trace_reserved.ensures in
-    plain_tracer _ _ _ _ (take c.trace_reserved.result c.args.chunk.now) more c.width.ensures.sound fed.state fed.tracer c.sized_cuts-2.ensures.tracer
+    plain_tracer _ _ _ _ (take c.trace_reserved.result c.args.chunk.now) more c.soundness.ensures fed.state fed.tracer c.sized_cuts-2.ensures.tracer
 
 pub returns-clause-after : goal.returns-clause-after
 returns-clause-after c = λ more.

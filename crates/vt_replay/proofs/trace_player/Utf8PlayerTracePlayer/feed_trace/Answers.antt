@@ -15,20 +15,20 @@ returns-clause-some c =
 pub returns-clause-lines_on : goal.returns-clause-lines_on
 returns-clause-lines_on c = λ more.
     let fed = c.trace_utf8_reserved.ensures in
-    utf8_trace _ _ _ _ _ _ (take c.trace_utf8_reserved.result c.args.chunk.now) more c.width.ensures.sound fed.state fed.pending fed.tracer
+    utf8_trace _ _ _ _ _ _ (take c.trace_utf8_reserved.result c.args.chunk.now) more c.soundness.ensures fed.state fed.pending fed.tracer
     c.sized_utf8_cuts.ensures.lines
 
 pub returns-clause-tracer_on : goal.returns-clause-tracer_on
 returns-clause-tracer_on c = λ more.
     let fed = c.trace_utf8_reserved.ensures in
-    utf8_tracer _ _ _ _ _ _ (take c.trace_utf8_reserved.result c.args.chunk.now) more c.width.ensures.sound fed.state fed.pending fed.tracer
+    utf8_tracer _ _ _ _ _ _ (take c.trace_utf8_reserved.result c.args.chunk.now) more c.soundness.ensures fed.state fed.pending fed.tracer
     c.sized_utf8_cuts.ensures.tracer
 
 pub returns-clause-after : goal.returns-clause-after
 returns-clause-after c = λ more.
     let fed = c.trace_utf8_reserved in
     utf8_kept _ _ _ _ (take fed.result c.args.chunk.now) more c.sized_cuts.ensures.two c.sized_cuts.ensures.pending
-    c.width.ensures.sound fed.ensures.state fed.ensures.pending
+    c.soundness.ensures fed.ensures.state fed.ensures.pending
 
 pub returns-clause-place : goal.returns-clause-place
 returns-clause-place c =

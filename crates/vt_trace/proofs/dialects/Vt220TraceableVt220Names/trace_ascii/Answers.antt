@@ -12,7 +12,7 @@ returns-clause-traced c =
     let bytes = take c.trace_front.result c.args.run.now in
     let all = shorter_ascii c.trace_front.result c.args.run.now c.requires.ascii in
     traces_ascii (c.sized_cuts.ensures.none size) c.sized_cuts.ensures.two (c.sized_soundness.ensures.play size) s _
-    c.args.tracer.now _ bytes c.args.reports.now.items _ c.args.out.now.items _ c.width.ensures.sound all
+    c.args.tracer.now _ bytes c.args.reports.now.items _ c.args.out.now.items _ c.soundness.ensures all
     (c.ascii.ensures.played s bytes all) made.state made.reports made.lines made.tracer
 
 pub returns-clause-size : goal.returns-clause-size

@@ -12,7 +12,7 @@ of-cells-requires g c =
     ap (λ (m : Margins). m.bottom) c.margins-top.ensures in
     let top : c.margins-top.result.top ≡ c.args.to.now.display.margins.top =
     ap (λ (m : Margins). m.top) c.margins-top.ensures in
-    let margins = c.width-by-end.ensures.sound.display.margins in (
+    let margins = c.soundness.ensures.display.margins in (
       votes-fit g.row.R c.requires.rows,
       omega (arith, c.loop-by-test.true, bottom, top, margins.from_row_1, margins.to_last_row, c.requires.fits),
     )

@@ -22,13 +22,13 @@ returns-clause-keeps c =
     let size = c.args.terminal.now.display.grid.size in
     let bytes = take c.feed_observed.result c.args.piece.now in
     let short : All (IsShort c.row_text_limit-self.result) (happenings c.args.terminal.now bytes) =
-    happenings-short c.row_text_limit-self.result size _ (c.sized_happened.ensures.size size c.args.terminal.now bytes c.width-self.ensures.sound)
+    happenings-short c.row_text_limit-self.result size _ (c.sized_happened.ensures.size size c.args.terminal.now bytes c.soundness.ensures)
     (omega (arith, c.row_text_limit-self.ensures)) in
     let saw = c.feed_observed.ensures.saw.0 in (
       saw.0,
       saw.2,
       saw.3.lines short ∙ ap (λ (rows : List (List Cell)). c.args.self.now.lines.now.items ++ flat_map line_text rows)
-          (c.sized_happened.ensures.lines size c.args.terminal.now bytes c.width-self.ensures.sound),
+          (c.sized_happened.ensures.lines size c.args.terminal.now bytes c.soundness.ensures),
       saw.4,
       saw.5,
     )

@@ -10,18 +10,18 @@ pub returns-clause-terminals : goal.returns-clause-terminals
 returns-clause-terminals c =
     subst AreTerminals
     (c.sized_happened.ensures.events c.args.terminal.now.display.grid.size c.args.terminal.now (take c.feed_observed.result c.args.piece.now)
-    c.width-self.ensures.sound) c.feed_observed.ensures.saw.1
+    c.soundness.ensures) c.feed_observed.ensures.saw.1
 
 pub returns-clause-keeps : goal.returns-clause-keeps
 returns-clause-keeps c =
     let bytes = take c.feed_observed.result c.args.piece.now in
     let short = happenings-short c.row_text_limit-self.result c.args.terminal.now.display.grid.size _
-    (c.sized_happened.ensures.size c.args.terminal.now.display.grid.size c.args.terminal.now bytes c.width-self.ensures.sound) (omega (arith, c.row_text_limit-self.ensures)) in
+    (c.sized_happened.ensures.size c.args.terminal.now.display.grid.size c.args.terminal.now bytes c.soundness.ensures) (omega (arith, c.row_text_limit-self.ensures)) in
     let saw = c.feed_observed.ensures.saw.0 in (
       saw.0,
       saw.2,
       saw.3.lines short ∙ ap (λ (rows : List (List Cell)). c.args.self.now.lines.now.items ++ flat_map line_text rows)
-          (c.sized_happened.ensures.lines c.args.terminal.now.display.grid.size c.args.terminal.now bytes c.width-self.ensures.sound),
+          (c.sized_happened.ensures.lines c.args.terminal.now.display.grid.size c.args.terminal.now bytes c.soundness.ensures),
       saw.4,
       saw.5,
     )

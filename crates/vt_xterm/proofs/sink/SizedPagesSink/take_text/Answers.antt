@@ -13,8 +13,8 @@ returns-clause-takes g c = λ log out.
     (text-written c.spelled.ensures (c.sized_text.ensures.plays size) (c.sized_text.ensures.off size) c.glyph_runs.ensures.leaves
     c.glyph_runs.ensures.two (c.sized_soundness.ensures.play size) c.args.self.now c.if-has_sides.ensures.none
     (c.if-not-is_outside.ensures.0 refl) s text.new.terminal
-    bytes c.width.ensures.sound text.ensures.text)
-    (text-plays (c.sized_text.ensures.plays size) s text.new.terminal bytes c.width.ensures.sound text.ensures.text)
+    bytes c.soundness.ensures text.ensures.text)
+    (text-plays (c.sized_text.ensures.plays size) s text.new.terminal bytes c.soundness.ensures text.ensures.text)
 
 pub returns-clause-left : goal.returns-clause-left
 returns-clause-left g c = c.write_text.ensures.text.pending

@@ -15,10 +15,10 @@ returns-clause-state c = c.feed_xterm_character.ensures.whole
 pub returns-clause-silent : goal.returns-clause-silent
 returns-clause-silent c =
     beyond-silent (λ s x high sound. c.sized_silence.ensures.silent _ s x sound high) c.args.terminal.now c.args.self.now
-    c.args.c c.requires.beyond c.width.ensures.sound
+    c.args.c c.requires.beyond c.soundness.ensures
 
 pub returns-clause-out : goal.returns-clause-out
 returns-clause-out c =
     beyond-out c.args.terminal.now c.args.self.now c.args.c c.args.reports.now.items _ c.feed_xterm_character.ensures.reports
     (beyond-silent (λ s x high sound. c.sized_silence.ensures.silent _ s x sound high) c.args.terminal.now c.args.self.now
-    c.args.c c.requires.beyond c.width.ensures.sound)
+    c.args.c c.requires.beyond c.soundness.ensures)

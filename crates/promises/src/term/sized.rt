@@ -1,4 +1,5 @@
 //! The calls of vt_term/src/sized.
+ghost use Rattle.promises.specs.v0_4.term.Sound.{IsSoundSized};
 ghost use Rattle.promises.specs.v0_4.term.State.{state_of};
 ghost use Rattle.std.specs.Prelude.{IfOk, ◌≡◌};
 ghost use Rattle.vt_screen.specs.Sizes.{IsSize};
@@ -21,4 +22,11 @@ pub fn sized_terminal_size(sized_terminal: &SizedTerminal) -> Size
     ensures sound { IsSize sized_terminal.now.display.grid.size }
 {
     sized_terminal.size()
+}
+
+/// Promises what `sized_terminal.soundness` promises.
+pub fn sized_terminal_soundness(sized_terminal: &SizedTerminal)
+    ensures { IsSoundSized sized_terminal.now }
+{
+    sized_terminal.soundness()
 }

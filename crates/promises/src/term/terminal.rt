@@ -15,6 +15,13 @@ use vt_screen::{Brush, Cell};
 use vt_syntax::{Held, Parser};
 use vt_term::{Cursor, Margins, Modes, Page, ROW_TEXT_LIMIT, STOPS, Saved, TEXT_LIMIT, Terminal};
 
+/// Promises what `terminal.soundness` promises.
+pub fn terminal_soundness(terminal: &Terminal)
+    ensures { IsSound terminal.now }
+{
+    terminal.soundness()
+}
+
 /// Promises what `Terminal::new` promises.
 pub fn terminal_new(alloc: Global) -> Result<Terminal, AllocError>
     ensures { IfOk result (λ t. t ≡ power_up) }

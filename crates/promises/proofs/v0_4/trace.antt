@@ -1,5 +1,6 @@
 pub mod Lines
 pub mod Names
+pub mod Spans
 pub mod Skipped
 pub mod Summary
 pub mod Ignored

@@ -10,6 +10,7 @@ pub mod Encoding
 pub mod Words
 pub mod Log
 pub mod Traces
+pub mod Summaries
 pub mod Host
 pub mod Request
 pub mod EventTable

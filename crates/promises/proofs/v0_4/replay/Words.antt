@@ -3,11 +3,9 @@ use Rattle.promises.proofs.v0_4.replay.Encoding.{decoded-same}
 use Rattle.promises.proofs.v0_4.replay.Log.{lines_on-same, lines_with-same, screen_with-same}
 use Rattle.promises.proofs.v0_4.replay.Resizes.{plain_session-same, replayed_with-same, utf8_begun-same}
 use Rattle.promises.proofs.v0_4.replay.Resizes.{utf8_session-same, xterm_begun-same, xterm_session-same}
+use Rattle.promises.proofs.v0_4.replay.Summaries.{summary_with-same}
 use Rattle.promises.proofs.v0_4.replay.Traces.{trace_end_with-same, trace_with-same}
 use Rattle.promises.proofs.v0_4.term.State.{state_of-same}
-use Rattle.promises.proofs.v0_4.trace.Summary.{summary_on-same}
-use Rattle.promises.proofs.v0_4.trace.Utf8.{summary_utf8_by-same, summary_utf8_on-same}
-use Rattle.promises.proofs.v0_4.xterm_trace.Names.{xterm_listing-same}
 use Rattle.promises.specs.v0_4.replay.Words as frozen
 use Rattle.std.proofs.Common.{◌≡◌}
 use Rattle.std.specs.Prelude.{List, Result, ℕ}
@@ -38,14 +36,6 @@ pages_with-at size resizes language.Xterm bytes = λ ι. (lines_on-same ι) (pag
 pub pages_with-same : frozen.pages_with ≡ today.pages_with
 pages_with-same = λ ι x0 x1 x2 x3. pages_with-at x0 x1 x2 x3 ι
 
-pub summary_at-at : (x0 : Size) (x1 : Language) (x2 : List ℕ) → frozen.summary_at x0 x1 x2 ≡ today.summary_at x0 x1 x2
-summary_at-at size language.Dec bytes = λ ι. (summary_on-same ι) size.rows bytes
-summary_at-at size language.Utf8 bytes = λ ι. (summary_utf8_on-same ι) size.rows bytes
-summary_at-at size language.Xterm bytes = λ ι. (summary_utf8_by-same ι) (xterm_listing-same ι) size.rows bytes
-
-pub summary_at-same : frozen.summary_at ≡ today.summary_at
-summary_at-same = λ ι x0 x1 x2. summary_at-at x0 x1 x2 ι
-
 pub of_decoded-same : frozen.of_decoded ≡ today.of_decoded
 of_decoded-same = λ ι encoding written ending. record {
   written = λ bytes. written ((decoded-same ι) encoding bytes);
@@ -67,7 +57,7 @@ due_of-at Trace size resizes terminal encoding = λ ι.
     record { written = (trace_with-same ι) size resizes language; ending = (trace_end_with-same ι) size resizes language; there = always }
 due_of-at Summary size resizes terminal encoding = λ ι.
     let language = language_of terminal encoding in
-    record { written = nothing; ending = (summary_at-same ι) size language; there = always }
+    record { written = nothing; ending = (summary_with-same ι) size resizes language; there = always }
 due_of-at Events size resizes terminal encoding = λ ι. (of_decoded-same ι) Dec all nothing
 due_of-at Content size resizes terminal encoding = λ ι. (of_decoded-same ι) encoding all nothing
 due_of-at Search size resizes terminal encoding = λ ι. (of_decoded-same ι) Dec all nothing

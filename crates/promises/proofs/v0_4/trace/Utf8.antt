@@ -3,6 +3,7 @@ use Rattle.promises.proofs.v0_4.term.Happenings.{happening-same}
 use Rattle.promises.proofs.v0_4.term.Names.{name_on-same}
 use Rattle.promises.proofs.v0_4.term.Play.{play-same}
 use Rattle.promises.proofs.v0_4.trace.Names.{vt220_listing-same}
+use Rattle.promises.proofs.v0_4.trace.Spans.{summary_in-same}
 use Rattle.promises.proofs.v0_4.trace.Summary.{summary_by-same}
 use Rattle.promises.proofs.v0_4.trace.Trace.{open_lines-same, text_of-same, traced_at-same, tracer_at-same}
 use Rattle.promises.proofs.v0_4.utf8.Decoding.{characters-same, pending_after-same, read-same}
@@ -14,6 +15,7 @@ use Rattle.std.specs.Prelude.{◌∷◌, ◌≡◌}
 use Rattle.vt_screen.specs.Grid.{last_row}
 use Rattle.vt_term.specs.Happenings.{Happening}
 use Rattle.vt_trace.specs.Lines.{Names}
+use Rattle.vt_trace.specs.Spans.{Span}
 use Rattle.vt_trace.specs.Utf8 as today
 use Rattle.vt_trace.specs.Utf8.{counted_as, Dialect, tracer_beyond}
 use Rattle.vt_trace.specs.declared.tracing.Tracer.{Tracer}
@@ -141,6 +143,18 @@ summary_utf8_by-same = λ ι d rows bytes. (summary_by-same ι) d rows ((counted
 
 pub summary_utf8_on-same : frozen.summary_utf8_on ≡ today.summary_utf8_on
 summary_utf8_on-same = λ ι rows bytes. (summary_utf8_by-same ι) (vt220_listing-same ι) rows bytes
+
+pub counted_spans-at : (pending : List ℕ) (x1 : List Span) → frozen.counted_spans pending x1 ≡ today.counted_spans pending x1
+counted_spans-at pending [] = λ ι. []
+counted_spans-at pending (span ∷ spans) = λ ι.
+    record { rows = span.rows; bytes = (counted_bytes-same ι) pending span.bytes } ∷ (counted_spans-at ((pending_after-same ι) pending span.bytes) spans ι)
+
+pub counted_spans-same : frozen.counted_spans ≡ today.counted_spans
+counted_spans-same = λ ι pending x1. counted_spans-at pending x1 ι
+
+pub summary_utf8_in-same : frozen.summary_utf8_in ≡ today.summary_utf8_in
+unfolding frozen.summary_utf8_in today.summary_utf8_in
+summary_utf8_in-same = λ ι d spans. (summary_in-same ι) d ((counted_spans-same ι) [] spans)
 
 pub summary_utf8-same : frozen.summary_utf8 ≡ today.summary_utf8
 summary_utf8-same = λ ι bytes. (summary_utf8_on-same ι) last_row bytes

@@ -102,6 +102,7 @@ changes_size (Animation looks) = true
 changes_size Log = true
 changes_size Pages = true
 changes_size Trace = true
+changes_size Summary = true
 changes_size Search = true
 changes_size word = false
 

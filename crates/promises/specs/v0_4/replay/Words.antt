@@ -6,11 +6,9 @@ use Rattle.promises.specs.v0_4.replay.Playing.{language_of}
 use Rattle.promises.specs.v0_4.replay.Resizes.{plain_session, replayed_with, utf8_begun, utf8_session, xterm_begun}
 use Rattle.promises.specs.v0_4.replay.Resizes.{xterm_session}
 use Rattle.promises.specs.v0_4.replay.Showing.{ShownTable}
+use Rattle.promises.specs.v0_4.replay.Summaries.{summary_with}
 use Rattle.promises.specs.v0_4.replay.Traces.{trace_end_with, trace_with}
 use Rattle.promises.specs.v0_4.term.State.{state_of}
-use Rattle.promises.specs.v0_4.trace.Summary.{summary_on}
-use Rattle.promises.specs.v0_4.trace.Utf8.{summary_utf8_by, summary_utf8_on}
-use Rattle.promises.specs.v0_4.xterm_trace.Names.{xterm_listing}
 use Rattle.std.specs.Prelude.{List, Result, ℕ}
 use Rattle.vt_cli.specs.declared.what.Word.TheVariants.{Animation, Content, Events, Index, Log, Pages, Replay, Search}
 use Rattle.vt_cli.specs.declared.what.Word.TheVariants.{Summary, Trace}
@@ -33,12 +31,6 @@ pages_with size resizes language.Dec bytes = lines_on (paged plain_session) (sta
 pages_with size resizes language.Utf8 bytes = lines_on (paged utf8_session) (utf8_begun size) resizes bytes
 pages_with size resizes language.Xterm bytes = lines_on (paged xterm_session) (xterm_begun size) resizes bytes
 
--- the summary of the host's bytes in each language. Under TERM=xterm the events have its names
-abbrev pub summary_at : Size → Language → List ℕ → List ℕ
-summary_at size language.Dec bytes = summary_on size.rows bytes
-summary_at size language.Utf8 bytes = summary_utf8_on size.rows bytes
-summary_at size language.Xterm bytes = summary_utf8_by xterm_listing size.rows bytes
-
 -- what is due of the terminal's bytes for the host's
 abbrev pub of_decoded : Encoding → (written ending : List ℕ → List ℕ) → Due
 of_decoded encoding written ending = record {
@@ -48,7 +40,7 @@ of_decoded encoding written ending = record {
 }
 
 -- what is due by each word, a row a word, for a terminal of a size, whose screen changes its size, and in an encoding.
--- A replay, a log, its pages and a trace carry the changes out. A picture that moves, the table of events, the spans of a search and an index are
+-- A replay, a log, its pages, a trace and a summary carry the changes out. A picture that moves, the table of events, the spans of a search and an index are
 -- ready before they are written. What content writes under TERM=xterm is below
 abbrev pub due_of : Word → Size → List Resize → TerminalType → Encoding → Due
 due_of (Replay what) size resizes terminal encoding = replayed_with size resizes (language_of terminal encoding) what
@@ -64,7 +56,7 @@ due_of Trace size resizes terminal encoding =
     record { written = trace_with size resizes language; ending = trace_end_with size resizes language; there = always }
 due_of Summary size resizes terminal encoding =
     let language = language_of terminal encoding in
-    record { written = nothing; ending = summary_at size language; there = always }
+    record { written = nothing; ending = summary_with size resizes language; there = always }
 due_of Events size resizes terminal encoding = of_decoded Dec all nothing
 due_of Content size resizes terminal encoding = of_decoded encoding all nothing
 due_of Search size resizes terminal encoding = of_decoded Dec all nothing

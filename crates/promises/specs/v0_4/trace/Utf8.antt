@@ -5,6 +5,7 @@ use Rattle.promises.specs.v0_4.term.Names.{name_on}
 use Rattle.promises.specs.v0_4.term.Play.{play}
 use Rattle.promises.specs.v0_4.trace.Lines.{Names}
 use Rattle.promises.specs.v0_4.trace.Names.{vt220_listing}
+use Rattle.promises.specs.v0_4.trace.Spans.{summary_in}
 use Rattle.promises.specs.v0_4.trace.Summary.{summary_by}
 use Rattle.promises.specs.v0_4.trace.Trace.{between, open_lines, text_of, traced_at, tracer_at}
 use Rattle.promises.specs.v0_4.utf8.Decoding.{characters, pending_after, read}
@@ -14,6 +15,7 @@ use Rattle.std.specs.Prelude.{◌++◌, ◌+◌, ◌==◌, ◌∷◌, ◌≡◌}
 use Rattle.vt_term.specs.Happenings.{Happening}
 use Rattle.vt_term.specs.State.{State}
 use Rattle.vt_trace.specs.Names.{Listing}
+use Rattle.vt_trace.specs.Spans.{Span}
 use Rattle.vt_trace.specs.Utf8.{Dialect}
 use Rattle.vt_trace.specs.declared.tracing.Tracer.{Tracer}
 
@@ -118,6 +120,16 @@ summary_utf8_by d rows bytes = summary_by d rows (counted_bytes [] bytes)
 -- the summary of a host's UTF-8 by a VT220's names, on a screen of so many rows
 abbrev pub summary_utf8_on : ℕ → List ℕ → List ℕ
 summary_utf8_on rows bytes = summary_utf8_by vt220_listing rows bytes
+
+-- the spans that are counted for spans of UTF-8 after a pending part
+abbrev pub counted_spans : (pending : List ℕ) → List Span → List Span
+counted_spans pending [] = []
+counted_spans pending (span ∷ spans) =
+    record { rows = span.rows; bytes = counted_bytes pending span.bytes } ∷ counted_spans (pending_after pending span.bytes) spans
+
+-- the summary of a host's UTF-8 that comes in spans
+unfoldable pub summary_utf8_in : Listing → List Span → List ℕ
+summary_utf8_in d spans = summary_in d (counted_spans [] spans)
 
 -- the summary of a host's UTF-8 on a VT220
 abbrev pub summary_utf8 : List ℕ → List ℕ

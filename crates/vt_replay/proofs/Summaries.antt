@@ -1,5 +1,5 @@
 -- The summary as an output: what is written at the end of bytes that come, with changes between them.
-use Rattle.std.proofs.Common.{◌≡◌, ℕ, ◌+◌, ◌-◌, ◌≤◌, List, [], ◌∷◌, ◌++◌, length, take, drop, Bool, true, false, nat_le, nat_lt, sym, ap, ◌∙◌, refl, arith}
+use Rattle.std.proofs.Common.{◌≡◌, ℕ, ◌+◌, ◌-◌, List, [], ◌∷◌, ◌++◌, length, take, drop, Bool, true, false, nat_lt, sym, ap, ◌∙◌, refl, arith}
 use Rattle.std.proofs.Common.{append_assoc, append-nil, slice_index_or}
 use Rattle.std.proofs.lemmas.Bool.Decides.{nat_tests}
 use Rattle.std.proofs.Math.Logic.{∥∥₁_elim, ∥∥₁_map}

@@ -18,4 +18,3 @@ mod Found
 mod PlainTables
 mod XtermBounded
 mod XtermIgnored
-mod FrameNumbers

@@ -5,7 +5,7 @@ ghost use Rattle.json.specs.Value.{value_view, items_view};
 ghost use Rattle.json.specs.Json.{document};
 ghost use Rattle.json.specs.Reads.{token_of};
 ghost use Rattle.vt_recording.specs.Asciicast.{trimmed, without_mark, json_text, version_of, document_in, version_in, event_of, event_in, is_silent, clock_after, in_time};
-ghost use Rattle.vt_recording.specs.Asciicast.{begins_array, ends_array, number_in, string_in, event_from, is_text, is_output, frame_of, names_one, items_in, frames_of};
+ghost use Rattle.vt_recording.specs.Asciicast.{begins_array, ends_array, number_in, string_in, event_from, is_text, frame_of, names_one, items_in, frames_of};
 ghost use Rattle.vt_recording.specs.Events.{event_view};
 
 use crate::seconds::micros_of_number;
@@ -266,13 +266,6 @@ pub(crate) fn clock_after(version: u64, clock: u64, micros: u64) -> u64
     } else {
         clock.saturating_add(micros)
     }
-}
-
-/// Returns whether a code is that of output.
-pub(crate) fn is_output(code: &str) -> bool
-    ensures { result ≡ is_output code.now }
-{
-    code == "o"
 }
 
 /// Returns whether a time isn't after the moment.

@@ -16,8 +16,4 @@ mod Replays
 mod Values
 mod Versions
 mod Changing
-mod Words
 mod Searches
-mod Unescaped
-mod UsualTimes
-mod UsualLines

@@ -9,7 +9,6 @@ ghost use Rattle.vt_recording.specs.Asciicast.{begins_array, ends_array, number_
 ghost use Rattle.vt_recording.specs.Events.{event_view};
 
 use crate::seconds::micros_of_number;
-use crate::usual::usual_event;
 use json::{Error, Reader, Scratch, Token, Value};
 use std::alloc::{AllocError, Global};
 
@@ -157,41 +156,11 @@ fn event_of<'a>(reader: &mut Reader<'a>) -> Option<Event<'a>>
     event_from(time, code, text)
 }
 
-/// What reading lines needs, kept from line to line.
-#[derive(Drop)]
-pub(crate) struct LineScratch {
-    /// For the reader of JSON.
-    pub(crate) json: Scratch,
-    /// The text of an event that has escapes.
-    text: Vec<u8>,
-}
-
-impl LineScratch {
-    /// Returns one that is empty.
-    pub(crate) fn new(alloc: Global) -> LineScratch {
-        LineScratch {
-            json: Scratch::new(alloc),
-            text: Vec::new(alloc),
-        }
-    }
-}
-
 /// Returns the event in a line, if there is one.
 pub(crate) fn event_in<'a>(
     line: &'a [u8],
-    scratch: &'a mut LineScratch,
+    scratch: &'a mut Scratch,
 ) -> Result<Option<Event<'a>>, AllocError>
-    ensures { IfOk result (λ event. option_map event_view event ≡ event_in line.entry.now) }
-{
-    let json = &mut scratch.json;
-    match usual_event(line, &mut scratch.text)? {
-        Some(event) => Ok(Some(event)),
-        None => any_event(line, json),
-    }
-}
-
-/// Returns the event in a line by the reader of JSON, if there is one.
-fn any_event<'a>(line: &'a [u8], scratch: &'a mut Scratch) -> Result<Option<Event<'a>>, AllocError>
     ensures { IfOk result (λ event. option_map event_view event ≡ event_in line.entry.now) }
 {
     let Ok(text) = std::str::from_utf8(line) else {

@@ -8,7 +8,6 @@ mod changes;
 mod characters;
 mod content;
 mod detection;
-mod escapes;
 mod format;
 mod heading;
 pub mod laws;
@@ -23,7 +22,6 @@ mod taking;
 mod timeline;
 mod timing;
 mod ttyrec;
-mod usual;
 
 pub use asciicast::json_text;
 pub use changes::{Change, TakenWithChanges, Window, changes_of, take_with_changes};

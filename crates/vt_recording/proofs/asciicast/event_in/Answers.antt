@@ -1,7 +1,7 @@
 use Rattle.std.proofs.Common.{◌∙◌, ap}
 use Rattle.vt_recording.specs.Asciicast.{event_of}
 use Rattle.vt_recording.proofs.Texts.{event_is}
-use Rattle.vt_recording.proofs.asciicast.any_event.Goals as goal
+use Rattle.vt_recording.proofs.asciicast.event_in.Goals as goal
 
 pub returns-in-Ok-new : goal.returns-in-Ok-new
 returns-in-Ok-new c =

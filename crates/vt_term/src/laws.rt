@@ -84,32 +84,12 @@ pub fn sized_happened()
     sized_soundness();
 }
 
-/// States that the happenings of bytes, one for each byte, have the events of the bytes and the lines that they scroll
-/// off. They may be told in parts.
-pub fn happened()
-    ensures events { (s : State) (bytes : List ℕ) → IsSound s → events_in (happenings s bytes) ≡ events_from s.held bytes }
-    ensures lines { (s : State) (bytes : List ℕ) → IsSound s → lines_in (happenings s bytes) ≡ scrolled_off s bytes }
-    ensures count { (s : State) (bytes : List ℕ) → length (happenings s bytes) ≡ length bytes }
-    ensures two { (s : State) (a b : List ℕ) → IsSound s
-        → happenings s (a ++ b) ≡ happenings s a ++ happenings (play s a).state b }
-{
-    sized_happened();
-}
-
 /// States that the log of chunks in turn is the log of the chunks joined, at any size.
 pub fn sized_log_cuts()
     ensures none { (size : Size) (s : State) → IsSoundAt size s → log s [] ≡ [] }
     ensures two { (s : State) (a b : List ℕ) → log s (a ++ b) ≡ log s a ++ log (play s a).state b }
 {
     one_split();
-}
-
-/// States that the log of chunks in turn is the log of the chunks joined.
-pub fn log_cuts()
-    ensures none { (s : State) → IsSound s → log s [] ≡ [] }
-    ensures two { (s : State) (a b : List ℕ) → log s (a ++ b) ≡ log s a ++ log (play s a).state b }
-{
-    sized_log_cuts();
 }
 
 /// States what the events do that scroll line 1 off: the rows up to the bottom margin move up by one. A line feed does nothing

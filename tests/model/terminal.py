@@ -210,15 +210,10 @@ class Terminal:
         marker = text[:1] if text[:1] in ("<", "=", ">", "?") else ""
         parameters = text[len(marker):].rstrip("".join(map(chr, range(0x20, 0x30))))
         intermediates = text[len(marker) + len(parameters):]
-        parameters = self.without_subparameters(parameters, marker + intermediates + chr(byte))
         is_spoilt = any(c not in "0123456789;" for c in parameters) or len(intermediates) > 1
         if not is_spoilt:
             values = [min(int(part or "0"), GREATEST_VALUE) for part in parameters.split(";")][:MOST_VALUES]
             self.control_sequence(marker, values, intermediates, chr(byte))
-
-    def without_subparameters(self, parameters, name):
-        """A VT220 has no subparameters: a colon spoils a sequence."""
-        return parameters
 
     # Graphic bytes.
 

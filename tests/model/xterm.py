@@ -75,12 +75,6 @@ class Xterm(Utf8Terminal):
         else:
             super().control_sequence(marker, values, intermediate, final)
 
-    def without_subparameters(self, parameters, name):
-        """Only SGR has subparameters."""
-        if name != "m" or set(parameters) - set("0123456789:;"):
-            return parameters
-        return ";".join(map(without_subparameters, parameters.split(";")))
-
     def soft_reset(self):
         super().soft_reset()
         self.set_mode("DECAWM", True)
@@ -311,16 +305,6 @@ class Xterm(Utf8Terminal):
 
     def want_brackets(self, is_wanted):
         self.paste = is_wanted
-
-
-def without_subparameters(parameter):
-    """Returns what a parameter of SGR with its subparameters stands for: 4:0 for 4 and 24, a style for 4, and any other for 9999."""
-    number, colon, subparameters = parameter.partition(":")
-    if not colon:
-        return number
-    if int(number or "0") != 4:
-        return "9999"
-    return "4;24" if subparameters.startswith("0") else "4"
 
 
 def without_colours(values):

@@ -20,6 +20,7 @@ ghost use Rattle.vt_utf8.specs.Private.Cut.{IsCut};
 ghost use Rattle.vt_utf8.specs.Private.Feeds.{FeedsUtf8, utf8_off};
 ghost use Rattle.vt_utf8.specs.Sinks.{point, Feeds, FitsFeed, Grows};
 
+use crate::ascii::ascii_run;
 use crate::coded::coded;
 use crate::decoder::{Decoder, whole_character};
 use crate::laws::{sized_silence, sized_writes};
@@ -183,17 +184,15 @@ pub fn feed_characters<L: Log, S: Sink<L>>(
     at
 }
 
-/// Returns how many ASCII bytes at the front of a chunk that isn't empty a sink takes as one run. Speed: no search begins at a byte that
-/// isn't ASCII.
+/// Returns how many bytes at the front of a chunk that isn't empty are ASCII. Speed: no search begins at a byte that isn't.
 #[inline(always)]
-fn run_front<L: Log, S: Sink<L>>(piece: &[u8]) -> usize
+fn ascii_front(piece: &[u8]) -> usize
     requires { 1 ≤ length piece.now }
     ensures within { result ≤ length piece.now }
     ensures ascii { All (λ b. b < 0x80) (take result piece.now) }
-    ensures run { 1 ≤ result → S.IsRun (take result piece.now) }
 {
     if piece[0] < 0x80 {
-        return S::front_run(piece);
+        return ascii_run(piece);
     }
     0
 }
@@ -220,7 +219,7 @@ fn feed_next<L: Log, S: Sink<L>>(
     ensures grows { Grows out.old out.new (10 * result) }
 {
     if decoder.is_empty() {
-        let run = run_front::<L, S>(piece);
+        let run = ascii_front(piece);
         if run > 0 {
             return feed_ascii(terminal, sink, decoder, &piece[..run], limit, log, out);
         }
@@ -242,7 +241,6 @@ fn feed_ascii<L: Log, S: Sink<L>>(
 ) -> usize
     requires nothing { decoder.now ≡ [] }
     requires ascii { All (λ b. b < 0x80) run.now }
-    requires run { S.IsRun run.now }
     requires room { vec_len out.old + 10 * length run.now ≤ vec_capacity out.old }
     requires fits { FitsFeed S.OneSize S.most terminal.old sink.old limit }
     ensures within { result ≤ length run.now }
@@ -325,18 +323,16 @@ fn feed_whole<L: Log, S: Sink<L>>(
     }
 }
 
-/// Returns how many ASCII bytes at the front of a chunk that isn't empty cut off one pending byte, and are taken as one
-/// run: none if it isn't cut off.
+/// Returns how many ASCII bytes at the front of a chunk that isn't empty cut off one pending byte: none if it isn't cut off.
 #[inline(always)]
-fn cut_front<L: Log, S: Sink<L>>(decoder: &Decoder, piece: &[u8]) -> usize
+fn cut_front(decoder: &Decoder, piece: &[u8]) -> usize
     requires { 1 ≤ length piece.now }
     ensures within { result ≤ length piece.now }
     ensures ascii { All (λ b. b < 0x80) (take result piece.now) }
-    ensures run { 1 ≤ result → S.IsRun (take result piece.now) }
     ensures cut { 1 ≤ result → IsCut decoder.now (slice_index piece.now 0) }
 {
     if decoder.is_cut_by(piece[0]) {
-        return run_front::<L, S>(piece);
+        return ascii_front(piece);
     }
     0
 }
@@ -367,7 +363,7 @@ fn feed_pending<L: Log, S: Sink<L>>(
     if log.is_full(limit) {
         return 0;
     }
-    let run = cut_front::<L, S>(decoder, piece);
+    let run = cut_front(decoder, piece);
     if run == 0 {
         feed_byte(terminal, sink, decoder, piece[0], log, out);
         return 1;
@@ -376,8 +372,7 @@ fn feed_pending<L: Log, S: Sink<L>>(
     feed_cut(terminal, sink, &piece[..run], log, out)
 }
 
-/// Plays U+FFFD for one byte that a run of ASCII cuts off, and the first byte of the run, or more of them. Returns how
-/// many bytes of the run it played.
+/// Plays U+FFFD for one byte that ASCII cuts off, and the first ASCII byte, or more of them. Returns how many of these it played.
 #[inline(always)]
 fn feed_cut<L: Log, S: Sink<L>>(
     terminal: &mut SizedTerminal,
@@ -388,7 +383,6 @@ fn feed_cut<L: Log, S: Sink<L>>(
 ) -> usize
     requires some { 1 ≤ length run.now }
     requires ascii { All (λ b. b < 0x80) run.now }
-    requires run { S.IsRun run.now }
     requires room { vec_len out.old + 10 * length run.now ≤ vec_capacity out.old }
     requires lines_room { L.HasRoom log.old (2 * S.most terminal.old.display.grid.size) }
     requires one_size { S.OneSize terminal.old sink.old }
@@ -496,7 +490,6 @@ pub fn feed_character<L: Log, S: Sink<L>>(
         (point terminal.new sink.new log.new out.new.items) }
     ensures grows { Grows out.old out.new 10 }
 {
-    sink.lone_byte();
     if (c as u32) < 0x80 {
         let _ = sink.take_some(terminal, &[c as u8], log, out);
     } else {

@@ -16,8 +16,6 @@ ghost use Rattle.vt_utf8.specs.Decoding.{pending_after};
 ghost use Rattle.vt_xterm.specs.Pages.{Screens, show_and_save, restored, bounds_of, unwrapped};
 ghost use Rattle.vt_xterm.specs.Front.{xterm_effect, is_page_function, is_paste_function, is_side_function, into_alternate, through_alternate};
 ghost use Rattle.vt_xterm.specs.Sides.{FitsSides};
-ghost use Rattle.vt_xterm.specs.Subparameters.{Pass, kept};
-ghost use Rattle.vt_xterm.specs.declared.subparameters.Subparameters.TheVariants.{Outside};
 ghost use Rattle.vt_xterm.specs.Play.{Whole, IsSoundWhole, IsSoundWholeAt, behind, front_of, front_at_power_up, screens_of};
 ghost use Rattle.vt_xterm.specs.Play.{play_bytes, play_xterm, play_xterm_all, both, nothing_played, xterm_log};
 ghost use Rattle.vt_xterm.specs.Resizing.{whole_on, xterm_log_on};
@@ -78,13 +76,12 @@ pub fn cuts()
         → play_xterm_all w pending pieces ≡ play_xterm w pending (joined pieces) }
 {}
 
-/// States at any size that ASCII with nothing pending is played by its events, if none of its colons begins
-/// subparameters, and none are being read. Suppose that DECLRMM is reset, and that
+/// States at any size that ASCII with nothing pending is played by its events. Suppose that DECLRMM is reset, and that
 /// all these events have a VT220's effect. Then the bytes leave and report what they do on a VT220, and the pages stay.
 /// On the main page the bytes also scroll off what they do there.
 pub fn sized_transparent()
-    ensures ascii { (w : Whole) (bytes : List ℕ) → IsHeldPart w.state.held → w.pages.subparameters ≡ Outside
-        → Pass w.state.held bytes → All (λ b. b < 0x80) bytes → play_xterm w [] bytes ≡ play_bytes w bytes }
+    ensures ascii { (w : Whole) (bytes : List ℕ) → IsHeldPart w.state.held → All (λ b. b < 0x80) bytes
+        → play_xterm w [] bytes ≡ play_bytes w bytes }
     ensures terminals { (w : Whole) (bytes : List ℕ) → w.pages.sides ≡ None → PlaysTerminals w.state bytes → play_bytes w bytes ≡ record {
       whole = record w { state = (play w.state bytes).state };
       reports = (play w.state bytes).reports;
@@ -94,13 +91,12 @@ pub fn sized_transparent()
     one_split();
 }
 
-/// States that ASCII with nothing pending is played by its events, if none of its colons begins subparameters, and none
-/// are being read. Suppose that DECLRMM is reset, and that all these
+/// States that ASCII with nothing pending is played by its events. Suppose that DECLRMM is reset, and that all these
 /// events have a VT220's effect. Then the bytes leave and report what they do on a VT220, and the pages stay. On the
 /// main page the bytes also scroll off what they do there.
 pub fn transparent()
-    ensures ascii { (w : Whole) (bytes : List ℕ) → IsSound w.state → w.pages.subparameters ≡ Outside
-        → Pass w.state.held bytes → All (λ b. b < 0x80) bytes → play_xterm w [] bytes ≡ play_bytes w bytes }
+    ensures ascii { (w : Whole) (bytes : List ℕ) → IsSound w.state → All (λ b. b < 0x80) bytes
+        → play_xterm w [] bytes ≡ play_bytes w bytes }
     ensures terminals { (w : Whole) (bytes : List ℕ) → w.pages.sides ≡ None → PlaysTerminals w.state bytes → play_bytes w bytes ≡ record {
       whole = record w { state = (play w.state bytes).state };
       reports = (play w.state bytes).reports;
@@ -130,7 +126,6 @@ pub fn alternate()
             resizes = s.pages.resizes;
             brackets = s.pages.brackets;
             sides = (unwrapped s).pages.sides;
-            subparameters = s.pages.subparameters;
           };
         } }
     ensures reset { (s : Screens) (t : Display) → s.pages.sides ≡ None → s.pages.alternate ≡ false
@@ -143,7 +138,6 @@ pub fn alternate()
             resizes = s.pages.resizes;
             brackets = s.pages.brackets;
             sides = None;
-            subparameters = s.pages.subparameters;
           };
         } }
 {}
@@ -208,8 +202,6 @@ pub fn resizes()
         → IsSoundAt size (whole_on size w).state × IsSoundPageAt size (whole_on size w).pages.other }
     ensures sides { (size : Size) (w : Whole) → IsSize size → IsSoundSized w.state → FitsSides w.state.display w.pages.sides
         → FitsSides (whole_on size w).state.display (whole_on size w).pages.sides }
-    ensures subparameters { (size : Size) (w : Whole) → kept w.state.held w.pages.subparameters ≡ w.pages.subparameters
-        → kept (whole_on size w).state.held (whole_on size w).pages.subparameters ≡ (whole_on size w).pages.subparameters }
 {
     resized();
 }

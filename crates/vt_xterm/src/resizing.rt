@@ -42,7 +42,6 @@ impl SizedPages {
         target.resizes = self.resizes;
         target.brackets = self.brackets;
         target.sides = sides_on(self.sides, terminal, target.other.size());
-        target.subparameters = self.subparameters;
     }
 }
 

@@ -8,7 +8,6 @@ ghost use Rattle.vt_paint.specs.Controls.{private_mode};
 ghost use Rattle.vt_paint.specs.Limits.{paint_limit};
 ghost use Rattle.vt_paint.specs.Repaint.{made_events};
 ghost use Rattle.vt_xterm.specs.Sides.{FitsSides};
-ghost use Rattle.vt_xterm.specs.declared.subparameters.Subparameters.TheVariants.{Outside};
 ghost use Rattle.vt_xterm.specs.Play.{IsSoundWholeAt, behind};
 ghost use Rattle.vt_xterm_paint.specs.Repaint.{other_shown, showing_other, paste_item, xterm_repaint, xterm_paint_limit, IsRebuiltAt};
 ghost use Rattle.vt_xterm_paint.specs.Repaint.{sent_sides, sides_to, sides_item, column_named, is_wrapping, shown_events};
@@ -72,7 +71,7 @@ fn push_paste(brackets: bool, out: &mut Vec<u8>)
 fn soundness(t: &SizedTerminal, front: &SizedFront, scratch: &SizedTerminal)
     requires size { front.now.pages.other.grid.size ≡ t.now.display.grid.size }
     requires scratch { scratch.now.display ≡ other_shown front.now.pages }
-    ensures { FitsSides t.now.display front.now.pages.sides → front.now.pages.subparameters ≡ Outside
+    ensures { FitsSides t.now.display front.now.pages.sides
         → IsSoundWholeAt t.now.display.grid.size (behind t.now front.now) }
 {
     t.soundness();
@@ -89,7 +88,7 @@ fn push_hidden(
     requires size { front.now.pages.other.grid.size ≡ t.now.display.grid.size }
     requires scratch { scratch.old.display.grid.size ≡ t.now.display.grid.size }
     requires room { vec_len out.old + (paint_limit t.now.display.grid.size - 2) ≤ vec_capacity out.old }
-    ensures sound { FitsSides t.now.display front.now.pages.sides → front.now.pages.subparameters ≡ Outside
+    ensures sound { FitsSides t.now.display front.now.pages.sides
         → IsSoundWholeAt t.now.display.grid.size (behind t.now front.now) }
     ensures scratch { scratch.new ≡ showing_other front.now.pages }
     ensures items { out.new.items ≡ out.old.items ++ spell_events (made_events (other_shown front.now.pages)) }
@@ -226,7 +225,7 @@ pub fn xterm_paint_limit(size: Size) -> usize
 
 /// Appends the repaint of a session to `out`: the bytes that rebuild a terminal and its pages on any terminal and front of their size. `scratch`
 /// then shows a copy of the page that isn't shown. They also rebuild the left and right margins, if these fit the terminal, as all do that a
-/// host sets. Other margins are left out, and so are subparameters, which a host leaves none of between sequences.
+/// host sets. Other margins are left out.
 ///
 /// It first reserves `xterm_paint_limit` bytes of capacity.
 ///
@@ -243,7 +242,7 @@ pub fn repaint_xterm(
     requires size { front.now.pages.other.grid.size ≡ t.now.display.grid.size }
     requires scratch { scratch.old.display.grid.size ≡ t.now.display.grid.size }
     ensures items { OnOk result (out.new.items ≡ out.old.items ++ xterm_repaint (behind t.now front.now)) }
-    ensures rebuilds { OnOk result (FitsSides t.now.display front.now.pages.sides → front.now.pages.subparameters ≡ Outside
+    ensures rebuilds { OnOk result (FitsSides t.now.display front.now.pages.sides
         → IsRebuiltAt t.now.display.grid.size (behind t.now front.now)) }
     ensures partial { IsErrOf result PaintError.Partial ↔ ((t.now.held ≢ Nothing) ⊎ (front.now.pending ≢ [])) }
     ensures memory { IsErrOf result PaintError.Memory
@@ -279,7 +278,7 @@ pub fn repaint_xterm_reserved(
     requires scratch { scratch.old.display.grid.size ≡ t.now.display.grid.size }
     requires room { vec_len out.old + xterm_paint_limit t.now.display.grid.size ≤ vec_capacity out.old }
     ensures items { out.new.items ≡ out.old.items ++ xterm_repaint (behind t.now front.now) }
-    ensures rebuilds { FitsSides t.now.display front.now.pages.sides → front.now.pages.subparameters ≡ Outside
+    ensures rebuilds { FitsSides t.now.display front.now.pages.sides
         → IsRebuiltAt t.now.display.grid.size (behind t.now front.now) }
     ensures scratch { scratch.new ≡ showing_other front.now.pages }
     ensures bounded { vec_len out.new ≤ vec_len out.old + xterm_paint_limit t.now.display.grid.size }

@@ -2,7 +2,6 @@
 ghost use Rattle.std.specs.Prelude.{◌≡◌, ◌↔◌, ◌⊎◌, ◌+◌, ◌≤◌, ◌<◌, ◌++◌, ◌≢◌, [], IsErrOf, OnOk, OnErr, vec_len, vec_capacity};
 ghost use Rattle.vt_syntax.specs.declared.held.Held.TheVariants.{Nothing};
 ghost use Rattle.vt_xterm.specs.Sides.{FitsSides};
-ghost use Rattle.vt_xterm.specs.declared.subparameters.Subparameters.TheVariants.{Outside};
 ghost use Rattle.vt_xterm.specs.Play.{behind};
 ghost use Rattle.vt_xterm_paint.specs.Repaint.{showing_other, xterm_repaint, IsRebuilt};
 
@@ -16,7 +15,7 @@ use vt_xterm::Front;
 
 /// Appends the repaint of a session to `out`: the bytes that rebuild a terminal and its pages on any terminal and front. `scratch`
 /// then shows a copy of the page that isn't shown. They also rebuild the left and right margins, if these fit the terminal, as all do that a
-/// host sets. Other margins are left out, and so are subparameters, which a host leaves none of between sequences.
+/// host sets. Other margins are left out.
 ///
 /// It first reserves `XTERM_PAINT_LIMIT` bytes of capacity.
 ///
@@ -32,8 +31,7 @@ pub fn repaint_xterm(
     out: &mut Vec<u8>,
 ) -> Result<(), PaintError>
     ensures items { OnOk result (out.new.items ≡ out.old.items ++ xterm_repaint (behind t.now front.now)) }
-    ensures rebuilds { OnOk result (FitsSides t.now.display front.now.pages.sides → front.now.pages.subparameters ≡ Outside
-        → IsRebuilt (behind t.now front.now)) }
+    ensures rebuilds { OnOk result (FitsSides t.now.display front.now.pages.sides → IsRebuilt (behind t.now front.now)) }
     ensures partial { IsErrOf result PaintError.Partial ↔ ((t.now.held ≢ Nothing) ⊎ (front.now.pending ≢ [])) }
     ensures memory { IsErrOf result PaintError.Memory → vec_capacity out.old < vec_len out.old + XTERM_PAINT_LIMIT }
     ensures scratch { OnOk result (scratch.new ≡ showing_other front.now.pages) }
@@ -57,8 +55,7 @@ pub fn repaint_xterm_reserved(
     requires between { t.now.held ≡ Nothing }
     requires room { vec_len out.old + XTERM_PAINT_LIMIT ≤ vec_capacity out.old }
     ensures items { out.new.items ≡ out.old.items ++ xterm_repaint (behind t.now front.now) }
-    ensures rebuilds { FitsSides t.now.display front.now.pages.sides → front.now.pages.subparameters ≡ Outside
-        → IsRebuilt (behind t.now front.now) }
+    ensures rebuilds { FitsSides t.now.display front.now.pages.sides → IsRebuilt (behind t.now front.now) }
     ensures scratch { scratch.new ≡ showing_other front.now.pages }
     ensures bounded { vec_len out.new ≤ vec_len out.old + XTERM_PAINT_LIMIT }
     ensures capacity { vec_capacity out.old ≤ vec_capacity out.new }

@@ -1,4 +1,4 @@
-use Rattle.std.proofs.Common.{◌≡◌, ◌∙◌, ℕ, Option, Bool, true, false, List, [], if◌then◌else◌, arith, ap, sym, subst, refl}
+use Rattle.std.proofs.Common.{◌≡◌, ◌∙◌, ◌-◌, ℕ, Option, Bool, true, false, List, [], if◌then◌else◌, arith, ap, sym, subst, refl}
 use Rattle.vt_screen.specs.declared.size.Size.{Size}
 use Rattle.vt_term.specs.State.{State}
 use Rattle.vt_term.specs.Pages.{PageState, IsSoundPageAt, IsSoundSizedPage}
@@ -46,6 +46,3 @@ returns-clause-sound c = λ size w sized sound other. (
 pub returns-clause-sides : goal.returns-clause-sides
 returns-clause-sides c = λ size w sized sound fit.
     resized-fit size w.state.display w.pages.sides sound.display (c.resizes.ensures.sound size w.state sized sound).display fit
-
-pub returns-clause-subparameters : goal.returns-clause-subparameters
-returns-clause-subparameters c = λ size w kept. kept

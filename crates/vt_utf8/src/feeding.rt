@@ -1,6 +1,6 @@
 //! Feeding: UTF-8 changes a terminal's state, and gives report bytes.
 ghost use Rattle.std.specs.Prelude.{◌≡◌, ◌<◌, ◌+◌, ◌*◌, ◌≤◌, ◌++◌, ◌⊎◌, [], ◌∷◌, ℕ, List, All, length, take, flat_map};
-ghost use Rattle.std.specs.Prelude.{slice_index, vec_len, vec_capacity, OnOk, OnErr, IsOk, IfSome};
+ghost use Rattle.std.specs.Prelude.{slice_index, vec_len, vec_capacity, IfSome};
 ghost use Rattle.std.specs.Bool.{OnTrue};
 ghost use Rattle.std.specs.Option.{option_to_list};
 ghost use Rattle.std.specs.declared.option.Option.TheVariants.{None};
@@ -27,41 +27,9 @@ use crate::laws::{sized_silence, sized_writes};
 use crate::log::{BytesLog, Log};
 use crate::sink::Sink;
 use crate::translation::{BYTE_LIMIT, TRANSLATION_LIMIT, has_one_cell_left, translation};
-use std::alloc::AllocError;
 use vt_syntax::Held;
 use vt_term::laws::{sized_cuts as played_cuts, sized_log_cuts};
-use vt_term::{Glyph, Lines, Nobody, REPORT_LIMIT, SizedTerminal, Vt220};
-
-/// Plays a chunk of a host's UTF-8, and appends the reports to `out`. `decoder` keeps what is pending between chunks.
-///
-/// It first reserves ten bytes of capacity for each byte of the chunk. Returns `Err` if that fails, or is more than any
-/// vector may hold. Then the terminal, the decoder and the contents of `out` are unchanged.
-#[tactic(auto, using(crate::proofs::Sizes::utf8_kept))]
-pub fn feed_utf8(
-    terminal: &mut SizedTerminal,
-    decoder: &mut Decoder,
-    piece: &[u8],
-    out: &mut Vec<u8>,
-) -> Result<(), AllocError>
-    ensures size { terminal.new.display.grid.size ≡ terminal.old.display.grid.size }
-    ensures state { OnOk result (terminal.new ≡ (play_utf8 terminal.old decoder.old piece.now).state) }
-    ensures pending { OnOk result (decoder.new ≡ pending_after decoder.old piece.now) }
-    ensures reports { OnOk result (out.new.items
-        ≡ out.old.items ++ (play_utf8 terminal.old decoder.old piece.now).reports) }
-    ensures bounded { vec_len out.new ≤ vec_len out.old + 10 * length piece.now }
-    ensures same_state { OnErr result (terminal.new ≡ terminal.old) }
-    ensures same_pending { OnErr result (decoder.new ≡ decoder.old) }
-    ensures same_out { OnErr result (out.new.items ≡ out.old.items) }
-    ensures has_room { vec_len out.old + 10 * length piece.now ≤ vec_capacity out.old → IsOk result }
-    ensures capacity { vec_capacity out.old ≤ vec_capacity out.new }
-{
-    let Some(room) = piece.len().checked_mul(REPORT_LIMIT) else {
-        return Err(AllocError);
-    };
-    out.reserve(room)?;
-    feed_utf8_reserved(terminal, decoder, piece, out);
-    Ok(())
-}
+use vt_term::{Glyph, Lines, Nobody, SizedTerminal, Vt220};
 
 /// Plays a chunk of a host's UTF-8, and appends the reports to `out`. `decoder` keeps what is pending between chunks.
 /// `out` has capacity for ten more bytes for each byte of the chunk. It never fails and allocates nothing.

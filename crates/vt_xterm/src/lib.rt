@@ -25,6 +25,6 @@ pub mod sized;
 mod tabs;
 
 pub use attributes::{begins_colour, colour_length};
-pub use feeds::{LINES_LIMIT, feed_xterm, feed_xterm_log_reserved, feed_xterm_reserved};
+pub use feeds::{LINES_LIMIT, feed_xterm_log_reserved, feed_xterm_reserved};
 pub use front::{Front, SizedFront};
 pub use sides::Sides;

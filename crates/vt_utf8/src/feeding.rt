@@ -29,7 +29,7 @@ use crate::sink::Sink;
 use crate::translation::{BYTE_LIMIT, TRANSLATION_LIMIT, has_one_cell_left, translation};
 use vt_syntax::Held;
 use vt_term::laws::{sized_cuts as played_cuts, sized_log_cuts};
-use vt_term::{Glyph, Lines, Nobody, SizedTerminal, Vt220};
+use vt_term::{Glyph, Lines, Nobody, REPORT_LIMIT, SizedTerminal, Vt220};
 
 /// Plays a chunk of a host's UTF-8, and appends the reports to `out`. `decoder` keeps what is pending between chunks.
 /// `out` has capacity for ten more bytes for each byte of the chunk. It never fails and allocates nothing.

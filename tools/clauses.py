@@ -1,6 +1,6 @@
 """Reads the crates of Rattle: what they export, the clauses of that, and the definitions in specs/ that clauses reach.
 
-docs/definitions, tools/freeze and tests/strike read the crates by this module.
+docs/definitions reads the crates by this module.
 """
 import dataclasses
 import functools
@@ -185,8 +185,8 @@ class Item:
 
 
 def crates():
-    """Returns the names of all crates but those of tests and the frozen promises."""
-    return sorted(path.name for path in ROOT.iterdir() if (path / "src").exists() and not path.name.startswith(("tests", "promises")))
+    """Returns the names of all crates but those of tests and of what the gate refuses."""
+    return sorted(path.name for path in ROOT.iterdir() if (path / "src").exists() and not path.name.startswith(("tests", "refused")))
 
 
 def exported(crate):

@@ -1,6 +1,0 @@
-use Rattle.promises.proofs.picture.views.draw_reserved.Goals as goal
-use Rattle.promises.proofs.v0_4.picture.Draw.{draw-same}
-use Rattle.std.specs.Prelude.{◌++◌, ◌≡◌}
-
-pub returns-clause-items : goal.returns-clause-items
-returns-clause-items c = coe 1 0 (ι. c.draw_reserved.new.out.items ≡ c.args.out.now.items ++ (draw-same ι) c.args.t.now) c.draw_reserved.ensures.items

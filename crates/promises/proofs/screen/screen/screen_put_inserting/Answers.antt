@@ -1,6 +1,0 @@
-use Rattle.promises.proofs.screen.screen.screen_put_inserting.Goals as goal
-use Rattle.promises.proofs.v0_4.screen.Grid.{put_inserting-same}
-use Rattle.std.specs.Prelude.{◌≡◌}
-
-pub returns-clause-grid : goal.returns-clause-grid
-returns-clause-grid c = coe 1 0 (ι. c.put_inserting.new.self ≡ (put_inserting-same ι) c.args.screen.now c.args.row c.args.column c.args.cell) c.put_inserting.ensures.grid

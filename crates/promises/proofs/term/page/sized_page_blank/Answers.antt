@@ -1,6 +1,0 @@
-use Rattle.promises.proofs.term.page.sized_page_blank.Goals as goal
-use Rattle.promises.proofs.v0_4.term.Pages.{blanked-same}
-use Rattle.std.specs.Prelude.{◌≡◌}
-
-pub returns : goal.returns
-returns c = coe 1 0 (ι. c.blank.new.self ≡ (blanked-same ι) c.args.sized_page.now) c.blank.ensures

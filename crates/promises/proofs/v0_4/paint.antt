@@ -1,9 +1,0 @@
-pub mod Limits
-pub mod Changes
-pub mod Spoken
-pub mod Controls
-pub mod Named
-pub mod Items
-pub mod Same
-pub mod Pieces
-pub mod Repaint

@@ -1,4 +1,0 @@
-pub mod CommandLine
-pub mod Request
-pub mod Source
-pub mod Moment

@@ -1,9 +1,0 @@
-pub mod Class
-pub mod Items
-pub mod Split
-pub mod Reading
-pub mod Held
-pub mod Spelling
-pub mod Front
-pub mod Event
-pub mod Laws

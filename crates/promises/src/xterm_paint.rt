@@ -1,4 +1,0 @@
-//! The calls of vt_xterm_paint.
-pub mod laws;
-pub mod paint;
-pub mod views;

@@ -1,4 +1,0 @@
-//! The calls of vt_xterm_trace.
-pub mod feeds;
-pub mod laws;
-pub mod tracing;

@@ -1,5 +1,5 @@
 """A terminal that plays what programs send under TERM=xterm, by docs/SPECIFICATION.md, 'Under TERM=xterm'."""
-from terminal import BLANK, Saved, Size, bring_inside, cut
+from terminal import BLANK, Saved, Size, bring_inside, cut, text_of
 from utf8 import Utf8Terminal
 
 COLOURS = (38, 48, 58)
@@ -30,12 +30,14 @@ class Xterm(Utf8Terminal):
         self.fill_sides(size.wide)
 
     def leave(self, n, size):
-        """As many rows leave both pages. Those of the main page are logged if it is shown."""
+        """The main page goes by its own cursor, and its rows are logged. As many rows leave the alternate page while that isn't shown."""
         logged = len(self.left_by_resizes)
         super().leave(n, size)
         if self.is_alternate:
-            del self.left_by_resizes[logged:]
+            n = max(self.other_saved.row - size.rows, 0)
+            self.left_by_resizes[logged:] = [text_of(cells) for cells in self.other_cells[:n]]
         self.other_cells = cut(self.other_cells, n, size)
+        self.other_saved.row = max(self.other_saved.row - n, 1)
 
     # Escape and control sequences. What isn't here has its effect on a VT220.
 

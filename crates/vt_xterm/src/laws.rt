@@ -1,5 +1,5 @@
 //! Laws over the definitions alone. A caller cites a law by a call of its function.
-ghost use Rattle.std.specs.Prelude.{◌≡◌, ◌<◌, ℕ, List, [], ◌++◌, All, None, true, false, if◌then◌else◌};
+ghost use Rattle.std.specs.Prelude.{◌≡◌, ◌<◌, ◌+◌, ℕ, List, [], ◌++◌, All, None, true, false, if◌then◌else◌};
 ghost use Rattle.std.specs.List.{list_any};
 ghost use Rattle.vt_syntax.specs.declared.event.Event.{Event};
 ghost use Rattle.vt_syntax.specs.Held.{IsHeldPart};
@@ -20,7 +20,9 @@ ghost use Rattle.vt_xterm.specs.Subparameters.{Pass, kept};
 ghost use Rattle.vt_xterm.specs.declared.subparameters.Subparameters.TheVariants.{Outside};
 ghost use Rattle.vt_xterm.specs.Play.{Whole, IsSoundWhole, IsSoundWholeAt, behind, front_of, front_at_power_up, screens_of};
 ghost use Rattle.vt_xterm.specs.Play.{play_bytes, play_xterm, play_xterm_all, both, nothing_played, xterm_log};
-ghost use Rattle.vt_xterm.specs.Resizing.{whole_on, xterm_log_on};
+ghost use Rattle.vt_xterm.specs.Resizing.{whole_on, xterm_log_on, main_page, main_row, main_off};
+ghost use Rattle.vt_screen.specs.Grid.{width_on};
+ghost use Rattle.vt_term.specs.Text.{lines_text};
 ghost use Rattle.vt_xterm.specs.Terminals.{PlaysTerminals};
 
 use vt_glyph::laws::{glyphs, soundness as sets_soundness, spelling};
@@ -200,10 +202,19 @@ pub fn comes_back()
 
 /// States what a change of the screen's size keeps: at its own size a session stays as it is, and nothing goes to the log. At another
 /// size the terminal and the page that isn't shown are sound and of that size, and the left and right margins fit it.
+/// No line is lost if the height changes alone: what goes to the log, followed by the rows of the main page up to its cursor, is
+/// these rows of before. While that page isn't shown, its cursor is the place that was saved on it.
 pub fn resizes()
     ensures own { (w : Whole) → IsSoundSized w.state → IsSoundPageAt w.state.display.grid.size w.pages.other
         → whole_on w.state.display.grid.size w ≡ w }
-    ensures own_log { (w : Whole) → IsSoundSized w.state → xterm_log_on w.state.display.grid.size w ≡ [] }
+    ensures own_log { (w : Whole) → IsSoundSized w.state → IsSoundPageAt w.state.display.grid.size w.pages.other
+        → xterm_log_on w.state.display.grid.size w ≡ [] }
+    ensures kept { (size : Size) (w : Whole) → IsSize size → IsSoundSized w.state → IsSoundPageAt w.state.display.grid.size w.pages.other
+        → width_on size (main_page w).grid ≡ (main_page w).grid.width
+        → xterm_log_on size w ++ lines_text (main_row (whole_on size w)) (main_page (whole_on size w)).grid
+        ≡ lines_text (main_row w) (main_page w).grid }
+    ensures line { (size : Size) (w : Whole) → IsSize size → IsSoundSized w.state → IsSoundSizedPage w.pages.other
+        → main_row (whole_on size w) + main_off size w.state.display w.pages ≡ main_row w }
     ensures sound { (size : Size) (w : Whole) → IsSize size → IsSoundSized w.state → IsSoundSizedPage w.pages.other
         → IsSoundAt size (whole_on size w).state × IsSoundPageAt size (whole_on size w).pages.other }
     ensures sides { (size : Size) (w : Whole) → IsSize size → IsSoundSized w.state → FitsSides w.state.display w.pages.sides

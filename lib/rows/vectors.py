@@ -1,4 +1,4 @@
-"""The conformance vectors, as lib/rows/vectors.txt has them, the rows of lib/rows/sizes.txt, and the repaints of lib/rows/session-repaints.txt."""
+"""The conformance vectors, as lib/rows/vectors.txt has them, the rows of lib/rows/sizes.txt, and the repaints of lib/rows/repaints.txt."""
 import pathlib
 import re
 from typing import NamedTuple
@@ -27,7 +27,8 @@ class Vector(NamedTuple):
 
 
 class Sized(NamedTuple):
-    """A row of sizes.txt. A size is a pair of rows and columns, and `second` is None if the first one stays. `wanted` is that of a vector."""
+    """A row of sizes.txt. A size is a pair of rows and columns, and `second` is None if the first one stays. `wanted` is that of a vector. `left` is None
+    if no field has it."""
 
     name: str
     encoding: str
@@ -37,6 +38,7 @@ class Sized(NamedTuple):
     second: tuple | None
     more: bytes
     wanted: dict
+    left: str | None
 
 
 def spelled(field):
@@ -64,10 +66,10 @@ def lines_of(name):
             yield line.split("\t")
 
 
-def session_repaints():
-    """Yields the name, the input and the repaint of each row of session-repaints.txt."""
-    for name, sent, repaint in lines_of("session-repaints.txt"):
-        yield name, spelled(sent), spelled(repaint)
+def repaints():
+    """Yields each row of repaints.txt: its name, its encoding and terminal, its size, its input, and its repaint, which is None if it has none."""
+    for name, encoding, terminal, size, sent, *repaint in lines_of("repaints.txt"):
+        yield name, (encoding, terminal), size_of(size), spelled(sent), spelled(repaint[0]) if repaint else None
 
 
 def wanted_by(fields):
@@ -92,4 +94,6 @@ def size_of(field):
 def sizes():
     """Yields each row of sizes.txt."""
     for name, encoding, terminal, first, sent, second, more, *fields in lines_of("sizes.txt"):
-        yield Sized(name, encoding, terminal, size_of(first), spelled(sent), size_of(second), spelled(more), wanted_by(fields)[0])
+        left = [spelled(field.removeprefix("left=")).decode() for field in fields if field.startswith("left=")]
+        wanted = wanted_by(field for field in fields if not field.startswith("left="))[0]
+        yield Sized(name, encoding, terminal, size_of(first), spelled(sent), size_of(second), spelled(more), wanted, *left or [None])

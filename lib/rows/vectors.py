@@ -5,7 +5,7 @@ from typing import NamedTuple
 
 LISTS = pathlib.Path(__file__).resolve().parent
 AT_POWER_UP = {"text": "", "cursor": "1;1", "wrap": "0", "brush": "", "alternate": "0", "paste": "0", "bells": "0", "pending": b"", "reports": b"", "lines": ""}
-ESCAPES = {b"e": b"\033", b"n": b"\n", b"r": b"\r", b"\\": b"\\",
+ESCAPES = {b"e": b"\033", b"n": b"\n", b"r": b"\r", b"t": b"\t", b"\\": b"\\",
            b"H": b"\033(B\033*<\033+0\017", b"P": b'\033[0m\033[0"q', b"S": b"\033(B\033)B\033*<\033+<\017\033}"}
 
 
@@ -39,14 +39,16 @@ class Sized(NamedTuple):
     wanted: dict
 
 
-def spelled(field):
-    """Returns the bytes that a field spells."""
+def spelled(field, parts={}):
+    """Returns the bytes that a field spells. In `parts` are those that a list names."""
     found = b""
-    for escape, plain in re.findall(rb"\\(x..|\{\d+\}|.)|([^\\]+)", field.encode()):
+    for escape, plain in re.findall(rb"\\(x..|\{[^}]*\}|.)|([^\\]+)", field.encode()):
         if escape[:1] == b"x":
             found += bytes.fromhex(escape[1:].decode())
-        elif escape[:1] == b"{":
+        elif escape[1:-1].isdigit():
             found += found[-1:] * (int(escape[1:-1]) - 1)
+        elif escape[:1] == b"{":
+            found += parts[escape[1:-1].decode()]
         else:
             found += plain or ESCAPES[escape]
     return found

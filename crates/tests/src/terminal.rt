@@ -16,5 +16,4 @@ mod runs;
 mod sizes;
 mod status;
 mod vectors;
-mod views;
 mod views_of_sizes;

@@ -134,11 +134,37 @@ fn words_ask_for_settings(rt: HostRuntime) {
     }
 }
 
-/// The message for words that are a request, and no settings.
-const NO_SETTINGS: &str = "vt220: bad command line\n";
+/// Lines that are a request, and no settings.
+const REQUESTS: [&str; 25] = [
+    "vt220 log",
+    "vt220 log --piece=7 a",
+    "vt220 log --limit 1099511627776 -- -x",
+    "vt220 trace a",
+    "vt220 events a",
+    "vt220 content a",
+    "vt220 text --format raw",
+    "vt220 log --format script a",
+    "vt220 show --format ttyrec --until 12.5 a",
+    "vt220 show --until=12:31 a --format=asciicast",
+    "vt220 trace --format asciicast --until 1:02:03.000004",
+    "vt220 content --format script --timing t --until 0",
+    "vt220 status --until 4096b",
+    "vt220 picture --format script --until 0b",
+    "vt220 text --until event:12",
+    "vt220 log --format asciicast --until marker:2 a",
+    "vt220 events --format ttyrec --from 1.5 --until=event:999999999999999",
+    "vt220 content --from marker:1 --until 7b",
+    "vt220 text --partial a",
+    "vt220 events --full",
+    "vt220 log --format auto a",
+    "vt220 text --until 1:00 --format=auto",
+    "vt220 text --encoding dec",
+    "vt220 text --terminal vt220",
+    "vt220 text --columns 80",
+];
 
-/// A line that is no settings, the status, and how the text begins.
-const REFUSED: [(&str, u8, &str); 21] = [
+/// A line that asks for nothing, the status, and how the text begins.
+const REFUSED: [(&str, u8, &str); 23] = [
     (
         "vt220 text --piece 0",
         2,
@@ -159,27 +185,45 @@ const REFUSED: [(&str, u8, &str); 21] = [
         2,
         "error: invalid value 'x' for '--piece <N>'",
     ),
+    ("vt220 text --limit -1", 2, "error: "),
+    ("vt220 text --piece", 2, "error: "),
+    ("vt220 text --piece 1 --piece 2", 2, "error: "),
     ("vt220", 2, "error: "),
     ("vt220 frob", 2, "error: unrecognized subcommand 'frob'"),
     ("vt220 text a b", 2, "error: unexpected argument 'b' found"),
+    ("vt220 text -x", 2, "error: unexpected argument '-x' found"),
+    (
+        "vt220 --piece 7 text",
+        2,
+        "error: unexpected argument '--piece' found",
+    ),
+    ("vt220 help frob", 2, "error: "),
     (
         "vt220 --help",
         0,
         "Plays what a host sent to a VT220 terminal",
     ),
-    ("vt220 log", 2, NO_SETTINGS),
-    ("vt220 trace a", 2, NO_SETTINGS),
-    ("vt220 events a", 2, NO_SETTINGS),
-    ("vt220 content a", 2, NO_SETTINGS),
-    ("vt220 text --format raw", 2, NO_SETTINGS),
-    ("vt220 text --format auto", 2, NO_SETTINGS),
-    ("vt220 show --format ttyrec --until 12.5 a", 2, NO_SETTINGS),
-    ("vt220 status --until 4096b", 2, NO_SETTINGS),
-    ("vt220 text --until event:12", 2, NO_SETTINGS),
-    ("vt220 text --partial a", 2, NO_SETTINGS),
-    ("vt220 text --encoding dec", 2, NO_SETTINGS),
-    ("vt220 text --terminal vt220", 2, NO_SETTINGS),
-    ("vt220 text --columns 80", 2, NO_SETTINGS),
+    ("vt220 -h", 0, "Plays what a host sent to a VT220 terminal"),
+    (
+        "vt220 help",
+        0,
+        "Plays what a host sent to a VT220 terminal",
+    ),
+    (
+        "vt220 text --piece 9 --help",
+        0,
+        "The screen: 24 lines of UTF-8",
+    ),
+    ("vt220 reports --help", 0, "What the terminal answers"),
+    ("vt220 repaint --help", 0, "The bytes that rebuild"),
+    ("vt220 status --help", 0, "The cursor, the wrap flag"),
+    (
+        "vt220 show --help",
+        0,
+        "The screen with its attributes, for a terminal of today",
+    ),
+    ("vt220 picture --help", 0, "The screen as a picture (SVG)"),
+    ("vt220 --version", 0, "vt220 0.4.0\n"),
 ];
 
 /// Returns whether a line is refused with this status, and a text that begins so.
@@ -189,6 +233,14 @@ fn is_refused(alloc: Global, line: &str, status: u8, text: &str) -> Result<bool,
         Ok(_) => false,
         Err(refused) => refused.status == status && refused.text.as_str().starts_with(text),
     })
+}
+
+#[test]
+fn requests_are_no_settings(rt: HostRuntime) {
+    for line in &REQUESTS {
+        let text = "vt220: bad command line\n";
+        holds(&rt, line, is_refused(rt.alloc(), line, 2, text));
+    }
 }
 
 #[test]

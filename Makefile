@@ -71,6 +71,16 @@ READER := crates/recording_c/out/librecording_c.a
 SCREEN := crates/screen/out/screen
 UNPROVED := out/unproved/vt220
 
+# What is needed after the proofs is looked for before them: the compiler with its headers, and the tools of `make js`.
+asks = $(filter $(1),$(or $(MAKECMDGOALS),everything))
+need = $(if $(shell $(2)),$(error this needs $(1), which isn't here (Debian: apt-get install $(3))))
+ifneq ($(call asks,everything lib keeper player js install install-%),)
+$(call need,$(CC) with the headers of C,printf '\043include <stdio.h>\n' | $(CC) -E -o /dev/null - >/dev/null 2>&1 || echo none,$(if $(TOOLS),gcc-aarch64-linux-gnu libc6-dev-arm64-cross,gcc libc6-dev))
+endif
+ifneq ($(call asks,js install-page),)
+$(call need,npm and wasm-opt,command -v npm >/dev/null && command -v wasm-opt >/dev/null || echo none,npm binaryen)
+endif
+
 .PHONY: everything program unproved try screen lib keeper player python holder js install install-lib install-page uninstall crates version help
 everything: program lib keeper player holder
 program: $(PROGRAM)

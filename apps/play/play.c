@@ -20,6 +20,7 @@
 static const char usage[] =
     "usage: vt220-play [OPTION ...] FILE\n"
     "Plays a recording by asciinema, ttyrec or script, or the bytes of a program, on this terminal.\n"
+    "  --find=TEXT             plays nothing, and lists when TEXT was on the screen and scrolled off\n"
     "  --timing=FILE           the timing file of script: FILE is then its typescript\n"
     "  --speed=N               how many times as fast it plays (1)\n"
     "  --from=MOMENT           where it begins: 12.5 or 12:31 seconds, 4096b bytes, event:N or marker:N\n"
@@ -73,6 +74,7 @@ static struct {
     bool is_over;       /* a key ended it, the terminal has closed, or allocation failed */
     bool lacks_memory;
     int status;
+    const char *finds; /* the text whose places are listed, or null */
 } it;
 
 noreturn void fail(int status, const char *why, ...) {
@@ -82,7 +84,7 @@ noreturn void fail(int status, const char *why, ...) {
     vfprintf(stderr, why, words);
     fputc('\n', stderr);
     va_end(words);
-    exit(status);
+    exit(it.finds != NULL ? 2 : status); /* in a list of places 1 is that there are none */
 }
 
 static long long clock_now(void) {
@@ -490,7 +492,8 @@ static void print_version(void) {
 static void read_options(int argc, char **argv, struct options *options) {
     static const struct option names[] = {{"help", 0, NULL, 'h'},  {"version", 0, NULL, 'V'}, {"timing", 1, NULL, 't'}, {"speed", 1, NULL, 's'},
                                           {"from", 1, NULL, 'f'},  {"until", 1, NULL, 'u'},   {"pause", 1, NULL, 'p'},  {"exit", 0, NULL, 'x'},
-                                          {"encoding", 1, NULL, 'E'}, {"terminal", 1, NULL, 'T'}, {"size", 1, NULL, 'S'}, {0}};
+                                          {"encoding", 1, NULL, 'E'}, {"terminal", 1, NULL, 'T'}, {"size", 1, NULL, 'S'},
+                                          {"find", 1, NULL, 'F'},  {0}};
     opterr = 0;
     for (int letter; (letter = getopt_long(argc, argv, "h", names, NULL)) >= 0;) {
         switch (letter) {
@@ -506,6 +509,7 @@ static void read_options(int argc, char **argv, struct options *options) {
         case 'x': it.exits = true; break;
         case 'E': options->asked.encoding = choice("encoding", optarg, "dec", "utf-8"); break;
         case 'S': options->asked.size = size_given(optarg); break;
+        case 'F': it.finds = optarg; break;
         case 'T': options->asked.terminal = choice("terminal", optarg, "vt220", "xterm"); break;
         default: fail(2, "unknown option '%s'; vt220-play --help lists them", argv[optind - 1]);
         }
@@ -515,7 +519,15 @@ static void read_options(int argc, char **argv, struct options *options) {
     if (options->asked.terminal == TERMINAL_XTERM && options->asked.encoding == ENCODING_DEC) {
         fail(2, "--terminal=xterm is in UTF-8, and doesn't go with --encoding=dec");
     }
+    if (it.finds != NULL && strlen(it.finds) >= FIND_LIMIT / 2) fail(2, "the text of --find has at most %d bytes", FIND_LIMIT / 2 - 1);
     options->asked.file = argv[optind];
+}
+
+/* Lists the places of the text from a moment on. Returns the exit status, which is that of grep. */
+static int list_places(uint64_t from) {
+    bool is_found = find_all(&it.of, it.finds, chunks_before(&it.of, from));
+    if (fflush(stdout) != 0 || ferror(stdout)) fail(2, "write failed: %s", strerror(errno));
+    return is_found ? 0 : 1;
 }
 
 int main(int argc, char **argv) {
@@ -524,11 +536,12 @@ int main(int argc, char **argv) {
     it.speed = 1;
     it.pause = UINT64_MAX;
     read_options(argc, argv, &options);
-    if (!isatty(STDOUT_FILENO) || !outer_open()) fail(2, "it needs a terminal");
+    if (it.finds == NULL && (!isatty(STDOUT_FILENO) || !outer_open())) fail(2, "it needs a terminal");
     recording_read(&it.of, &options.asked);
     if (options.from != NULL) from = moment_of(&it.of, "from", options.from);
     if (options.until != NULL) recording_cut(&it.of, moment_of(&it.of, "until", options.until));
     reel_begin(&it.of);
+    if (it.finds != NULL) return list_places(from.micros);
     if (!reel_open(&it.reel)) fail(1, "out of memory");
     play(from.micros);
     if (outer_told.to_go != 0) {

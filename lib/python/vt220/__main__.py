@@ -1,16 +1,19 @@
-"""Prints the screen after a recording: python3 -m vt220 [--encoding ENCODING | --terminal TERMINAL] FILE [BYTES].
+"""Prints the screen after the bytes of a program: python3 -m vt220 [--encoding ENCODING | --terminal TERMINAL] FILE [BYTES].
+Writes a recording as a picture that moves: python3 -m vt220 animate [OPTION ..] FILE; see python3 -m vt220 animate --help.
 
 ENCODING is that of the recording: dec, the bytes of a VT220, or utf-8 (dec). TERMINAL is the one that the program wrote for: vt220, or
 xterm, which is in UTF-8 (vt220). BYTES is the number of bytes that are played (all).
 """
 import sys
 
-from . import ENCODINGS, TERMINALS, NoLibrary, Terminal
+from . import ENCODINGS, TERMINALS, NoLibrary, Terminal, animate
 
 
 def main() -> int:
-    """Plays the recording that the command line names, and prints the screen. Returns the exit status."""
+    """Carries out the command line. Returns the exit status."""
     words, encoding, kind = sys.argv[1:], "dec", "vt220"
+    if words[:1] == ["animate"]:
+        return animate.main(words[1:])
     if words in (["-h"], ["--help"]):
         print(__doc__, end="")
         return 0

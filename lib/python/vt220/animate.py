@@ -215,7 +215,9 @@ class Animation:
         is_whole = before is None or before[:4] != shown[:4]
         drawn = [f"<rect fill='{shown.paper}' x='-{MARGIN}' y='-{MARGIN}' width='100%' height='100%'/>\n"] if is_whole else []
         for row in range(shown.rows):
-            if before is None or is_whole or (before.cells[row], before.marks[row]) != (shown.cells[row], shown.marks[row]):
+            if before is None or is_whole:
+                drawn.append((self._row(shown, row) if runs_of(self.terminal.row(row + 1), shown.paper) else "") + shown.marks[row])
+            elif (before.cells[row], before.marks[row]) != (shown.cells[row], shown.marks[row]):
                 drawn.append(self._row(shown, row) + shown.marks[row])
         self.rows, self.columns = max(self.rows, shown.rows), max(self.columns, shown.columns)
         start = f" class='vt220-f' style='--vt220-t:{micros}'" if micros is not None else ""

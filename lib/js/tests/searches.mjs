@@ -1,11 +1,11 @@
-// Searches of the program beside those of the Timeline, in recordings by other programs.
-//   node lib/js/tests/searches.mjs PACKAGE PROGRAM      the last line is 'N passed, M failed'
+// Searches of vt220-play beside those of the Timeline, in recordings by other programs.
+//   node lib/js/tests/searches.mjs PACKAGE PLAYER      the last line is 'N passed, M failed'
 import { spawnSync } from "node:child_process";
 import { readFile } from "node:fs/promises";
 import { fileURLToPath, pathToFileURL } from "node:url";
 
 const FILES = [["asciinema.cast"], ["asciinema-wide.cast"], ["ttyrec.ttyrec"], ["termrec.ttyrec"], ["script.typescript", "script.timing"], ["script-both.typescript", "script-both.timing"]];
-const [place, program] = process.argv.slice(2);
+const [place, player] = process.argv.slice(2);
 const from = (name) => import(new URL(name, pathToFileURL(`${place}/`)));
 const { load } = await from("src/node.js"), { Timeline } = await from("src/timeline.js"), { Reader } = await from("src/recordings.js"), { played } = await from("src/reading.js");
 const core = await load(), reader = new Reader(await WebAssembly.compile(await readFile(`${place}/reader.wasm`)));
@@ -29,7 +29,7 @@ function textsIn(line) {
   return texts;
 }
 
-/** Returns a time in seconds as the program writes it. */
+/** Returns a time in seconds as the player writes it. */
 function written(time) {
   const micros = String(Math.round(time * 1e6)).padStart(7, "0");
   return time === Infinity ? "-" : `${micros.slice(0, -6)}.${micros.slice(-6)}`;
@@ -38,12 +38,13 @@ function written(time) {
 for (const [file, timing] of FILES) {
   const [name, times] = [file, timing].map((each) => each && fileURLToPath(new URL(`recordings/${each}`, import.meta.url)));
   const { recording, options } = await played(reader, new Uint8Array(await readFile(name)), times ? new Uint8Array(await readFile(times)) : null, {});
-  const line = new Timeline(core, recording, options), format = times ? ["--format", "script", "--timing", times] : ["--format", "auto"];
+  const line = new Timeline(core, recording, options), timed = times ? [`--timing=${times}`] : [];
   let spans = 0;
   for (const text of textsIn(line)) {
     const wanted = line.search(text, { matchCase: true }).map(({ time, until, row, column }) => `${written(time)}\t${written(until)}\t${row}\t${column}\n`);
-    const { status, stdout } = spawnSync(program, ["search", "--quiet", ...format, "--", text, name], { encoding: "utf8" });
-    check(`${JSON.stringify(text)} in ${file}: ${stdout}, not ${wanted.join("")}`, status === 0 && stdout === wanted.join(""));
+    const { status, stdout } = spawnSync(player, [`--find=${text}`, ...timed, name], { encoding: "utf8" });
+    const onScreen = stdout.replace(/^log\t.*\n/gm, "");
+    check(`${JSON.stringify(text)} in ${file}: ${onScreen}, not ${wanted.join("")}`, status === (stdout === "" ? 1 : 0) && onScreen === wanted.join(""));
     spans += wanted.length;
   }
   check(`spans in ${file}`, spans > 3);

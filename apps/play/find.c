@@ -144,14 +144,6 @@ static bool search_lines(const struct scrolled *off, uint64_t micros, size_t *co
     return is_found;
 }
 
-/* Plays the next chunk. Returns whether it is output: the screen isn't looked at after a change of its size. */
-static bool play_chunk(const struct recording *recording, struct scrolled *off) {
-    size_t i = it.reel.count;
-    off->len = 0;
-    if (!reel_play(&it.reel, off)) fail(1, "out of memory");
-    return recording->chunks[i].end > (i > 0 ? recording->chunks[i - 1].end : 0);
-}
-
 bool find_all(const struct recording *recording, const char *text, size_t first) {
     struct scrolled off = {0};
     struct span span = {0};
@@ -163,9 +155,10 @@ bool find_all(const struct recording *recording, const char *text, size_t first)
     if (it.wanted_len == 0) return false;
     for (size_t i = 0; i < recording->count; i++) {
         uint64_t micros = recording->chunks[i].micros;
-        bool is_output = play_chunk(recording, &off);
+        off.len = 0;
+        if (!reel_play(&it.reel, &off)) fail(1, "out of memory");
         is_found |= search_lines(&off, micros, &count, i < first ? NULL : log);
-        if (i < first || !is_output) continue;
+        if (i < first) continue;
         if (!look(i == first)) fail(1, "out of memory");
         if (it.found != NULL && !span.is_open) open_span(&span, micros);
         if (it.found == NULL && span.is_open) close_span(&span, &micros);

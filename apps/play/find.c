@@ -130,6 +130,7 @@ static void close_span(struct span *span, const uint64_t *ended) {
 static bool search_lines(const struct scrolled *off, uint64_t micros, size_t *count, FILE *to) {
     bool is_found = false;
     char *all = (char *)off->text;
+    if (off->len == 0) return false;
     for (char *line = all, *end; line != all + off->len; line = end + 1) {
         end = memchr(line, '\n', (size_t)(all + off->len - line));
         if (it.language != VT220_BYTES) *end = ' '; /* which may be the second cell of a character */

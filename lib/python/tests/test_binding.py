@@ -248,7 +248,7 @@ def test_a_file_that_is_no_library_is_refused(tmp_path):
 
 
 def test_an_import_needs_no_library():
-    modules = ["vt220", "vt220.cast", "vt220.expected", "vt220.keyboard", "vt220.picture", "vt220.process", "vt220.pytest_plugin", "vt220.rig", "vt220.screen", "vt220.__main__"]
+    modules = ["vt220", "vt220.cast", "vt220.expected", "vt220.keyboard", "vt220.picture", "vt220.process", "vt220.pytest_plugin", "vt220.recordings", "vt220.rig", "vt220.screen", "vt220.__main__"]
     for module in modules:
         done = python(f"import {module}; print('imported')", VT220_LIBRARY="/no/such/file")
         assert (done.returncode, done.stdout) == (0, "imported\n"), done.stderr

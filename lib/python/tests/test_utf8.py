@@ -235,7 +235,7 @@ def module(*words):
 
 def test_the_command_has_an_encoding(tmp_path):
     (tmp_path / "file").write_bytes(b"\xe2\x80\x9c\xe2\x80\x9c\xe9")
-    for words, first in ((["file"], "\u00e2\u00e2\u00e9"), (["--encoding", "dec", "file"], "\u00e2\u00e2\u00e9"), (["--encoding", "utf-8", "file"], '""'),
+    for words, first in ((["file"], '""'), (["--format", "raw", "file"], "\u00e2\u00e2\u00e9"), (["--encoding", "dec", "file"], "\u00e2\u00e2\u00e9"), (["--encoding", "utf-8", "file"], '""'),
                          (["--encoding", "utf-8", "file", "5"], '"')):
         done = module(*words)
         assert (done.returncode, done.stdout.split("\n")[0]) == (0, first), words

@@ -9,7 +9,6 @@
 
 With pytest the fixture `vt` does the same, and ends each program with its test.
 """
-import codecs
 import errno
 import functools
 import os
@@ -27,6 +26,7 @@ from .keyboard import Chord, Key, alt, ctrl, shift, spelled
 from .page import NoTemplate, page, recording, side_by_side
 from .picture import svg
 from .process import TERMS, Process, environment
+from .recordings import is_utf_8
 from .screen import MASK, Mask, Place, Screen, Stored, check_column, check_row, check_substitutes, difference, differing, renewed
 
 TIMEOUT = 10.0
@@ -472,7 +472,7 @@ class Rig:
         lines += [f"{row:2}|{line}" for row, line in enumerate(self.last.rows, 1) if line or row == self.last.cursor.row]
         lines.append("the last events:")
         lines += [f"  {event.at:8.3f} s  {event.who:8}{_short(event.data)}" for event in self.events[-8:]]
-        if self.encoding == "dec" and _is_utf_8(self.recording):
+        if self.encoding == "dec" and is_utf_8(bytes(self.recording)):
             lines.append(_UTF_8)
         lines.append(self.reports.write(re.sub(r"\W+", "-", pathlib.Path(self.argv[0]).name), self, marks))
         return "\n".join(lines)
@@ -547,14 +547,6 @@ def _write_comparison(path: str, rig: Rig, good: Optional[pathlib.Path]) -> str:
 
 _UTF_8 = ("note: the program's output looks like UTF-8. With encoding=\"dec\" the rig's terminal reads each byte as a character of\n"
           "DEC Multinational. Leave the encoding out, or run the program on texts without UTF-8.")
-
-
-def _is_utf_8(data: bytes) -> bool:
-    """Returns whether bytes have characters of UTF-8 beyond ASCII, and nothing else beyond ASCII. The last character may be cut."""
-    try:
-        return not codecs.getincrementaldecoder("utf-8")().decode(data).isascii()
-    except UnicodeDecodeError:
-        return False
 
 
 def _short(data: bytes) -> str:

@@ -221,6 +221,81 @@ def test_the_last_words_of_a_program_that_ends_between_two_looks_are_seen(tmp_pa
         assert looks
 
 
+# Secrets.
+
+def stored(rig, directory):
+    """Returns the words of a report, and after them all that its files and the recording of a good run have."""
+    words = rig.report()
+    files = {path.name: path.read_text() for path in directory.iterdir()}
+    played = [*inside(files["x.html"]), json.loads(rig_module.recorded(rig))]
+    return words, [*files.values(), *(unpacked(each["bytes"]).decode() for each in played), *(json.dumps(each["options"]) for each in played), repr(rig.events)]
+
+
+TYPES = {"keys": lambda rig, **options: rig.keys("s3cret", ENTER, **options), "send": lambda rig, **options: rig.send(b"s3cret\r", **options),
+         "paste": lambda rig, **options: rig.paste("s3cret\n", **options)}
+
+
+@pytest.mark.parametrize("way", TYPES)
+@pytest.mark.parametrize("line", ["stty -echo", "stty raw -echo"])
+def test_what_is_typed_without_echo_is_stored_nowhere(tmp_path, template, line, way):
+    script = f"{line}; printf 'Password: '; head -c 7 >/dev/null; stty sane; printf '\\r\\nName: '; read name; sleep 1000"
+    with shell(script, reports=Reports(tmp_path / "r", "x")) as rig:
+        rig.wait("Password:")
+        TYPES[way](rig)
+        rig.wait("Name:")
+        rig.keys("Eve")
+        rig.wait("Name: Eve")
+        words, files = stored(rig, tmp_path / "r")
+    counted = "(7 bytes)" if way == "send" else "(7 keys)"
+    assert f" s  hidden  {counted}\n" in words and " s  test    Eve\n" in words
+    assert not any("s3cret" in text for text in (words, *files)) and sum(counted in text for text in files) == 5
+    events = [json.loads(line)[1:] for line in (tmp_path / "r" / "x.cast").read_text().splitlines()[1:]]
+    assert [each for each in events if each[0] not in "o"] == [["m", counted], ["i", "Eve"]]
+
+
+@pytest.mark.parametrize("way", TYPES)
+def test_secret_keys_wait_until_the_line_echoes_nothing(tmp_path, template, monkeypatch, way):
+    """A program may show its prompt before it turns the echo off."""
+    os.mkfifo(tmp_path / "go")
+    with shell("printf 'Password: '; read word <go; stty -echo; read -r word; printf 'it has %s' ${#word}; sleep 1000", reports=Reports(tmp_path / "r", "x")) as rig:
+        rig.wait("Password:")
+        read, looks = rig._read, []
+
+        def read_and_let_it_go_on(seconds):
+            if not looks:
+                (tmp_path / "go").write_text("go\n")
+            looks.append(seconds)
+            return read(seconds)
+
+        monkeypatch.setattr(rig, "_read", read_and_let_it_go_on)
+        TYPES[way](rig, secret=True)
+        rig.wait("it has 6")
+        words, files = stored(rig, tmp_path / "r")
+    assert not any("s3cret" in text for text in (words, *files)) and " s  hidden  (7 " in words
+
+
+def test_a_secret_is_not_typed_where_it_is_echoed():
+    with shell("printf ready; read word; sleep 1000", timeout=0.2) as rig:
+        rig.wait("ready", timeout=LONG)
+        for way in TYPES.values():
+            with pytest.raises(Failure, match="the line echoes them"):
+                way(rig, secret=True)
+        assert [event.who for event in rig.events] == ["program"]
+    with shell("printf ready", timeout=LONG) as rig:
+        rig.ended()
+        with pytest.raises(Failure, match="the line echoes them"):
+            rig.keys("s3cret", secret=True)
+
+
+def test_keys_that_are_no_secret_are_stored():
+    with shell(SHOWS, "ready") as rig:
+        rig.wait("ready")
+        for way in TYPES.values():
+            way(rig, secret=False)
+        rig.keys("x")
+        assert [tuple(event)[1:] for event in rig.events if event.who != "program"] == [("test", b"s3cret\r")] * 3 + [("hidden", b"(1 key)")]
+
+
 # Reports.
 
 def test_each_report_is_of_the_place_where_it_was_asked_for():

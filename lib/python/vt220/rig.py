@@ -110,7 +110,10 @@ class KeyboardLocked(Failure):
 
 
 class Event(NamedTuple):
-    """Holds something that went over the line: its moment in seconds, who sent it, and the bytes."""
+    """Holds something that went over the line: its moment in seconds, who sent it, and the bytes.
+
+    What the test typed is of "test", or of "hidden" if it is secret: then the bytes are only the number of keys, as "(7 keys)".
+    """
 
     at: float
     who: str
@@ -313,16 +316,35 @@ class Rig:
 
     # What a test does.
 
-    def send(self, data: Bytes) -> None:
-        """Sends bytes to the program as they are."""
+    def send(self, data: Bytes, *, secret: Optional[bool] = None) -> None:
+        """Sends bytes to the program as they are. `secret` is that of keys()."""
+        __tracebackhide__ = True
         data = bytes(memoryview(data))
-        self._note("test", data)
+        if secret:
+            self._until_echo_is_off()
+        self._type(data, _counted(len(data), "byte"), secret)
+
+    def _type(self, data: bytes, count: str, secret: Optional[bool]) -> None:
+        """Sends what the test types. Of a secret only the count is stored."""
+        is_hidden = not self.process.echoes() if secret is None else secret
+        self._note("hidden" if is_hidden else "test", f"({count})".encode() if is_hidden else data)
         self._output += data
         self._flush()
 
-    def _typing(self) -> Modes:
+    def _until_echo_is_off(self) -> None:
+        """Waits until the line echoes nothing, since what is echoed is a part of the screen. No system call waits for that."""
+        __tracebackhide__ = True
+        deadline = time.monotonic() + self.timeout
+        while self.process.echoes():
+            if self.process.ended() is not None or time.monotonic() > deadline:
+                self._fail("secret keys were pressed, and the line echoes them: they would be stored with the screen")
+            self._read(0.01)
+
+    def _typing(self, secret: Optional[bool]) -> Modes:
         """Returns the modes that a key is sent under, after all that the program has written by now. Fails if the keyboard is locked."""
         __tracebackhide__ = True
+        if secret:
+            self._until_echo_is_off()
         while self._read(0):
             pass
         modes = self.terminal.modes()
@@ -330,27 +352,32 @@ class Rig:
             self._fail("keys were pressed, and the program has locked the keyboard (KAM)", kind=KeyboardLocked)
         return modes
 
-    def keys(self, *keys: Union[str, Key, Chord]) -> None:
+    def keys(self, *keys: Union[str, Key, Chord], secret: Optional[bool] = None) -> None:
         """Presses keys: each character of a text, in the program's encoding, or a Key, as the terminal's modes ask for it now.
 
         With the terminal "xterm" a key may also be a Chord, such as shift(TAB) or ctrl(LEFT). What the program has written by now is played
         first, since it may change the modes.
+
+        Secret keys are stored nowhere, and a report has only their number. Keys are secret if the line echoes nothing when they are pressed.
+        With secret=True this waits until it echoes nothing. With secret=False the keys are stored.
         """
         __tracebackhide__ = True
-        modes = self._typing()
-        self.send(b"".join(spelled(key, modes, self.encoding, self.terminal.terminal) for key in keys))
+        modes = self._typing(secret)
+        typed = b"".join(spelled(key, modes, self.encoding, self.terminal.terminal) for key in keys)
+        self._type(typed, _counted(sum(len(key) if isinstance(key, str) else 1 for key in keys), "key"), secret)
 
-    def paste(self, text: str) -> None:
-        """Sends a text as it would be typed quickly: each line feed as the Return key.
+    def paste(self, text: str, *, secret: Optional[bool] = None) -> None:
+        """Sends a text as it would be typed quickly: each line feed as the Return key. `secret` is that of keys().
 
         With the terminal "xterm" it is sent between ESC [200~ and ESC [201~ if the program has asked for that (?2004). A VT220 has no such
         mode.
         """
         __tracebackhide__ = True
-        modes = self._typing()
+        modes = self._typing(secret)
         lines = text.replace("\r\n", "\n").split("\n")
         typed = spelled(Key.ENTER, modes).join(spelled(line, modes, self.encoding) for line in lines)
-        self.send(b"\x1b[200~" + typed + b"\x1b[201~" if self.terminal.bracketed_paste() else typed)
+        typed = b"\x1b[200~" + typed + b"\x1b[201~" if self.terminal.bracketed_paste() else typed
+        self._type(typed, _counted(len(text), "key"), secret)
 
     def wait(self, what: Optional[Condition] = None, *, text: Optional[str] = None, row: Optional[int] = None, col: Optional[int] = None,
              cursor: Optional[Tuple[int, int]] = None, timeout: Optional[float] = None, allow_substitutes: bool = False) -> Screen:
@@ -478,8 +505,8 @@ class Rig:
         return "\n".join(lines)
 
 
-# The codes of events in an asciicast. What isn't the program's is input.
-_CODES = {"program": "o", "size": "r"}
+# The codes of events in an asciicast. What else isn't the program's is input. Of what is hidden a marker has the number of keys.
+_CODES = {"program": "o", "size": "r", "hidden": "m"}
 
 
 def _asciicast(rig: Rig) -> Iterator[bytes]:
@@ -513,7 +540,7 @@ def _sizes(rig: Rig) -> Dict[str, object]:
 
 def recorded(rig: Rig, written: Callable[..., str] = recording, **options: object) -> str:
     """Returns what the program wrote, as a call of the module page writes it. The markers are what the test sent."""
-    markers = [(event.at, _short(event.data)) for event in rig.events if event.who == "test"]
+    markers = [(event.at, _short(event.data)) for event in rig.events if event.who in ("test", "hidden")]
     languages = {"encoding": rig.encoding, "terminal": rig.terminal.terminal}
     return written(bytes(rig.recording), _chunks(rig), " ".join(rig.argv), markers=markers, **languages, **_sizes(rig), **options)
 
@@ -523,7 +550,7 @@ def _write_page(path: str, rig: Rig) -> str:
 
     It first shows the end.
     """
-    times = [_micros(event) for event in rig.events if event.who in _CODES]
+    times = [_micros(event) for event in rig.events if event.who in ("program", "size")]
     try:
         text = recorded(rig, page, poster=times[-1] / 1e6 if times else 0)
     except NoTemplate:
@@ -547,6 +574,10 @@ def _write_comparison(path: str, rig: Rig, good: Optional[pathlib.Path]) -> str:
 
 _UTF_8 = ("note: the program's output looks like UTF-8. With encoding=\"dec\" the rig's terminal reads each byte as a character of\n"
           "DEC Multinational. Leave the encoding out, or run the program on texts without UTF-8.")
+
+
+def _counted(count: int, what: str) -> str:
+    return f"{count} {what}" if count == 1 else f"{count} {what}s"
 
 
 def _short(data: bytes) -> str:

@@ -757,14 +757,35 @@ def test_a_failure_without_its_files_is_still_a_failure(tmp_path):
             rig.wait("never", timeout=0.1)
 
 
-def test_the_command_that_plays_a_recording_can_be_copied(tmp_path):
-    with shell("printf ready; sleep 1000", reports=Reports(tmp_path / "a b", "x[1]")) as rig:
-        rig.wait("ready")
+PROGRAM = pathlib.Path(__file__).resolve().parents[3] / "crates/vt220/out/vt220"
+PLAYED = {
+    "80 columns": ({}, None), "132 columns": ({"columns": 132}, None), "40x120": ({"rows": 40, "columns": 120}, None), "a change": ({}, (30, 100)),
+    "two sizes": ({"rows": 40, "columns": 120}, (20, 60)), "132 columns and a change": ({"columns": 132}, (30, 100)), "another TERM": ({"term": "ansi"}, None),
+}
+
+
+@pytest.mark.parametrize("kind", [{}, {"terminal": "xterm"}, {"encoding": "dec"}], ids=["UTF-8", "xterm", "dec"])
+@pytest.mark.parametrize("name", PLAYED)
+def test_the_line_play_it_plays(tmp_path, name, kind):
+    """Both commands are run as they are printed, and show the screen of the failure."""
+    options, change = PLAYED[name]
+    with run(TELL_SIZE, reports=Reports(tmp_path / "a b", "x[1]"), **options, **kind) as rig:
+        rig.wait(f"{rig.rows} {rig.columns}")
+        # A character beyond ASCII, and a column by CHA, which a VT220 lacks.
+        rig.keys("\\033[%d;%dH%slow\\r\\033[3Gfirst\r" % (rig.rows, rig.columns - 6, "\\351" if "encoding" in kind else "\\342\\224\\202"))
+        rig.wait("^  first.*low" if "terminal" in kind else "^first.*low", row=rig.rows)
+        if change:
+            rig.resize(*change)
+            rig.wait(f"{change[0]} {change[1]}")
         with pytest.raises(Failure) as caught:
-            rig.wait("never", timeout=0.1)
-    command = re.search(r"play it:   (python3 -m vt220 .*)   \(or", str(caught.value))[1]
-    done = subprocess.run(["sh", "-c", command], cwd=tmp_path, env=inner_environment(), capture_output=True, text=True)
-    assert done.stdout.startswith("ready\n")
+            rig.wait("never", timeout=0)
+        text, show = rig.terminal.text(), rig.terminal.show()
+    commands = re.search(r"^play it:   (python3 -m vt220 .*)   \(or: (vt220 show .*)\)$", str(caught.value), re.M)
+    environment = {**inner_environment(), "PATH": f"{PROGRAM.parent}:{os.environ['PATH']}"}
+    for command, shown in zip(commands.groups(), (text, show)):
+        done = subprocess.run(["sh", "-c", command], cwd=tmp_path, env=environment, capture_output=True, text=True)
+        assert (done.returncode, done.stdout, done.stderr) == (0, shown, ""), command
+    assert ("--terminal" in commands[1]) == (name == "another TERM" and kind == {})
 
 
 def test_python_ends_without_a_warning():

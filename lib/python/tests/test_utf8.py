@@ -222,10 +222,7 @@ def test_a_failure_names_what_is_shown(tmp_path):
             rig.wait("\u201cWelt\u201d", text="\u2026", timeout=0.1)
     words = str(caught.value)
     assert "/\u201cWelt\u201d/ (shown as /\"Welt\"/) '\u2026' (shown as '.') didn't come" in words and "note:" not in words
-    command = re.search(r"play it:   python3 -m vt220 (.*)   \(or: vt220 show (.*)\)", words)
-    assert command[1] == command[2] and command[1].startswith("--encoding utf-8 ")
-    done = module(*command[1].split())
-    assert done.stdout.startswith('"Welt\n') and rig.recording == b"\xe2\x80\x9cWelt"
+    assert f"play it:   python3 -m vt220 --format asciicast {tmp_path}/r/x.cast " in words and rig.recording == b"\xe2\x80\x9cWelt"
 
 
 def module(*words):

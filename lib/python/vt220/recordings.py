@@ -10,7 +10,7 @@ from typing import Any, Dict, Iterator, List, NamedTuple, Optional, Tuple
 
 from . import COLUMNS, MOST_COLUMNS, MOST_ROWS, ROWS, Modes, NoCharacter, Terminal, key
 
-__all__ = ["FORMATS", "Event", "Recording", "detect", "host_of", "is_utf_8", "play", "read"]
+__all__ = ["FORMATS", "Event", "Recording", "detect", "host_of", "is_utf_8", "play", "read", "terminal_of"]
 
 # How a recording was made. "auto" is what its first bytes show.
 FORMATS = ("auto", "raw", "asciicast", "ttyrec", "script")
@@ -106,8 +106,8 @@ def _object_in(text: str) -> Dict[str, Any]:
     return value if isinstance(value, dict) else {}
 
 
-def _named(value: object) -> Optional[str]:
-    """Returns the terminal of a TERM."""
+def terminal_of(value: object) -> Optional[str]:
+    """Returns the terminal that a TERM names: one that begins with vt and a digit is a VT220, and any other an xterm."""
     if not isinstance(value, str) or not value:
         return None
     return "vt220" if re.match(r"vt\d", value, re.A) else "xterm"
@@ -141,7 +141,7 @@ def _asciicast(data: bytes) -> Recording:
             break
         at = at + event.at if version == 3 else event.at
         events.append(event._replace(at=at))
-    return Recording("asciicast", _named(term) or "xterm", size, [event for event in events if event.kind], broken)
+    return Recording("asciicast", terminal_of(term) or "xterm", size, [event for event in events if event.kind], broken)
 
 
 def _event(line: str) -> Optional[Event]:
@@ -169,7 +169,7 @@ def _first_version(head: Dict[str, Any]) -> Recording:
         at += event.at
         events.append(event._replace(at=at))
     term = environment.get("TERM") if isinstance(environment, dict) else None
-    return Recording("asciicast", _named(term) or "xterm", _sized(head.get("height"), head.get("width")), events, broken)
+    return Recording("asciicast", terminal_of(term) or "xterm", _sized(head.get("height"), head.get("width")), events, broken)
 
 
 def _ttyrec(data: bytes) -> Recording:
@@ -196,7 +196,7 @@ def _script(data: bytes) -> Recording:
     about = dict(_NAMED.findall(first.decode("latin-1"))) if first.endswith(b'"]') else {}
     rows, columns = (int(about[name]) if about.get(name, "").isdecimal() else None for name in ("LINES", "COLUMNS"))
     broken = f"script -a appended a session at byte {len(first) + 1 + end.end()}" if end and end.end() < len(body) else None
-    return Recording("script", _named(about.get("TERM")), _sized(rows, columns), [Event(0.0, "output", body[: end.start()] if end else body)], broken)
+    return Recording("script", terminal_of(about.get("TERM")), _sized(rows, columns), [Event(0.0, "output", body[: end.start()] if end else body)], broken)
 
 
 def _opened(recording: Recording, encoding: str, terminal: str) -> Terminal:

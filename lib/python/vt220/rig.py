@@ -26,7 +26,7 @@ from .keyboard import Chord, Key, alt, ctrl, shift, spelled
 from .page import NoTemplate, page, recording, side_by_side
 from .picture import svg
 from .process import TERMS, Process, environment
-from .recordings import is_utf_8
+from .recordings import is_utf_8, terminal_of
 from .screen import MASK, Mask, Place, Screen, Stored, check_column, check_row, check_substitutes, difference, differing, renewed
 
 TIMEOUT = 10.0
@@ -139,15 +139,23 @@ class Reports(NamedTuple):
             page_line = _write_page(playing, rig) + _write_comparison(both, rig, self.good)
         except OSError as fault:
             return f"no picture and no recording: {fault}"
-        if rig.terminal.terminal == "xterm":
-            option = ["--terminal", "xterm"]
-        else:
-            option = [] if rig.encoding == "dec" else ["--encoding", rig.encoding]
+        words = " ".join(_playing(rig, recording, cast))
         files = f"picture:   {picture}\nrecording: {recording}\nasciicast: {cast}\n{page_line}"
-        if not rig.is_of_a_vt220:
-            return f"{files}play it:   vt220 show {' '.join([*option, shlex.quote(cast)])}"
-        words = " ".join([*option, shlex.quote(recording)])
         return f"{files}play it:   python3 -m vt220 {words}   (or: vt220 show {words})"
+
+
+def _playing(rig: "Rig", recording: str, cast: str) -> List[str]:
+    """Returns the arguments with which a recording of a failure is played: those of python3 -m vt220, and of the program vt220.
+
+    An asciicast has characters, so the bytes of a VT220 are played as they are if its screen has a VT220's size.
+    """
+    if rig.encoding == "dec":
+        words, file = (["--format", "raw"], recording) if rig.is_of_a_vt220 else (["--format", "asciicast", "--encoding", "dec"], cast)
+    else:
+        # The first line names TERM, which the test may have chosen.
+        is_named = terminal_of(rig.environment["TERM"]) == rig.terminal.terminal
+        words, file = ["--format", "asciicast", *([] if is_named else ["--terminal", rig.terminal.terminal])], cast
+    return [*words, shlex.quote(file)]
 
 
 def _is_vt220(rows: int, columns: int) -> bool:

@@ -573,6 +573,28 @@ def test_a_program_that_ends_is_not_waited_for():
             rig.ended()
 
 
+# It needs colours, as most programs of today that use curses.
+COLOURS = "import curses; curses.wrapper(lambda screen: (curses.use_default_colors(), screen.addstr('menu'), screen.getch()))"
+
+
+def test_a_program_that_needs_another_terminal_has_a_hint():
+    with run(sys.executable, "-c", COLOURS) as rig:
+        with pytest.raises(Failure) as caught:
+            rig.wait("menu")
+    assert "use_default_colors" in str(caught.value) and "note: the program ended with an error under TERM=vt220" in str(caught.value)
+    assert 'terminal="xterm"' in str(caught.value) and "--vt-terminal xterm" in str(caught.value)
+    with run(sys.executable, "-c", COLOURS, terminal="xterm") as rig:
+        rig.wait("menu")
+
+
+@pytest.mark.parametrize("script, options", [("exit 0", {}), ("kill $$", {}), ("exit 1", {"terminal": "xterm"}), ("exit 1", {"env": {"TERM": "xterm"}})])
+def test_another_end_has_no_hint(script, options):
+    with shell(script, **options) as rig:
+        with pytest.raises(Failure) as caught:
+            rig.wait("menu")
+    assert "note:" not in str(caught.value)
+
+
 @pytest.mark.parametrize("output, is_told", [("caf\\303\\251", True), ("caf\\351", False), ("cafe", False),
                                              ("\\303\\251 \\351", False)])
 def test_a_failure_says_that_the_output_looks_like_utf_8(output, is_told):
@@ -948,6 +970,36 @@ def test_the_plugin_stores_compares_and_names_stale_screens(tmp_path):
     assert sorted(path.name for path in (tmp_path / "vt220-failures").iterdir()) == [f"test_it.py-test_two-1.{kind}" for kind in ("bytes", "cast", "svg")]
     go("--update-screens")
     assert go().returncode == 0 and not list((tmp_path / "vt220-failures").iterdir())
+
+
+TERMS = """
+def test_it(vt):
+    rigs = [vt.run("sh", "-c", "echo $TERM $LC_ALL", **options) for options in ({}, {"terminal": "vt220"}, {"terminal": "xterm"}, {"encoding": "dec"})]
+    assert [rig.ended().rows[0] for rig in rigs] == open("wanted").read().splitlines()
+"""
+USUAL = ["vt220 C.UTF-8", "vt220 C.UTF-8", "xterm-256color C.UTF-8", "vt220 C"]
+
+
+@pytest.mark.parametrize("options, settings, wanted", [
+    ([], "", USUAL), (["--vt-terminal", "xterm"], "", [USUAL[2], *USUAL[1:]]), ([], "vt_terminal = xterm", [USUAL[2], *USUAL[1:]]),
+    (["--vt-terminal", "vt220"], "vt_terminal = xterm", USUAL), ([], "vt_encoding = dec", [USUAL[3]] * 2 + USUAL[2:]), (["--vt-encoding", "utf-8"], "vt_encoding = dec", USUAL),
+])
+def test_the_plugin_has_a_terminal_and_an_encoding(tmp_path, options, settings, wanted):
+    (tmp_path / "test_it.py").write_text(TERMS)
+    (tmp_path / "wanted").write_text("\n".join(wanted))
+    (tmp_path / "pytest.ini").write_text(f"[pytest]\n{settings}\n")
+    done = subprocess.run(inner(tmp_path, *options), cwd=tmp_path, env=inner_environment(), capture_output=True, text=True)
+    assert done.returncode == 0, done.stdout
+
+
+@pytest.mark.parametrize("options, settings, words", [
+    ([], "vt_terminal = vt100", "vt_terminal is vt220 or xterm, not 'vt100'"), ([], "vt_encoding = latin-1", "vt_encoding is dec or utf-8, not 'latin-1'"),
+    (["--vt-encoding", "dec"], "vt_terminal = xterm", "an xterm's programs are in UTF-8"), (["--vt-terminal", "vt100"], "", "invalid choice: 'vt100'"),
+])
+def test_a_terminal_that_there_is_not_is_refused_at_once(tmp_path, options, settings, words):
+    (tmp_path / "pytest.ini").write_text(f"[pytest]\n{settings}\n")
+    done = subprocess.run(inner(tmp_path, *options), cwd=tmp_path, env=inner_environment(), capture_output=True, text=True)
+    assert done.returncode == 4 and words in done.stderr, done.stderr
 
 
 def test_a_failure_is_next_to_the_last_good_run(tmp_path, template):

@@ -112,6 +112,17 @@ def ctrl(letter: Union[str, Key, Chord]) -> Union[str, Chord]:
         raise ValueError(f"there is no Ctrl-{letter}") from None
 
 
+def _refusal(name: str, modes: Modes, terminal: str) -> str:
+    """Returns why a terminal has no key of this name, and what to do about it."""
+    if terminal == "xterm":
+        return f"an xterm has no key {name}"
+    try:
+        key(name, modes, "utf-8", "xterm")
+    except NoKey:
+        return f"a VT220 has no key {name}"
+    return f"a VT220 has no key {name}, and an xterm has: run the program with terminal=\"xterm\", or pytest with --vt-terminal xterm"
+
+
 def spelled(keys: Union[str, Key, Chord], modes: Modes, encoding: str = "dec", terminal: str = "vt220") -> bytes:
     """Returns the bytes that a key, or each character of a text, sends under these modes. Raises ValueError if no key sends it.
 
@@ -122,7 +133,7 @@ def spelled(keys: Union[str, Key, Chord], modes: Modes, encoding: str = "dec", t
         try:
             return key(keys.value, modes, encoding, terminal)
         except NoKey:
-            raise NoKey(f"{'an xterm' if terminal == 'xterm' else 'a VT220'} has no key {keys.value}") from None
+            raise NoKey(_refusal(keys.value, modes, terminal)) from None
     if not isinstance(keys, str):
         raise TypeError(f"a key is a text or a Key, not {keys!r}")
     sent = []

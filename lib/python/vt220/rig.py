@@ -509,6 +509,8 @@ class Rig:
         lines += [f"  {event.at:8.3f} s  {event.who:8}{_short(event.data)}" for event in self.events[-8:]]
         if self.encoding == "dec" and is_utf_8(bytes(self.recording)):
             lines.append(_UTF_8)
+        if (self.process.ended() or 0) > 0 and self.environment["TERM"] == TERMS["vt220"]:
+            lines.append(_ENDED)
         lines.append(self.reports.write(re.sub(r"\W+", "-", pathlib.Path(self.argv[0]).name), self, marks))
         return "\n".join(lines)
 
@@ -582,6 +584,10 @@ def _write_comparison(path: str, rig: Rig, good: Optional[pathlib.Path]) -> str:
 
 _UTF_8 = ("note: the program's output looks like UTF-8. With encoding=\"dec\" the rig's terminal reads each byte as a character of\n"
           "DEC Multinational. Leave the encoding out, or run the program on texts without UTF-8.")
+
+
+_ENDED = ("note: the program ended with an error under TERM=vt220, which has no colours. If it is one of today that needs a modern terminal, run it\n"
+          "with terminal=\"xterm\", or pytest with --vt-terminal xterm.")
 
 
 def _counted(count: int, what: str) -> str:

@@ -168,6 +168,27 @@ def test_keys_go_as_the_modes_ask(modes, key, shown):
         rig.wait(text=shown)
 
 
+@pytest.mark.parametrize("text, cure", [("ENTER", "keys(ENTER)"), ("TAB", "keys(TAB)"), ("F6", "keys(F6)"), ("KP_5", "keys(KP_5)"), ("RETURN", "keys(ENTER)"),
+                                        ("PAGE_UP", "keys(PREV_SCREEN)"), ("F99", "only F1 to F20"), ("F0", "only F1 to F20")])
+def test_the_name_of_a_key_is_refused_as_a_text(text, cure):
+    with shell(SHOWS, "ready") as rig:
+        rig.wait("ready")
+        with pytest.raises(ValueError) as caught:
+            rig.keys("x", text, ENTER)
+        assert cure in str(caught.value) and f"keys(*{text!r})" in str(caught.value) and len(rig.events) == 1
+        rig.keys(*text)
+        rig.wait(text=" ".join(f"{ord(letter):02x}" for letter in text))
+        rig.paste(text)
+
+
+@pytest.mark.parametrize("text", ["enter", "ENTER ", "F", "F1x", "OK", "HELP\r", "", "\u00c4"])
+def test_another_text_is_typed(text):
+    with shell(SHOWS, "ready") as rig:
+        rig.wait("ready")
+        rig.keys(text, "!")
+        rig.wait(text=" ".join(f"{byte:02x}" for byte in (text + "!").encode()))
+
+
 def test_a_locked_keyboard_is_a_failure_and_send_is_not():
     with shell(SHOWS, "\\033[2hready") as rig:
         rig.wait("ready")
@@ -410,6 +431,26 @@ def test_an_expression_that_never_came_has_the_hint_too():
     with run("printf", "%s", "[ok]") as rig:
         with pytest.raises(Failure, match=r"never came\nthe screen has this text as it is: write text='\[ok\]'\n"):
             rig.wait("[ok]", row=1, col=1)
+
+
+def test_a_text_of_two_rows_is_refused_with_the_cure():
+    with shell("printf 'one\\r\\ntwo'; sleep 1000") as rig:
+        screen = rig.wait("two")
+        for call in (lambda: rig.wait("one\ntwo"), lambda: rig.wait(text="one\ntwo"), lambda: rig.wait(re.compile("one$\n")), lambda: rig.wait(r"one\r\ntwo", row=1),
+                     lambda: rig.wait(r"one\x0Atwo"), lambda: rig.wait(r"one\012two"), lambda: rig.wait("\u201cone\n"), lambda: screen.at("one\ntwo"), lambda: screen.stored(["one\ntwo"])):
+            with pytest.raises(ValueError, match=r"has a line feed, .*wait\(lambda screen: .*screen.text\)+$"):
+                call()
+        with pytest.raises(ValueError) as caught:
+            rig.wait(text="one\ntwo")
+        # What the error says works.
+        assert rig.wait(eval(re.search(r"wait\((.*)\)$", str(caught.value))[1])) == screen
+        with pytest.raises(ValueError) as caught:
+            rig.wait("o.e\n")
+        assert rig.wait(eval(re.search(r"wait\((.*)\)$", str(caught.value))[1])) == screen
+        for what in (r"one[^\n]*", "[\n]?one", r"one\\?n?", re.compile("one  # the first\n $", re.X)):
+            assert rig.wait(what) == screen
+        with pytest.raises(Failure):
+            rig.wait(re.compile("three  # the last\n", re.X), timeout=0)
 
 
 def test_no_state_is_looked_at_inside_a_sequence():

@@ -4,6 +4,7 @@ The library has the keyboard: this module has its keys as an enumeration, keys w
 key.
 """
 import enum
+import re
 from typing import List, NamedTuple, Union, overload
 
 from . import Modes, NoCharacter, NoKey, key, key_length
@@ -65,6 +66,11 @@ class Key(enum.Enum):
     ESCAPE = "Escape"
 
 
+# Keys that have another name here.
+_OTHER_NAMES = {"RETURN": "ENTER", "ESC": "ESCAPE", "INSERT": "INSERT_HERE", "PAGE_UP": "PREV_SCREEN", "PAGEUP": "PREV_SCREEN", "PAGE_DOWN": "NEXT_SCREEN",
+                "PAGEDOWN": "NEXT_SCREEN"}
+
+
 class Typed(NamedTuple):
     """Holds what typed keys send, the beginning of a key whose end is missing, and the characters that no key sends."""
 
@@ -110,6 +116,18 @@ def ctrl(letter: Union[str, Key, Chord]) -> Union[str, Chord]:
         return key(f"C-{letter}", Modes(*[False] * len(Modes._fields))).decode("ascii")
     except NoKey:
         raise ValueError(f"there is no Ctrl-{letter}") from None
+
+
+def check_text(text: str) -> None:
+    """Raises ValueError if a text is the name of a key in capitals, as "ENTER" is: somebody may have meant the key."""
+    name = _OTHER_NAMES.get(text, text)
+    if name in Key.__members__:
+        cure = f"for the key write keys({name})"
+    elif re.fullmatch(r"F\d+", text, re.A):
+        cure = f"there is no key {text}, only F1 to F20"
+    else:
+        return
+    raise ValueError(f"keys({text!r}) would type {len(text)} letters: {cure}, and for the letters keys(*{text!r})")
 
 
 def _refusal(name: str, modes: Modes, terminal: str) -> str:

@@ -22,7 +22,7 @@ from typing import Callable, Dict, Iterator, List, NamedTuple, Optional, Pattern
 from . import COLUMNS, ROWS, Bytes, Modes, Terminal, _check_size
 from .cast import asciicast
 from .expected import NoGlyph, expression_as_shown, expression_of_text, text_as_shown
-from .keyboard import Chord, Key, alt, ctrl, shift, spelled
+from .keyboard import Chord, Key, alt, check_text, ctrl, shift, spelled
 from .page import NoTemplate, page, recording, side_by_side
 from .picture import svg
 from .process import TERMS, Process, environment
@@ -368,8 +368,13 @@ class Rig:
 
         Secret keys are stored nowhere, and a report has only their number. Keys are secret if the line echoes nothing when they are pressed.
         With secret=True this waits until it echoes nothing. With secret=False the keys are stored.
+
+        Raises ValueError if no key sends a character, and if a text is the name of a key, as "ENTER" is.
         """
         __tracebackhide__ = True
+        for key in keys:
+            if isinstance(key, str):
+                check_text(key)
         modes = self._typing(secret)
         typed = b"".join(spelled(key, modes, self.encoding, self.terminal.terminal) for key in keys)
         self._type(typed, _counted(sum(len(key) if isinstance(key, str) else 1 for key in keys), "key"), secret)
@@ -394,7 +399,7 @@ class Rig:
         `what` is a regular expression that is searched in each row, or a function of the Screen; `text` is a text as it is. `row`
         and `col` say the row, and the column of the first character. `cursor` is the cursor's row and column. Spaces at the end of a row
         are found up to the cursor. Characters that have a similar glyph are found as that. Raises NoGlyph for any other that a VT220
-        lacks. With allow_substitutes=True it is found as U+2426, as all of these are.
+        lacks. With allow_substitutes=True it is found as U+2426, as all of these are. Raises ValueError for a line feed, which no row has.
         """
         __tracebackhide__ = True
         for place in ((row, col), cursor or (None, None)):
@@ -605,6 +610,8 @@ def _hint(screen: Screen, what: Optional[Condition], row: Optional[int], col: Op
     if what is None or callable(what):
         return ""
     text = re.compile(what).pattern
+    if "\n" in text:  # of a verbose expression
+        return ""
     if screen._finds(expression_as_shown(what, screen.encoding, True), row, col) or not screen._finds(expression_of_text(text, screen.encoding, True), row, col):
         return ""
     return f"\nthe screen has this text as it is: write text={text!r}"

@@ -193,7 +193,7 @@ static void handles(void) {
     uint8_t out[20], pending[3] = {1, 2, 3};
     size_t written = 9;
     CHECK(!kept_by(&t).alternate && !kept_by(&t).bracketed_paste && kept_by(&t).language == VT220_BYTES && put_pending(&t, pending) == 0 && pending[2] == 3);
-    CHECK(vt220_open_as(&t, 4, VT220_ROWS, 80) == VT220_LANGUAGE && vt220_open_as(&t, UINT32_MAX, VT220_ROWS, 80) == VT220_LANGUAGE && !vt220_is_open(&t));
+    CHECK(vt220_open_as(&t, 4, VT220_ROWS, 80) == VT220_NO_LANGUAGE && vt220_open_as(&t, UINT32_MAX, VT220_ROWS, 80) == VT220_NO_LANGUAGE && !vt220_is_open(&t));
     CHECK(vt220_open_as(&t, VT220_UTF8 | VT220_XTERM, VT220_ROWS, 80) == VT220_OK && vt220_open_as(&t, VT220_XTERM, VT220_ROWS, 80) == VT220_IN_USE && vt220_open(&t) == VT220_IN_USE);
     CHECK(vt220_open_as(&t, 4, VT220_ROWS, 80) == VT220_IN_USE && vt220_is_open(&t) && kept_by(&t).language == VT220_XTERM && vt220_bells(&t) == 0);
     CHECK(vt220_feed(&t, BYTES("a\a\033[?47h"), out, sizeof out, &written) == 8 && written == 0 && kept_by(&t).alternate);
@@ -253,7 +253,7 @@ static void shown_on_a_vt220(void) {
         vt220_close(&q), vt220_close(&other);
     }
     len = 9;
-    CHECK(vt220_repaint_as(&p, 4, &s, out, sizeof out, &len) == VT220_LANGUAGE && len == 0);
+    CHECK(vt220_repaint_as(&p, 4, &s, out, sizeof out, &len) == VT220_NO_LANGUAGE && len == 0);
     CHECK(vt220_open(&other) == VT220_OK && vt220_update(&p, &other, &s, out, sizeof out, &len) == VT220_LANGUAGE && len == 0);
     CHECK(vt220_copy(&p, &other) == VT220_LANGUAGE && kept_by(&p).alternate);
     vt220_close(&p), vt220_close(&other);

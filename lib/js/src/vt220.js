@@ -6,8 +6,8 @@ export const COLUMNS = 132;
 export const MOST_ROWS = 255;
 export const MOST_COLUMNS = 255;
 
-const CODES = ["OK", "MEMORY", "IN_USE", "CLOSED", "PARTIAL", "ROOM", "UNSUPPORTED", "NO_ROW", "NO_KEY", "NO_CHARACTER", "LANGUAGE", "SIZE"];
-const MEMORY = 1, CLOSED = 3, NO_ROW = 7, SIZE = 11, XTERM = 2;
+const CODES = ["OK", "MEMORY", "IN_USE", "CLOSED", "PARTIAL", "ROOM", "UNSUPPORTED", "NO_ROW", "NO_KEY", "NO_CHARACTER", "LANGUAGE", "SIZE", "NO_LANGUAGE", "NO_SIZE"];
+const MEMORY = 1, CLOSED = 3, NO_ROW = 7, SIZE = 11, NO_SIZE = 13, XTERM = 2;
 export const LEAST_ROWS = 2; // the fewest of a screen
 export const LEAST_COLUMNS = 2;
 const NARROW = 80; // the columns of a VT220's screen at power-up
@@ -46,10 +46,10 @@ export function isSize(rows, columns) {
   return isOf(rows, LEAST_ROWS, MOST_ROWS) && isOf(columns, LEAST_COLUMNS, MOST_COLUMNS);
 }
 
-/** Throws SIZE if no screen has so many rows and columns. */
+/** Throws NO_SIZE if no screen has so many rows and columns. */
 function checkSize(rows, columns) {
   if (isSize(rows, columns)) return;
-  throw new Vt220Error(CODES[SIZE], `a screen has ${LEAST_ROWS} to ${MOST_ROWS} rows of ${LEAST_COLUMNS} to ${MOST_COLUMNS} columns, not ${rows} of ${columns}`);
+  throw new Vt220Error(CODES[NO_SIZE], `a screen has ${LEAST_ROWS} to ${MOST_ROWS} rows of ${LEAST_COLUMNS} to ${MOST_COLUMNS} columns, not ${rows} of ${columns}`);
 }
 
 /** Compiles the module: bytes, a module, or a response. */

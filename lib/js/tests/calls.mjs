@@ -116,7 +116,7 @@ function errors({ Terminal, Vt220Error, ROWS, COLUMNS, MOST_ROWS, MOST_COLUMNS }
   for (const [rows, columns] of NO_SIZES) {
     const said = `a screen has 2 to 255 rows of 2 to 255 columns, not ${rows} of ${columns}`;
     for (const call of [() => new Terminal(core, { rows, columns }), () => t.resize(rows, columns)]) {
-      check(`the size of ${rows} rows and ${columns} columns`, thrown(call) === "SIZE" && (() => { try { call(); } catch (error) { return error.message === said; } })());
+      check(`the size of ${rows} rows and ${columns} columns`, thrown(call) === "NO_SIZE" && (() => { try { call(); } catch (error) { return error.message === said; } })());
     }
   }
   check("no size changes nothing", t.rows === 24 && t.width === 80);

@@ -117,10 +117,10 @@ def test_another_size_and_a_window_that_changes():
         rig.wait("24 80")
         assert (rig.last.width, len(rig.last.rows), rig.last.hidden) == (80, 24, ())
         for size in ((1, 80), (24, 1), (256, 80), (24, 256)):
-            with pytest.raises(vt220.OtherSize):
+            with pytest.raises(vt220.NoSize):
                 rig.resize(*size)
         assert [event.data for event in rig.events if event.who == "size"] == [b"100x30", b"80x24"]
-    with pytest.raises(vt220.OtherSize):
+    with pytest.raises(vt220.NoSize):
         run("true", columns=300)
 
 

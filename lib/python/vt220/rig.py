@@ -240,7 +240,7 @@ class Rig:
     def resize(self, rows: int, columns: int) -> None:
         """Changes the size of the window. The program gets SIGWINCH. What it has written before is played first.
 
-        The screen changes as xterm's does (Terminal.resize). Raises OtherSize if no screen has this size.
+        The screen changes as xterm's does (Terminal.resize). Raises NoSize if no screen has this size.
         """
         while self._read(0):
             pass

@@ -131,9 +131,9 @@ export class Playback {
     return true;
   }
 
-  /** Returns the index of the span that is shown, or -1. */
+  /** Returns the index of the span that is shown, or -1. One that scrolled past has a moment only. */
   get span() {
-    return this.spans.findIndex((span) => span.time <= this.now && this.now < span.until);
+    return this.spans.findIndex((span) => span.time === this.now || (span.time < this.now && this.now < span.until));
   }
 
   goToSpan(index) {

@@ -232,7 +232,8 @@ export class View {
   found() {
     const { spans, span } = this.player;
     if (spans.length === 0) return "This text is never on the screen.";
-    return `${spans.length === 1 ? "Once" : `${spans.length} times`} on the screen; this is number ${span + 1}, in row ${spans[Math.max(0, span)].row}.`;
+    const { row, line, time } = spans[Math.max(0, span)], place = line === null ? `in row ${row}` : `in line ${line}, which scrolled past at ${clock(time)}`;
+    return `${spans.length === 1 ? "Once" : `${spans.length} times`} on the screen; this is number ${span + 1}, ${place}.`;
   }
 
   hit(by) {

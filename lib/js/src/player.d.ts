@@ -24,6 +24,30 @@ export interface Options {
   keystrokes: boolean;
 }
 
+/** The moment of an event, in seconds. */
+export interface Moment {
+  time: number;
+}
+
+/** The events of a player. */
+export interface PlayerEvents {
+  /** The first frame is shown. */
+  ready: CustomEvent<Moment>;
+  play: CustomEvent<Moment>;
+  pause: CustomEvent<Moment>;
+  ended: CustomEvent<Moment>;
+  seeked: CustomEvent<Moment>;
+  /** A marker was passed. */
+  marker: CustomEvent<Moment & { index: number; label: string }>;
+  /** `data` was typed then. */
+  input: CustomEvent<Moment & { data: string }>;
+  /** A live one lost its connection, and connects again. */
+  offline: CustomEvent<Moment>;
+  error: CustomEvent<{ reason: string; error: Error }>;
+}
+
+type OtherEvents = Exclude<keyof HTMLElementEventMap, keyof PlayerEvents>;
+
 /**
  * The element `<vt220-player>`. It plays a recording by asciinema, ttyrec or script, the bytes of a program, or what `vt220-page --data` wrote:
  * at the address `src`, given as the property `src`, or inside of the element, in a `<script type="application/x-asciicast">` or, if
@@ -31,11 +55,15 @@ export interface Options {
  *
  * All players of a page share one core. Each property of an attribute is null if the attribute isn't there; the recording's own value counts then.
  *
- * It dispatches these events, whose `detail` has the `time` in seconds: `ready` (the first frame is shown), `play`, `pause`, `ended`, `seeked`,
- * `marker` (also with `index` and `label`), `input` (also with `data`, what was typed then), `offline` (a live one lost its connection, and
- * connects again). `error` has a `reason` and the `error`.
+ * It dispatches the events of PlayerEvents.
  */
 export declare class Vt220Player extends HTMLElement {
+  addEventListener<K extends keyof PlayerEvents>(type: K, listener: (this: Vt220Player, event: PlayerEvents[K]) => unknown, options?: boolean | AddEventListenerOptions): void;
+  addEventListener<K extends OtherEvents>(type: K, listener: (this: Vt220Player, event: HTMLElementEventMap[K]) => unknown, options?: boolean | AddEventListenerOptions): void;
+  addEventListener(type: string, listener: EventListenerOrEventListenerObject, options?: boolean | AddEventListenerOptions): void;
+  removeEventListener<K extends keyof PlayerEvents>(type: K, listener: (this: Vt220Player, event: PlayerEvents[K]) => unknown, options?: boolean | EventListenerOptions): void;
+  removeEventListener<K extends OtherEvents>(type: K, listener: (this: Vt220Player, event: HTMLElementEventMap[K]) => unknown, options?: boolean | EventListenerOptions): void;
+  removeEventListener(type: string, listener: EventListenerOrEventListenerObject, options?: boolean | EventListenerOptions): void;
   /** What load() takes for the shared core; set it before the first player is made. */
   static wasm: Source | Promise<Source> | undefined;
   /** reader.wasm in the same way. It is loaded when a player gets a recording that vt220-page didn't write. */

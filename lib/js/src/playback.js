@@ -53,12 +53,17 @@ export class Playback {
   /** Goes on by seconds of the clock on the wall, if it plays. */
   advance(seconds) {
     if (!this.isPlaying) return;
-    const before = this.now;
+    const before = this.now, { shown } = this;
     this.now += seconds * this.speed;
     if (this.skips) this.skipPause();
     this.pass(before);
     if (this.isPlaying && this.now >= this.line.duration) this.isWhole ? this.finish() : (this.now = this.line.duration);
-    this.changed();
+    if (!this.isPlaying || this.shown !== shown) this.changed();
+  }
+
+  /** What can be seen of the moment: how many chunks have come, and the tenth of a second. */
+  get shown() {
+    return `${this.line.chunksAt(this.now)} ${Math.floor(10 * this.now)}`;
   }
 
   /** Tells of what was typed and of the markers after a time up to now. If it stops at markers, it goes back to the first one. */

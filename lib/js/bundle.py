@@ -47,6 +47,11 @@ def bundle(*names):
     return re.sub(r"^export ", "", text, flags=re.M)
 
 
+def bare(text):
+    """Returns a bundle without its comments, each of which has lines of its own."""
+    return re.sub(r"^ *(?://.*?|/\*.*?\*/)\n", "", text, flags=re.M | re.S)
+
+
 def with_module(text, value):
     """Returns a bundle whose load() without an argument takes the value of an expression."""
     return replaced(text, MODULE, f"/** Returns the bytes of vt220.wasm. */\nasync function nearby() {{\n  return {value};\n}}\n")

@@ -85,27 +85,29 @@ export class Playback {
     if (next < this.line.chunks && this.now - last > this.longestPause) this.now = this.line.time(next);
   }
 
+  /** Ends at the end, or goes on at the beginning. */
   finish() {
-    this.tell("ended");
-    if (this.loops > 0 && this.line.duration > 0) {
-      this.loops -= 1;
-      this.now = 0;
-      return;
-    }
-    this.now = this.line.duration;
-    this.isPlaying = false;
+    const isAgain = this.loops > 0 && this.line.duration > 0;
+    this.now = isAgain ? 0 : this.line.duration;
+    this.isPlaying = isAgain;
+    if (isAgain) this.loops -= 1;
+    this.tell(isAgain ? "seek" : "ended");
   }
 
-  go(time) {
+  show(time) {
     this.now = Math.max(0, Math.min(Number(time) || 0, this.line.duration));
     this.from = null;
     this.changed();
+  }
+
+  go(time) {
+    this.show(time);
     this.tell("seek");
   }
 
   /** Shows a moment, and begins to play at another one, unless it goes somewhere before. */
   wait(shown, from) {
-    this.go(shown);
+    this.show(shown);
     this.from = from;
   }
 

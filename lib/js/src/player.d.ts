@@ -35,7 +35,9 @@ export interface PlayerEvents {
   ready: CustomEvent<Moment>;
   play: CustomEvent<Moment>;
   pause: CustomEvent<Moment>;
+  /** The end, after the last turn of a loop. */
   ended: CustomEvent<Moment>;
+  /** It went to another moment, as at each turn of a loop. */
   seeked: CustomEvent<Moment>;
   /** A marker was passed. */
   marker: CustomEvent<Moment & { index: number; label: string }>;
@@ -53,7 +55,11 @@ type OtherEvents = Exclude<keyof HTMLElementEventMap, keyof PlayerEvents>;
  * at the address `src`, given as the property `src`, or inside of the element, in a `<script type="application/x-asciicast">` or, if
  * vt220-page wrote it, `<script type="application/json">`. With the attribute `live` it shows what comes from a WebSocket or an EventSource.
  *
- * All players of a page share one core. Each property of an attribute is null if the attribute isn't there; the recording's own value counts then.
+ * All players of a page share one core. Each property of an attribute is null if the attribute isn't there or is wrong. If it isn't there, the
+ * recording's own value counts. If it is wrong, nothing is played, and an event `error` names it.
+ *
+ * An attribute may change later. If `encoding`, `terminal`, `rows`, `cols`, `links` or `audio-url` does, the recording is read again, and goes on at
+ * its moment. So does an element that is moved in its document. `autoplay` counts at the beginning alone.
  *
  * It dispatches the events of PlayerEvents.
  */
@@ -111,7 +117,7 @@ export declare class Vt220Player extends HTMLElement {
   pause(): Promise<void>;
   /** Goes, once the whole recording has been read, to a moment in seconds, as "M:SS", as "50%", or to a marker by its index or a direction. */
   seek(where: number | string | { marker: number | "prev" | "next" }): Promise<void>;
-  /** Searches all time, as the controls for case and expressions say, and returns what was found. */
+  /** Searches all time, as the controls for case and expressions say, and returns what was found. Throws TypeError if it is live. */
   search(text: string): Promise<Span[]>;
   /** Returns the moment that is shown, in seconds. */
   getCurrentTime(): number;

@@ -20,6 +20,7 @@ const SETS = ["g0", "g1", "g2", "g3", "gl", "gr", "singleShift"];
 const SAVED = ["row", "column", "wrap", "origin", ...BRUSH, "g0", "g1", "g2", "g3", "gl", "gr"];
 const FLAGS = new Set(["wrap", "origin", "alternate", "bracketedPaste", ...BRUSH, ...MODES]);
 const SET_NAMES = new Set(["g0", "g1", "g2", "g3"]);
+const OPTIONS = ["rows", "columns", "encoding", "terminal"];
 const ENCODINGS = ["dec", "utf-8"];
 const TERMINALS = ["vt220", "xterm"];
 const LANGUAGE = ["alternate", "bracketedPaste", "length", "first", "second", "third"]; // the length and the bytes of what is pending
@@ -47,7 +48,7 @@ export function isSize(rows, columns) {
 }
 
 /** Throws SIZE if no screen has so many rows and columns. */
-function checkSize(rows, columns) {
+export function checkSize(rows, columns) {
   if (isSize(rows, columns)) return;
   throw new Vt220Error(CODES[SIZE], `a screen has ${LEAST_ROWS} to ${MOST_ROWS} rows of ${LEAST_COLUMNS} to ${MOST_COLUMNS} columns, not ${rows} of ${columns}`);
 }
@@ -68,8 +69,9 @@ async function nearby() {
 }
 
 export async function load(source = nearby()) {
-  const module = await compiled(source);
-  return new Core((await WebAssembly.instantiate(module)).exports, module);
+  const module = await compiled(source), { exports } = await WebAssembly.instantiate(module);
+  if (typeof exports.start !== "function") throw new TypeError("load() takes vt220.wasm, and this is another module");
+  return new Core(exports, module);
 }
 
 /** Returns the exports of the module, and whether one has trapped, which leaves the memory as it is. After that each of them throws. */
@@ -210,7 +212,8 @@ export class Terminal {
 
   constructor(core, options = {}) {
     if (!(core instanceof Core)) throw new TypeError("a terminal needs the core that load() returns");
-    const { rows = ROWS, columns = NARROW } = options;
+    const { rows = ROWS, columns = NARROW } = options, other = Object.keys(options).find((name) => !OPTIONS.includes(name));
+    if (other !== undefined) throw new TypeError(`a terminal has no option ${other}; its options are ${OPTIONS.join(", ")}`);
     this.#language = languageOf(options);
     checkSize(rows, columns);
     this.#core = core;

@@ -120,6 +120,8 @@ function errors({ Terminal, Vt220Error, ROWS, COLUMNS, MOST_ROWS, MOST_COLUMNS }
     }
   }
   check("no size changes nothing", t.rows === 24 && t.width === 80);
+  const refused = (() => { try { new Terminal(core, { cols: 120 }); } catch (error) { return String(error); } })();
+  check(`an option that there isn't: ${refused}`, refused === "TypeError: a terminal has no option cols; its options are rows, columns, encoding, terminal");
   check("constants", ROWS === 24 && COLUMNS === 132 && MOST_ROWS === 255 && MOST_COLUMNS === 255 && core.version >= 300);
   if (Symbol.dispose) closed[Symbol.dispose]();
   t.close();
@@ -147,6 +149,8 @@ async function modules({ load, Terminal }, wasm, check) {
   if (typeof Response !== "undefined") check("a load from a response", new Terminal(await load(new Response(wasm))).width === 80);
   const refused = (source) => load(source).then(() => "", String);
   check("a load of other bytes", (await refused(Uint8Array.of(1, 2, 3))) !== "");
+  const other = await refused(Uint8Array.of(0, 0x61, 0x73, 0x6d, 1, 0, 0, 0));
+  check(`a load of another module: ${other}`, other === "TypeError: load() takes vt220.wasm, and this is another module");
   for (const source of ["vt220.wasm", 5, null]) check(`a load of ${source}`, (await refused(source)).startsWith("TypeError: load() takes the bytes of vt220.wasm"));
 }
 

@@ -2,6 +2,7 @@
 #
 #   make              the program, the library for C, the session keeper, the player and the fleet's holder of programs
 #   make program      crates/vt220/out/vt220, which ./vt220 runs
+#   make unproved     out/unproved/vt220, the same without a proof, which ./vt220 runs until `make program` is done
 #   make try          prints the screen that the bytes of standard input leave, or those of a small example. The core runs without a proof
 #   make screen       crates/screen/out/screen, the smallest program over the core, which is proved first
 #   make lib          the library for C in out/: libvt220.a, libvt220.so and vt220.pc, with its headers
@@ -68,10 +69,22 @@ sources = crates.txt $(shell find $(addprefix crates/,$(call chain,$(1))) -minde
 PROGRAM := crates/vt220/out/vt220
 READER := crates/recording_c/out/librecording_c.a
 SCREEN := crates/screen/out/screen
+UNPROVED := out/unproved/vt220
 
-.PHONY: everything program try screen lib keeper player python holder js install install-lib install-page uninstall crates version help
+# What is needed after the proofs is looked for before them: the compiler with its headers, and the tools of `make js`.
+asks = $(filter $(1),$(or $(MAKECMDGOALS),everything))
+need = $(if $(shell $(2)),$(error this needs $(1), which isn't here (Debian: apt-get install $(3))))
+ifneq ($(call asks,everything lib keeper player js install install-%),)
+$(call need,$(CC) with the headers of C,printf '\043include <stdio.h>\n' | $(CC) -E -o /dev/null - >/dev/null 2>&1 || echo none,$(if $(TOOLS),gcc-aarch64-linux-gnu libc6-dev-arm64-cross,gcc libc6-dev))
+endif
+ifneq ($(call asks,js install-page),)
+$(call need,npm and wasm-opt,command -v npm >/dev/null && command -v wasm-opt >/dev/null || echo none,npm binaryen)
+endif
+
+.PHONY: everything program unproved try screen lib keeper player python holder js install install-lib install-page uninstall crates version help
 everything: program lib keeper player holder
 program: $(PROGRAM)
+unproved: $(UNPROVED)
 screen: $(SCREEN)
 # What rt prints besides the screen is shown if it fails.
 try:
@@ -86,14 +99,16 @@ holder: $(OUT)/vt220-fleet-holder
 
 # The time of what the toolchain builds is that of the beginning. So a source that changes meanwhile is newer.
 $(PROGRAM) $(SCREEN): $$(call sources,$$(notdir $$@))
-	@begun=$$(mktemp); trap 'rm -f "$$begun"' EXIT; tools/prove $(notdir $@) run -- --help; touch -r "$$begun" $@
+	@tools/product $(notdir $@) $@ tools/prove $(notdir $@) run -- --help
+$(UNPROVED): $$(call sources,$$(notdir $$@))
+	@begun=$$(mktemp); trap 'rm -f "$$begun"' EXIT; tools/unproved $(notdir $@) $@; touch -r "$$begun" $@
 # The crate of a static library, by its archive.
 crate_of = $(patsubst lib%.a,%,$(notdir $(1)))
 $(NATIVE) $(READER): $$(call sources,$$(call crate_of,$$@))
-	@begun=$$(mktemp); trap 'rm -f "$$begun"' EXIT; tools/archive $(call crate_of,$@) $(filter-out $(call crate_of,$@),$(call chain,$(call crate_of,$@))); touch -r "$$begun" $@
+	@tools/product $(call crate_of,$@) $@ tools/prove $(call crate_of,$@) lib
 
 crates/vt220_c/out/libvt220_c-aarch64.a: $(NATIVE)
-	@tools/compile-core vt220_c aarch64-unknown-linux-gnu $@
+	@tools/product vt220_c $@ tools/compile-core vt220_c aarch64-unknown-linux-gnu $@
 
 # One object, in which only the library's own calls are global: two such libraries then link into one program.
 $(OUT)/objects/%.o: lib/c/%.c $(HEADERS)

@@ -35,7 +35,7 @@ RULES = [
     ("Graphic sets", "", "vt_glyph.Tables.glyph_of vt_glyph.Designation.finals"),
     ("State", "Sets", "vt_glyph.Invocation.sets_at_power_up vt_term.State.display_at_power_up"),
     ("State", "Margins", "vt_term.State.full_margins vt_term.State.display_at_power_up"),
-    ("State", "Tab stops", "vt_term.State.stops_at_power_up vt_term.State.is_stop_at_power_up"),
+    ("State", "Tab stops", "vt_term.State.is_stop_at_power_up"),
     ("State", "Modes", "vt_term.State.modes_at_power_up"),
     ("State", "Saved", "vt_term.State.saved_at_power_up"),
     ("State", "Held", "vt_term.State.power_up"),

@@ -51,18 +51,23 @@ static bool open_resized(vt220 *made, const vt220 *from, struct window size) {
     return open_like(made, the.language) && vt220_copy(made, from) == VT220_OK && vt220_resize(made, size.rows, size.columns) == VT220_OK;
 }
 
-/* Keeps the rows that leave the terminal at the top when it gets so many rows. While the alternate page is shown, these are rows of the main
- * page, which isn't. The terminal isn't used after that. */
+/* Keeps the rows that leave the main page at the top when it gets so many rows. It goes by its own cursor: while the alternate page is shown,
+ * by the place that was saved on it. The terminal isn't used after that. */
 static void log_leaving(size_t rows) {
     static const uint8_t show_main[] = "\030\033[?47l";
     static uint8_t line[ROW_TEXT_MOST];
     vt220_language_state kept = {0};
     vt220_cursor_place cursor;
+    vt220_saved_record saved;
     size_t len;
     vt220_cursor(&the.terminal, &cursor);
     vt220_language(&the.terminal, &kept);
-    if (kept.alternate) vt220_feed(&the.terminal, show_main, sizeof show_main - 1, NULL, 0, NULL);
-    for (size_t row = 1; row + rows <= cursor.row; row++) {
+    if (kept.alternate) {
+        vt220_feed(&the.terminal, show_main, sizeof show_main - 1, NULL, 0, NULL);
+        vt220_saved(&the.terminal, &saved);
+    }
+    size_t last = kept.alternate ? saved.row : cursor.row;
+    for (size_t row = 1; row + rows <= last; row++) {
         if (vt220_row_text(&the.terminal, &the.scratch, row, line, sizeof line, &len) == VT220_OK) log_append(line, len);
     }
 }

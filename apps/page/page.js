@@ -63,11 +63,18 @@ async function compare(players) {
   $("difference").hidden = false;
 }
 
-/** Lets the page be as wide as the screen needs, by the size at which a recording begins. A template for that size does it before. */
-function fit({ options: { rows, columns } }) {
+/** Lets the page be as wide as the screen needs, whose size may change. A template for the first size does it before. */
+function fit(view) {
   const { style } = document.documentElement;
-  style.setProperty("--rows", rows);
-  style.setProperty("--columns", columns);
+  let known = "";
+  view.drawn = () => {
+    const { rows, width } = view.line.terminal;
+    if (known === `${rows} ${width}`) return;
+    known = `${rows} ${width}`;
+    style.setProperty("--rows", rows);
+    style.setProperty("--columns", width);
+  };
+  view.drawn();
 }
 
 /** Begins the page. Its state is that of its players. */

@@ -20,6 +20,7 @@
 static const char usage[] =
     "usage: vt220-play [OPTION ...] FILE\n"
     "Plays a recording by asciinema, ttyrec or script, or the bytes of a program, on this terminal.\n"
+    "  --find=TEXT             plays nothing, and lists when TEXT was on the screen and scrolled off\n"
     "  --timing=FILE           the timing file of script: FILE is then its typescript\n"
     "  --speed=N               how many times as fast it plays (1)\n"
     "  --from=MOMENT           where it begins: 12.5 or 12:31 seconds, 4096b bytes, event:N or marker:N\n"
@@ -32,11 +33,14 @@ static const char usage[] =
     "  -h, --help              prints this help\n"
     "  --version               prints the version\n"
     "Keys: space plays and stops; Left and Right go 5 seconds, . and , a step, 0 to 9 tenths, Home and End to the ends,\n"
-    "[ and ] to a marker; < and > change the speed; / searches, n and N go to the next and the last hit; q ends it.\n";
+    "[ and ] to a marker; < and > change the speed; / searches, n and N go to the next and the last hit;\n"
+    "? shows the keys; q ends it.\n";
+static const char keys_line[] = "space plays, arrows 5 s, , . step, 0-9, [ ] mark, < > speed, / n N find, q ends";
 
 enum {
     SECOND = 1000000, /* in microseconds, as all times here */
     FAR = 5 * SECOND,
+    TOLD_FOR = 2 * SECOND,   /* how long the line covers the last row */
     FRAME = 16000,           /* between two drawings */
     KEY_PATIENCE = 50000,    /* until the remainder of a key must have come */
     LEAVING_PATIENCE = 2000, /* milliseconds for which the terminal may take nothing at the end */
@@ -66,13 +70,15 @@ static struct {
     char wanted[TYPED];
     size_t wanted_len;
     char said[TYPED];   /* a message, up to the next key */
-    char line[LINE];    /* what is on the line below the screen */
+    char line[LINE];    /* what is on the line below the screen, or over its last row */
+    long long told_until; /* when the line leaves the last row; 0 if it isn't shown for a while */
     char held[VT220_TYPED_LIMIT]; /* the beginning of a key whose end hasn't come */
     size_t held_len;
     long long held_at;
     bool is_over;       /* a key ended it, the terminal has closed, or allocation failed */
     bool lacks_memory;
     int status;
+    const char *finds; /* the text whose places are listed, or null */
 } it;
 
 noreturn void fail(int status, const char *why, ...) {
@@ -82,7 +88,7 @@ noreturn void fail(int status, const char *why, ...) {
     vfprintf(stderr, why, words);
     fputc('\n', stderr);
     va_end(words);
-    exit(status);
+    exit(it.finds != NULL ? 2 : status); /* in a list of places 1 is that there are none */
 }
 
 static long long clock_now(void) {
@@ -109,6 +115,19 @@ static bool has_line(void) {
     return it.rows > vt220_rows(&it.reel.terminal);
 }
 
+/* Shows the line for a while, which on a terminal of no more rows covers the last one. */
+static void tell(void) {
+    it.told_until = clock_now() + TOLD_FOR;
+    it.is_behind = true;
+}
+
+/* Takes the line off the last row, once its time is over. */
+static void end_telling(void) {
+    if (it.told_until == 0 || clock_now() < it.told_until) return;
+    it.told_until = 0;
+    it.is_behind = true;
+}
+
 static void go(uint64_t time) {
     it.now = time < duration_of(&it.of) ? time : duration_of(&it.of);
     show_now();
@@ -132,6 +151,7 @@ static void advance(void) {
     skip_pause();
     show_now();
     it.plays = it.now < duration_of(&it.of);
+    if (!it.plays && !it.exits) tell();
 }
 
 /* With --exit, it is over when the end is on the terminal. */
@@ -139,18 +159,28 @@ static bool has_ended(void) {
     return it.exits && it.now >= duration_of(&it.of) && !it.is_behind && outer_is_done();
 }
 
-/* Returns in how many microseconds something happens by itself; -1 if nothing does. */
-static long long due(void) {
-    if (!it.plays) return it.held_len > 0 ? KEY_PATIENCE : -1;
+/* Returns in how many microseconds something of the recording comes, or the line changes. */
+static long long due_to_play(void) {
     size_t next = chunks_at(&it.of, it.now);
     uint64_t last = next > 0 ? it.of.chunks[next - 1].micros : 0, end = next < it.of.count ? it.of.chunks[next].micros : it.now;
     if (it.pause < end - last) end = last + it.pause > it.now ? last + it.pause + 1 : it.now;
-    if (has_line() && end > (it.now / SECOND + 1) * SECOND) end = (it.now / SECOND + 1) * SECOND; /* the line shows seconds */
+    if ((has_line() || it.told_until > 0) && end > (it.now / SECOND + 1) * SECOND) end = (it.now / SECOND + 1) * SECOND; /* the line shows seconds */
     double wait = (double)(end - it.now) / it.speed + 1;
     long long frame = it.drawn_at + FRAME - clock_now();
     if (wait < (double)frame) wait = (double)frame;
-    if (it.held_len > 0 && wait > KEY_PATIENCE) wait = KEY_PATIENCE;
     return wait < 1e12 ? (long long)wait : (long long)1e12;
+}
+
+/* Returns the shorter one of two times, of which -1 has no end. */
+static long long shorter(long long a, long long b) {
+    return a < 0 || (b >= 0 && b < a) ? b : a;
+}
+
+/* Returns in how many microseconds something happens by itself; -1 if nothing does. */
+static long long due(void) {
+    long long wait = it.plays ? due_to_play() : -1, told = it.told_until - clock_now();
+    if (it.held_len > 0) wait = shorter(wait, KEY_PATIENCE);
+    return it.told_until > 0 ? shorter(wait, told > 0 ? told : 0) : wait;
 }
 
 /* --- keys --- */
@@ -213,6 +243,7 @@ static void act_slower(void) { set_speed(false); }
 static void act_next(void) { find_from(true); }
 static void act_last(void) { find_from(false); }
 static void act_again(void) { it.is_drawn = false; }
+static void act_keys(void) { strcpy(it.said, keys_line); }
 static void act_stop(void) { outer_told.to_stop = 1; }
 static void act_quit(void) { it.is_over = true; }
 
@@ -222,8 +253,8 @@ static const struct {
     void (*act)(void);
 } acts[] = {{" ", toggle},           {"\033[D", act_back},      {"\033[C", act_on},   {".", act_step},    {",", act_step_back},
             {"\033[1~", act_home},   {"\033[4~", act_end},      {"]", act_marker},    {"[", act_marker_back}, {">", act_faster},
-            {"<", act_slower},       {"/", ask},                {"n", act_next},      {"N", act_last},    {"q", act_quit},
-            {"\003" /* Ctrl-C */, act_quit}, {"\014" /* Ctrl-L */, act_again}, {"\032" /* Ctrl-Z */, act_stop}};
+            {"<", act_slower},       {"/", ask},                {"n", act_next},      {"N", act_last},    {"?", act_keys},
+            {"q", act_quit}, {"\003" /* Ctrl-C */, act_quit}, {"\014" /* Ctrl-L */, act_again}, {"\032" /* Ctrl-Z */, act_stop}};
 
 /* Takes a key of the text that is searched for. */
 static void type_wanted(const char *key, size_t len) {
@@ -247,7 +278,7 @@ static void press(const char *key, size_t len) {
     uint8_t sent[VT220_KEY_LIMIT + 1];
     size_t sent_len;
     it.said[0] = 0;
-    it.is_behind = true;
+    tell();
     if (it.asks) {
         type_wanted(key, len);
         return;
@@ -303,16 +334,18 @@ static int write_time(char *to, size_t size, uint64_t micros) {
     return snprintf(to, size, "%llu:%02llu:%02llu", seconds / 3600, seconds / 60 % 60, seconds % 60);
 }
 
-/* Writes what is to be on the line below the screen. On a terminal of no more rows it covers the last one, so it is only there if it is needed. */
+/* Writes what is to be on the line below the screen. On a terminal of no more rows it covers the last one, so it is only there for a while, or if
+ * it is needed. */
 static void write_line(char *line, size_t size) {
     char now[32], all[32];
     write_time(now, sizeof now, it.now);
     write_time(all, sizeof all, duration_of(&it.of));
     line[0] = 0;
-    const char *does = it.plays ? "plays" : it.now < duration_of(&it.of) ? "stopped" : "at the end:";
+    bool is_at_end = it.now >= duration_of(&it.of);
+    const char *does = it.plays ? "plays" : is_at_end ? "at the end:" : "stopped", *keys = is_at_end ? "; ? shows the keys, q ends it" : "";
     if (it.asks) snprintf(line, size, "/%s", it.wanted);
     else if (it.said[0] != 0) snprintf(line, size, "%s", it.said);
-    else if (has_line()) snprintf(line, size, "%s %s / %s, speed %g", does, now, all, it.speed);
+    else if (has_line() || it.told_until > 0) snprintf(line, size, "%s %s / %s, speed %g%s", does, now, all, it.speed, keys);
     size_t len = strlen(line), most = it.cols < size ? it.cols : size - 1;
     if (len >= most) len = most - 1;
     while (len > 0 && ((uint8_t)line[len] & 0xC0) == 0x80) len--;
@@ -323,7 +356,8 @@ static void draw_line(void) {
     char line[LINE], place[32];
     size_t row = vt220_rows(&it.reel.terminal) + has_line();
     write_line(line, sizeof line);
-    if (strcmp(line, it.line) == 0) return;
+    bool may_be_covered = !has_line() && line[0] != 0; /* the screen's last row may have been drawn over it */
+    if (strcmp(line, it.line) == 0 && !may_be_covered) return;
     strcpy(it.line, line);
     snprintf(place, sizeof place, "\0337\033[%zu;1H\033[0m\033[K", row);
     outer_say(place);
@@ -431,6 +465,7 @@ static void turn(const sigset_t *open_mask) {
     obey_signals();
     if (polled[0].revents && !it.is_over) read_keys();
     release_held();
+    end_telling();
     if (polled[1].revents) outer_write();
     if (it.is_behind && outer_is_done() && !it.is_over) draw();
     if (has_ended()) it.is_over = true;
@@ -490,7 +525,8 @@ static void print_version(void) {
 static void read_options(int argc, char **argv, struct options *options) {
     static const struct option names[] = {{"help", 0, NULL, 'h'},  {"version", 0, NULL, 'V'}, {"timing", 1, NULL, 't'}, {"speed", 1, NULL, 's'},
                                           {"from", 1, NULL, 'f'},  {"until", 1, NULL, 'u'},   {"pause", 1, NULL, 'p'},  {"exit", 0, NULL, 'x'},
-                                          {"encoding", 1, NULL, 'E'}, {"terminal", 1, NULL, 'T'}, {"size", 1, NULL, 'S'}, {0}};
+                                          {"encoding", 1, NULL, 'E'}, {"terminal", 1, NULL, 'T'}, {"size", 1, NULL, 'S'},
+                                          {"find", 1, NULL, 'F'},  {0}};
     opterr = 0;
     for (int letter; (letter = getopt_long(argc, argv, "h", names, NULL)) >= 0;) {
         switch (letter) {
@@ -506,6 +542,7 @@ static void read_options(int argc, char **argv, struct options *options) {
         case 'x': it.exits = true; break;
         case 'E': options->asked.encoding = choice("encoding", optarg, "dec", "utf-8"); break;
         case 'S': options->asked.size = size_given(optarg); break;
+        case 'F': it.finds = optarg; break;
         case 'T': options->asked.terminal = choice("terminal", optarg, "vt220", "xterm"); break;
         default: fail(2, "unknown option '%s'; vt220-play --help lists them", argv[optind - 1]);
         }
@@ -515,7 +552,15 @@ static void read_options(int argc, char **argv, struct options *options) {
     if (options->asked.terminal == TERMINAL_XTERM && options->asked.encoding == ENCODING_DEC) {
         fail(2, "--terminal=xterm is in UTF-8, and doesn't go with --encoding=dec");
     }
+    if (it.finds != NULL && strlen(it.finds) >= FIND_LIMIT / 2) fail(2, "the text of --find has at most %d bytes", FIND_LIMIT / 2 - 1);
     options->asked.file = argv[optind];
+}
+
+/* Lists the places of the text from a moment on. Returns the exit status, which is that of grep. */
+static int list_places(uint64_t from) {
+    bool is_found = find_all(&it.of, it.finds, chunks_before(&it.of, from));
+    if (fflush(stdout) != 0 || ferror(stdout)) fail(2, "write failed: %s", strerror(errno));
+    return is_found ? 0 : 1;
 }
 
 int main(int argc, char **argv) {
@@ -524,11 +569,12 @@ int main(int argc, char **argv) {
     it.speed = 1;
     it.pause = UINT64_MAX;
     read_options(argc, argv, &options);
-    if (!isatty(STDOUT_FILENO) || !outer_open()) fail(2, "it needs a terminal");
+    if (it.finds == NULL && (!isatty(STDOUT_FILENO) || !outer_open())) fail(2, "it needs a terminal");
     recording_read(&it.of, &options.asked);
     if (options.from != NULL) from = moment_of(&it.of, "from", options.from);
     if (options.until != NULL) recording_cut(&it.of, moment_of(&it.of, "until", options.until));
     reel_begin(&it.of);
+    if (it.finds != NULL) return list_places(from.micros);
     if (!reel_open(&it.reel)) fail(1, "out of memory");
     play(from.micros);
     if (outer_told.to_go != 0) {

@@ -1,6 +1,7 @@
 /* The terminal after each chunk of a recording: that of all bytes and changes of the size up to there. So it doesn't depend on how a seek got
  * there. A seek plays from the last checkpoint, which is a terminal, or goes on from where it is. */
 #include "play.h"
+#include <stdlib.h>
 #include <string.h>
 
 enum { POINTS = 128, LEAST = 65536 /* the fewest bytes from one checkpoint to the next */ };
@@ -58,12 +59,62 @@ bool reel_open(struct reel *reel) {
     return restore(reel, &kept.points[0]);
 }
 
-/* Plays the next chunk. Returns false if allocation fails. */
-static bool play(struct reel *reel) {
+/* Makes room for lines of a terminal that scroll off at once. Returns false if allocation fails. */
+static bool make_room(struct scrolled *off, const vt220 *t) {
+    size_t least = off->len + vt220_limit(t, VT220_OF_LINES);
+    if (vt220_scratch_fit(&off->scratch, t) != VT220_OK) return false;
+    if (off->size >= least) return true;
+    uint8_t *more = realloc(off->text, 2 * least);
+    if (more == NULL) return false;
+    off->text = more;
+    off->size = 2 * least;
+    return true;
+}
+
+/* Plays bytes. Returns false if allocation fails. */
+static bool feed(vt220 *t, const uint8_t *bytes, size_t len, struct scrolled *off) {
+    if (off == NULL) {
+        vt220_feed(t, bytes, len, NULL, 0, NULL);
+        return true;
+    }
+    for (size_t at = 0, written; at < len; off->len += written) {
+        if (!make_room(off, t)) return false;
+        at += vt220_feed_log(t, &off->scratch, bytes + at, len - at, NULL, 0, NULL, off->text + off->len, off->size - off->len, &written);
+    }
+    return true;
+}
+
+/* Adds the rows that leave the main page at the top if the screen gets so many rows. It goes by its own cursor: while the alternate page is
+ * shown, by the place that was saved on it. */
+static bool add_leaving(const struct reel *reel, size_t rows, struct scrolled *off) {
+    static const uint8_t show_main[] = "\030\033[?47l";
+    vt220 page = VT220_INIT;
+    vt220_language_state language;
+    vt220_cursor_place cursor;
+    vt220_saved_record saved;
+    bool is_fine = reel_copy(&page, kept.of->language, reel);
+    if (!is_fine) return false;
+    vt220_language(&page, &language);
+    vt220_cursor(&page, &cursor);
+    if (language.alternate) {
+        vt220_feed(&page, show_main, sizeof show_main - 1, NULL, 0, NULL);
+        vt220_saved(&page, &saved);
+    }
+    size_t last = language.alternate ? saved.row : cursor.row;
+    for (size_t row = 1, written; is_fine && row + rows <= last; row++) {
+        is_fine = make_room(off, &page);
+        if (is_fine && vt220_row_text(&page, &off->scratch, row, off->text + off->len, off->size - off->len, &written) == VT220_OK) off->len += written;
+    }
+    vt220_close(&page);
+    return is_fine;
+}
+
+bool reel_play(struct reel *reel, struct scrolled *off) {
     const struct change *change = reel->changes < kept.of->changes_count ? &kept.of->changes[reel->changes] : NULL;
     size_t from = bytes_of(reel->count), end = bytes_of(reel->count + 1);
-    vt220_feed(&reel->terminal, kept.of->bytes + from, end - from, NULL, 0, NULL);
+    if (!feed(&reel->terminal, kept.of->bytes + from, end - from, off)) return false;
     if (change != NULL && change->chunk == reel->count) {
+        if (off != NULL && !add_leaving(reel, change->size.rows, off)) return false;
         if (vt220_resize(&reel->terminal, change->size.rows, change->size.columns) != VT220_OK) return false;
         reel->changes++;
     }
@@ -76,7 +127,7 @@ bool reel_seek(struct reel *reel, size_t count) {
     while (from->count > count) from--;
     bool is_fine = (count >= reel->count && from->count <= reel->count) || restore(reel, from);
     while (is_fine && reel->count < count) {
-        is_fine = play(reel);
+        is_fine = reel_play(reel, NULL);
         if (is_fine && bytes_of(reel->count) >= bytes_of(kept.points[kept.count - 1].count) + kept.every) keep(reel);
     }
     return is_fine;

@@ -159,17 +159,22 @@ const char *vt220_status_text(uint32_t status) {
         "there is no such key",
         "no key sends this character",
         "the terminal has another language",
-        "there is no such size, or two have different sizes",
+        "two handles have different sizes",
+        "there is no such language",
+        "there is no such size",
     };
     return status < sizeof texts / sizeof texts[0] ? texts[status] : "unknown status";
 }
+
+/* Returns the status of a call that makes a terminal of a size: the core's has one number for no such size and for two sizes. */
+static uint32_t of_one_size(uint32_t status) { return status == VT220_SIZE ? VT220_NO_SIZE : status; }
 
 /* Opens a terminal of a size for a VT220's bytes. */
 static uint32_t open_size(vt220 *t, size_t rows, size_t columns) {
     if (t->is_open) return VT220_IN_USE;
     if (!is_supported()) return VT220_UNSUPPORTED;
     handle h = {NULL, false};
-    uint32_t status = core_open(&h, rows, columns);
+    uint32_t status = of_one_size(core_open(&h, rows, columns));
     if (status == VT220_OK) *t = (vt220){h.at, h.is_open, 0};
     return status;
 }
@@ -192,7 +197,7 @@ static uint32_t speak(vt220 *t, uint32_t language, size_t rows, size_t columns) 
 
 uint32_t vt220_open_as(vt220 *t, uint32_t language, size_t rows, size_t columns) {
     if (t->is_open) return VT220_IN_USE;
-    if (language > (VT220_UTF8 | VT220_XTERM)) return VT220_LANGUAGE;
+    if (language > (VT220_UTF8 | VT220_XTERM)) return VT220_NO_LANGUAGE;
     uint32_t status = open_size(t, rows, columns);
     if (status != VT220_OK || language == VT220_BYTES) return status;
     return speak(t, language & VT220_XTERM ? VT220_XTERM : VT220_UTF8, rows, columns);
@@ -457,7 +462,7 @@ uint32_t vt220_resize(vt220 *t, size_t rows, size_t columns) {
     session *by = session_of(t);
     handle h = own(t), made = {NULL, false}, pages = {NULL, false};
     if (!h.is_open) return VT220_CLOSED;
-    uint32_t status = core_resized(&made, &h, rows, columns);
+    uint32_t status = of_one_size(core_resized(&made, &h, rows, columns));
     if (status == VT220_OK && is_xterm(by)) status = core_xterm_resized(&pages, &h, &by->pages, rows, columns);
     if (status == VT220_OK) take_over(t, made, pages);
     else if (made.is_open) core_close(&made);
@@ -524,7 +529,8 @@ static uint32_t repaint_pages(const vt220 *t, vt220_scratch *s, uint8_t *out, si
 uint32_t vt220_repaint_as(const vt220 *t, uint32_t language, vt220_scratch *s, uint8_t *out, size_t size, size_t *written) {
     bool is_of_pages = language & VT220_XTERM;
     *written = 0;
-    if (language > (VT220_UTF8 | VT220_XTERM) || (is_of_pages && t->is_open && !is_xterm(session_of(t)))) return VT220_LANGUAGE;
+    if (language > (VT220_UTF8 | VT220_XTERM)) return VT220_NO_LANGUAGE;
+    if (is_of_pages && t->is_open && !is_xterm(session_of(t))) return VT220_LANGUAGE;
     return is_of_pages && t->is_open ? repaint_pages(t, s, out, size, written) : write_by(core_repaint, t, s, out, size, written);
 }
 
@@ -583,7 +589,7 @@ uint32_t vt220_row_changes(const vt220 *shown, const vt220 *to, size_t row, vt22
     vt220_row_marks now = {.width = vt220_width(to)};
     uint32_t status = vt220_changes_of(shown, to, row, now.changed, now.width <= VT220_COLUMNS ? now.width : 0);
     if (status == VT220_OK) *marks = now;
-    return status == VT220_ROOM ? VT220_SIZE : status;
+    return status;
 }
 
 size_t vt220_row(const vt220 *t, size_t row, vt220_cell *cells, size_t size) {

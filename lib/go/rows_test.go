@@ -66,7 +66,7 @@ type row struct{ text, cursor, wrap, brush, alternate, paste, bells, pending, re
 func wantedOf(t *testing.T, fields []string) row {
 	wanted := row{cursor: "1;1", wrap: "0", alternate: "0", paste: "0", bells: "0"}
 	places := map[string]*string{"text": &wanted.text, "cursor": &wanted.cursor, "wrap": &wanted.wrap, "brush": &wanted.brush, "alternate": &wanted.alternate,
-		"paste": &wanted.paste, "bells": &wanted.bells, "pending": &wanted.pending, "reports": &wanted.reports, "lines": &wanted.lines, "repaint": &wanted.repaint, "differs": new(string)}
+		"paste": &wanted.paste, "bells": &wanted.bells, "pending": &wanted.pending, "reports": &wanted.reports, "lines": &wanted.lines, "repaint": &wanted.repaint, "differs": new(string), "left": new(string)}
 	for _, field := range fields {
 		name, value, _ := strings.Cut(field, "=")
 		if places[name] == nil {

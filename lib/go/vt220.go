@@ -50,7 +50,9 @@ var (
 	ErrNoKey       = errors.New("vt220: there is no such key")
 	ErrNoCharacter = errors.New("vt220: no key sends this character")
 	ErrLanguage    = errors.New("vt220: the terminal has another language")
-	ErrSize        = errors.New("vt220: there is no such size, or two terminals have different sizes")
+	ErrSize        = errors.New("vt220: two terminals have different sizes")
+	ErrNoLanguage  = errors.New("vt220: there is no such language")
+	ErrNoSize      = errors.New("vt220: there is no such size")
 )
 
 // noCopy lets go vet find copies of a struct that owns a handle.
@@ -130,6 +132,10 @@ func result(status C.uint32_t) error {
 		return ErrLanguage
 	case C.VT220_SIZE:
 		return ErrSize
+	case C.VT220_NO_LANGUAGE:
+		return ErrNoLanguage
+	case C.VT220_NO_SIZE:
+		return ErrNoSize
 	default:
 		return ErrClosed // the other two are impossible: New opens once, and the buffer always has the limit
 	}
@@ -250,11 +256,11 @@ type Terminal struct {
 // processor.
 func New() (*Terminal, error) { return OpenAs(Bytes) }
 
-// OpenAs opens a terminal for a language in its power-up state. It returns the errors of New, and ErrLanguage if there is no such language.
+// OpenAs opens a terminal for a language in its power-up state. It returns the errors of New, and ErrNoLanguage if there is no such language.
 func OpenAs(language Language) (*Terminal, error) { return OpenSize(language, Rows, 80) }
 
 // OpenSize opens a terminal for a language and of a size in its power-up state: 2 to 255 rows of 2 to 255 columns. At another size than 24 by
-// 80 DECCOLM leaves the width. It returns the errors of OpenAs, and ErrSize if there is no such size.
+// 80 DECCOLM leaves the width. It returns the errors of OpenAs, and ErrNoSize if there is no such size.
 func OpenSize(language Language, rows, columns int) (*Terminal, error) {
 	t := new(Terminal)
 	if err := result(C.vt220_open_as(&t.handle, C.uint32_t(language), C.size_t(rows), C.size_t(columns))); err != nil {
@@ -266,7 +272,7 @@ func OpenSize(language Language, rows, columns int) (*Terminal, error) {
 
 // Resize changes the size, as xterm does if its window changes, also inside a sequence: 2 to 255 rows of 2 to 255 columns. DECCOLM then leaves
 // the width. If the cursor would be below the last row, so many rows leave at the top that it is in the last one: read them before, with RowText.
-// It returns ErrSize if there is no such size, and ErrMemory if the allocation fails, and then nothing has changed.
+// It returns ErrNoSize if there is no such size, and ErrMemory if the allocation fails, and then nothing has changed.
 func (t *Terminal) Resize(rows, columns int) error {
 	return result(C.vt220_resize(&t.handle, C.size_t(rows), C.size_t(columns)))
 }

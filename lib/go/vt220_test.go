@@ -353,13 +353,13 @@ func TestSizes(t *testing.T) {
 		t.Error("a picture and a repaint", err, failed)
 	}
 	small, err := New()
-	if err != nil || small.CopyFrom(clone) != ErrSize || terminal.Resize(1, 80) != ErrSize || terminal.Resize(24, 256) != ErrSize {
+	if err != nil || small.CopyFrom(clone) != ErrSize || terminal.Resize(1, 80) != ErrNoSize || terminal.Resize(24, 256) != ErrNoSize {
 		t.Error("two sizes", err)
 	}
 	if _, err := small.RowChanges(clone, 1); err != ErrSize {
 		t.Error("marks of two sizes", err)
 	}
-	if _, err := OpenSize(Bytes, 24, -1); err != ErrSize {
+	if _, err := OpenSize(Bytes, 24, -1); err != ErrNoSize {
 		t.Error("no such size", err)
 	}
 }

@@ -62,7 +62,7 @@ func TestXterm(t *testing.T) {
 
 func TestLanguages(t *testing.T) {
 	terminal, other, s := openAs(t, Xterm), open(t, ""), scratch(t)
-	if _, err := OpenAs(4); err != ErrLanguage {
+	if _, err := OpenAs(4); err != ErrNoLanguage {
 		t.Error("a language that isn't there", err)
 	}
 	terminal.Feed([]byte("main\x1b[?1049halt"))

@@ -31,7 +31,7 @@ def notices(part="--library"):
 TIMELINE = ["src/vt220.js", "src/finding.js", "src/timeline.js"]
 SERVING = [*TIMELINE, "src/reader.js", "src/serving.js"]
 PLAYER = ["src/playback.js", "src/screen.js", "src/sound.js", "src/typed.js", "src/live.js", "src/look.js", "src/notes.js", "src/reading.js", "src/incoming.js", "src/packed.js", "src/searcher.js",
-          "src/recordings.js", "src/view.js", "src/player.js"]
+          "src/recordings.js", "src/view.js", "src/attributes.js", "src/player.js"]
 # What a script in one file has in place of what a module finds next to it.
 MODULE = "Returns the bytes of vt220.wasm next to this module"
 READER = "Returns the bytes of reader.wasm next to this module"
@@ -45,6 +45,11 @@ def bundle(*names):
     declared = re.findall(r"^(?:export )?(?:async )?(?:const|let|class|function\*?) (\w+)", text, flags=re.M)
     assert len(declared) == len(set(declared)), f"modules declare the same names: {sorted(name for name in declared if declared.count(name) > 1)}"
     return re.sub(r"^export ", "", text, flags=re.M)
+
+
+def bare(text):
+    """Returns a bundle without its comments, each of which has lines of its own."""
+    return re.sub(r"^ *(?://.*?|/\*.*?\*/)\n", "", text, flags=re.M | re.S)
 
 
 def with_module(text, value):

@@ -1,11 +1,11 @@
-"""The conformance vectors, as lib/rows/vectors.txt has them, the rows of lib/rows/sizes.txt, and the repaints of lib/rows/session-repaints.txt."""
+"""The conformance vectors, as lib/rows/vectors.txt has them, the rows of lib/rows/sizes.txt, and the repaints of lib/rows/repaints.txt."""
 import pathlib
 import re
 from typing import NamedTuple
 
 LISTS = pathlib.Path(__file__).resolve().parent
 AT_POWER_UP = {"text": "", "cursor": "1;1", "wrap": "0", "brush": "", "alternate": "0", "paste": "0", "bells": "0", "pending": b"", "reports": b"", "lines": ""}
-ESCAPES = {b"e": b"\033", b"n": b"\n", b"r": b"\r", b"\\": b"\\",
+ESCAPES = {b"e": b"\033", b"n": b"\n", b"r": b"\r", b"t": b"\t", b"\\": b"\\",
            b"H": b"\033(B\033*<\033+0\017", b"P": b'\033[0m\033[0"q', b"S": b"\033(B\033)B\033*<\033+<\017\033}"}
 
 
@@ -27,7 +27,8 @@ class Vector(NamedTuple):
 
 
 class Sized(NamedTuple):
-    """A row of sizes.txt. A size is a pair of rows and columns, and `second` is None if the first one stays. `wanted` is that of a vector."""
+    """A row of sizes.txt. A size is a pair of rows and columns, and `second` is None if the first one stays. `wanted` is that of a vector. `left` is None
+    if no field has it."""
 
     name: str
     encoding: str
@@ -37,16 +38,19 @@ class Sized(NamedTuple):
     second: tuple | None
     more: bytes
     wanted: dict
+    left: str | None
 
 
-def spelled(field):
-    """Returns the bytes that a field spells."""
+def spelled(field, parts={}):
+    """Returns the bytes that a field spells. In `parts` are those that a list names."""
     found = b""
-    for escape, plain in re.findall(rb"\\(x..|\{\d+\}|.)|([^\\]+)", field.encode()):
+    for escape, plain in re.findall(rb"\\(x..|\{[^}]*\}|.)|([^\\]+)", field.encode()):
         if escape[:1] == b"x":
             found += bytes.fromhex(escape[1:].decode())
-        elif escape[:1] == b"{":
+        elif escape[1:-1].isdigit():
             found += found[-1:] * (int(escape[1:-1]) - 1)
+        elif escape[:1] == b"{":
+            found += parts[escape[1:-1].decode()]
         else:
             found += plain or ESCAPES[escape]
     return found
@@ -64,10 +68,10 @@ def lines_of(name):
             yield line.split("\t")
 
 
-def session_repaints():
-    """Yields the name, the input and the repaint of each row of session-repaints.txt."""
-    for name, sent, repaint in lines_of("session-repaints.txt"):
-        yield name, spelled(sent), spelled(repaint)
+def repaints():
+    """Yields each row of repaints.txt: its name, its encoding and terminal, its size, its input, and its repaint, which is None if it has none."""
+    for name, encoding, terminal, size, sent, *repaint in lines_of("repaints.txt"):
+        yield name, (encoding, terminal), size_of(size), spelled(sent), spelled(repaint[0]) if repaint else None
 
 
 def wanted_by(fields):
@@ -92,4 +96,6 @@ def size_of(field):
 def sizes():
     """Yields each row of sizes.txt."""
     for name, encoding, terminal, first, sent, second, more, *fields in lines_of("sizes.txt"):
-        yield Sized(name, encoding, terminal, size_of(first), spelled(sent), size_of(second), spelled(more), wanted_by(fields)[0])
+        left = [spelled(field.removeprefix("left=")).decode() for field in fields if field.startswith("left=")]
+        wanted = wanted_by(field for field in fields if not field.startswith("left="))[0]
+        yield Sized(name, encoding, terminal, size_of(first), spelled(sent), size_of(second), spelled(more), wanted, *left or [None])

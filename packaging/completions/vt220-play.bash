@@ -7,11 +7,11 @@ _vt220_play() {
   if [[ $word == = ]]; then word=; fi
   if [[ $word == --*=* ]]; then before=${word%%=*} start=${word%%=*}= word=${word#*=}; fi
   case $before in
-    --speed | --from | --until | --pause) COMPREPLY=(); return ;;
+    --find | --speed | --from | --until | --pause) COMPREPLY=(); return ;;
     --encoding) words='dec utf-8 auto' ;;
     --terminal) words='vt220 xterm auto' ;;
     --size) words=auto ;;
-    *) if [[ $word == -* && $before != --timing ]]; then words='--timing= --speed= --from= --until= --pause= --exit --encoding= --terminal= --size= -h --help --version'; fi ;;
+    *) if [[ $word == -* && $before != --timing ]]; then words='--find= --timing= --speed= --from= --until= --pause= --exit --encoding= --terminal= --size= -h --help --version'; fi ;;
   esac
   if [ -n "$words" ]; then
     mapfile -t COMPREPLY < <(compgen -P "$start" -W "$words" -- "$word")

@@ -1,6 +1,7 @@
 # Completions of vt220-play for fish.
 complete -c vt220-play -s h -l help -d 'Print the help'
 complete -c vt220-play -l version -d 'Print the version'
+complete -c vt220-play -l find -x -d 'List when a text was on the screen and scrolled off'
 complete -c vt220-play -l timing -r -d 'The timing file of script'
 complete -c vt220-play -l speed -x -d 'How many times as fast it plays'
 complete -c vt220-play -l from -x -d 'Where it begins'

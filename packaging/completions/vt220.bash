@@ -4,10 +4,8 @@
 _vt220_formats() { vt220 text --help 2>/dev/null | sed -n 's/.*FILE was recorded: \(.*\) \[.*/\1/p' | sed 's/ or / /; s/,//g'; }
 
 _vt220() {
-  local commands='text reports repaint status show picture log pages trace summary events content search index help'
-  local options='--piece --limit --format --timing --from --until --index --encoding --terminal --columns --size --animate --theme --cursor --title --full --partial --quiet -h --help'
-  if [ "${COMP_WORDS[1]}" = search ]; then options="$options --log"; fi
-  if [ "${COMP_WORDS[1]}" = index ]; then options="$options --every"; fi
+  local commands='text reports repaint status show picture log trace events content help'
+  local options='--piece --limit --format --timing --from --until --encoding --terminal --columns --size --full --partial --quiet -h --help'
   local word=${COMP_WORDS[COMP_CWORD]} before=${COMP_WORDS[COMP_CWORD - 1]} words=
   # Readline cuts --format=raw into three words. Without = in COMP_WORDBREAKS it is one word.
   local start=
@@ -18,16 +16,14 @@ _vt220() {
     words="$commands -h --help -V --version"
   else
     case $before in
-      --piece | --limit | --from | --until | --title | --every) COMPREPLY=(); return ;;
+      --piece | --limit | --from | --until) COMPREPLY=(); return ;;
       --format) words=$(_vt220_formats) ;;
       --encoding) words='dec utf-8 auto' ;;
       --terminal) words='vt220 xterm auto' ;;
       --columns) words='80 132 auto' ;;
       --size) words='auto' ;;
-      --theme) words='dark light green amber' ;;
-      --cursor) words='outline block underline hidden' ;;
       help) words=${commands% help} ;;
-      *) if [[ $word == -* && $before != --timing && $before != --index ]]; then words=$options; fi ;;
+      *) if [[ $word == -* && $before != --timing ]]; then words=$options; fi ;;
     esac
   fi
   if [ -n "$words" ]; then

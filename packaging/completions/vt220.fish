@@ -5,7 +5,7 @@ function __vt220_formats
     vt220 text --help 2>/dev/null | string replace -rf '.*FILE was recorded: (.*) \[.*' '$1' | string replace ' or ' ', ' | string split ', '
 end
 
-set -l commands text reports repaint status show picture log pages trace summary events content search index
+set -l commands text reports repaint status show picture log trace events content
 complete -c vt220 -n "not __fish_seen_subcommand_from $commands help" -f
 complete -c vt220 -n "not __fish_seen_subcommand_from $commands help" -a text -d 'The screen as text'
 complete -c vt220 -n "not __fish_seen_subcommand_from $commands help" -a reports -d 'What the terminal answers to the host'
@@ -14,13 +14,9 @@ complete -c vt220 -n "not __fish_seen_subcommand_from $commands help" -a status 
 complete -c vt220 -n "not __fish_seen_subcommand_from $commands help" -a show -d 'The screen with its attributes'
 complete -c vt220 -n "not __fish_seen_subcommand_from $commands help" -a picture -d 'The screen as SVG'
 complete -c vt220 -n "not __fish_seen_subcommand_from $commands help" -a log -d 'The lines that scroll off, and then the screen'
-complete -c vt220 -n "not __fish_seen_subcommand_from $commands help" -a pages -d 'The log, and each screen before it is blanked'
 complete -c vt220 -n "not __fish_seen_subcommand_from $commands help" -a trace -d 'A line for each event'
-complete -c vt220 -n "not __fish_seen_subcommand_from $commands help" -a summary -d 'How often each event occurs'
 complete -c vt220 -n "not __fish_seen_subcommand_from $commands help" -a events -d 'A line for each event of a recording'
 complete -c vt220 -n "not __fish_seen_subcommand_from $commands help" -a content -d 'The bytes of the host'
-complete -c vt220 -n "not __fish_seen_subcommand_from $commands help" -a search -d 'When a text was on the screen'
-complete -c vt220 -n "not __fish_seen_subcommand_from $commands help" -a index -d 'An index of a recording, to skip to a moment'
 complete -c vt220 -n "not __fish_seen_subcommand_from $commands help" -a help -d 'Help on a command'
 complete -c vt220 -n "not __fish_seen_subcommand_from $commands help" -s V -l version -d 'Print the version'
 complete -c vt220 -n "__fish_seen_subcommand_from $commands" -l piece -x -d 'The most bytes of one read'
@@ -29,18 +25,11 @@ complete -c vt220 -n "__fish_seen_subcommand_from $commands" -l format -x -a '(_
 complete -c vt220 -n "__fish_seen_subcommand_from $commands" -l timing -r -d 'The times of a recording by script'
 complete -c vt220 -n "__fish_seen_subcommand_from $commands" -l from -x -d 'Only what comes from there on'
 complete -c vt220 -n "__fish_seen_subcommand_from $commands" -l until -x -d 'Only what came up to it'
-complete -c vt220 -n "__fish_seen_subcommand_from $commands" -l index -r -d 'An index of the recording'
 complete -c vt220 -n "__fish_seen_subcommand_from $commands" -l encoding -x -a 'dec utf-8 auto' -d 'How the bytes are read'
 complete -c vt220 -n "__fish_seen_subcommand_from $commands" -l terminal -x -a 'vt220 xterm auto' -d 'The terminal for which the host sends'
 complete -c vt220 -n "__fish_seen_subcommand_from $commands" -l columns -x -a '80 132 auto' -d 'The columns of the screen'
 complete -c vt220 -n "__fish_seen_subcommand_from $commands" -l size -x -a 'auto' -d 'Its columns and rows'
-complete -c vt220 -n "__fish_seen_subcommand_from $commands" -l animate -d 'A picture that moves'
-complete -c vt220 -n "__fish_seen_subcommand_from $commands" -l theme -x -a 'dark light green amber' -d 'Its colours'
-complete -c vt220 -n "__fish_seen_subcommand_from $commands" -l cursor -x -a 'outline block underline hidden' -d 'Its cursor'
-complete -c vt220 -n "__fish_seen_subcommand_from $commands" -l title -x -d 'Its title'
 complete -c vt220 -n "__fish_seen_subcommand_from $commands" -l full -d 'All that the recording has, for events'
-complete -c vt220 -n "__fish_seen_subcommand_from search" -l log -d 'Also the lines that scrolled off'
-complete -c vt220 -n "__fish_seen_subcommand_from index" -l every -x -d 'The bytes between two checkpoints'
 complete -c vt220 -n "__fish_seen_subcommand_from $commands" -l partial -d 'What came before a break is enough'
 complete -c vt220 -n "__fish_seen_subcommand_from $commands" -l quiet -d 'No notes'
 complete -c vt220 -n "__fish_seen_subcommand_from help" -f -a "$commands"

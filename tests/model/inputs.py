@@ -187,10 +187,7 @@ XTERM_SCENES = [
     b"\033[1;38;5;7;4mA\033[48;2;1;4;5;7mB\033[58;1;4mC\033[38mD\033[38;5mE\033[0;31;92;104mF",
     b'\033[?7l\033[!p\033[3;80HAB\033[?7l\033[62;1"p\033[3;80HAB',
     b"\033[2;80H#\033[3d\033[2;80H#\033[80G\033[2;80H#\033[a\033[2;80H#\033[e",
-    b"\033[1;4:3mA\033[4:0mB\033[38:2::1:2:3;7mC\033[58:5:1;5mD\033[4:3H\033[?4:3h\033[4:\n0:3;1mE\033[0:1mF",
 ]
-# Parameters with subparameters, and what may come inside of them.
-SUBPARAMETERS = [b"", b":", b":0", b":3", b":00:1", b":03", b":2::1:2:3", b":5:9", b":0\n:1", b":\x7f0", b":\x18", b":\033[", b":<", b": ", b":\xc3\xa9"]
 # Left and right margins, and a cursor in them, left of them, right of them, or in the column of one.
 SIDES = [b"\033[?69h\033[5;20s", b"\033[?69h\033[10;40s\033[5;10r", b"\033[5;10r\033[?69h\033[?6h\033[3;30s", b"\033[?69h\033[2;79s", b"\033[?69h\033[41;80s"]
 SIDED = [b"\033[%d;3H", b"\033[%d;5H", b"\033[%d;12H", b"\033[%d;19Hab", b"\033[%d;20H#", b"\033[%d;30H", b"\033[%d;79Hab", b"\033[%d;80H#"]
@@ -210,15 +207,10 @@ class XtermChance(Utf8Chance):
     scenes = Utf8Chance.scenes + XTERM_SCENES * 2
     touched_by = TOUCHING + [b"\033[" + rest for rest in (b"G", b"9`", b"a", b"3d", b"9e", b"9E", b"9F", b"I", b"Z", b"2b", b"99b", b"2S", b"T", b"2^", b"s", b"u", b"?47h", b"?1049h", b"?1049l", b"!p")]
 
-    def subparameters(self):
-        """A control sequence, mostly SGR, whose parameters have subparameters."""
-        parts = [self.choice([b"", b"%d" % self.choice([0, 1, 4, 4, 4, 5, 7, 24, 38, 48, 58])]) + self.choice(SUBPARAMETERS) for _ in range(self.choice([1, 1, 2, 3, 17]))]
-        return self.choice(self.introducers) + self.choice([b""] * 9 + [b"?"]) + b";".join(parts) + self.choice([b"m"] * 9 + [b"H", b"!p", b"A"]) + b"x"
-
     def sided(self):
         """A few characters and functions between left and right margins."""
         places = [self.choice(SIDED) % self.choice([1, 5, 7, 10, 24]) + self.choice([self.choice(self.touched_by), self.letters(), b"\r", b"\033[2b", "日".encode()]) for _ in range(self.length())]
         return self.choice(SIDES) + b"".join(places[:5])
 
     def part(self):
-        return self.choice([self.sided, self.subparameters] + [super().part] * 14)()
+        return self.sided() if self.random() < 0.1 else super().part()

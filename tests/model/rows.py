@@ -8,7 +8,7 @@ sys.path.append(str(TOP / "lib/rows"))
 
 from terminal import ATTRIBUTES
 from utf8 import has_known_width
-from vectors import session_repaints, sizes, vectors
+from vectors import repaints, sizes, vectors
 
 VT220, UTF8, XTERM = ("dec", "vt220"), ("utf-8", "vt220"), ("utf-8", "xterm")
 
@@ -36,7 +36,7 @@ def singly(data):
 
 
 def all_rows():
-    return [*rows_of_fields(), *rows_of_vectors(), *repaints_of_sessions(), *rows_of_sizes()]
+    return [*rows_of_fields(), *rows_of_vectors(), *rows_of_repaints(), *rows_of_sizes()]
 
 
 def rows_of_fields():
@@ -64,12 +64,13 @@ def rows_of_vectors():
 def rows_of_sizes():
     """Returns the rows of lib/rows/sizes.txt."""
     for sized in sizes():
-        wanted = {of: value for of, value in sized.wanted.items() if of != "bells"}
+        wanted = {of: value for of, value in sized.wanted.items() if of != "bells"} | ({} if sized.left is None else {"left": sized.left})
         yield Row(sized.name, (sized.encoding, sized.terminal), sized.input, wanted, sized.first, sized.second, sized.more)
 
 
-def repaints_of_sessions():
-    return (Row(name, XTERM, data, {"session": wanted}) for name, data, wanted in session_repaints())
+def rows_of_repaints():
+    """Returns the rows of lib/rows/repaints.txt that have a repaint."""
+    return (Row(name, kind, data, {"session" if kind == XTERM else "repaint": wanted}, size) for name, kind, size, data, wanted in repaints() if wanted)
 
 
 def shown(wanted, model, reports, repaint):
@@ -95,7 +96,7 @@ def screen(model):
     flags = {"wrap": model.wrap_flag(), "alternate": getattr(model, "is_alternate", False), "paste": getattr(model, "paste", False)}
     return {of: str(int(flag)) for of, flag in flags.items()} | {
         "text": "\n".join(map(with_attributes, model.cells)).rstrip("\n"), "cursor": f"{model.row};{model.column}",
-        "brush": " ".join(attributes(model.brush)), "pending": getattr(model, "pending", b""), "lines": "".join(model.scrolled_off)}
+        "brush": " ".join(attributes(model.brush)), "pending": getattr(model, "pending", b""), "lines": "".join(model.scrolled_off), "left": "".join(model.left_by_resizes)}
 
 
 def with_attributes(cells):

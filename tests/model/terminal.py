@@ -132,6 +132,7 @@ class Terminal:
         self.left_by_resizes += [self.line_text(row) for row in range(1, n + 1)]
         self.cells = cut(self.cells, n, size)
         self.row -= n
+        self.saved.row = max(self.saved.row - n, 1)
 
     def play(self, steps):
         """Plays bytes, and changes to pairs of rows and columns. Returns the reports."""
@@ -210,15 +211,10 @@ class Terminal:
         marker = text[:1] if text[:1] in ("<", "=", ">", "?") else ""
         parameters = text[len(marker):].rstrip("".join(map(chr, range(0x20, 0x30))))
         intermediates = text[len(marker) + len(parameters):]
-        parameters = self.without_subparameters(parameters, marker + intermediates + chr(byte))
         is_spoilt = any(c not in "0123456789;" for c in parameters) or len(intermediates) > 1
         if not is_spoilt:
             values = [min(int(part or "0"), GREATEST_VALUE) for part in parameters.split(";")][:MOST_VALUES]
             self.control_sequence(marker, values, intermediates, chr(byte))
-
-    def without_subparameters(self, parameters, name):
-        """A VT220 has no subparameters: a colon spoils a sequence."""
-        return parameters
 
     # Graphic bytes.
 
@@ -497,7 +493,7 @@ class Terminal:
     # Output.
 
     def line_text(self, row):
-        return "".join([glyph for glyph, _ in self.cells[row - 1]]).rstrip(" ") + "\n"
+        return text_of(self.cells[row - 1])
 
     def text(self):
         return "".join(self.line_text(row) for row in range(1, self.size.rows + 1))
@@ -508,6 +504,11 @@ class Terminal:
     def state(self):
         """Returns all that a terminal keeps, without what it has written."""
         return {name: part for name, part in vars(self).items() if name not in ("reports", "scrolled_off", "left_by_resizes")}
+
+
+def text_of(cells):
+    """Returns the text of a row, with LF."""
+    return "".join([glyph for glyph, _ in cells]).rstrip(" ") + "\n"
 
 
 def cut(cells, n, size):

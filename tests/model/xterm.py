@@ -1,5 +1,5 @@
 """A terminal that plays what programs send under TERM=xterm, by docs/SPECIFICATION.md, 'Under TERM=xterm'."""
-from terminal import BLANK, Saved, Size, bring_inside, cut
+from terminal import BLANK, Saved, Size, bring_inside, cut, text_of
 from utf8 import Utf8Terminal
 
 COLOURS = (38, 48, 58)
@@ -30,12 +30,14 @@ class Xterm(Utf8Terminal):
         self.fill_sides(size.wide)
 
     def leave(self, n, size):
-        """As many rows leave both pages. Those of the main page are logged if it is shown."""
+        """The main page goes by its own cursor, and its rows are logged. As many rows leave the alternate page while that isn't shown."""
         logged = len(self.left_by_resizes)
         super().leave(n, size)
         if self.is_alternate:
-            del self.left_by_resizes[logged:]
+            n = max(self.other_saved.row - size.rows, 0)
+            self.left_by_resizes[logged:] = [text_of(cells) for cells in self.other_cells[:n]]
         self.other_cells = cut(self.other_cells, n, size)
+        self.other_saved.row = max(self.other_saved.row - n, 1)
 
     # Escape and control sequences. What isn't here has its effect on a VT220.
 
@@ -74,12 +76,6 @@ class Xterm(Utf8Terminal):
                 self.rendition(value)
         else:
             super().control_sequence(marker, values, intermediate, final)
-
-    def without_subparameters(self, parameters, name):
-        """Only SGR has subparameters."""
-        if name != "m" or set(parameters) - set("0123456789:;"):
-            return parameters
-        return ";".join(map(without_subparameters, parameters.split(";")))
 
     def soft_reset(self):
         super().soft_reset()
@@ -311,16 +307,6 @@ class Xterm(Utf8Terminal):
 
     def want_brackets(self, is_wanted):
         self.paste = is_wanted
-
-
-def without_subparameters(parameter):
-    """Returns what a parameter of SGR with its subparameters stands for: 4:0 for 4 and 24, a style for 4, and any other for 9999."""
-    number, colon, subparameters = parameter.partition(":")
-    if not colon:
-        return number
-    if int(number or "0") != 4:
-        return "9999"
-    return "4;24" if subparameters.startswith("0") else "4"
 
 
 def without_colours(values):

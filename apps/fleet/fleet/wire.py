@@ -10,6 +10,7 @@ import struct
 HEAD, NUMBER, ENTRY = struct.Struct("=cI"), struct.Struct("=Q"), struct.Struct("=BQQ")
 HELD = 1 << 20  # bytes that a daemon hasn't acknowledged; then the program is made to wait. As many acknowledged ones are kept
 LONGEST = 1 << 18  # of a frame of a holder
+MOST = 1 << 63  # no number of a state is so large. Redis refuses to read any stream if it is asked for an id of more than 64 bits
 # Of these frames; of those of a session whose size isn't a VT220's, which then has a word of its own; and of one whose size has changed
 VERSION, SIZED, RESIZING = "2", "3", "4"
 STREAMS = ("answers", "keys", "signals")  # an input has the number of its stream here
@@ -75,6 +76,8 @@ class State:
             version, name, incarnation, takes_input, encoding, terminal, *rest = data.decode("utf-8", "surrogateescape").split("\0")[:-1]
             screen = [rest.pop(0)] if version in (SIZED, RESIZING) else []
             numbers = [int(each) for each in rest[:8]]
+            if not all(0 <= number < MOST for number in numbers):
+                raise Strange("a number that no holder has")
             self.base, self.end = numbers[:2]
             self.last = {stream: f"{numbers[2 + 2 * at]}-{numbers[3 + 2 * at]}" for at, stream in enumerate(STREAMS)}
         except (ValueError, IndexError):

@@ -13,7 +13,7 @@ from prometheus_client import CollectorRegistry, generate_latest
 
 from harness import (
     HERE, PATIENCE, PATIENT, Clock, Failing, Processes, Proxy, Source, begun, check, conf, configured, ending, fleet, free_port, keys,
-    launched, outlast, playing, program, replace, settings, stores, text_of, until, wait_for, worker,
+    launched, local, outlast, playing, program, replace, settings, stores, text_of, until, wait_for, worker,
 )
 from operators import asked, metrics_at, state
 from fleet import config, metrics
@@ -196,22 +196,44 @@ def connections_run_out(machine, day):
 
 
 def run_of(section, machine):
-    """Runs the runbook's commands of a section on a test's store."""
+    """Runs the runbook's commands of a section on a test's store. The test is its systemd: if the store ends by itself, it is started again at once."""
     text = re.search(rf"^## {section}\n(.*?)(?=^## |\Z)", text_of("RUNBOOK.md"), re.MULTILINE | re.DOTALL)[1]
-    commands = "\n".join(line[4:] for line in text.splitlines() if line.startswith("    "))
-    commands = commands.replace("redis-cli", f"redis-cli -s {machine.socket}").replace("/var/lib/redis", machine.folder)
-    done = subprocess.run(["sh", "-e", "-c", commands], capture_output=True, text=True)
-    check(commands and done.returncode == 0, f"{section}: its commands run: {done.stdout} {done.stderr}")
+    commands, serves = [line[4:] for line in text.splitlines() if line.startswith("    ")], True
+    for command in commands:
+        if command in ("systemctl stop redis-server", "systemctl start redis-server"):
+            serves = not serves
+            machine.start() if serves else ended(machine)
+            continue
+        command = command.replace("redis-cli", f"redis-cli -s {machine.socket}").replace("/var/lib/redis", machine.folder)
+        done = subprocess.run(["sh", "-c", command], capture_output=True, text=True)
+        check(done.returncode == 0, f"{section}: its commands run: {done.stdout} {done.stderr}")
+        if serves and not local.is_listening(machine.socket):
+            machine.server.wait()
+            machine.start()
+    check(commands, f"{section} has commands")
+
+
+def ended(machine):
+    machine.server.terminate()
+    machine.server.wait()
+
+
+def owners(place):
+    return {file.stat().st_uid for file in [place, *place.iterdir()]}
 
 
 def a_backup_is_restored(machine, data):
-    """Hosts live on meanwhile, and the backup lacks what they sent after it."""
+    """Hosts live on meanwhile, and the backup lacks what they sent after it. Its files are those of the user of Redis."""
     source, one = playing(machine.url, "backup", data[:2000], lease=3600)
+    place, user = pathlib.Path(machine.folder, "appendonlydir"), 10**6 if os.getuid() == 0 else os.getuid()
+    for file in [place, *place.iterdir()]:
+        os.chown(file, user, -1)
     run_of("Backup of the store", machine)
     source.send(data[2000:] + b"\033[6n")
+    source.store.set("after-the-backup", 1)
     run_of("Restore of the store", machine)
-    machine.server.wait()
-    machine.start()
+    check(owners(place) == {user}, f"the files are those of the user of Redis: {owners(place)}")
+    check(not source.store.exists("after-the-backup"), "the store is the copy")
     source.renew()
     source.ends(one)
 
@@ -221,7 +243,6 @@ def a_store_is_upgraded(machine, data):
     is started again over this file alone."""
     source, one = playing(machine.url, "upgrade", data[:2000], lease=3600)
     run_of("Upgrade of the store", machine)
-    machine.server.wait()
     place = os.path.join(machine.folder, "appendonlydir")
     files = [file for file in os.listdir(place) if ".base." in file]
     text = pathlib.Path(place, files[0]).read_bytes()

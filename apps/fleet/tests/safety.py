@@ -155,8 +155,10 @@ def rights_of_calls(urls):
             check(raises(stores.NoPermissionError, call, *words), f"{user}: no {words[0]}")
 
 
-def state_of_holder(name="other", version=wire.VERSION, encoding="dec", numbers="0", screen=()):
-    return wire.framed(wire.STATE, "".join(f"{word}\0" for word in (version, name, "", "1", encoding, "vt220", *screen, *[numbers] * 8, "true")).encode("utf-8", "surrogateescape"))
+def state_of_holder(name="other", version=wire.VERSION, encoding="dec", numbers="0", screen=(), last="0"):
+    """Returns the state of a holder. `last` is the id of the last input of each stream, as its two numbers, and `numbers` are the two other ones."""
+    words = (version, name, "", "1", encoding, "vt220", *screen, *[numbers] * 2, *[last] * 6, "true")
+    return wire.framed(wire.STATE, "".join(f"{word}\0" for word in words).encode("utf-8", "surrogateescape"))
 
 
 def what_is_no_holder_harms_no_session(machine, _):
@@ -166,6 +168,7 @@ def what_is_no_holder_harms_no_session(machine, _):
     def connected():
         made = socket.socket(socket.AF_UNIX)
         made.connect(machine.where()["FLEET_DAEMON"])
+        made.settimeout(PATIENCE)
         return made
 
     silent = [connected() for _ in range(50)]
@@ -175,6 +178,8 @@ def what_is_no_holder_harms_no_session(machine, _):
     strange += [state_of_holder(version=wire.SIZED), *(state_of_holder(version=wire.SIZED, screen=[each]) for each in ("1x24", "80x256", "x", "-80x24"))]
     strange += [state_of_holder() + wire.packed(wire.RESIZED, *words) for words in ((2, b"90x30"), (1, b"1x24"), (1, b""), (1, b"\xff"))]
     strange += [state_of_holder() + frame for frame in (wire.packed(wire.BYTES, 5, b"x"), wire.packed(wire.BYTES, 1 << 63, b"x"), wire.framed(wire.TAKEN))]
+    strange += [state_of_holder(f"large{each}", last=each) for each in (str(1 << 64), str(1 << 63), "-1", "9" * 300)]
+    strange += [state_of_holder(f"far{each}", numbers=each) for each in (str(1 << 63), "-1")]
     for number, data in enumerate(strange):
         with connected() as made:
             made.sendall(data)

@@ -5,7 +5,7 @@ use std::alloc::{AllocError, Global};
 use vt_paint::{PAINT_LIMIT, repaint};
 use vt_picture::{SHOW_LIMIT, show};
 use vt_term::Terminal;
-use vt_update::{UPDATE_LIMIT, update};
+use vt_update::{UPDATE_LIMIT, update_reserved};
 
 /// The call that is made after each frame.
 #[derive(Clone, Copy)]
@@ -33,9 +33,18 @@ impl Call {
             Call::Nothing => true,
             Call::Show => show(terminal, out).is_ok(),
             Call::Repaint => repaint(terminal, out).is_ok(),
-            Call::Update => update(shown, terminal, out).is_ok(),
+            Call::Update => update(shown, terminal, out),
         }
     }
+}
+
+/// Updates what is shown. Returns whether both terminals are between sequences, and `out` has capacity.
+pub(crate) fn update(shown: &mut Terminal, to: &Terminal, out: &mut Vec<u8>) -> bool {
+    if !shown.is_between() || !to.is_between() || out.reserve(UPDATE_LIMIT).is_err() {
+        return false;
+    }
+    update_reserved(shown, to, out);
+    true
 }
 
 /// A terminal on which a recording is played, and a second one for what is shown.

@@ -1,10 +1,11 @@
 //! A server with two clients.
+use crate::counted::update;
 use std::alloc::{AllocError, Global};
 use std::io;
 use std::time::{Clock, Instant};
 use vt_paint::{PAINT_LIMIT, repaint};
 use vt_term::Terminal;
-use vt_update::{UPDATE_LIMIT, update};
+use vt_update::UPDATE_LIMIT;
 
 /// The bytes that a client was sent, and the time that it took to make them.
 #[derive(Drop)]
@@ -87,7 +88,9 @@ impl Server {
         }
         self.updates.out.clear();
         let start = Instant::now(rt)?;
-        update(&mut self.shown, &self.terminal, &mut self.updates.out).map_err(|_| AllocError)?;
+        if !update(&mut self.shown, &self.terminal, &mut self.updates.out) {
+            return Err(AllocError.into());
+        }
         self.updates.count(rt, start)?;
         self.repaints.out.clear();
         let start = Instant::now(rt)?;

@@ -1,6 +1,6 @@
 //! The program's replay and settings, and the check of vectors.
 ghost use Rattle.std.specs.Io.KnownBytes.{IsAtEnd};
-ghost use Rattle.std.specs.Prelude.{[], false, IfErr, IfOk, true, ◌×◌, ◌≡◌, ◌≤◌};
+ghost use Rattle.std.specs.Prelude.{[], false, IfErr, IfOk, true, ◌≡◌, ◌≤◌};
 ghost use Rattle.vt_cli.specs.CommandLine.{AreSettings, faults_in, found_in, IsRefusal};
 ghost use Rattle.vt_device.specs.Runs.{Moves};
 ghost use Rattle.vt_device.specs.Writing.{Gives, WriteTable};

@@ -1,5 +1,5 @@
 //! The maps of a screen.
-ghost use Rattle.std.specs.Prelude.{◌≡◌, ◌×◌, ◌≤◌};
+ghost use Rattle.std.specs.Prelude.{◌≡◌, ◌≤◌};
 ghost use Rattle.vt_screen.specs.Grid.{erase, scroll_down};
 
 use vt_screen::Screen;

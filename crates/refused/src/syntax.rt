@@ -1,6 +1,6 @@
 //! The parser, and what is read through the graphic sets.
 ghost use Rattle.std.specs.Option.{option_to_list};
-ghost use Rattle.std.specs.Prelude.{[], All, length, slice_index, take, ◌<◌, ◌×◌, ◌∷◌, ◌≡◌, ◌≤◌};
+ghost use Rattle.std.specs.Prelude.{[], All, length, slice_index, take, ◌<◌, ◌∷◌, ◌≡◌, ◌≤◌};
 ghost use Rattle.vt_glyph.specs.Invocation.{restored};
 ghost use Rattle.vt_glyph.specs.Spell.{spelling_of};
 ghost use Rattle.vt_syntax.specs.Class.{IsPlain};

@@ -15,5 +15,3 @@ mod scarce;
 mod terminal;
 #[cfg(test)]
 mod updates;
-#[cfg(test)]
-mod xterm;

@@ -9,27 +9,22 @@ ghost use Rattle.vt_device.specs.declared.fault.Fault.TheVariants.{Memory, Write
 mod notes;
 mod peeked;
 mod reasons;
-mod skipping;
 
 use crate::notes::print_notes;
 use crate::peeked::Peeked;
 use crate::reasons::{STANDARD_OUTPUT, Seen, print_error, print_reason};
-use crate::skipping::{Skipped, Unused, skipped_by, takes_index};
 use std::alloc::AllocError;
 use std::env::{self, Env};
 use std::fs::{File, Files, OpenFile};
-use std::io::{self, ErrorKind, Input, Read, Seek, Write};
+use std::io::{self, ErrorKind, Input, Read, Write};
 use std::process::ExitCode;
 use vt_replay::{
-    Break, Detected, Fault, Format, Moment, Outcome, Part, Refused, Request, Watched, What, Word,
+    Break, Detected, Fault, Format, Outcome, Part, Refused, Request, Watched, What, Word,
     carry_out, detect, format_of, lacks_times, read_recording, request,
 };
 
 /// The exit status of a wrong command line.
 const BAD_COMMAND_LINE: u8 = 2;
-
-/// The time at which a recording begins.
-const BEGINNING: Moment = Moment::Micros(0);
 
 /// Ends the program with a fault's line and status.
 fn ended_by(rt: &impl Eprint, fault: Fault) -> ExitCode
@@ -156,7 +151,7 @@ fn carry_out_on<R: Print + AllocGlobal, D: Read + Drop>(
 }
 
 /// Returns why an input that begins so isn't played, if it isn't: its beginning was to decide on its format, and it is
-/// compressed, or it has no times, and a moment or the word needs them.
+/// compressed, or it has no times, and a moment needs them.
 fn refusal_of(request: &Request, format: Format, timed: bool, beginning: &[u8]) -> Option<Fault> {
     if request.format.is_none() && matches!(detect(beginning), Detected::Compressed(_)) {
         let part = Part::Recording;
@@ -165,15 +160,7 @@ fn refusal_of(request: &Request, format: Format, timed: bool, beginning: &[u8]) 
     if lacks_times(format, timed, request.from) || lacks_times(format, timed, request.until) {
         return Some(Fault::NoTimes);
     }
-    if is_timed(request.word) && lacks_times(format, timed, Some(BEGINNING)) {
-        return Some(Fault::NoTimes);
-    }
     None
-}
-
-/// Returns whether a word needs the times of a recording: a picture that moves, or a search.
-fn is_timed(word: Word) -> bool {
-    matches!(word, Word::Animation(_) | Word::Search)
 }
 
 /// Carries out a request on an input in a format, to standard output, and flushes that, after a fault too.
@@ -216,75 +203,18 @@ fn is_too_long(file: &impl OpenFile, limit: u64) -> bool {
     }
 }
 
-/// Carries out a request on a file. If an index is named and can be used, the play begins at a checkpoint.
-fn carry_out_on_file<R: Files + Print + Eprint + AllocGlobal, F: OpenFile + Read + Seek + Drop>(
-    rt: &R,
-    file: F,
-    timing: Option<&[u8]>,
-    request: &mut Request,
-) -> Ended {
-    let mut file = file;
-    let Some(name) = &request.index else {
-        return carry_out_on(rt, file, timing, request);
-    };
-    match skipped_by(rt, &mut file, name.as_str(), request) {
-        Ok(skipped) => carry_out_skipped(rt, skipped, request),
-        Err(unused) => {
-            print_unused(rt, request, unused);
-            if !matches!(unused, Unused::NoFile) {
-                if let Err(error) = file.rewind() {
-                    return ended_unread(rt, request, error);
-                }
-            }
-            carry_out_on(rt, file, timing, request)
-        }
-    }
-}
-
-/// Carries out a request on what is played of a recording with its index.
-fn carry_out_skipped<R: Print + AllocGlobal>(
-    rt: &R,
-    skipped: Skipped,
-    request: &mut Request,
-) -> Ended {
-    let Skipped {
-        bytes,
-        format,
-        from,
-        until,
-        beginning,
-    } = skipped;
-    let input = match Peeked::new(rt.alloc(), bytes.as_slice()) {
-        Ok(input) => input,
-        Err(AllocError) => return ended_early(rt, request, Fault::Memory, Part::Recording, None),
-    };
-    let whole = (request.from, request.until);
-    (request.from, request.until) = (from, until);
-    let mut ended = carry_out_in(rt, input, format, None, request);
-    (request.from, request.until) = whole;
-    ended.beginning = beginning;
-    ended
-}
-
-/// Prints why an index isn't used, unless the notes are left out.
-fn print_unused(rt: &impl Eprint, request: &Request, unused: Unused) {
-    if let (Some(index), false) = (&request.index, request.quiet) {
-        let _ = eprintln!(rt; "vt220: {index}: not used, since it {}", unused.text());
-    }
-}
-
 /// Opens the file, if one is named, and carries out the request on it, or on standard input.
 fn carry_out_by_name<R: Files + Input + Print + Eprint + AllocGlobal>(
     rt: &R,
     timing: Option<&[u8]>,
-    request: &mut Request,
+    request: &Request,
 ) -> Ended {
     match &request.file {
         Some(name) => match File::open(rt, name.as_str()) {
             Ok(file) if is_too_long(&file, request.limit) => {
                 ended_early(rt, request, Fault::TooLong, Part::Recording, None)
             }
-            Ok(file) => carry_out_on_file(rt, file, timing, request),
+            Ok(file) => carry_out_on(rt, file, timing, request),
             Err(error) => ended_unread(rt, request, error),
         },
         None => carry_out_on(rt, rt.reader(), timing, request),
@@ -294,7 +224,7 @@ fn carry_out_by_name<R: Files + Input + Print + Eprint + AllocGlobal>(
 /// Reads the timing file, if one is named, and carries out the request.
 fn carry_out_with_timing<R: Files + Input + Print + Eprint + AllocGlobal>(
     rt: &R,
-    request: &mut Request,
+    request: &Request,
 ) -> Ended {
     let Some(name) = &request.timing else {
         return carry_out_by_name(rt, None, request);
@@ -375,16 +305,10 @@ fn main(rt: HostRuntime) -> ExitCode {
         Ok(words) => words,
         Err(ended) => return ended,
     };
-    let mut request = match request(rt.alloc(), words) {
+    let request = match request(rt.alloc(), words) {
         Ok(request) => request,
         Err(refused) => return refused_by(&rt, &refused),
     };
-    if request.index.is_some() && !takes_index(request.word) {
-        let _ = eprintln!(rt;
-            "vt220: --index goes with text, show, picture, repaint and search alone"
-        );
-        return ExitCode::from(BAD_COMMAND_LINE);
-    }
-    let ended = carry_out_with_timing(&rt, &mut request);
+    let ended = carry_out_with_timing(&rt, &request);
     ended_after(&rt, &request, ended)
 }

@@ -5,17 +5,13 @@ use Rattle.vt_syntax.specs.Class.{IsPlain}
 use Rattle.vt_syntax.specs.Held.{events_from, IsHeldPart}
 use Rattle.vt_syntax.specs.Reading.{events_of}
 use Rattle.vt_syntax.specs.declared.event.Event.TheVariants.{Print}
-use Rattle.vt_syntax.specs.declared.held.Held.{Held}
 use Rattle.vt_syntax.specs.declared.held.Held.TheVariants.{Nothing}
 use Rattle.vt_term.specs.State.{State}
 use Rattle.vt_term.specs.Play.{play}
 use Rattle.vt_term.specs.Scrolling.{scrolled_off}
 use Rattle.vt_utf8.specs.Decoding.{pending_after}
-use Rattle.vt_xterm.specs.declared.subparameters.Subparameters.TheVariants.{Outside}
-use Rattle.vt_xterm.specs.Subparameters.{Pass}
 use Rattle.vt_xterm.specs.Play.{Whole, WholePlayed, FrontState, behind, play_bytes, play_xterm}
 use Rattle.vt_xterm.specs.Terminals.{AreTerminals, PlaysTerminals}
-use Rattle.vt_xterm.proofs.Passing.{between-pass}
 use Rattle.vt220_c.specs.Xterm.{xterm_played, xterm_front}
 
 pub no-items : (xs : List ℕ) → length xs ≡ 0 → xs ≡ []
@@ -38,15 +34,7 @@ print-terminals b zero within = tt
 print-terminals b (suc zero) within = (λ s none. (refl, refl), tt)
 print-terminals b (suc (suc n)) within = absurd (omega (arith, within))
 
--- it begins no subparameters
-one-pass : (h : Held) (b n : ℕ) → h ≡ Nothing → n ≤ 1 → Pass h (take n (b ∷ []))
-unfolding Pass
-one-pass h b zero between within = tt
-one-pass h b (suc zero) between within = (between-pass h b between, tt)
-one-pass h b (suc (suc n)) between within = absurd (omega (arith, within))
-
-module _ (ascii : (w : Whole) (bytes : List ℕ) → IsHeldPart w.state.held → w.pages.subparameters ≡ Outside → Pass w.state.held bytes
-    → All (λ b. b < 0x80) bytes → play_xterm w [] bytes ≡ play_bytes w bytes)
+module _ (ascii : (w : Whole) (bytes : List ℕ) → IsHeldPart w.state.held → All (λ b. b < 0x80) bytes → play_xterm w [] bytes ≡ play_bytes w bytes)
     (terminals : (w : Whole) (bytes : List ℕ) → w.pages.sides ≡ None → PlaysTerminals w.state bytes → play_bytes w bytes ≡ record {
       whole = record w { state = (play w.state bytes).state };
       reports = (play w.state bytes).reports;
@@ -54,7 +42,7 @@ module _ (ascii : (w : Whole) (bytes : List ℕ) → IsHeldPart w.state.held →
     })
     (plain-events : (run : List ℕ) → All IsPlain run → events_of run ≡ map Print run)
     (s : State) (front : FrontState) (b n : ℕ) (sound : IsHeldPart s.held) (none : front.pending ≡ [])
-    (reset : front.pages.sides ≡ None) (unread : front.pages.subparameters ≡ Outside) (between : s.held ≡ Nothing)
+    (reset : front.pages.sides ≡ None) (between : s.held ≡ Nothing)
     (plain : IsPlain b) (within : n ≤ 1) where
   low : All (λ b. b < 0x80) (take n (b ∷ []))
   low = one-all (λ b. b < 0x80) b n (omega (arith, plain.0, plain.1)) within
@@ -67,7 +55,7 @@ module _ (ascii : (w : Whole) (bytes : List ℕ) → IsHeldPart w.state.held →
   graphic-played =
       let events = printed plain-events s b n between plain within in
       let terms : PlaysTerminals s (take n (b ∷ [])) = rw events (print-terminals b n within) in
-      rw none (ascii (behind s front) (take n (b ∷ [])) sound unread (one-pass s.held b n between within) low ∙ terminals (behind s front) (take n (b ∷ [])) reset terms)
+      rw none (ascii (behind s front) (take n (b ∷ [])) sound low ∙ terminals (behind s front) (take n (b ∷ [])) reset terms)
 
   pub graphic-front : ((bytes : List ℕ) → All (λ b. b < 0x80) bytes → pending_after [] bytes ≡ [])
       → front ≡ xterm_front s front (take n (b ∷ []))

@@ -6,7 +6,6 @@ ghost use Rattle.vt_screen.specs.Sizes.{IsSize};
 ghost use Rattle.vt_syntax.specs.declared.held.Held.TheVariants.{Nothing};
 ghost use Rattle.std.specs.Prelude.{option_map};
 ghost use Rattle.vt_xterm.specs.Limits.{xterm_lines_limit};
-ghost use Rattle.vt_xterm.specs.declared.subparameters.Subparameters.TheVariants.{Outside};
 ghost use Rattle.vt_xterm.specs.Play.{front_of};
 ghost use Rattle.vt_xterm.specs.Resizing.{front_on};
 ghost use Rattle.vt220_c.specs.Sizes.{size_of, size_for};
@@ -28,7 +27,7 @@ use vt_syntax::laws::spelled;
 use vt_term::{Held, REPORT_LIMIT, Size, SizedTerminal};
 use vt_utf8::laws::ascii;
 use vt_xterm::laws::sized_transparent;
-use vt_xterm::{Sides, SizedFront, Subparameters};
+use vt_xterm::{Sides, SizedFront};
 
 /// Returns whether a terminal and a front have one size.
 pub(crate) fn is_session(terminal: &SizedTerminal, front: &SizedFront) -> bool
@@ -187,23 +186,14 @@ pub extern "C" fn core_feed_xterm(
     played.taken
 }
 
-/// Returns whether a byte is printed as on a VT220: it is a graphic byte of ASCII between sequences, nothing is pending, DECLRMM is
-/// reset, and no subparameters have come.
+/// Returns whether a byte is printed as on a VT220: it is a graphic byte of ASCII between sequences, nothing is pending, and DECLRMM is
+/// reset.
 #[inline(always)]
-fn is_printed(
-    sides: Option<Sides>,
-    subparameters: Subparameters,
-    held: &Held,
-    pending: &[u8],
-    byte: u8,
-) -> bool
-    ensures { OnTrue result ((sides ≡ None) × (subparameters ≡ Outside) × (held.now ≡ Nothing) × (length pending.now ≡ 0)
-        × (0x20 ≤ byte) × (byte ≤ 0x7E)) }
+fn is_printed(sides: Option<Sides>, held: &Held, pending: &[u8], byte: u8) -> bool
+    ensures { OnTrue result ((sides ≡ None) × (held.now ≡ Nothing) × (length pending.now ≡ 0) × (0x20 ≤ byte) × (byte ≤ 0x7E)) }
 {
-    match (sides, subparameters, held) {
-        (None, Subparameters::Outside, Held::Nothing) => {
-            pending.is_empty() && 0x20 <= byte && byte <= 0x7E
-        }
+    match (sides, held) {
+        (None, Held::Nothing) => pending.is_empty() && 0x20 <= byte && byte <= 0x7E,
         _ => false,
     }
 }
@@ -223,13 +213,7 @@ fn play_byte_xterm(inner: &mut Inner, front: &mut SizedFront, byte: u8, out: &mu
     ascii();
     sized_transparent();
     spelled();
-    if is_printed(
-        front.sides(),
-        front.subparameters(),
-        inner.terminal.held(),
-        front.pending(),
-        byte,
-    ) {
+    if is_printed(front.sides(), inner.terminal.held(), front.pending(), byte) {
         return inner.feed_byte(byte, out);
     }
     play_byte(inner, front, byte, out)

@@ -15,7 +15,7 @@ use Rattle.clap.specs.declared.error.kind.ErrorKind.TheVariants.{DisplayHelp, Di
 use Rattle.vt_cli.specs.declared.what.What.{What}
 use Rattle.vt_cli.specs.declared.what.What.TheVariants as what
 use Rattle.vt_cli.specs.declared.what.Word.{Word}
-use Rattle.vt_cli.specs.declared.what.Word.TheVariants.{Replay, Animation, Log, Pages, Trace, Summary, Events, Content, Search, Index}
+use Rattle.vt_cli.specs.declared.what.Word.TheVariants.{Replay, Log, Trace, Events, Content}
 use Rattle.vt_cli.specs.declared.command_line.Takes.{Takes}
 use Rattle.vt_cli.specs.declared.command_line.Takes.TheVariants as takes
 use Rattle.vt_cli.specs.declared.asked.Settings.{Settings}
@@ -53,23 +53,14 @@ name_of what.Picture = codes "picture"
 -- the name of a word's subcommand
 abbrev pub word_name : Word → Text
 word_name (Replay what) = name_of what
-word_name (Animation looks) = name_of what.Picture
 word_name Log = codes "log"
-word_name Pages = codes "pages"
 word_name Trace = codes "trace"
-word_name Summary = codes "summary"
 word_name Events = codes "events"
 word_name Content = codes "content"
-word_name Search = codes "search"
-word_name Index = codes "index"
 
 -- an option with a text
 abbrev pub text_option : Text → Rule
 text_option name = record (new_rule name) { long = Some name; value_names = 1 }
-
--- an argument without an option that has to be there
-abbrev pub required_argument : Text → Rule
-required_argument name = record (new_rule name) { value_names = 1; required = true }
 
 -- an option without a value
 abbrev pub flag_option : Text → Rule
@@ -80,7 +71,6 @@ abbrev pub rule_for : Text → Takes → Rule
 rule_for name takes.File = record (new_rule name) { value_names = 1 }
 rule_for name (takes.Number low high default) = number_option name low high default.now
 rule_for name (takes.Text value) = text_option name
-rule_for name (takes.Required value) = required_argument name
 rule_for name takes.Nothing = flag_option name
 
 -- the arguments of each subcommand: the options with a number, the file, and the options of a recording
@@ -88,9 +78,8 @@ abbrev pub arguments : List Rule
 arguments =
     piece_option ∷ limit_option ∷ file_argument
     ∷ text_option (codes "format") ∷ text_option (codes "timing") ∷ text_option (codes "from") ∷ text_option (codes "until")
-    ∷ text_option (codes "index") ∷ text_option (codes "encoding") ∷ text_option (codes "terminal") ∷ text_option (codes "columns")
-    ∷ text_option (codes "size") ∷ flag_option (codes "animate") ∷ text_option (codes "theme") ∷ text_option (codes "cursor") ∷ text_option (codes "title")
-    ∷ flag_option (codes "full") ∷ flag_option (codes "partial") ∷ flag_option (codes "quiet") ∷ []
+    ∷ text_option (codes "encoding") ∷ text_option (codes "terminal") ∷ text_option (codes "columns")
+    ∷ text_option (codes "size") ∷ flag_option (codes "full") ∷ flag_option (codes "partial") ∷ flag_option (codes "quiet") ∷ []
 
 -- a subcommand with these arguments
 abbrev pub subcommand_with : Text → List Rule → App
@@ -113,31 +102,19 @@ with_replays a =
 
 -- an app with the subcommands for the eye, and for the text of a session
 abbrev pub with_lines : App → App
-with_lines a = with_word (with_word (with_word (with_word a (Replay what.Show)) (Replay what.Picture)) Log) Pages
+with_lines a = with_word (with_word (with_word a (Replay what.Show)) (Replay what.Picture)) Log
 
 -- an app with the subcommands for what the host sent
 abbrev pub with_events : App → App
-with_events a = with_word (with_word (with_word (with_word a Trace) Summary) Events) Content
-
--- an app with the subcommand for a text, which comes before the file
-abbrev pub with_search : App → App
-with_search a = with_subcommand a (subcommand_with (word_name Search) (required_argument (codes "pattern") ∷ flag_option (codes "log") ∷ arguments)).top
-
--- the bytes between two checkpoints of an index
-abbrev pub every_option : Rule
-every_option = number_option (codes "every") 1 1099511627776 (codes "262144")
-
--- an app with the subcommand for an index
-abbrev pub with_index : App → App
-with_index a = with_subcommand a (subcommand_with (word_name Index) (every_option ∷ arguments)).top
+with_events a = with_word (with_word (with_word a Trace) Events) Content
 
 -- a subcommand is required, and it has a version
 abbrev pub as_program : App → App
 as_program a = on_top (λ s. record s { subcommand_required = true; has_version = true }) a
 
--- the program's command, with the fourteen subcommands
+-- the program's command, with the ten subcommands
 abbrev pub vt220 : App
-vt220 = as_program (with_index (with_search (with_events (with_lines (with_replays (new_app (codes "vt220")))))))
+vt220 = as_program (with_events (with_lines (with_replays (new_app (codes "vt220")))))
 
 -- the faults that clap finds in the words, the first of which is the program's name
 abbrev pub faults_in : List (String Global) → Kinds
@@ -167,8 +144,7 @@ is_set option matches = is_true (first_of option matches)
 abbrev pub is_whole : List Row → Bool
 is_whole matches =
     not (is_some (first_of (codes "format") matches)) && (not (is_some (first_of (codes "timing") matches))
-    && (not (is_some (first_of (codes "from") matches)) && (not (is_some (first_of (codes "until") matches))
-    && not (is_some (first_of (codes "index") matches)))))
+    && (not (is_some (first_of (codes "from") matches)) && not (is_some (first_of (codes "until") matches))))
 
 -- no option of a recording was used
 abbrev pub is_plain : List Row → Bool
@@ -176,10 +152,7 @@ is_plain matches =
     is_whole matches
     && (not (is_some (first_of (codes "encoding") matches)) && (not (is_some (first_of (codes "terminal") matches))
     && (not (is_some (first_of (codes "columns") matches)) && (not (is_some (first_of (codes "size") matches))
-    && (not (is_set (codes "animate") matches)
-    && (not (is_some (first_of (codes "theme") matches)) && (not (is_some (first_of (codes "cursor") matches))
-    && (not (is_some (first_of (codes "title") matches)) && (not (is_set (codes "full") matches)
-    && (not (is_set (codes "partial") matches) && not (is_set (codes "quiet") matches)))))))))))
+    && (not (is_set (codes "full") matches) && (not (is_set (codes "partial") matches) && not (is_set (codes "quiet") matches)))))))
 
 -- s is what the subcommand that clap found, and its matches, ask for: a replay of bytes that no recorder wrote
 pub record AreSettings (found : Option (Text × List Row)) (s : Settings) : Type 0 where

@@ -1,5 +1,5 @@
 -- A request, and what the results of `request` state. (this profile)
-use Rattle.std.specs.Prelude.{◌≡◌, ◌⊎◌, ℕ, ◌≤◌, List, [], ◌∷◌, ◌++◌, codes, Option, Some, None, string_bytes, Ok, Err, unwrap_or}
+use Rattle.std.specs.Prelude.{◌≡◌, ◌⊎◌, ℕ, ◌≤◌, List, [], ◌∷◌, ◌++◌, codes, Option, Some, string_bytes, Ok, Err}
 use Rattle.std.specs.Option.{option_map}
 use Rattle.std.specs.declared.alloc.Global.{Global}
 use Rattle.std.specs.declared.string.String.{String}
@@ -8,10 +8,6 @@ use Rattle.vt_cli.specs.declared.source.Complaint.{Complaint}
 use Rattle.vt_cli.specs.declared.asked.Request.{Request}
 use Rattle.vt_cli.specs.declared.asked.Refused.{Refused}
 use Rattle.vt_cli.specs.CommandLine.{faults_in, found_in, word_name, is_set, IsNumberOf, IsMemory, IsFault}
-use Rattle.vt_cli.specs.declared.what.Looks.{Looks}
-use Rattle.vt_cli.specs.declared.what.Word.{Word}
-use Rattle.vt_cli.specs.declared.what.Word.TheVariants.{Animation}
-use Rattle.vt_recording.specs.Seconds.{number}
 use Rattle.vt_cli.specs.Source.{source_in, line_of}
 
 -- the numbers and the file of a subcommand's matches
@@ -26,28 +22,13 @@ pub record AreOptions (matches : List Row) (piece limit : ℕ) (file : Option (S
 abbrev pub HasNoOptions : List Row → Type 0
 HasNoOptions matches = (piece limit : ℕ) (file : Option (String Global)) → AreOptions matches piece limit file → ⊥
 
--- the looks of a picture that moves
-abbrev pub word_looks : Word → Option Looks
-word_looks (Animation looks) = Some looks
-word_looks word = None
-
--- the bytes between two checkpoints of an index: 256 KiB if there is no number
-abbrev pub every_of : Option Text → ℕ
-every_of None = 262144
-every_of (Some text) = unwrap_or (number 13 text) 262144
-
 -- r is what the subcommand that clap found, and its matches, ask for
 pub record IsFound (found : Option (Text × List Row)) (r : Request) : Type 0 where
   pub matches : List Row
   pub word : found ≡ Some (word_name r.word, matches)
   pub options : AreOptions matches r.piece r.limit r.file
-  pub source : source_in (word_name r.word) matches ≡ Ok (record { format = r.format; from = r.from; until = r.until; encoding = r.encoding; terminal = r.terminal; wide = r.wide; size = r.size; looks = word_looks r.word })
+  pub source : source_in (word_name r.word) matches ≡ Ok (record { format = r.format; from = r.from; until = r.until; encoding = r.encoding; terminal = r.terminal; wide = r.wide; size = r.size })
   pub timing : option_map (λ f. string_bytes f) r.timing ≡ first_of (codes "timing") matches
-  pub title : option_map (λ t. string_bytes t) r.title ≡ first_of (codes "title") matches
-  pub pattern : option_map (λ t. string_bytes t) r.pattern ≡ first_of (codes "pattern") matches
-  pub every : r.every ≡ every_of (first_of (codes "every") matches)
-  pub index : option_map (λ f. string_bytes f) r.index ≡ first_of (codes "index") matches
-  pub log : r.log ≡ is_set (codes "log") matches
   pub full : r.full ≡ is_set (codes "full") matches
   pub partial : r.partial ≡ is_set (codes "partial") matches
   pub quiet : r.quiet ≡ is_set (codes "quiet") matches

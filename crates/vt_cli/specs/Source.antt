@@ -13,18 +13,11 @@ use Rattle.vt_recording.specs.declared.format.TerminalType.{TerminalType}
 use Rattle.vt_recording.specs.declared.format.TerminalType.TheVariants.{Vt220, Xterm}
 use Rattle.vt_recording.specs.Seconds.{number}
 use Rattle.vt_screen.specs.declared.size.Size.{Size}
-use Rattle.vt_picture.specs.declared.looks.Theme.{Theme}
-use Rattle.vt_picture.specs.declared.looks.Theme.TheVariants.{Dark, Light, Green, Amber}
-use Rattle.vt_picture.specs.declared.looks.CursorShape.{CursorShape}
-use Rattle.vt_picture.specs.declared.looks.CursorShape.TheVariants.{Outline, Block, Underline, Hidden}
-use Rattle.vt_cli.specs.declared.what.Looks.{Looks}
 use Rattle.vt_cli.specs.declared.source.Source.{Source}
 use Rattle.vt_cli.specs.declared.source.Screen.{Screen}
 use Rattle.vt_cli.specs.declared.source.Complaint.{Complaint}
 use Rattle.vt_cli.specs.declared.source.Complaint.TheVariants.{NoFormat, NoTimingFile, NoMoment, NoTimes, NoStart, NoEncoding}
 use Rattle.vt_cli.specs.declared.source.Complaint.TheVariants.{NoTerminal, NoColumns, OnlyUtf8, NoSize, TwoSizes, OneSize}
-use Rattle.vt_cli.specs.declared.source.Complaint.TheVariants.{OnlyPicture, OnlyMoving, NoSteps, NoTheme, NoShape}
-use Rattle.vt_cli.specs.CommandLine.{is_set}
 use Rattle.vt_cli.specs.Moment.{place, moment}
 
 -- the format of a name, or none for the name that lets the beginning of the input decide
@@ -61,10 +54,9 @@ abbrev pub moment_of : Option Format → (timed : Bool) → Option Text → Resu
 moment_of format timed None = Ok None
 moment_of format timed (Some text) = moment_given format timed (moment text)
 
--- the command of this name takes a part of a recording that begins in the middle. For a screen all that comes before counts: a search plays
--- that, too
+-- the command of this name takes a part of a recording that begins in the middle. For a screen all that comes before counts
 abbrev pub takes_start : Text → Bool
-takes_start command = bytes_eq command (codes "events") || (bytes_eq command (codes "content") || bytes_eq command (codes "search"))
+takes_start command = bytes_eq command (codes "events") || bytes_eq command (codes "content")
 
 abbrev pub from_of : (command : Text) → Option Format → (timed : Bool) → Option Text → Result (Option Moment) Complaint
 from_of command format timed None = Ok None
@@ -176,57 +168,6 @@ abbrev pub screen_of : (command : Text) → (columns size : Option Text) → Res
 screen_of command columns size =
     and_then (λ wide. and_then (λ screen. screen_for command screen) (screen_with wide size)) (wide_of columns)
 
--- ---- a picture that moves
-
-abbrev pub theme_named : (name : Text) → Result Theme Complaint
-theme_named name =
-    cond (bytes_eq name (codes "dark")) (Ok Dark)
-    (cond (bytes_eq name (codes "light")) (Ok Light)
-    (cond (bytes_eq name (codes "green")) (Ok Green) (cond (bytes_eq name (codes "amber")) (Ok Amber) (Err NoTheme))))
-
--- the theme with a name; without a name it is dark
-abbrev pub theme_of : Option Text → Result Theme Complaint
-theme_of None = Ok Dark
-theme_of (Some name) = theme_named name
-
-abbrev pub cursor_named : (name : Text) → Result CursorShape Complaint
-cursor_named name =
-    cond (bytes_eq name (codes "outline")) (Ok Outline)
-    (cond (bytes_eq name (codes "block")) (Ok Block)
-    (cond (bytes_eq name (codes "underline")) (Ok Underline) (cond (bytes_eq name (codes "hidden")) (Ok Hidden) (Err NoShape))))
-
--- the shape of the cursor with a name; without a name it is the outline
-abbrev pub cursor_of : Option Text → Result CursorShape Complaint
-cursor_of None = Ok Outline
-cursor_of (Some name) = cursor_named name
-
-abbrev pub looks_with : (theme cursor : Option Text) → Result Looks Complaint
-looks_with theme cursor =
-    and_then (λ theme. and_then (λ cursor. Ok (record { theme = theme; cursor = cursor })) (cursor_of cursor)) (theme_of theme)
-
--- the command of this name writes a picture that may move
-abbrev pub may_move : Text → Bool
-may_move command = bytes_eq command (codes "picture")
-
--- the looks by the name of the command, whether `--animate` is used, the texts of its options, and whether there is a
--- title
-abbrev pub looks_of : (command : Text) → (animate : Bool) → (theme cursor : Option Text) → (titled : Bool) → Result (Option Looks) Complaint
-looks_of command animate theme cursor titled =
-    cond animate (cond (may_move command) (and_then (λ looks. Ok (Some looks)) (looks_with theme cursor)) (Err OnlyPicture))
-    (cond (is_some theme || (is_some cursor || titled)) (Err OnlyMoving) (Ok None))
-
-abbrev pub looks_in : (command : Text) → List Row → Result (Option Looks) Complaint
-looks_in command matches =
-    looks_of command (is_set (codes "animate") matches) (first_of (codes "theme") matches) (first_of (codes "cursor") matches)
-    (is_some (first_of (codes "title") matches))
-
--- the command needs the times of a recording: it writes a picture that moves, or searches
-abbrev pub is_timed : (command : Text) → Option Looks → Bool
-is_timed command looks = is_some looks || bytes_eq command (codes "search")
-
-abbrev pub lacks_steps : (command : Text) → Option Format → (timed : Bool) → Option Looks → Bool
-lacks_steps command format timed looks = is_timed command looks && not (has_times format timed)
-
 -- ---- all of them
 
 -- the format with a name; without a name it is raw
@@ -234,13 +175,11 @@ abbrev pub named : Option Text → Result (Option Format) Complaint
 named None = Ok (Some Raw)
 named (Some name) = format_named name
 
--- the source by the name of the command, the looks of a picture that moves, and the texts of the other options. `timed`
--- is whether there is a timing file
-abbrev pub source_of : (command : Text) → Option Looks → (format : Option Text) → (timed : Bool) → (from until encoding terminal columns size : Option Text)
+-- the source by the name of the command and the texts of the options. `timed` is whether there is a timing file
+abbrev pub source_of : (command : Text) → (format : Option Text) → (timed : Bool) → (from until encoding terminal columns size : Option Text)
     → Result Source Complaint
-source_of command looks format timed from until encoding terminal columns size =
+source_of command format timed from until encoding terminal columns size =
     and_then (λ format. cond (timed && not (takes_timing format)) (Err NoTimingFile)
-    (cond (lacks_steps command format timed looks) (Err NoSteps)
     (and_then (λ from. and_then (λ until. and_then (λ encoding. and_then (λ terminal. and_then (λ screen. Ok (record {
       format = format;
       from = from;
@@ -249,18 +188,16 @@ source_of command looks format timed from until encoding terminal columns size =
       terminal = terminal;
       wide = screen.wide;
       size = screen.size;
-      looks = looks;
     })) (screen_of command columns size)) (terminal_of encoding terminal)) (encoding_of encoding)) (moment_of format timed until))
-    (from_of command format timed from))))
+    (from_of command format timed from)))
     (named format)
 
 -- the source by a subcommand's name and matches
 abbrev pub source_in : (command : Text) → List Row → Result Source Complaint
 source_in command matches =
-    and_then (λ looks. source_of command looks (first_of (codes "format") matches) (is_some (first_of (codes "timing") matches))
+    source_of command (first_of (codes "format") matches) (is_some (first_of (codes "timing") matches))
     (first_of (codes "from") matches) (first_of (codes "until") matches) (first_of (codes "encoding") matches) (first_of (codes "terminal") matches)
-    (first_of (codes "columns") matches) (first_of (codes "size") matches))
-    (looks_in command matches)
+    (first_of (codes "columns") matches) (first_of (codes "size") matches)
 
 -- what is said of options that don't fit: the fault, and after some of them a line with a way out
 abbrev pub line_of : Complaint → List ℕ
@@ -268,7 +205,7 @@ line_of NoFormat =
     codes "vt220: --format is raw, script, ttyrec or asciicast" ++ 0x0A ∷ codes "vt220: or it is auto: then the beginning of the input decides" ++ 0x0A ∷ []
 line_of NoTimingFile = codes "vt220: --timing goes with --format script alone" ++ 0x0A ∷ []
 line_of NoMoment = codes "vt220: a moment is seconds, as 12.5 or 12:31, bytes, as 4096b, event:N or marker:N" ++ 0x0A ∷ []
-line_of NoStart = codes "vt220: --from goes with events, content and search alone" ++ 0x0A ∷ []
+line_of NoStart = codes "vt220: --from goes with events and content alone" ++ 0x0A ∷ []
 line_of NoTimes =
     codes "vt220: the input has no times; give the moment in bytes, as 4096b, or script its --timing FILE" ++ 0x0A ∷ codes "vt220: a recording by ttyrec or asciinema has times: add --format ttyrec, asciicast or auto" ++ 0x0A ∷ []
 line_of NoEncoding = codes "vt220: --encoding is dec, utf-8 or auto" ++ 0x0A ∷ []
@@ -279,9 +216,3 @@ line_of TwoSizes = codes "vt220: --size and --columns are given: one of the two 
 line_of OneSize =
     codes "vt220: this command plays 80x24 and 132x24 alone" ++ 0x0A ∷ codes "vt220: all but events and content play any size" ++ 0x0A ∷ []
 line_of OnlyUtf8 = codes "vt220: --terminal xterm reads UTF-8, and not --encoding dec" ++ 0x0A ∷ []
-line_of OnlyPicture = codes "vt220: --animate goes with picture alone" ++ 0x0A ∷ []
-line_of OnlyMoving = codes "vt220: --theme, --cursor and --title go with picture --animate alone" ++ 0x0A ∷ []
-line_of NoSteps =
-    codes "vt220: the input has no times, and search and --animate need them; give script its --timing FILE" ++ 0x0A ∷ codes "vt220: a recording by ttyrec or asciinema has times: add --format ttyrec, asciicast or auto" ++ 0x0A ∷ []
-line_of NoTheme = codes "vt220: --theme is dark, light, green or amber" ++ 0x0A ∷ []
-line_of NoShape = codes "vt220: --cursor is outline, block, underline or hidden" ++ 0x0A ∷ []

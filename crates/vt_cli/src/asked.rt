@@ -65,16 +65,6 @@ pub struct Request {
     pub until: Option<Moment>,
     /// Whether the table of events has all that the recording has: its heading, and the bytes of its output.
     pub full: bool,
-    /// The title of a picture that moves, or none for that of every picture.
-    pub title: Option<String>,
-    /// The text that a search is for.
-    pub pattern: Option<String>,
-    /// Whether a search also looks through the lines that scrolled off.
-    pub log: bool,
-    /// The bytes of the content between two checkpoints of an index.
-    pub every: u64,
-    /// The file with the index from which the input is played, if there is one.
-    pub index: Option<String>,
     /// Whether a recording may break its format: what came before is enough.
     pub partial: bool,
     /// Whether the notes on standard error are left out.

@@ -1,11 +1,11 @@
 //! The command line: its command in clap's terms, and the settings of a replay.
 ghost use Rattle.std.specs.Prelude.{◌≡◌, ◌≢◌, ◌⊎◌, ℕ, [], IfOk, IfErr, IfSome, IfNone, Some, is_some, option_map, string_bytes};
-ghost use Rattle.std.specs.Prelude.{◌∷◌, codes, false, fold};
+ghost use Rattle.std.specs.Prelude.{codes, false, fold};
 ghost use Rattle.clap.specs.Words.{FailsBy, app_of, first_of, first_value, found_of, kind_of, new_app, rows_of, rule_of};
 ghost use Rattle.clap.specs.Words.{subcommand_rows_of, with_rule};
 ghost use Rattle.clap.specs.declared.builder.command.Command.TheViews.{out-Command};
 ghost use Rattle.vt_cli.specs.declared.what.What.{What};
-ghost use Rattle.vt_cli.specs.CommandLine.{rule_for, required_argument, flag_option, every_option, arguments, subcommand, subcommand_with, with_name, as_program};
+ghost use Rattle.vt_cli.specs.CommandLine.{rule_for, subcommand, with_name, as_program};
 ghost use Rattle.vt_cli.specs.CommandLine.{vt220, faults_in, found_in, name_of, status_for, is_true, is_set, is_whole, is_plain};
 ghost use Rattle.vt_cli.specs.CommandLine.{IsNumberOf, AreSettings, IsMemory, IsRefusal};
 ghost use Rattle.vt_cli.specs.CommandLine.{HasNoSettings};
@@ -59,31 +59,17 @@ const PICTURE: &str = "The screen as a picture (SVG)";
 const LOG: &str =
     "The lines that scroll off the top of the screen, as they come, and at the end the screen";
 
-/// The purpose of `pages`, as the help has it.
-const PAGES: &str =
-    "The log, and the 24 lines of the screen before each event that blanks all of it";
-
 /// The purpose of `trace`, as the help has it.
 const TRACE: &str = "A line for each event: its place, its name and its values";
-
-/// The purpose of `summary`, as the help has it.
-const SUMMARY: &str = "The names of the events, each with its count; the ignored ones first";
 
 /// The purpose of `events`, as the help has it.
 const EVENTS: &str =
     "A line for each event of a recording: its time, what it is, its place and its length";
 
 /// The purpose of `content`, as the help has it.
-const CONTENT: &str = "The host's bytes of a recording, or with --terminal xterm bytes for a VT220";
+const CONTENT: &str = "The host's bytes of a recording";
 
-/// The purpose of `search`, as the help has it.
-const SEARCH: &str = "When a text was on the screen: a line for each span of time, and its place";
-
-/// The purpose of `index`, as the help has it.
-const INDEX: &str =
-    "An index of a recording, with which text, show, picture, repaint and search skip to a moment";
-
-/// The subcommands but `search` and `index`, each by its name and what it is for.
+/// The subcommands, each by its name and what it is for.
 const SUBCOMMANDS: &[(&str, &str)] = &[
     ("text", TEXT),
     ("reports", REPORTS),
@@ -92,9 +78,7 @@ const SUBCOMMANDS: &[(&str, &str)] = &[
     ("show", SHOW),
     ("picture", PICTURE),
     ("log", LOG),
-    ("pages", PAGES),
     ("trace", TRACE),
-    ("summary", SUMMARY),
     ("events", EVENTS),
     ("content", CONTENT),
 ];
@@ -108,32 +92,9 @@ enum Takes<'a> {
     Number(u64, u64, &'a str),
     /// A text, by the name of its value.
     Text(&'a str),
-    /// A text that has to be there, without an option.
-    Required(&'a str),
     /// Nothing.
     Nothing,
 }
-
-/// The arguments that `search` alone has. The text comes before the file.
-const SEARCH_ARGUMENTS: &[(&str, Takes, &str)] = &[
-    (
-        "pattern",
-        Takes::Required("PATTERN"),
-        "The text to find, letter by letter",
-    ),
-    (
-        "log",
-        Takes::Nothing,
-        "Also the lines with the text that scrolled off the screen",
-    ),
-];
-
-/// The argument that `index` alone has.
-const INDEX_ARGUMENTS: &[(&str, Takes, &str)] = &[(
-    "every",
-    Takes::Number(1, LIMIT_MOST, "262144"),
-    "The bytes between two checkpoints, 1 to 1099511627776",
-)];
 
 /// The arguments of each subcommand, each by its name, what it takes, and its help.
 const ARGUMENTS: &[(&str, Takes, &str)] = &[
@@ -165,17 +126,12 @@ const ARGUMENTS: &[(&str, Takes, &str)] = &[
     (
         "from",
         Takes::Text("MOMENT"),
-        "Only what comes from there on, for events, content and search: as for --until",
+        "Only what comes from there on, for events and content: as for --until",
     ),
     (
         "until",
         Takes::Text("MOMENT"),
         "Only what came up to it: seconds, as 12.5 or 12:31, bytes, as 4096b, event:N or marker:N",
-    ),
-    (
-        "index",
-        Takes::Text("FILE"),
-        "For text, show, picture, repaint and search: the index of FILE, by which they skip to the moment",
     ),
     (
         "encoding",
@@ -198,26 +154,6 @@ const ARGUMENTS: &[(&str, Takes, &str)] = &[
         "The size of the screen, for commands that play any: as 120x40, or auto [default: auto]",
     ),
     (
-        "animate",
-        Takes::Nothing,
-        "For picture: one that moves, with a step for each event of output; the recording has times",
-    ),
-    (
-        "theme",
-        Takes::Text("NAME"),
-        "The colours of a picture that moves: dark, light, green or amber [default: dark]",
-    ),
-    (
-        "cursor",
-        Takes::Text("SHAPE"),
-        "The cursor of a picture that moves: outline, block, underline or hidden [default: outline]",
-    ),
-    (
-        "title",
-        Takes::Text("TEXT"),
-        "The title of a picture that moves [default: VT220 screen]",
-    ),
-    (
         "full",
         Takes::Nothing,
         "For events: all that the recording has, with the bytes of its output",
@@ -236,26 +172,18 @@ const ARGUMENTS: &[(&str, Takes, &str)] = &[
 
 /// The text below the help.
 const AFTER_HELP: &str = "\
-Each command but help takes FILE, or standard input if no file is named, and these options. search
-takes the text to find before FILE.
+Each command but help takes FILE, or standard input if no file is named, and these options.
   --piece N        the most bytes of one read, 1 to 65536 [default: 4096]
   --limit N        the most bytes of the input, 0 to 1099511627776 [default: 268435456]
   --format FORMAT  how FILE was recorded: raw, script, ttyrec, asciicast or auto [default: raw]
   --timing FILE    the times of a recording by script(1)
-  --from MOMENT    only what comes from there on, for events, content and search: as for --until
+  --from MOMENT    only what comes from there on, for events and content: as for --until
   --until MOMENT   only what came up to it: 12.5 or 12:31 seconds, 4096b bytes, event:N or marker:N
-  --index FILE     for text, show, picture, repaint and search: skip to the moment by an index of FILE
   --encoding NAME  how the host's bytes are read: dec, utf-8 or auto [default: auto]
   --terminal NAME  the terminal for which the host sends: vt220, xterm or auto [default: auto]
   --columns N      the columns of the screen: 80, 132 or auto [default: auto]
   --size CxR       its columns and rows, for commands that play any size: 2x2 to 255x255, or auto
-  --animate        for picture: one that moves, with a step for each event of output
-  --theme NAME     the colours of a picture that moves: dark, light, green or amber [default: dark]
-  --cursor SHAPE   its cursor: outline, block, underline or hidden [default: outline]
-  --title TEXT     its title [default: VT220 screen]
   --full           for events: all that the recording has, with the bytes of its output
-  --log            for search alone: also the lines with the text that scrolled off the screen
-  --every N        for index alone: the bytes between two checkpoints [default: 262144]
   --partial        what came before a recording breaks is enough: that is printed, and no fault
   --quiet          no notes on standard error; faults are printed all the same
 
@@ -268,19 +196,6 @@ Example, with a recording made by script(1):
   vt220 text top.bin
   vt220 show top.bin | less -R
   vt220 picture top.bin > top.svg
-
-Example, a picture that moves, of a recording with times:
-  vt220 picture --animate --format ttyrec demo.tty > demo.svg
-
-Example, when a text was on the screen: from and until, the row and the column:
-  vt220 search --format ttyrec 'No space left' demo.tty
-
-Example, and also the lines that scrolled off: log, the time, the line of the log and the column:
-  vt220 search --log --format ttyrec 'No space left' demo.tty
-
-Example, an index, and the screen at the end of the first hour of a long recording:
-  vt220 index --format ttyrec demo.tty > demo.index
-  vt220 text --format ttyrec --index demo.index --until 1:00:00 demo.tty
 
 Example, the screen as it stood twelve and a half seconds after the start:
   vt220 text --format ttyrec --until 12.5 demo.tty
@@ -309,7 +224,6 @@ fn argument<'a>(alloc: Global, name: &'a str, takes: Takes<'a>, help: &'a str) -
             .value_parser(ValueParser::unsigned(low, high))
             .default_value(default),
         Takes::Text(value) => arg.long(name).value_name(value),
-        Takes::Required(value) => arg.value_name(value).required(true),
         Takes::Nothing => arg.long(name).action(ArgAction::SetTrue),
     }
 }
@@ -337,26 +251,6 @@ fn subcommand<'a>(alloc: Global, name: &'a str, about: &'a str) -> Result<Comman
     ensures local { IfOk result (λ c. (out-Command c).has_globals ≡ false) }
 {
     with_arguments(alloc, Command::new(alloc, name).about(about), ARGUMENTS)
-}
-
-/// Returns the subcommand `search`.
-fn search<'a>(alloc: Global) -> Result<Command<'a>, AllocError>
-    ensures app { IfOk result (λ c. app_of c ≡ subcommand_with (codes "search") (required_argument (codes "pattern") ∷ flag_option (codes "log") ∷ arguments)) }
-    ensures local { IfOk result (λ c. (out-Command c).has_globals ≡ false) }
-{
-    let command = Command::new(alloc, "search").about(SEARCH);
-    let command = with_arguments(alloc, command, SEARCH_ARGUMENTS)?;
-    with_arguments(alloc, command, ARGUMENTS)
-}
-
-/// Returns the subcommand `index`.
-fn index<'a>(alloc: Global) -> Result<Command<'a>, AllocError>
-    ensures app { IfOk result (λ c. app_of c ≡ subcommand_with (codes "index") (every_option ∷ arguments)) }
-    ensures local { IfOk result (λ c. (out-Command c).has_globals ≡ false) }
-{
-    let command = Command::new(alloc, "index").about(INDEX);
-    let command = with_arguments(alloc, command, INDEX_ARGUMENTS)?;
-    with_arguments(alloc, command, ARGUMENTS)
 }
 
 /// Adds subcommands, each by its name and what it is for.
@@ -389,9 +283,7 @@ fn program<'a>(alloc: Global) -> Command<'a>
 fn command<'a>(alloc: Global) -> Result<Command<'a>, AllocError>
     ensures { IfOk result (λ c. app_of c ≡ vt220) }
 {
-    with_names(alloc, program(alloc), SUBCOMMANDS)?
-        .subcommand(search(alloc)?)?
-        .subcommand(index(alloc)?)
+    with_names(alloc, program(alloc), SUBCOMMANDS)
 }
 
 /// Returns what clap matches in the arguments.
@@ -537,7 +429,6 @@ fn is_whole(matches: &ArgMatches<'_>) -> bool
         && !is_given(matches, "timing")
         && !is_given(matches, "from")
         && !is_given(matches, "until")
-        && !is_given(matches, "index")
 }
 
 /// Returns whether no option of a recording was used.
@@ -549,10 +440,6 @@ fn is_plain(matches: &ArgMatches<'_>) -> bool
         && !is_given(matches, "terminal")
         && !is_given(matches, "columns")
         && !is_given(matches, "size")
-        && !is_set(matches, "animate")
-        && !is_given(matches, "theme")
-        && !is_given(matches, "cursor")
-        && !is_given(matches, "title")
         && !is_set(matches, "full")
         && !is_set(matches, "partial")
         && !is_set(matches, "quiet")

@@ -12,6 +12,5 @@ pub use asked::{Refused, Request, Settings};
 pub use command_line::settings;
 pub use requests::request;
 pub use source::size_of;
-pub use vt_picture::{CursorShape, Theme};
 pub use vt_recording::{Encoding, Format, Moment, TerminalType};
-pub use what::{Looks, What, Word};
+pub use what::{What, Word};

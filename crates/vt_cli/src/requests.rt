@@ -1,11 +1,11 @@
 //! The request of the arguments: a word, its input, and how that was recorded.
-ghost use Rattle.std.specs.Prelude.{◌≡◌, ◌≢◌, [], IfOk, IfErr, IfSome, IfNone, Some, None, Ok, option_map};
+ghost use Rattle.std.specs.Prelude.{◌≡◌, ◌≢◌, [], IfOk, IfErr, IfSome, IfNone, Some, Ok};
 ghost use Rattle.clap.specs.Words.{found_of, rows_of, subcommand_rows_of};
 ghost use Rattle.vt_screen.specs.Sizes.{IsSize};
 ghost use Rattle.vt_cli.specs.declared.what.Word.{Word};
 ghost use Rattle.vt_cli.specs.CommandLine.{word_name};
 ghost use Rattle.vt_cli.specs.Source.{source_in};
-ghost use Rattle.vt_cli.specs.Request.{word_looks, every_of, IsFound, HasNoRequest, IsRequest, IsNoRequest, IsRequestRefusal};
+ghost use Rattle.vt_cli.specs.Request.{IsFound, HasNoRequest, IsRequest, IsNoRequest, IsRequestRefusal};
 
 use crate::asked::{Refused, Request};
 use crate::command_line::{
@@ -13,53 +13,21 @@ use crate::command_line::{
     what_of,
 };
 use crate::source::{Source, source_in};
-use crate::what::{Looks, Word};
+use crate::what::Word;
 use clap::ArgMatches;
 use std::alloc::{AllocError, Global};
-use vt_recording::number;
 
-/// The bytes between two checkpoints of an index.
-const EVERY: u64 = 262_144;
-
-/// Returns the word of this name, with the looks of a picture that moves, if there are any.
-fn word_of(name: &str, looks: Option<Looks>) -> Option<Word>
-    ensures some { IfSome result (λ word. (name.now ≡ word_name word) × (looks ≡ word_looks word)) }
-    ensures none { IfNone result ((word : Word) → name.now ≡ word_name word → looks ≢ word_looks word) }
-{
-    match looks {
-        Some(looks) => match name {
-            "picture" => Some(Word::Animation(looks)),
-            _ => None,
-        },
-        None => still_word_of(name),
-    }
-}
-
-/// Returns the word of this name that isn't a picture that moves.
-fn still_word_of(name: &str) -> Option<Word>
-    ensures some { IfSome result (λ word. (name.now ≡ word_name word) × (None ≡ word_looks word)) }
-    ensures none { IfNone result ((word : Word) → name.now ≡ word_name word → None ≢ word_looks word) }
+/// Returns the word of this name.
+fn word_of(name: &str) -> Option<Word>
+    ensures some { IfSome result (λ word. name.now ≡ word_name word) }
+    ensures none { IfNone result ((word : Word) → name.now ≢ word_name word) }
 {
     match name {
         "log" => Some(Word::Log),
-        "pages" => Some(Word::Pages),
         "trace" => Some(Word::Trace),
-        "summary" => Some(Word::Summary),
         "events" => Some(Word::Events),
         "content" => Some(Word::Content),
-        "search" => Some(Word::Search),
-        "index" => Some(Word::Index),
         _ => Some(Word::Replay(what_of(name)?)),
-    }
-}
-
-/// Returns the number of bytes between two checkpoints, by the text of an option.
-fn every_of(text: Option<&str>) -> u64
-    ensures { result ≡ every_of (option_map (λ t. t.now) text.entry) }
-{
-    match text {
-        Some(text) => number(13, text.as_bytes()).unwrap_or(EVERY),
-        None => EVERY,
     }
 }
 
@@ -75,15 +43,13 @@ fn request_of(
     ensures some { IfOk result (λ o. IfSome o (IsFound (Some (name.now, rows_of (found_of matches.now))))) }
     ensures none { IfOk result (λ o. IfNone o (HasNoRequest (Some (name.now, rows_of (found_of matches.now))))) }
 {
-    let Some(word) = word_of(name, source.looks) else {
+    let Some(word) = word_of(name) else {
         return Ok(None);
     };
     let Some(options) = options_of(alloc, matches)? else {
         return Ok(None);
     };
     let timing = file_of(alloc, matches, "timing")?;
-    let pattern = file_of(alloc, matches, "pattern")?;
-    let index = file_of(alloc, matches, "index")?;
     Ok(Some(Request {
         word,
         piece: options.piece,
@@ -97,11 +63,6 @@ fn request_of(
         terminal: source.terminal,
         wide: source.wide,
         size: source.size,
-        title: file_of(alloc, matches, "title")?,
-        pattern,
-        every: every_of(matches.get_str("every")),
-        index,
-        log: is_set(matches, "log"),
         full: is_set(matches, "full"),
         partial: is_set(matches, "partial"),
         quiet: is_set(matches, "quiet"),
@@ -129,39 +90,33 @@ fn request_among(alloc: Global, matches: &ArgMatches<'_>) -> Result<Request, Ref
 
 /// Returns what the arguments ask for; the first argument is the program's name.
 ///
-/// The arguments are those of clap's command `vt220`: one of the fourteen subcommands. They are those of `settings` and
-/// `log`, `pages`, `trace`, `summary`, `events`, `content`, `search PATTERN` and `index`. Each takes at most one FILE,
-/// `--piece N`, `--limit N`, and the options of a recording:
+/// The arguments are those of clap's command `vt220`: one of the ten subcommands. They are those of `settings` and
+/// `log`, `trace`, `events` and `content`. Each takes at most one FILE, `--piece N`, `--limit N`, and the options of a
+/// recording:
 ///
 /// - `--format FORMAT`: raw, script, ttyrec, asciicast or auto, otherwise raw
 /// - `--timing FILE`
-/// - `--from MOMENT`, `--until MOMENT` and `--index FILE`
+/// - `--from MOMENT` and `--until MOMENT`
 /// - `--encoding NAME`: dec, utf-8 or auto
 /// - `--terminal NAME`: vt220, xterm or auto
 /// - `--columns N`: 80, 132 or auto
 /// - `--size COLUMNSxROWS`: 2 to 255 columns and 2 to 255 rows, or auto
-/// - `--animate`, `--theme NAME`, `--cursor SHAPE` and `--title TEXT`
 /// - `--full`, `--partial` and `--quiet`
 ///
 /// With auto the beginning of the input decides on the format. Of encoding, terminal, columns and size auto is the
 /// default: then the request leaves the decision to the recording. A moment is seconds (`12.5`), minutes and seconds
 /// (`12:31`), hours, minutes and seconds (`1:02:03`), a number of bytes (`4096b`), or the number of an event
-/// (`event:12`) or a marker (`marker:2`), counted from 1. Seconds have up to six decimals. The theme is dark, light,
-/// green or amber, and the shape outline, block, underline or hidden. `search` alone takes `--log`, and `index` alone
-/// `--every N` (1 to 1099511627776, otherwise 262144).
+/// (`event:12`) or a marker (`marker:2`), counted from 1. Seconds have up to six decimals.
 ///
 /// If there is no request, `Err` has the exit status and the text to end with. The status is 0 for the help or the
 /// version, 1 for a failed allocation, and 2 if the arguments are wrong. (this profile) Wrong are also:
 ///
 /// - `--timing` with a format other than script
 /// - a moment in seconds with raw, or with script without `--timing`
-/// - `--from` with another subcommand than `events`, `content` and `search`
+/// - `--from` with another subcommand than `events` and `content`
 /// - xterm with dec
 /// - `--size` with `--columns`
 /// - a size that isn't a VT220's, for `events` and `content`
-/// - `--animate` with another subcommand than `picture`
-/// - `--animate` or `search` with a format that has no times
-/// - a theme, a shape or a title without `--animate`
 pub fn request(alloc: Global, words: Vec<String>) -> Result<Request, Refused>
     ensures ok { IfOk result (IsRequest words.items) }
     ensures err { IfErr result (IsNoRequest words.items) }

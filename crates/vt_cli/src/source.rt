@@ -5,15 +5,11 @@ ghost use Rattle.vt_screen.specs.Sizes.{IsSize};
 ghost use Rattle.clap.specs.Words.{found_of, rows_of};
 ghost use Rattle.vt_cli.specs.Source.{format_named, named, takes_timing, has_times, has_moment, moment_of, takes_start, from_of, source_of, source_in, line_of};
 ghost use Rattle.vt_cli.specs.Source.{encoding_named, encoding_of};
-ghost use Rattle.vt_cli.specs.Source.{theme_named, theme_of, cursor_named, cursor_of, looks_with, may_move, looks_of, looks_in, is_timed, lacks_steps};
 ghost use Rattle.vt_cli.specs.Source.{xterm_for, terminal_named, terminal_of, wide_named, wide_of};
 ghost use Rattle.vt_cli.specs.Source.{size_of, screen_at, screen_in, screen_named, screen_with, has_one_size, screen_for, screen_of};
 
-use crate::command_line::is_set;
 use crate::moment::{moment, place};
-use crate::what::Looks;
 use clap::ArgMatches;
-use vt_picture::{CursorShape, Theme};
 use vt_recording::{Encoding, Format, Moment, TerminalType, number};
 use vt_screen::{ROWS, Size};
 
@@ -35,8 +31,6 @@ pub(crate) struct Source {
     pub(crate) wide: Option<bool>,
     /// The size of the screen, or none if it is a VT220's or the recording decides.
     pub(crate) size: Option<Size>,
-    /// The looks of a picture that moves, if one is asked for.
-    pub(crate) looks: Option<Looks>,
 }
 
 /// The screen that was asked for.
@@ -75,16 +69,6 @@ pub(crate) enum Complaint {
     OneSize,
     /// `--terminal xterm` is given with `--encoding dec`.
     OnlyUtf8,
-    /// `--animate` is given for a command other than picture.
-    OnlyPicture,
-    /// `--theme`, `--cursor` or `--title` is given without `--animate`.
-    OnlyMoving,
-    /// `--animate` is given or a text is searched for, and the recording has no times.
-    NoSteps,
-    /// `--theme` names no theme.
-    NoTheme,
-    /// `--cursor` names no shape.
-    NoShape,
 }
 
 impl Complaint {
@@ -101,7 +85,7 @@ impl Complaint {
             Complaint::NoMoment => {
                 "vt220: a moment is seconds, as 12.5 or 12:31, bytes, as 4096b, event:N or marker:N\n"
             }
-            Complaint::NoStart => "vt220: --from goes with events, content and search alone\n",
+            Complaint::NoStart => "vt220: --from goes with events and content alone\n",
             Complaint::NoTimes => {
                 "vt220: the input has no times; give the moment in bytes, as 4096b, or script its --timing FILE\n\
                  vt220: a recording by ttyrec or asciinema has times: add --format ttyrec, asciicast or auto\n"
@@ -120,16 +104,6 @@ impl Complaint {
                  vt220: all but events and content play any size\n"
             }
             Complaint::OnlyUtf8 => "vt220: --terminal xterm reads UTF-8, and not --encoding dec\n",
-            Complaint::OnlyPicture => "vt220: --animate goes with picture alone\n",
-            Complaint::OnlyMoving => {
-                "vt220: --theme, --cursor and --title go with picture --animate alone\n"
-            }
-            Complaint::NoSteps => {
-                "vt220: the input has no times, and search and --animate need them; give script its --timing FILE\n\
-                 vt220: a recording by ttyrec or asciinema has times: add --format ttyrec, asciicast or auto\n"
-            }
-            Complaint::NoTheme => "vt220: --theme is dark, light, green or amber\n",
-            Complaint::NoShape => "vt220: --cursor is outline, block, underline or hidden\n",
         }
     }
 }
@@ -207,7 +181,7 @@ fn moment_of(
 fn takes_start(command: &str) -> bool
     ensures { result ≡ takes_start command.now }
 {
-    matches!(command, "events" | "content" | "search")
+    matches!(command, "events" | "content")
 }
 
 /// Returns the moment from which on a recording is wanted, for a command.
@@ -424,131 +398,11 @@ fn screen_of(command: &str, columns: Option<&str>, size: Option<&str>) -> Result
     }
 }
 
-/// Returns the theme of a name.
-fn theme_named(name: &str) -> Result<Theme, Complaint>
-    ensures { result ≡ theme_named name.now }
-{
-    match name {
-        "dark" => Ok(Theme::Dark),
-        "light" => Ok(Theme::Light),
-        "green" => Ok(Theme::Green),
-        "amber" => Ok(Theme::Amber),
-        _ => Err(Complaint::NoTheme),
-    }
-}
-
-/// Returns the theme of a name. Without a name it is dark.
-fn theme_of(name: Option<&str>) -> Result<Theme, Complaint>
-    ensures { result ≡ theme_of (option_map (λ n. n.now) name.entry) }
-{
-    match name {
-        Some(name) => theme_named(name),
-        None => Ok(Theme::Dark),
-    }
-}
-
-/// Returns the shape of a name.
-fn cursor_named(name: &str) -> Result<CursorShape, Complaint>
-    ensures { result ≡ cursor_named name.now }
-{
-    match name {
-        "outline" => Ok(CursorShape::Outline),
-        "block" => Ok(CursorShape::Block),
-        "underline" => Ok(CursorShape::Underline),
-        "hidden" => Ok(CursorShape::Hidden),
-        _ => Err(Complaint::NoShape),
-    }
-}
-
-/// Returns the shape of a name. Without a name it is the outline.
-fn cursor_of(name: Option<&str>) -> Result<CursorShape, Complaint>
-    ensures { result ≡ cursor_of (option_map (λ n. n.now) name.entry) }
-{
-    match name {
-        Some(name) => cursor_named(name),
-        None => Ok(CursorShape::Outline),
-    }
-}
-
-/// Returns the looks of the names of a theme and a shape.
-fn looks_with(theme: Option<&str>, cursor: Option<&str>) -> Result<Looks, Complaint>
-    ensures { result ≡ looks_with (option_map (λ t. t.now) theme.entry) (option_map (λ c. c.now) cursor.entry) }
-{
-    let theme = match theme_of(theme) {
-        Ok(theme) => theme,
-        Err(complaint) => return Err(complaint),
-    };
-    match cursor_of(cursor) {
-        Ok(cursor) => Ok(Looks { theme, cursor }),
-        Err(complaint) => Err(complaint),
-    }
-}
-
-/// Returns whether the command of this name writes a picture that may move.
-fn may_move(command: &str) -> bool
-    ensures { result ≡ may_move command.now }
-{
-    matches!(command, "picture")
-}
-
-/// Returns the looks of a picture that moves that options give for a command, if they ask for one.
-fn looks_of(
-    command: &str,
-    animate: bool,
-    theme: Option<&str>,
-    cursor: Option<&str>,
-    titled: bool,
-) -> Result<Option<Looks>, Complaint>
-    ensures { result ≡ looks_of command.now animate (option_map (λ t. t.now) theme.entry) (option_map (λ c. c.now) cursor.entry) titled }
-{
-    if !animate {
-        if theme.is_some() || cursor.is_some() || titled {
-            return Err(Complaint::OnlyMoving);
-        }
-        return Ok(None);
-    }
-    if !may_move(command) {
-        return Err(Complaint::OnlyPicture);
-    }
-    match looks_with(theme, cursor) {
-        Ok(looks) => Ok(Some(looks)),
-        Err(complaint) => Err(complaint),
-    }
-}
-
-/// Returns the looks of a picture that moves, if the options of the subcommand of this name ask for one.
-fn looks_in(command: &str, matches: &ArgMatches<'_>) -> Result<Option<Looks>, Complaint>
-    ensures { result ≡ looks_in command.now (rows_of (found_of matches.now)) }
-{
-    looks_of(
-        command,
-        is_set(matches, "animate"),
-        matches.get_str("theme"),
-        matches.get_str("cursor"),
-        matches.get_str("title").is_some(),
-    )
-}
-
-/// Returns whether a command needs the times of a recording: a picture that moves, or a search.
-fn is_timed(command: &str, looks: Option<Looks>) -> bool
-    ensures { result ≡ is_timed command.now looks }
-{
-    looks.is_some() || matches!(command, "search")
-}
-
-/// Returns whether a command needs the times of a recording that has none.
-fn lacks_steps(command: &str, format: Option<Format>, timed: bool, looks: Option<Looks>) -> bool
-    ensures { result ≡ lacks_steps command.now format timed looks }
-{
-    is_timed(command, looks) && !has_times(format, timed)
-}
-
-/// Returns the source that options give for a command. The options are the looks of a picture that moves, the name of a
-/// format, whether there is a timing file, and the texts of two moments. There are also the names of an encoding and of
-/// a terminal, a number of columns, and a size.
+/// Returns the source that options give for a command. The options are the name of a format, whether there is a timing
+/// file, and the texts of two moments. There are also the names of an encoding and of a terminal, a number of columns,
+/// and a size.
 fn source_of(
     command: &str,
-    looks: Option<Looks>,
     format: Option<&str>,
     timed: bool,
     from: Option<&str>,
@@ -558,7 +412,7 @@ fn source_of(
     columns: Option<&str>,
     size: Option<&str>,
 ) -> Result<Source, Complaint>
-    ensures value { result ≡ source_of command.now looks (option_map (λ f. f.now) format.entry) timed
+    ensures value { result ≡ source_of command.now (option_map (λ f. f.now) format.entry) timed
         (option_map (λ f. f.now) from.entry) (option_map (λ u. u.now) until.entry) (option_map (λ e. e.now) encoding.entry)
         (option_map (λ t. t.now) terminal.entry) (option_map (λ n. n.now) columns.entry) (option_map (λ s. s.now) size.entry) }
     ensures in_range { IfOk result (λ source. IfSome source.size (λ size. IsSize size)) }
@@ -569,9 +423,6 @@ fn source_of(
     };
     if timed && !takes_timing(format) {
         return Err(Complaint::NoTimingFile);
-    }
-    if lacks_steps(command, format, timed, looks) {
-        return Err(Complaint::NoSteps);
     }
     let from = match from_of(command, format, timed, from) {
         Ok(from) => from,
@@ -598,7 +449,6 @@ fn source_of(
             terminal,
             wide: screen.wide,
             size: screen.size,
-            looks,
         }),
         Err(complaint) => Err(complaint),
     }
@@ -609,13 +459,8 @@ pub(crate) fn source_in(command: &str, matches: &ArgMatches<'_>) -> Result<Sourc
     ensures value { result ≡ source_in command.now (rows_of (found_of matches.now)) }
     ensures in_range { IfOk result (λ source. IfSome source.size (λ size. IsSize size)) }
 {
-    let looks = match looks_in(command, matches) {
-        Ok(looks) => looks,
-        Err(complaint) => return Err(complaint),
-    };
     source_of(
         command,
-        looks,
         matches.get_str("format"),
         matches.get_str("timing").is_some(),
         matches.get_str("from"),

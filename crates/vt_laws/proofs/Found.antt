@@ -11,7 +11,6 @@ use Rattle.vt_recording.specs.declared.format.Format.TheVariants.{Raw}
 use Rattle.vt_recording.specs.declared.format.Moment.{Moment}
 use Rattle.vt_recording.specs.declared.format.TerminalType.{TerminalType}
 use Rattle.vt_cli.specs.declared.what.What.TheVariants.{Text as TextOutput, Repaint, Show}
-use Rattle.vt_cli.specs.declared.what.Looks.{Looks}
 use Rattle.vt_cli.specs.declared.what.Word.{Word}
 use Rattle.vt_cli.specs.declared.what.Word.TheVariants.{Replay, Log}
 use Rattle.vt_cli.specs.CommandLine.{vt220, word_name}
@@ -27,7 +26,6 @@ pub record Options : Type 0 where
   pub terminal : Option TerminalType
   pub wide : Option Bool
   pub size : Option Size
-  pub looks : Option Looks
 
 -- the name of what was found, the options, and the file
 pub record Asked : Type 0 where
@@ -38,7 +36,7 @@ pub record Asked : Type 0 where
 abbrev pub options_in : Text → List Row → Option Options
 options_in name matches = elim (source_in name matches) [
   | Ok s ↦
-      Some (record { format = s.format; from = s.from; until = s.until; encoding = s.encoding; terminal = s.terminal; wide = s.wide; size = s.size; looks = s.looks })
+      Some (record { format = s.format; from = s.from; until = s.until; encoding = s.encoding; terminal = s.terminal; wide = s.wide; size = s.size })
   | Err complaint ↦ None
 ]
 
@@ -50,7 +48,7 @@ asked found = option_map asked_by found
 
 -- raw input, all of it, and nothing else is asked for
 abbrev pub no_options : Options
-no_options = record { format = Some Raw; from = None; until = None; encoding = None; terminal = None; wide = None; size = None; looks = None }
+no_options = record { format = Some Raw; from = None; until = None; encoding = None; terminal = None; wide = None; size = None }
 
 abbrev pub AsksPlainly : Word → Type 0
 AsksPlainly word = (program : Text) (file : Option Text) → IsOperand file

@@ -3,9 +3,6 @@ mod Shifted
 mod CursorMoves
 mod RoundTrip
 mod TraceParts
-mod SmallEvents
-mod KindLines
-mod CountSums
 mod ItemPlaces
 mod Witnesses
 mod Rows
@@ -18,4 +15,3 @@ mod Found
 mod PlainTables
 mod XtermBounded
 mod XtermIgnored
-mod FrameNumbers

@@ -14,10 +14,9 @@ use Rattle.vt_recording.specs.declared.format.TerminalType.TheVariants.{Vt220}
 use Rattle.vt_cli.specs.declared.asked.Request.{Request}
 use Rattle.vt_cli.specs.declared.what.What.TheVariants as what
 use Rattle.vt_cli.specs.declared.what.Word.{Word}
-use Rattle.vt_cli.specs.declared.what.Word.TheVariants.{Replay, Animation, Log, Pages, Trace, Summary, Events, Content, Search, Index}
+use Rattle.vt_cli.specs.declared.what.Word.TheVariants.{Replay, Log, Trace, Events, Content}
 use Rattle.vt_cli.specs.CommandLine.{vt220, word_name, found_in}
-use Rattle.vt_cli.specs.declared.what.Looks.{Looks}
-use Rattle.vt_cli.specs.Request.{word_looks, IsFound, IsRequest}
+use Rattle.vt_cli.specs.Request.{IsFound, IsRequest}
 use Rattle.vt_replay.specs.declared.requests.Outcome.{Outcome}
 use Rattle.vt_screen.specs.declared.size.Size.{Size}
 use Rattle.vt_screen.specs.Sizes.{vt220_size}
@@ -27,11 +26,10 @@ use Rattle.vt_replay.specs.Request.{is_streamed, takes_whole, needs_whole, forma
 use Rattle.vt_laws.specs.Plain.{IsPlainCommand}
 use Rattle.vt_laws.proofs.Found.{Options, Asked, options_in, asked_by, asked, no_options, AsksPlainly}
 
--- ---- the word of a name, and of the looks of a picture that moves
+-- ---- the word of a name
 
-abbrev word_of : Text → Option Looks → Option Word
-word_of name (Some looks) = Some (Animation looks)
-word_of name None =
+abbrev word_of : Text → Option Word
+word_of name =
     if bytes_eq name (codes "text") then Some (Replay what.Text) else (
     if bytes_eq name (codes "reports") then Some (Replay what.Reports) else (
     if bytes_eq name (codes "repaint") then Some (Replay what.Repaint) else (
@@ -39,36 +37,26 @@ word_of name None =
     if bytes_eq name (codes "show") then Some (Replay what.Show) else (
     if bytes_eq name (codes "picture") then Some (Replay what.Picture) else (
     if bytes_eq name (codes "log") then Some Log else (
-    if bytes_eq name (codes "pages") then Some Pages else (
     if bytes_eq name (codes "trace") then Some Trace else (
-    if bytes_eq name (codes "summary") then Some Summary else (
-    if bytes_eq name (codes "events") then Some Events else (
-    if bytes_eq name (codes "content") then Some Content else (
-    if bytes_eq name (codes "search") then Some Search else Some Index))))))))))))
+    if bytes_eq name (codes "events") then Some Events else Some Content))))))))
 
-own-name : (word : Word) → word_of (word_name word) (word_looks word) ≡ Some word
+own-name : (word : Word) → word_of (word_name word) ≡ Some word
 own-name (Replay what.Text) = refl
 own-name (Replay what.Reports) = refl
 own-name (Replay what.Repaint) = refl
 own-name (Replay what.Status) = refl
 own-name (Replay what.Show) = refl
 own-name (Replay what.Picture) = refl
-own-name (Animation looks) = refl
 own-name Log = refl
-own-name Pages = refl
 own-name Trace = refl
-own-name Summary = refl
 own-name Events = refl
 own-name Content = refl
-own-name Search = refl
-own-name Index = refl
 
 some-word : (a b : Word) → Some a ≡ Some b → a ≡ b
 some-word a b h = cc
 
-same-word : (a b : Word) → word_name a ≡ word_name b → word_looks a ≡ word_looks b → a ≡ b
-same-word a b h l =
-    some-word a b (sym (own-name a) ∙ ap (λ name. word_of name (word_looks a)) h ∙ ap (λ looks. word_of (word_name b) looks) l ∙ own-name b)
+same-word : (a b : Word) → word_name a ≡ word_name b → a ≡ b
+same-word a b h = some-word a b (sym (own-name a) ∙ ap word_of h ∙ own-name b)
 
 some-asked : (a b : Asked) → Some a ≡ Some b → a ≡ b
 some-asked a b h = cc
@@ -80,7 +68,7 @@ some-options a b h = cc
 
 abbrev options_of : Request → Options
 options_of r =
-    record { format = r.format; from = r.from; until = r.until; encoding = r.encoding; terminal = r.terminal; wide = r.wide; size = r.size; looks = word_looks r.word }
+    record { format = r.format; from = r.from; until = r.until; encoding = r.encoding; terminal = r.terminal; wide = r.wide; size = r.size }
 
 found-options : (found : Option (Text × List Row)) (r : Request) (is : IsFound found r)
     → options_in (word_name r.word) is.matches ≡ Some (options_of r)
@@ -91,9 +79,9 @@ pub record AsksFor (word : Word) (file : Option Text) (r : Request) : Type 0 whe
   pub options_are : options_of r ≡ no_options
   pub file_is : option_map (λ f. string_bytes f) r.file ≡ file
 
-asks-for : (word : Word) → word_looks word ≡ None → (file : Option Text) (words : List (String Global)) (r : Request) → AsksPlainly word
+asks-for : (word : Word) → (file : Option Text) (words : List (String Global)) (r : Request) → AsksPlainly word
     → IsPlainCommand (word_name word) file words → IsRequest words r → AsksFor word file r
-asks-for word still file words r asks plain request =
+asks-for word file words r asks plain request =
     let found = request.found in
     let here : asked (found_in words) ≡ Some (record { name = word_name word; options = Some no_options; file = file }) =
     ap (λ (ws : List Text). asked (subcommand_of vt220 ws)) plain.are ∙ asks plain.program file plain.operand in
@@ -103,7 +91,7 @@ asks-for word still file words r asks plain request =
     let options : options_of r ≡ no_options =
     some-options _ _ (sym (found-options (found_in words) r found) ∙ ap (λ (a : Asked). a.options) same) in
     record {
-      word_is = same-word r.word word (ap (λ (a : Asked). a.name) same) (ap (λ (o : Options). o.looks) options ∙ sym still);
+      word_is = same-word r.word word (ap (λ (a : Asked). a.name) same);
       options_are = options;
       file_is = found.options.file_is ∙ ap (λ (a : Asked). a.file) same;
     }
@@ -112,15 +100,10 @@ asks-for word still file words r asks plain request =
 
 named-none : (word : Word) → named_for word None ≡ None
 named-none (Replay what) = refl
-named-none (Animation looks) = refl
 named-none Log = refl
-named-none Pages = refl
 named-none Trace = refl
-named-none Summary = refl
 named-none Events = refl
 named-none Content = refl
-named-none Search = refl
-named-none Index = refl
 
 plain-terminal : (word : Word) (file : Option Text) (r : Request) → AsksFor word file r → (plain_host r).terminal ≡ Vt220
 plain-terminal word file r asks =
@@ -146,13 +129,13 @@ is-streamed word file r beginning asks plays =
     ap (λ (s : Options). is_streamed (format_of s.format beginning) s.until s.wide (takes_whole r.word || is_some s.from)) asks.options_are
     ∙ ap (λ (e : Bool). is_streamed Raw None None (e || false)) (ap takes_whole asks.word_is ∙ plays)
 
-pub plain-table : (word : Word) → word_looks word ≡ None → AsksPlainly word → takes_whole word ≡ false → (file : Option Text) (words : List (String Global)) (r : Request) (o : Outcome)
+pub plain-table : (word : Word) → AsksPlainly word → takes_whole word ≡ false → (file : Option Text) (words : List (String Global)) (r : Request) (o : Outcome)
     (beginning : List ℕ) (timing : Option (List ℕ)) (b w : List ℕ) (f : Flags)
     → IsPlainCommand (word_name word) file words → IsRequest words r
     → OutcomeTable o r (format_of r.format beginning) timing b w f
     → (WordTable o.ended word vt220_size [] Vt220 Dec r.piece b w f r.limit) × (option_map (λ f. string_bytes f) r.file ≡ file)
-plain-table word still plainly plays file words r o beginning timing b w f plain request table =
-    let asks = asks-for word still file words r plainly plain request in
+plain-table word plainly plays file words r o beginning timing b w f plain request table =
+    let asks = asks-for word file words r plainly plain request in
     let streamed : IsStreamed o r b w f =
     subst (λ (s : Bool). OutcomeBy s o r (format_of r.format beginning) timing b w f) (is-streamed word file r beginning asks plays) table in (
       subst (λ (x : Word). WordTable o.ended x vt220_size [] Vt220 Dec r.piece b w f r.limit) asks.word_is

@@ -4,7 +4,7 @@ use Rattle.std.specs.Prelude.{nat_lt}
 use Rattle.std.specs.List.{list_any}
 use Rattle.std.specs.Fmt.{digits}
 use Rattle.std.proofs.lemmas.Bool.Decides.{nat_tests}
-use Rattle.std.proofs.lemmas.List.Elements.{All-nil, All-cons, All-from_recursion}
+use Rattle.std.proofs.lemmas.List.Elements.{All-from_recursion}
 use Rattle.vt_syntax.specs.declared.event.Event.{Event}
 use Rattle.vt_syntax.specs.declared.held.Held.{Held}
 use Rattle.vt_syntax.specs.declared.held.Held.TheVariants.{Nothing}
@@ -21,43 +21,30 @@ use Rattle.vt_utf8.specs.Decoding.{characters, pending_after}
 use Rattle.vt_utf8.specs.Translation.{translation}
 use Rattle.vt_utf8.proofs.Cuts.{ascii-pending}
 use Rattle.vt_xterm.specs.declared.sides.Sides.{Sides}
-use Rattle.vt_xterm.specs.declared.subparameters.Subparameters.{Subparameters}
-use Rattle.vt_xterm.specs.declared.subparameters.Subparameters.TheVariants.{Outside}
-use Rattle.vt_xterm.specs.Subparameters.{passed, after, kept, Pass}
-use Rattle.vt_xterm.specs.Pages.{PagesState, Screens, with_subparameters, show_and_save, bounds_of, restored}
+use Rattle.vt_xterm.specs.Pages.{PagesState, Screens, show_and_save, bounds_of, restored}
 use Rattle.vt_xterm.specs.Bounded.{held_beyond}
 use Rattle.vt_xterm.specs.Front.{is_page_function, is_side_function, alternate_page, into_alternate, through_alternate}
 use Rattle.vt_xterm.specs.Play.{Whole, WholePlayed, IsSoundWhole, screens_of, after_events, play_bytes, play_character}
-use Rattle.vt_xterm.specs.Play.{play_characters, play_xterm, play_ascii, play_beyond, screens_beyond, reading_on, outside}
+use Rattle.vt_xterm.specs.Play.{play_characters, play_xterm, play_beyond, screens_beyond}
 use Rattle.vt_xterm.proofs.Beyond.{beyond-like}
 use Rattle.vt_xterm.proofs.Bounds.{width-part}
 use Rattle.vt_xterm.proofs.Cuts.{character-ascii, xterm-two, xterm-ascii}
+use Rattle.vt_xterm.proofs.Fed.{character-beyond}
 use Rattle.vt_xterm.proofs.NoSides.{none-bounds, events-none}
-use Rattle.vt_xterm.proofs.Passing.{kept-outside}
-use Rattle.vt_xterm.proofs.Spelled.{events-pass, begun-played}
-use Rattle.vt_xterm.proofs.Stays.{neither}
-use Rattle.vt_xterm.proofs.Untouched.{event-leaves, bytes-leave}
+use Rattle.vt_xterm.proofs.Stays.{then-but, neither}
 use Rattle.vt_xterm.proofs.Screens.{on-event, off-event, stay, shown-width, on-effect, off-effect, came-back, single}
-use Rattle.vt_laws.specs.Characters.{held_after_character, events_of_characters}
+use Rattle.vt_laws.specs.Characters.{events_of_characters}
 use Rattle.vt_laws.proofs.Beyond.{Leaves}
 
--- the pages stay, but for whether pasted text is wanted in brackets, for the left and right margins and for what is read
--- of subparameters, and the width
+-- the pages stay, but for whether pasted text is wanted in brackets and for the left and right margins, and the width
 abbrev Stay : Whole → Whole → Type 0
 Stay w v =
-    (v.pages ≡ record w.pages {
-      brackets = v.pages.brackets;
-      sides = v.pages.sides;
-      subparameters = v.pages.subparameters;
-    })
+    (v.pages ≡ record w.pages { brackets = v.pages.brackets; sides = v.pages.sides })
     × (v.state.display.grid.width ≡ w.state.display.grid.width)
 
--- other pages than these in the same three
-abbrev but : PagesState → PagesState → PagesState
-but p q = record q { brackets = p.brackets; sides = p.sides; subparameters = p.subparameters }
-
 then-stay : (w v u : Whole) → Stay w v → Stay v u → Stay w u
-then-stay w v u first second = (second.0 ∙ ap (λ (p : PagesState). but u.pages p) first.0, second.1 ∙ first.1)
+then-stay w v u first second =
+    (then-but (screens_of w) (screens_of v) (screens_of u) first.0 second.0, second.1 ∙ first.1)
 
 -- DECLRMM stays reset
 abbrev KeepsReset : Whole → Whole → Type 0
@@ -71,66 +58,43 @@ none-of-both test (x ∷ xs) ys none =
     let rest = none-of-both test xs ys no.1 in (rw (no.0, rest.0) refl, rest.1)
 
 -- none of the events of characters is one of these
-abbrev Without : (Event → Bool) → Subparameters → Held → List ℕ → Type 0
-Without test k h cs = list_any test (events_of_characters k h cs) ≡ false
-
--- what an ASCII character leaves to be read
-ascii-left : (w : Whole) (c : ℕ) → ((play_ascii w c).whole.state.held ≡ held_after_character w.pages.subparameters w.state.held c)
-    × ((play_ascii w c).whole.pages.subparameters
-    ≡ kept (held_after_character w.pages.subparameters w.state.held c) (after w.pages.subparameters w.state.held c))
-unfolding play_ascii play_bytes
-ascii-left w c = (refl, refl)
-
--- it leaves what the terminal's bytes for it leave
-ascii-is : (w : Whole) (c : ℕ) → c < 0x80
-    → play_character w c ≡ reading_on (after w.pages.subparameters w.state.held c) (play_bytes w (passed w.pages.subparameters w.state.held c))
-unfolding play_ascii
-ascii-is w c low = character-ascii w c low
-
--- no subparameters have come
-outside-sound : (w : Whole) → IsSoundWhole w → IsSoundWhole (outside w)
-outside-sound w i = record { state = i.state; other = i.other; sides = i.sides; subparameters = kept-outside w.state.held }
+abbrev Without : (Event → Bool) → Held → List ℕ → Type 0
+Without test h cs = list_any test (events_of_characters h cs) ≡ false
 
 module _ (split : SplitLaw) (sound-character : (w : Whole) (c : ℕ) → IsSoundWhole w → IsSoundWhole (play_character w c).whole)
     (beyond : (d : Display) (h : Held) (c : ℕ) → IsSound (record { display = d; held = h }) → 0x80 ≤ c
     → Leaves (play (record { display = d; held = h }) (translation (record { display = d; held = h }) c))
     (record { display = d; held = h }) (held_beyond h)) where
+  -- an ASCII character
+  byte-held : (w : Whole) (c : ℕ) → (play_bytes w (c ∷ [])).whole.state.held ≡ held_from w.state.held (c ∷ [])
+  unfolding play_bytes
+  byte-held w c = refl
+
   -- a character beyond ASCII
-  beyond-is : (w : Whole) (c : ℕ) → 0x80 ≤ c → play_character w c ≡ play_beyond (outside w) (bounds_of (screens_of w)) c
-  unfolding play_character
-  beyond-is w c high = let is : nat_lt c 0x80 ≡ false = grind (arith, nat_tests) in rw is refl
+  beyond-is : (w : Whole) (c : ℕ) → 0x80 ≤ c → (play_character w c).whole ≡ (play_beyond w (bounds_of (screens_of w)) c).whole
+  beyond-is w c high =
+      ap (λ (p : WholePlayed). p.whole) (character-beyond w.state w.pages c (bounds_of (screens_of w)) high refl)
 
   beyond-left : (w : Whole) (c : ℕ) (b : Option Sides) → IsSoundWhole w → 0x80 ≤ c
       → (play_beyond w b c).whole.state.held ≡ held_beyond w.state.held
   beyond-left w c None i high = (beyond w.state.display w.state.held c i.state high).held
   beyond-left w c (Some m) i high = refl
 
-  beyond-read : (w : Whole) (c : ℕ) (b : Option Sides) → (play_beyond w b c).whole.pages.subparameters ≡ w.pages.subparameters
-  beyond-read w c None = refl
-  beyond-read w c (Some m) = ap (λ (p : PagesState). p.subparameters) (beyond-like (λ g. g.width) width-part m c w).1
-
   module _ (test : Event → Bool) (Holds : Whole → Whole → Type 0) (same : (w : Whole) → Holds w w)
       (then_holds : (w v u : Whole) → Holds w v → Holds v u → Holds w u)
-      (bytes-hold : (w : Whole) (bytes : List ℕ) (k : Subparameters) → list_any test (events_from w.state.held bytes) ≡ false
-      → Holds w (reading_on k (play_bytes w bytes)).whole)
-      (outside-holds : (w : Whole) → Holds w (outside w))
+      (byte-holds : (w : Whole) (c : ℕ) → list_any test (events_from w.state.held (c ∷ [])) ≡ false
+      → Holds w (play_bytes w (c ∷ [])).whole)
       (beyond-holds : (w : Whole) (c : ℕ) (b : Option Sides) → bounds_of (screens_of w) ≡ b → IsSoundWhole w → 0x80 ≤ c
       → Holds w (play_beyond w b c).whole) where
-    low-chosen : (k : Subparameters) (h : Held) (c : ℕ) (cs : List ℕ) → nat_lt c 0x80 ≡ true → Without test k h (c ∷ cs)
-        → list_any test (events_from h (passed k h c)
-        ++ events_of_characters (kept (held_after_character k h c) (after k h c)) (held_after_character k h c) cs) ≡ false
-    low-chosen k h c cs low none = rw low at none
+    low-chosen : (w : Whole) (c : ℕ) (cs : List ℕ) → nat_lt c 0x80 ≡ true → Without test w.state.held (c ∷ cs)
+        → list_any test (events_from w.state.held (c ∷ []) ++ events_of_characters (held_from w.state.held (c ∷ [])) cs) ≡ false
+    low-chosen w c cs low none = rw low at none
 
-    high-chosen : (k : Subparameters) (h : Held) (c : ℕ) (cs : List ℕ) → nat_lt c 0x80 ≡ false → Without test k h (c ∷ cs)
-        → Without test Outside (held_beyond h) cs
-    high-chosen k h c cs high none = rw high at none
+    high-chosen : (w : Whole) (c : ℕ) (cs : List ℕ) → nat_lt c 0x80 ≡ false → Without test w.state.held (c ∷ cs)
+        → Without test (held_beyond w.state.held) cs
+    high-chosen w c cs high none = rw high at none
 
-    next-without : (k j : Subparameters) (h g : Held) (cs : List ℕ) → j ≡ k → g ≡ h → Without test k h cs → Without test j g cs
-    next-without k j h g cs read held none =
-        subst (λ (x : Held). Without test j x cs) (sym held) (subst (λ (x : Subparameters). Without test x h cs) (sym read) none)
-
-    characters-hold : (cs : List ℕ) (w : Whole) → IsSoundWhole w → Without test w.pages.subparameters w.state.held cs
-        → Holds w (play_characters w cs).whole
+    characters-hold : (cs : List ℕ) (w : Whole) → IsSoundWhole w → Without test w.state.held cs → Holds w (play_characters w cs).whole
     characters-hold [] w i none = same w
     characters-hold (c ∷ cs) w i none =
         go (nat_lt c 0x80) refl (characters-hold cs (play_character w c).whole (sound-character w c i))
@@ -138,75 +102,54 @@ module _ (split : SplitLaw) (sound-character : (w : Whole) (c : ℕ) → IsSound
         u : Whole
         u = (play_character w c).whole
 
-        k : Subparameters
-        k = w.pages.subparameters
-
-        h : Held
-        h = w.state.held
-
-        go : (b : Bool) → nat_lt c 0x80 ≡ b
-            → (Without test u.pages.subparameters u.state.held cs → Holds u (play_characters u cs).whole)
+        go : (b : Bool) → nat_lt c 0x80 ≡ b → (Without test u.state.held cs → Holds u (play_characters u cs).whole)
             → Holds w (play_characters u cs).whole
         go true low rest =
-            let no = none-of-both test (events_from h (passed k h c))
-            (events_of_characters (kept (held_after_character k h c) (after k h c)) (held_after_character k h c) cs)
-            (low-chosen k h c cs low none) in
-            let ascii : c < 0x80 = grind (arith, nat_tests) in
-            let is = ap (λ (p : WholePlayed). p.whole) (ascii-is w c ascii) in
-            let own = ap (λ (p : WholePlayed). p.whole) (character-ascii w c ascii) in
-            let left = ascii-left w c in
-            then_holds w u (play_characters u cs).whole
-            (subst (λ (x : Whole). Holds w x) (sym is) (bytes-hold w (passed k h c) (after k h c) no.0))
-            (rest (next-without _ u.pages.subparameters _ u.state.held cs (ap (λ (x : Whole). x.pages.subparameters) own ∙ left.1)
-            (ap (λ (x : Whole). x.state.held) own ∙ left.0) no.1))
+            let no = none-of-both test (events_from w.state.held (c ∷ [])) (events_of_characters (held_from w.state.held (c ∷ [])) cs)
+            (low-chosen w c cs low none) in
+            let is : u ≡ (play_bytes w (c ∷ [])).whole =
+            ap (λ (p : WholePlayed). p.whole) (character-ascii w c (grind (arith, nat_tests))) in
+            let left : u.state.held ≡ held_from w.state.held (c ∷ []) = ap (λ (x : Whole). x.state.held) is ∙ byte-held w c in
+            then_holds w u (play_characters u cs).whole (subst (λ (x : Whole). Holds w x) (sym is) (byte-holds w c no.0))
+            (rest (subst (λ (h : Held). Without test h cs) (sym left) no.1))
         go false high rest =
             let beyond_ascii : 0x80 ≤ c = grind (arith, nat_tests) in
             let b = bounds_of (screens_of w) in
-            let sound = outside-sound w i in
-            let is : u ≡ (play_beyond (outside w) b c).whole = ap (λ (p : WholePlayed). p.whole) (beyond-is w c beyond_ascii) in
-            let left : u.state.held ≡ held_beyond h =
-            ap (λ (x : Whole). x.state.held) is ∙ beyond-left (outside w) c b sound beyond_ascii in
-            let read : u.pages.subparameters ≡ Outside =
-            ap (λ (x : Whole). x.pages.subparameters) is ∙ beyond-read (outside w) c b in
+            let is = beyond-is w c beyond_ascii in
+            let left : u.state.held ≡ held_beyond w.state.held =
+            ap (λ (x : Whole). x.state.held) is ∙ beyond-left w c b i beyond_ascii in
             then_holds w u (play_characters u cs).whole
-            (then_holds w (outside w) u (outside-holds w)
-            (subst (λ (x : Whole). Holds (outside w) x) (sym is) (beyond-holds (outside w) c b refl sound beyond_ascii)))
-            (rest (next-without Outside u.pages.subparameters (held_beyond h) u.state.held cs read left (high-chosen k h c cs high none)))
+            (subst (λ (x : Whole). Holds w x) (sym is) (beyond-holds w c b refl i beyond_ascii))
+            (rest (subst (λ (h : Held). Without test h cs) (sym left) (high-chosen w c cs high none)))
 
   -- ---- the pages and the width
 
-  bytes-stay : (w : Whole) (bytes : List ℕ) (k : Subparameters) → list_any is_page_function (events_from w.state.held bytes) ≡ false
-      → Stay w (reading_on k (play_bytes w bytes)).whole
+  byte-stays : (w : Whole) (c : ℕ) → list_any is_page_function (events_from w.state.held (c ∷ [])) ≡ false
+      → Stay w (play_bytes w (c ∷ [])).whole
   unfolding play_bytes
-  bytes-stay w bytes k none =
-      let stays = stay (events_from w.state.held bytes) (screens_of w) none in
-      (ap (λ (p : PagesState). with_subparameters (kept (held_from w.state.held bytes) k) p) stays.0, stays.1)
+  byte-stays w c none = stay (events_from w.state.held (c ∷ [])) (screens_of w) none
 
   beyond-stays : (w : Whole) (c : ℕ) (b : Option Sides) → bounds_of (screens_of w) ≡ b → IsSoundWhole w → 0x80 ≤ c
       → Stay w (play_beyond w b c).whole
   beyond-stays w c None bounds i high = (refl, (beyond w.state.display w.state.held c i.state high).width)
   beyond-stays w c (Some m) bounds i high =
       let like = beyond-like (λ g. g.width) width-part m c w in
-      let pages : PagesState = (screens_beyond m c w).pages in
-      let brackets : pages.brackets ≡ w.pages.brackets = ap (λ (p : PagesState). p.brackets) like.1 in
-      let read : pages.subparameters ≡ w.pages.subparameters = ap (λ (p : PagesState). p.subparameters) like.1 in (
-        like.1 ∙ ap (λ (on : Bool). record w.pages { brackets = on; sides = pages.sides }) (sym brackets)
-            ∙ ap (λ (k : Subparameters). record w.pages { brackets = pages.brackets; sides = pages.sides; subparameters = k })
-            (sym read),
+      let after : PagesState = (screens_beyond m c w).pages in
+      let brackets : after.brackets ≡ w.pages.brackets = ap (λ (p : PagesState). p.brackets) like.1 in (
+        like.1 ∙ ap (λ (on : Bool). record w.pages { brackets = on; sides = after.sides }) (sym brackets),
         like.0,
       )
 
-  characters-stay : (cs : List ℕ) (w : Whole) → IsSoundWhole w → Without is_page_function w.pages.subparameters w.state.held cs
+  characters-stay : (cs : List ℕ) (w : Whole) → IsSoundWhole w → Without is_page_function w.state.held cs
       → Stay w (play_characters w cs).whole
-  characters-stay =
-      characters-hold is_page_function Stay (λ w. (refl, refl)) then-stay bytes-stay (λ w. (refl, refl)) beyond-stays
+  characters-stay = characters-hold is_page_function Stay (λ w. (refl, refl)) then-stay byte-stays beyond-stays
 
   -- ---- DECLRMM
 
-  bytes-reset : (w : Whole) (bytes : List ℕ) (k : Subparameters) → list_any is_side_function (events_from w.state.held bytes) ≡ false
-      → KeepsReset w (reading_on k (play_bytes w bytes)).whole
+  byte-reset : (w : Whole) (c : ℕ) → list_any is_side_function (events_from w.state.held (c ∷ [])) ≡ false
+      → KeepsReset w (play_bytes w (c ∷ [])).whole
   unfolding play_bytes
-  bytes-reset w bytes k not none = events-none (events_from w.state.held bytes) (screens_of w) none not
+  byte-reset w c not none = events-none (events_from w.state.held (c ∷ [])) (screens_of w) none not
 
   -- margins bound nothing if there are none
   beyond-reset : (w : Whole) (c : ℕ) (b : Option Sides) → bounds_of (screens_of w) ≡ b → IsSoundWhole w → 0x80 ≤ c
@@ -217,11 +160,11 @@ module _ (split : SplitLaw) (sound-character : (w : Whole) (c : ℕ) → IsSound
       no-margins : {X : Type 0} (m : Sides) → None ≡ Some m → X
       no-margins m e = absurd cc
 
-  characters-reset : (cs : List ℕ) (w : Whole) → IsSoundWhole w → Without is_side_function w.pages.subparameters w.state.held cs
+  characters-reset : (cs : List ℕ) (w : Whole) → IsSoundWhole w → Without is_side_function w.state.held cs
       → KeepsReset w (play_characters w cs).whole
   characters-reset =
-      characters-hold is_side_function KeepsReset (λ w none. none) (λ w v u first second none. second (first none)) bytes-reset
-      (λ w none. none) beyond-reset
+      characters-hold is_side_function KeepsReset (λ w none. none) (λ w v u first second none. second (first none)) byte-reset
+      beyond-reset
 
   -- ---- ?1049h and ?1049l
 
@@ -267,19 +210,9 @@ module _ (split : SplitLaw) (sound-character : (w : Whole) (c : ℕ) → IsSound
     abbrev after_bytes : Whole → List ℕ → Whole
     after_bytes w bytes = (play_xterm (on_page w) [] bytes).whole
 
-    -- it begins no subparameters, and ends those that have come
-    switch-pass : (on : Bool) → Pass Nothing (spell_event (alternate_page on))
-    switch-pass on =
-        subst (λ (bytes : List ℕ). Pass Nothing bytes) (append-nil (spell_event (alternate_page on)))
-        (events-pass split spelling (alternate_page on ∷ [])
-        (All-cons IsEvent (alternate_page on) [] (is-event on) (All-nil IsEvent)))
-
     switched : (w : Whole) (on : Bool) → IsHeldPart w.state.held
-        → (play_xterm w [] (spell_event (alternate_page on))).whole ≡ (play_bytes (outside w) (spell_event (alternate_page on))).whole
-    switched w on is =
-        let bytes = spell_event (alternate_page on) in
-        ap (λ (p : WholePlayed). p.whole) (xterm-ascii w bytes (spelled-low on)
-        ∙ begun-played split w bytes _ is refl (switch-pass on) (spelled-low on))
+        → (play_xterm w [] (spell_event (alternate_page on))).whole ≡ (play_bytes w (spell_event (alternate_page on))).whole
+    switched w on is = ap (λ (p : WholePlayed). p.whole) (xterm-ascii split w (spell_event (alternate_page on)) is (spelled-low on))
 
     parts-played : (w : Whole) (rest : List ℕ)
         → (play_xterm w [] (spell_event (alternate_page true) ++ rest)).whole ≡ (play_xterm (on_page w) [] rest).whole
@@ -293,14 +226,12 @@ module _ (split : SplitLaw) (sound-character : (w : Whole) (c : ℕ) → IsSound
         ap (λ (p : WholePlayed). p.whole) (xterm-two w [] bytes rest)
         ∙ ap (λ (p : List ℕ). (play_xterm (play_xterm w [] bytes).whole p rest).whole) whole
 
-    xterm-stays : (w : Whole) (bytes : List ℕ) → IsSoundWhole w
-        → Without is_page_function w.pages.subparameters w.state.held (characters [] bytes)
+    xterm-stays : (w : Whole) (bytes : List ℕ) → IsSoundWhole w → Without is_page_function w.state.held (characters [] bytes)
         → Stay w (play_xterm w [] bytes).whole
     unfolding play_xterm
     xterm-stays w bytes i none = characters-stay (characters [] bytes) w i none
 
-    xterm-reset : (w : Whole) (bytes : List ℕ) → IsSoundWhole w
-        → Without is_side_function w.pages.subparameters w.state.held (characters [] bytes)
+    xterm-reset : (w : Whole) (bytes : List ℕ) → IsSoundWhole w → Without is_side_function w.state.held (characters [] bytes)
         → KeepsReset w (play_xterm w [] bytes).whole
     unfolding play_xterm
     xterm-reset w bytes i not = characters-reset (characters [] bytes) w i not
@@ -313,63 +244,49 @@ module _ (split : SplitLaw) (sound-character : (w : Whole) (c : ℕ) → IsSound
 
     module _ (keeps : (w : Whole) (pending bytes : List ℕ) → IsSoundWhole w → IsSoundWhole (play_xterm w pending bytes).whole) where
       held-on : (w : Whole) → IsHeldPart w.state.held → (on_page w).state.held ≡ Nothing
-      held-on w is = ap (λ (x : Whole). x.state.held) (switched w true is) ∙ held-switch (outside w) is
-
-      read-on : (w : Whole) → IsHeldPart w.state.held → (on_page w).pages.subparameters ≡ Outside
-      read-on w is =
-          ap (λ (x : Whole). x.pages.subparameters) (switched w true is) ∙ bytes-leave (outside w) (spell_event (alternate_page true))
-
-      without-on : (test : Event → Bool) (w : Whole) (cs : List ℕ) → IsHeldPart w.state.held → Without test Outside Nothing cs
-          → Without test (on_page w).pages.subparameters (on_page w).state.held cs
-      without-on test w cs is none =
-          subst (λ (k : Subparameters). Without test k (on_page w).state.held cs) (sym (read-on w is))
-          (subst (λ (h : Held). Without test Outside h cs) (sym (held-on w is)) none)
+      held-on w is = ap (λ (x : Whole). x.state.held) (switched w true is) ∙ held-switch w is
 
       pub returns-in-utf8 : (w : Whole) (bytes : List ℕ) → IsSoundWhole w → w.pages.alternate ≡ false → pending_after [] bytes ≡ []
-          → Without is_page_function Outside Nothing (characters [] bytes)
+          → Without is_page_function Nothing (characters [] bytes)
           → (play_xterm w [] (through_alternate bytes)).whole.state.display
           ≡ restored (bounds_of (screens_of (play_xterm w [] (into_alternate bytes)).whole))
           (with_page (page_of (save_cursor w.state.display)) (play_xterm w [] (into_alternate bytes)).whole.state.display)
       returns-in-utf8 w bytes i main whole none =
           let on = spell_event (alternate_page true) in
           let off = spell_event (alternate_page false) in
-          let s = screens_of (outside w) in
+          let s = screens_of w in
           let v = on_page w in
           let u = after_bytes w bytes in
           let v_sound = keeps w [] on i in
           let u_sound = keeps v [] bytes v_sound in
           let shown : screens_of v ≡ show_and_save true s =
-          ap (λ (x : Whole). screens_of x) (switched w true i.state.held) ∙ after-switch (outside w) true i.state.held in
-          let stays = xterm-stays v bytes v_sound (without-on is_page_function w (characters [] bytes) i.state.held none) in
-          let first : PagesState = (show_and_save true s).pages in
-          let read : first.subparameters ≡ Outside =
-          ap (λ (x : Screens). x.pages.subparameters) (sym (on-effect s)) ∙ event-leaves (alternate_page true) s in
-          let pages : (outside u).pages ≡ record first { brackets = u.pages.brackets; sides = u.pages.sides } =
-          ap (λ (p : PagesState). with_subparameters Outside p) stays.0
-          ∙ ap (λ (x : Screens). record x.pages { brackets = u.pages.brackets; sides = u.pages.sides; subparameters = Outside }) shown
-          ∙ ap (λ (k : Subparameters). record first { brackets = u.pages.brackets; sides = u.pages.sides; subparameters = k }) (sym read) in
+          ap (λ (x : Whole). screens_of x) (switched w true i.state.held) ∙ after-switch w true i.state.held in
+          let stays = xterm-stays v bytes v_sound
+          (subst (λ (h : Held). Without is_page_function h (characters [] bytes)) (sym (held-on w i.state.held)) none) in
+          let pages : u.pages ≡ record (show_and_save true s).pages { brackets = u.pages.brackets; sides = u.pages.sides } =
+          stays.0 ∙ ap (λ (x : Screens). record x.pages { brackets = u.pages.brackets; sides = u.pages.sides }) shown in
           let width : u.state.display.grid.width ≡ s.display.grid.width =
           stays.1 ∙ ap (λ (x : Screens). x.display.grid.width) shown ∙ shown-width s main i.state.display i.other in
           let into : (play_xterm w [] (into_alternate bytes)).whole ≡ u = parts-played w bytes in
           ap (λ (x : Whole). x.state.display) (parts-played w (bytes ++ off) ∙ bytes-played v bytes off whole ∙ switched u false u_sound.state.held)
-          ∙ ap (λ (x : Screens). x.display) (after-switch (outside u) false u_sound.state.held)
-          ∙ came-back s (screens_of (outside u)) main pages width
+          ∙ ap (λ (x : Screens). x.display) (after-switch u false u_sound.state.held)
+          ∙ came-back s (screens_of u) main pages width
           ∙ ap (λ (x : Whole). restored (bounds_of (screens_of x)) (with_page (page_of (save_cursor w.state.display)) x.state.display)) (sym into)
 
-      into-reset : (w : Whole) (bytes : List ℕ) → IsSoundWhole w → Without is_side_function Outside Nothing (characters [] bytes)
+      into-reset : (w : Whole) (bytes : List ℕ) → IsSoundWhole w → Without is_side_function Nothing (characters [] bytes)
           → KeepsReset w (play_xterm w [] (into_alternate bytes)).whole
       into-reset w bytes i not none =
           let v = on_page w in
           let reset : v.pages.sides ≡ None =
-          ap (λ (x : Whole). x.pages.sides) (switched w true i.state.held) ∙ switch-reset (outside w) i.state.held none in
+          ap (λ (x : Whole). x.pages.sides) (switched w true i.state.held) ∙ switch-reset w i.state.held none in
           ap (λ (x : Whole). x.pages.sides) (parts-played w bytes)
           ∙ xterm-reset v bytes (keeps w [] (spell_event (alternate_page true)) i)
-          (without-on is_side_function w (characters [] bytes) i.state.held not) reset
+          (subst (λ (h : Held). Without is_side_function h (characters [] bytes)) (sym (held-on w i.state.held)) not) reset
 
       -- if DECLRMM is reset all the time
       pub returns-reset : (w : Whole) (bytes : List ℕ) → IsSoundWhole w → w.pages.sides ≡ None → w.pages.alternate ≡ false
-          → pending_after [] bytes ≡ [] → Without is_side_function Outside Nothing (characters [] bytes)
-          → Without is_page_function Outside Nothing (characters [] bytes)
+          → pending_after [] bytes ≡ [] → Without is_side_function Nothing (characters [] bytes)
+          → Without is_page_function Nothing (characters [] bytes)
           → (play_xterm w [] (through_alternate bytes)).whole.state.display
           ≡ restore_cursor (with_page (page_of (save_cursor w.state.display))
           (play_xterm w [] (into_alternate bytes)).whole.state.display)

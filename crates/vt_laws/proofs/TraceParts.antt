@@ -13,12 +13,10 @@ use Rattle.vt_term.specs.Names.{name_on}
 use Rattle.vt_term.specs.Play.{play}
 use Rattle.vt_trace.specs.declared.tracing.Tracer.{Tracer}
 use Rattle.vt_trace.specs.Skipped.{skipped_line, kinds_of}
-use Rattle.vt_trace.specs.Counted.{kinds_from}
-use Rattle.vt_trace.specs.Runs.{step_kind, byte_kind}
 use Rattle.vt_trace.specs.Trace.{is_nothing, cuts_off, ends_silent, item_place, item_first, open_kind, ended_kind, text_end}
 use Rattle.vt_trace.specs.Trace.{goes_on, place_of, written_all, skipped_lines, skipped, traced, tracer_after, trace, tracer_all}
 use Rattle.vt_trace.specs.Trace.{end_lines, tracer_at_start, begins}
-use Rattle.vt_trace.proofs.Coming.{kinds_more}
+use Rattle.vt_trace.proofs.ItemKinds.{step_kind, byte_kind, kinds_from, kinds_more}
 use Rattle.vt_laws.specs.Parts.{Other, part_bytes, part_kind, open_part, skipped_by, byte_parts, end_parts, parts}
 
 -- ---- joined

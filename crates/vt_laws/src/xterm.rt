@@ -16,7 +16,6 @@ ghost use Rattle.vt_term.specs.Scrolling.{is_at_end, line_off};
 ghost use Rattle.vt_utf8.specs.Decoding.{characters, pending_after};
 ghost use Rattle.vt_xterm.specs.Repeating.{times, room, repeat};
 ghost use Rattle.vt_xterm.specs.declared.sides.Sides.{Sides};
-ghost use Rattle.vt_xterm.specs.declared.subparameters.Subparameters.TheVariants.{Outside};
 ghost use Rattle.vt_xterm.specs.Pages.{Screens, bounds_of, restored};
 ghost use Rattle.vt_xterm.specs.Front.{xterm_effect, is_page_function, is_side_function, into_alternate, through_alternate};
 ghost use Rattle.vt_xterm.specs.Play.{Whole, IsSoundWhole, screens_of, play_xterm};
@@ -74,22 +73,22 @@ pub fn scrolls()
 /// position is the one before ?1049h.
 pub fn comes_back()
     ensures display { (w : Whole) (bytes : List ℕ) → IsSoundWhole w → w.pages.alternate ≡ false → pending_after [] bytes ≡ []
-        → list_any is_page_function (events_of_characters Outside Nothing (characters [] bytes)) ≡ false
+        → list_any is_page_function (events_of_characters Nothing (characters [] bytes)) ≡ false
         → (play_xterm w [] (through_alternate bytes)).whole.state.display
         ≡ restored (bounds_of (screens_of (play_xterm w [] (into_alternate bytes)).whole))
         (with_page (page_of (save_cursor w.state.display)) (play_xterm w [] (into_alternate bytes)).whole.state.display) }
     ensures display_reset { (w : Whole) (bytes : List ℕ) → IsSoundWhole w → w.pages.sides ≡ None → w.pages.alternate ≡ false
         → pending_after [] bytes ≡ []
-        → list_any is_side_function (events_of_characters Outside Nothing (characters [] bytes)) ≡ false
-        → list_any is_page_function (events_of_characters Outside Nothing (characters [] bytes)) ≡ false
+        → list_any is_side_function (events_of_characters Nothing (characters [] bytes)) ≡ false
+        → list_any is_page_function (events_of_characters Nothing (characters [] bytes)) ≡ false
         → (play_xterm w [] (through_alternate bytes)).whole.state.display
         ≡ restore_cursor (with_page (page_of (save_cursor w.state.display))
         (play_xterm w [] (into_alternate bytes)).whole.state.display) }
     ensures cells { (w : Whole) (bytes : List ℕ) → IsSoundWhole w → w.pages.alternate ≡ false → pending_after [] bytes ≡ []
-        → list_any is_page_function (events_of_characters Outside Nothing (characters [] bytes)) ≡ false
+        → list_any is_page_function (events_of_characters Nothing (characters [] bytes)) ≡ false
         → (play_xterm w [] (through_alternate bytes)).whole.state.display.grid ≡ w.state.display.grid }
     ensures cursor { (w : Whole) (bytes : List ℕ) → IsSoundWhole w → w.pages.alternate ≡ false → pending_after [] bytes ≡ []
-        → list_any is_page_function (events_of_characters Outside Nothing (characters [] bytes)) ≡ false
+        → list_any is_page_function (events_of_characters Nothing (characters [] bytes)) ≡ false
         → w.state.display.modes.decom ≡ false
         → ((play_xterm w [] (through_alternate bytes)).whole.state.display.cursor.row ≡ w.state.display.cursor.row)
         × ((play_xterm w [] (through_alternate bytes)).whole.state.display.cursor.col ≡ w.state.display.cursor.col) }

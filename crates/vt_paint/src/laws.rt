@@ -39,20 +39,6 @@ pub fn sized_canonical()
     sized_soundness();
 }
 
-/// States the promise of a repaint in terms of playing alone, for the states of a size that bytes reach from power-up.
-/// Between sequences a repaint rebuilds the state on every terminal of its size, and gives no report. Two such states
-/// are equal if and only if their repaints are.
-pub fn sized_from_power_up()
-    ensures rebuilds { (size : Size) (s t : State) → IsSize size → IsReachedAt size s → IsReachedAt size t → s.held ≡ Nothing
-        → play t (paint s) ≡ record { state = s; reports = [] } }
-    ensures identifies { (size : Size) (s u : State) → IsSize size → IsReachedAt size s → IsReachedAt size u
-        → s.held ≡ Nothing → u.held ≡ Nothing → (s ≡ u) ↔ (paint s ≡ paint u) }
-{
-    sized_rebuilds();
-    sized_canonical();
-    sized_reached();
-}
-
 /// States that the sound states of a size are exactly those that some bytes reach from power-up.
 pub fn sized_reached()
     ensures { (size : Size) (s : State) → IsSize size → IsSoundAt size s ↔ IsReachedAt size s }
@@ -123,15 +109,6 @@ pub fn reached()
     ensures { (s : State) → IsSound s ↔ IsReached s }
 {
     sized_reached();
-}
-
-/// States that no repaint is longer than `PAINT_LIMIT`, and that its bytes are ASCII.
-pub fn bounded()
-    ensures len { (s : State) → IsSound s → length (paint s) ≤ PAINT_LIMIT }
-    ensures ascii { (s : State) → IsSound s → IsAscii (paint s) }
-{
-    sized_bounded();
-    vt220_limit();
 }
 
 /// States that a repaint consists of graphic characters and of the control functions that `Spoken` names, in their

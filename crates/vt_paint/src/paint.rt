@@ -1,5 +1,5 @@
 //! The repaint of a terminal of any size.
-ghost use Rattle.std.specs.Prelude.{◌≡◌, ◌↔◌, ◌+◌, ◌-◌, ◌≤◌, ◌<◌, ◌++◌, ◌∷◌, ◌≢◌, true, IsErrOf, OnOk, OnErr, vec_len, vec_capacity};
+ghost use Rattle.std.specs.Prelude.{◌≡◌, ◌+◌, ◌-◌, ◌≤◌, ◌++◌, ◌∷◌, true, vec_len, vec_capacity};
 ghost use Rattle.vt_syntax.specs.declared.held.Held.TheVariants.{Nothing};
 ghost use Rattle.vt_syntax.specs.Spelling.{spell_events};
 ghost use Rattle.vt_paint.specs.Limits.{paint_limit};
@@ -113,33 +113,6 @@ pub(crate) fn push_last(t: &SizedTerminal, known: bool, out: &mut Vec<u8>)
     push_margins(t.size().rows, t.margins(), out);
     let cursor = t.cursor();
     push_placed(t, known, cursor.col, cursor.wrap, out);
-}
-
-/// Appends the repaint to `out`: the bytes that rebuild the terminal's state on any terminal of its size.
-///
-/// It first reserves `paint_limit` bytes of capacity.
-///
-/// # Errors
-///
-/// Returns `Partial` if the terminal is inside a sequence, which is checked first. Returns `Memory` if allocation
-/// fails. The contents of `out` are then unchanged.
-pub fn repaint(t: &SizedTerminal, out: &mut Vec<u8>) -> Result<(), PaintError>
-    ensures items { OnOk result (out.new.items ≡ out.old.items ++ paint t.now) }
-    ensures rebuilds { OnOk result (IsRebuiltAt t.now.display.grid.size t.now) }
-    ensures partial { IsErrOf result PaintError.Partial ↔ (t.now.held ≢ Nothing) }
-    ensures memory { IsErrOf result PaintError.Memory
-        → vec_capacity out.old < vec_len out.old + paint_limit t.now.display.grid.size }
-    ensures unchanged { OnErr result (out.new.items ≡ out.old.items) }
-    ensures bounded { vec_len out.new ≤ vec_len out.old + paint_limit t.now.display.grid.size }
-    ensures capacity { vec_capacity out.old ≤ vec_capacity out.new }
-{
-    if !t.is_between() {
-        return Err(PaintError::Partial);
-    }
-    out.reserve(paint_limit(t.size()))
-        .map_err(|_| PaintError::Memory)?;
-    repaint_reserved(t, out);
-    Ok(())
 }
 
 /// Appends the repaint of a terminal between sequences to `out`, which has capacity for `paint_limit` more bytes. It

@@ -12,8 +12,7 @@ ghost use Rattle.vt_paint.specs.Spoken.{Speaks};
 use crate::changes::repaint_changes_reserved as sized_repaint_changes_reserved;
 use crate::compare::changed_places as sized_changed_places;
 use crate::paint::{
-    PAINT_LIMIT, PaintError, repaint as sized_repaint,
-    repaint_items_reserved as sized_repaint_items_reserved,
+    PAINT_LIMIT, PaintError, repaint_items_reserved as sized_repaint_items_reserved,
     repaint_reserved as sized_repaint_reserved,
 };
 use vt_screen::COLUMNS;
@@ -37,7 +36,12 @@ pub fn repaint(t: &Terminal, out: &mut Vec<u8>) -> Result<(), PaintError>
     ensures bounded { vec_len out.new ≤ vec_len out.old + PAINT_LIMIT }
     ensures capacity { vec_capacity out.old ≤ vec_capacity out.new }
 {
-    sized_repaint(&t.sized, out)
+    if !t.is_between() {
+        return Err(PaintError::Partial);
+    }
+    out.reserve(PAINT_LIMIT).map_err(|_| PaintError::Memory)?;
+    repaint_reserved(t, out);
+    Ok(())
 }
 
 /// Appends the repaint of a terminal between sequences to `out`, which has capacity for `PAINT_LIMIT` more bytes. It

@@ -1,11 +1,7 @@
-mod Ratios
 mod RowLimits
 mod Trimming
 mod Ranges
 mod Cutting
-mod Numbers
-mod Looked
-mod Alike
 mod DrawnRows
 mod Same
 mod Kept

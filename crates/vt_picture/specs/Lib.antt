@@ -2,7 +2,6 @@ pub mod Looks
 pub mod Limits
 pub mod Show
 pub mod Picture
-pub mod Animation
 pub mod Draw
 pub mod Window
 pub mod Private

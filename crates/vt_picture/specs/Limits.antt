@@ -1,4 +1,4 @@
--- The most bytes of a screen with its attributes, and of pictures. (this profile)
+-- The most bytes of a screen with its attributes, and of a picture. (this profile)
 use Rattle.std.specs.Prelude.{ℕ, ◌+◌, ◌*◌}
 use Rattle.vt_screen.specs.declared.size.Size.{Size}
 use Rattle.vt_paint.specs.Limits.{row_digits}
@@ -22,23 +22,6 @@ rows_limit size = size.rows * (203 * size.wide)
 -- the limit of a picture: the text alternative, the rows, and 1000 for everything else
 abbrev pub picture_limit : Size → ℕ
 picture_limit size = alternative_limit size + rows_limit size + 1000
-
--- the limit of a row in a frame: 203 for each cell and 360 more
-abbrev pub drawn_row_limit : Size → ℕ
-drawn_row_limit size = 203 * size.wide + 360
-
--- the limit of a frame: its rows, and 500 for everything else
-abbrev pub frame_limit : Size → ℕ
-frame_limit size = size.rows * drawn_row_limit size + 500
-
--- the limit of what is before the frames, without the title: the text alternative, the first screen, and 2000 for
--- everything else
-abbrev pub animation_limit : Size → ℕ
-animation_limit size = alternative_limit size + frame_limit size + 2000
-
--- the same, if the first screen has another size than the last one
-abbrev pub animation_limit_of : (first last : Size) → ℕ
-animation_limit_of first last = alternative_limit last + frame_limit first + 2000
 
 -- the limit of a place of a drawing: CUP, twelve for the attributes and four for the character
 abbrev pub place_limit : ℕ → ℕ

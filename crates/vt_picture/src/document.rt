@@ -23,7 +23,7 @@ const OUTLINE: &[u8] = b" fill='none' stroke='#e80' stroke-width='2'";
 
 /// Appends the start of the document, up to the title.
 #[tactic(auto, unfolding(crate::specs::Picture::document_start))]
-pub(crate) fn push_document_start(rows: usize, columns: usize, out: &mut Vec<u8>)
+fn push_document_start(rows: usize, columns: usize, out: &mut Vec<u8>)
     requires rows { rows ≤ MOST }
     requires columns { columns ≤ MOST }
     requires room { vec_len out.old + 200 ≤ vec_capacity out.old }
@@ -48,7 +48,7 @@ pub(crate) fn push_document_start(rows: usize, columns: usize, out: &mut Vec<u8>
 }
 
 /// Appends the end of the title, and the start of the text alternative.
-pub(crate) fn push_title_end(out: &mut Vec<u8>)
+fn push_title_end(out: &mut Vec<u8>)
     requires { vec_len out.old + 20 ≤ vec_capacity out.old }
     ensures items { out.new.items ≡ out.old.items ++ title_end }
     ensures bounded { vec_len out.new ≤ vec_len out.old + 20 }
@@ -71,7 +71,7 @@ fn push_alternative_line(cells: &[Cell], out: &mut Vec<u8>)
 }
 
 /// Appends the text alternative.
-pub(crate) fn push_alternative(t: &SizedTerminal, out: &mut Vec<u8>)
+fn push_alternative(t: &SizedTerminal, out: &mut Vec<u8>)
     requires { vec_len out.old + alternative_limit t.now.display.grid.size ≤ vec_capacity out.old }
     ensures items { out.new.items ≡ out.old.items ++ alternative t.now.display.grid.size.rows t.now.display.grid }
     ensures bounded { vec_len out.new ≤ vec_len out.old + alternative_limit t.now.display.grid.size }
@@ -84,7 +84,7 @@ pub(crate) fn push_alternative(t: &SizedTerminal, out: &mut Vec<u8>)
 
 /// Appends the style, which is the same in every picture.
 #[tactic(auto, unfolding(crate::specs::Picture::style))]
-pub(crate) fn push_style(out: &mut Vec<u8>)
+fn push_style(out: &mut Vec<u8>)
     requires { vec_len out.old + 350 ≤ vec_capacity out.old }
     ensures items { out.new.items ≡ out.old.items ++ style }
     ensures bounded { vec_len out.new ≤ vec_len out.old + 350 }

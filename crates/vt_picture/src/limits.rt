@@ -1,7 +1,7 @@
 //! The most bytes of what is made of a screen of a size.
 ghost use Rattle.std.specs.Prelude.{◌≡◌, ◌≤◌};
 ghost use Rattle.vt_screen.specs.Sizes.{IsSize};
-ghost use Rattle.vt_picture.specs.Limits.{alternative_limit, animation_limit, animation_limit_of, frame_limit};
+ghost use Rattle.vt_picture.specs.Limits.{alternative_limit};
 ghost use Rattle.vt_paint.specs.Limits.{row_digits};
 ghost use Rattle.vt_picture.specs.Limits.{draw_limit, picture_limit, places_limit, show_limit};
 
@@ -31,34 +31,6 @@ pub fn picture_limit(size: Size) -> usize
     ensures { result ≡ picture_limit size }
 {
     alternative_limit(size) + size.rows * (203 * size.wide) + 1000
-}
-
-/// Returns the limit of a frame in bytes: for each row 203 for each cell of the wide screen and 360 more, and 500 for everything
-/// else.
-pub fn frame_limit(size: Size) -> usize
-    requires { IsSize size }
-    ensures { result ≡ frame_limit size }
-{
-    size.rows * (203 * size.wide + 360) + 500
-}
-
-/// Returns the limit in bytes of what is before the frames, without the title: the text alternative, the first screen, and 2000
-/// for everything else.
-pub fn animation_limit(size: Size) -> usize
-    requires { IsSize size }
-    ensures { result ≡ animation_limit size }
-{
-    alternative_limit(size) + frame_limit(size) + 2000
-}
-
-/// Returns the limit in bytes of what is before the frames, without the title, if the first and the last screen have these sizes: the
-/// text alternative of the last one, the first one, and 2000 for everything else.
-pub fn animation_limit_of(first: Size, last: Size) -> usize
-    requires first { IsSize first }
-    requires last { IsSize last }
-    ensures { result ≡ animation_limit_of first last }
-{
-    alternative_limit(last) + frame_limit(first) + 2000
 }
 
 /// Returns how many digits the number of a row has at most, two at least.

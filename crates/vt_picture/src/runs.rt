@@ -12,7 +12,7 @@ use vt_paint::{push_bytes, push_number, push_when};
 use vt_screen::{Cell, MOST, Rendition};
 
 /// Returns the left edge of a column, in units.
-pub(crate) fn left_of(col: usize) -> u16
+fn left_of(col: usize) -> u16
     requires { (1 ≤ col) × (col ≤ MOST) }
     ensures { result ≡ left_of col }
 {
@@ -36,7 +36,7 @@ pub(crate) fn height_of(rows: usize) -> u16
 }
 
 /// Returns the top edge of a row, in units.
-pub(crate) fn top_of(row: usize) -> u16
+fn top_of(row: usize) -> u16
     requires { (1 ≤ row) × (row ≤ MOST) }
     ensures { result ≡ top_of row }
 {
@@ -130,7 +130,7 @@ pub(crate) fn fill(light: bool) -> &'static [u8]
 }
 
 /// Appends the attributes of a run's element.
-pub(crate) fn push_run_attributes(reversed: bool, look: Rendition, out: &mut Vec<u8>)
+fn push_run_attributes(reversed: bool, look: Rendition, out: &mut Vec<u8>)
     requires { vec_len out.old + 58 ≤ vec_capacity out.old }
     ensures items { out.new.items ≡ out.old.items ++ run_attributes reversed look }
     ensures bounded { vec_len out.new ≤ vec_len out.old + 58 }
@@ -145,7 +145,7 @@ pub(crate) fn push_run_attributes(reversed: bool, look: Rendition, out: &mut Vec
 }
 
 /// Appends the rectangle under a run that is reversed.
-pub(crate) fn push_ground(reverse: bool, row: usize, col: usize, count: usize, out: &mut Vec<u8>)
+fn push_ground(reverse: bool, row: usize, col: usize, count: usize, out: &mut Vec<u8>)
     requires row { (1 ≤ row) × (row ≤ MOST) }
     requires col { (1 ≤ col) × (col ≤ MOST) }
     requires count { count ≤ MOST }

@@ -1,15 +1,9 @@
 //! The calls for a VT220's `Terminal`. Each calls that for its `SizedTerminal`.
-ghost use Rattle.std.specs.Prelude.{◌≡◌, ◌+◌, ◌*◌, ◌≤◌, ◌<◌, ◌++◌, ℕ, length, vec_len, vec_capacity, OnOk, OnErr, IfOk, IsOk, slice_index_or};
-ghost use Rattle.vt_screen.specs.Grid.{last_row};
+ghost use Rattle.std.specs.Prelude.{◌≡◌, ◌+◌, ◌≤◌, ◌++◌, vec_len, vec_capacity, OnOk, OnErr, IsOk};
 ghost use Rattle.vt_picture.specs.Show.{show};
 ghost use Rattle.vt_picture.specs.Draw.{draw, draw_from};
 ghost use Rattle.vt_picture.specs.Picture.{picture};
-ghost use Rattle.vt_picture.specs.Animation.{animation_head, frame, number_on_screen, AreNumbered};
 
-use crate::animation::{
-    ANIMATION_LIMIT, FRAME_LIMIT, Moving, animation_start as sized_animation_start,
-    frame as sized_frame,
-};
 use crate::document::{
     PICTURE_LIMIT, picture as sized_picture, picture_reserved as sized_picture_reserved,
 };
@@ -17,10 +11,9 @@ use crate::drawing::{
     DRAW_LIMIT, draw as sized_draw, draw_from as sized_draw_from,
     draw_from_reserved as sized_draw_from_reserved, draw_reserved as sized_draw_reserved,
 };
-use crate::looks::Theme;
 use crate::showing::{SHOW_LIMIT, show as sized_show, show_reserved as sized_show_reserved};
 use std::alloc::AllocError;
-use vt_term::{ROWS, STOPS, Terminal};
+use vt_term::Terminal;
 
 /// Appends the screen to `out` as text with its attributes, for modern terminals. Each row is in UTF-8, without the
 /// blank cells at its end, and ends in LF. SGR comes before each change of attributes, and resets them at the end of a
@@ -78,80 +71,6 @@ pub fn picture_reserved(t: &Terminal, out: &mut Vec<u8>)
     ensures capacity { vec_capacity out.old ≤ vec_capacity out.new }
 {
     sized_picture_reserved(&t.sized, out);
-}
-
-/// Appends a frame of a picture that moves: what a screen looks like after so many microseconds, drawn over the screen
-/// before. It has the rows that look different. The frames are numbered from 1. `numbers` has a number for each row, as
-/// `animation_start` or the frame before left it.
-///
-/// It first reserves `FRAME_LIMIT` bytes of capacity. Returns `Err` if that fails. Then the contents of `out` and the
-/// numbers are unchanged.
-#[inline(always)]
-pub fn frame(
-    moving: Moving,
-    number: u32,
-    micros: u64,
-    numbers: &mut [u64; ROWS],
-    before: &Terminal,
-    t: &Terminal,
-    out: &mut Vec<u8>,
-) -> Result<(), AllocError>
-    ensures ok { OnOk result (out.new.items ≡ out.old.items
-        ++ frame moving.cursor moving.duration moving.columns number micros numbers.old before.now.display t.now.display) }
-    ensures numbers { OnOk result (AreNumbered number numbers.old before.now.display t.now.display numbers.new) }
-    ensures err { OnErr result (out.new.items ≡ out.old.items) }
-    ensures kept { OnErr result (numbers.new ≡ numbers.old) }
-    ensures has_room { vec_len out.old + FRAME_LIMIT ≤ vec_capacity out.old → IsOk result }
-    ensures bounded { vec_len out.new ≤ vec_len out.old + FRAME_LIMIT }
-    ensures capacity { vec_capacity out.old ≤ vec_capacity out.new }
-{
-    sized_frame(
-        moving,
-        number,
-        micros,
-        numbers,
-        &before.sized,
-        &t.sized,
-        out,
-    )
-}
-
-/// Appends everything of a picture that moves up to its first frame: the screen at the beginning, `first`. The title is
-/// UTF-8. The text of `last`, the screen at the end, is the text alternative. `moving.columns` is the width of `last`.
-/// Returns the numbers of the rows, for the first frame.
-///
-/// It first reserves `ANIMATION_LIMIT` bytes of capacity, and 5 for each byte of the title. Returns `Err` if that fails. Then
-/// the contents of `out` are unchanged.
-#[inline(always)]
-pub fn animation_start(
-    theme: Theme,
-    moving: Moving,
-    title: &[u8],
-    first: &Terminal,
-    last: &Terminal,
-    out: &mut Vec<u8>,
-) -> Result<[u64; ROWS], AllocError>
-    requires { moving.columns ≤ STOPS }
-    ensures ok { OnOk result (out.new.items ≡ out.old.items
-        ++ animation_head theme moving.cursor title.now moving.duration moving.columns first.now.display last.now.display) }
-    ensures numbers { IfOk result (λ numbers. (i : ℕ) → i < last_row
-        → slice_index_or numbers i 0 ≡ number_on_screen 0 first.now.display (i + 1)) }
-    ensures err { OnErr result (out.new.items ≡ out.old.items) }
-    ensures has_room { vec_len out.old + (5 * length title.now + ANIMATION_LIMIT) ≤ vec_capacity out.old → IsOk result }
-    ensures bounded { vec_len out.new ≤ vec_len out.old + (5 * length title.now + ANIMATION_LIMIT) }
-    ensures capacity { vec_capacity out.old ≤ vec_capacity out.new }
-{
-    let mut numbers = [0; ROWS];
-    sized_animation_start(
-        theme,
-        moving,
-        title,
-        &first.sized,
-        &last.sized,
-        &mut numbers,
-        out,
-    )?;
-    Ok(numbers)
 }
 
 /// Appends the bytes that make a modern terminal show the screen of `t`, whatever it shows before. That terminal has at

@@ -1,6 +1,6 @@
 mod Pieces
 mod Powers
-pub mod Ends
+mod Ends
 mod Supplemental
 mod Writing
 mod Texts
@@ -9,7 +9,6 @@ pub mod Marks
 mod Passing
 mod Casts
 mod Fronts
-mod OutputEnds
 mod Frames
 mod Heard
 mod Sizing
@@ -17,8 +16,4 @@ mod Replays
 mod Values
 mod Versions
 mod Changing
-mod Words
 mod Searches
-mod Unescaped
-mod UsualTimes
-mod UsualLines

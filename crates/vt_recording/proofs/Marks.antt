@@ -1,11 +1,9 @@
 -- The bytes of a mark among those of all marks, joined.
-use Rattle.std.proofs.Common.{◌≡◌, ◌+◌, ◌-◌, ◌≤◌, ◌++◌, ◌∷◌, ◌∙◌, ℕ, List, length, take, drop, min, Bool, true, false, refl, sym, ap, arith, append-nil, append_assoc, length-drop, nat_le}
+use Rattle.std.proofs.Common.{◌≡◌, ◌+◌, ◌-◌, ◌≤◌, ℕ, List, length, take, drop, min, Bool, true, false, refl, sym, arith, length-drop, nat_le}
 use Rattle.std.proofs.lemmas.List.{drop_all, drop-drop, take_all, length-take}
 use Rattle.std.proofs.lemmas.Bool.Decides.{nat_tests}
 use Rattle.vt_recording.specs.declared.timeline.Event.{Event}
-use Rattle.std.specs.List.{flat_map}
 use Rattle.vt_recording.specs.Timeline as timeline
-use Rattle.vt_recording.specs.Gathered.{events_of}
 
 -- the event of a mark and its bytes
 abbrev pub event : Event → List ℕ → timeline.Event
@@ -44,36 +42,3 @@ still_counted n at content then text bytes within counted e small =
     let few : length bytes ≤ min n (length text - at) =
     rw (e, size, length-take) (grind (arith, nat_tests)) in
     omega (arith, few, small, counted)
-
--- ---- what is written of each event, one after another
-
-module _ {A : Type 0} (f : timeline.Event → List A) where
-  at_mark : (m : Event) (marks : List Event) (at : ℕ) (text : List ℕ) → at ≤ length text
-      → (end : ℕ) → end ≡ at + min m.length (length text - at)
-      → flat_map f (events_of (m ∷ marks) (drop at text))
-      ≡ f (event m (take (end - at) (drop at text))) ++ flat_map f (events_of marks (drop end text))
-  unfolding events_of
-  at_mark m marks at text within end e =
-      let size : end - at ≡ min m.length (length text - at) = omega (arith, e) in
-      rw (size, e, front m.length at text _ refl within, rest m.length at text _ refl within) refl
-
-  -- one event more
-  pub one_more : (i at end : ℕ) (m : Event) (marks : List Event) (text : List ℕ) (out more whole : List A)
-      → at ≤ length text → drop i marks ≡ m ∷ drop (i + 1) marks → end ≡ at + min m.length (length text - at)
-      → more ≡ out ++ f (event m (take (end - at) (drop at text)))
-      → out ++ flat_map f (events_of (drop i marks) (drop at text)) ≡ whole
-      → more ++ flat_map f (events_of (drop (i + 1) marks) (drop end text)) ≡ whole
-  one_more i at end m marks text out more whole within mark e written ahead =
-      let left = events_of (drop (i + 1) marks) (drop end text) in
-      rw written
-      (append_assoc out (f (event m (take (end - at) (drop at text)))) (flat_map f left)
-      ∙ ap (λ (l : List A). out ++ l) (sym (at_mark m (drop (i + 1) marks) at text within end e))
-      ∙ ap (λ (l : List Event). out ++ flat_map f (events_of l (drop at text))) (sym mark) ∙ ahead)
-
-  -- no mark is left
-  pub none_left : (i : ℕ) (marks : List Event) (rest : List ℕ) (out whole : List A) → length marks ≤ i
-      → out ++ flat_map f (events_of (drop i marks) rest) ≡ whole → out ≡ whole
-  unfolding events_of
-  none_left i marks rest out whole h ahead =
-      sym (append-nil out)
-      ∙ ap (λ (l : List Event). out ++ flat_map f (events_of l rest)) (sym (drop_all i marks h)) ∙ ahead

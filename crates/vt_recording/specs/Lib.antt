@@ -9,7 +9,6 @@ pub mod Gathered
 pub mod Heading
 pub mod Lines
 pub mod Moment
-pub mod Places
 pub mod Reached
 pub mod Reading
 pub mod Script

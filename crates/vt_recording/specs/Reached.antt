@@ -1,6 +1,6 @@
 -- The events of a recording before a moment, and the content between two moments. (this profile; the bytes of UTF-8: RFC 3629)
 use Rattle.std.specs.Prelude.{◌≡◌, ℕ, ◌+◌, ◌&&◌, List, [], ◌∷◌, length, drop, Bool, true, false, not, cond, nat_le, nat_lt, Option, Some, None}
-use Rattle.std.specs.List.{filter, flat_map}
+use Rattle.std.specs.List.{filter}
 use Rattle.vt_recording.specs.declared.format.Format.{Format}
 use Rattle.vt_recording.specs.declared.format.Format.TheVariants.{Asciicast}
 use Rattle.vt_recording.specs.declared.format.Encoding.{Encoding}
@@ -13,7 +13,7 @@ use Rattle.vt_recording.specs.declared.timeline.EventKind.TheVariants as kind
 use Rattle.vt_recording.specs.declared.timeline.Event as declared
 use Rattle.vt_recording.specs.declared.reached.Passed.{Passed}
 use Rattle.vt_recording.specs.Taken.{IsTaken}
-use Rattle.vt_recording.specs.Timeline.{Event, Timeline, IsTimelineOf, is_output, is_heard}
+use Rattle.vt_recording.specs.Timeline.{Event, Timeline, IsTimelineOf, is_output}
 
 -- ---- the bytes of the content that an event has
 
@@ -32,19 +32,6 @@ length_of false text = length text
 
 abbrev pub played : (characters : Bool) → Event → ℕ
 played characters e = cond (is_output e.kind) (length_of characters e.text) 0
-
--- ---- the output up to a time, in steps
-
--- an event with the number of its bytes in the content
-abbrev pub step_of : (characters : Bool) → Event → declared.Event
-step_of characters e = record { micros = e.micros; kind = kind.Output; length = length_of characters e.text }
-
-abbrev pub step_in : (characters : Bool) → (until : Option ℕ) → Event → List declared.Event
-step_in characters until e = cond (is_heard until e) (step_of characters e ∷ []) []
-
--- a step for each event of output that isn't later
-abbrev pub steps_in : (characters : Bool) → (until : Option ℕ) → List Event → List declared.Event
-steps_in characters until events = flat_map (λ e. step_in characters until e) events
 
 -- ---- the events before a moment
 

@@ -5,11 +5,10 @@ ghost use Rattle.json.specs.Value.{value_view, items_view};
 ghost use Rattle.json.specs.Json.{document};
 ghost use Rattle.json.specs.Reads.{token_of};
 ghost use Rattle.vt_recording.specs.Asciicast.{trimmed, without_mark, json_text, version_of, document_in, version_in, event_of, event_in, is_silent, clock_after, in_time};
-ghost use Rattle.vt_recording.specs.Asciicast.{begins_array, ends_array, number_in, string_in, event_from, is_text, is_output, frame_of, names_one, items_in, frames_of};
+ghost use Rattle.vt_recording.specs.Asciicast.{begins_array, ends_array, number_in, string_in, event_from, is_text, frame_of, names_one, items_in, frames_of};
 ghost use Rattle.vt_recording.specs.Events.{event_view};
 
 use crate::seconds::micros_of_number;
-use crate::usual::usual_event;
 use json::{Error, Reader, Scratch, Token, Value};
 use std::alloc::{AllocError, Global};
 
@@ -157,41 +156,11 @@ fn event_of<'a>(reader: &mut Reader<'a>) -> Option<Event<'a>>
     event_from(time, code, text)
 }
 
-/// What reading lines needs, kept from line to line.
-#[derive(Drop)]
-pub(crate) struct LineScratch {
-    /// For the reader of JSON.
-    pub(crate) json: Scratch,
-    /// The text of an event that has escapes.
-    text: Vec<u8>,
-}
-
-impl LineScratch {
-    /// Returns one that is empty.
-    pub(crate) fn new(alloc: Global) -> LineScratch {
-        LineScratch {
-            json: Scratch::new(alloc),
-            text: Vec::new(alloc),
-        }
-    }
-}
-
 /// Returns the event in a line, if there is one.
 pub(crate) fn event_in<'a>(
     line: &'a [u8],
-    scratch: &'a mut LineScratch,
+    scratch: &'a mut Scratch,
 ) -> Result<Option<Event<'a>>, AllocError>
-    ensures { IfOk result (λ event. option_map event_view event ≡ event_in line.entry.now) }
-{
-    let json = &mut scratch.json;
-    match usual_event(line, &mut scratch.text)? {
-        Some(event) => Ok(Some(event)),
-        None => any_event(line, json),
-    }
-}
-
-/// Returns the event in a line by the reader of JSON, if there is one.
-fn any_event<'a>(line: &'a [u8], scratch: &'a mut Scratch) -> Result<Option<Event<'a>>, AllocError>
     ensures { IfOk result (λ event. option_map event_view event ≡ event_in line.entry.now) }
 {
     let Ok(text) = std::str::from_utf8(line) else {
@@ -266,13 +235,6 @@ pub(crate) fn clock_after(version: u64, clock: u64, micros: u64) -> u64
     } else {
         clock.saturating_add(micros)
     }
-}
-
-/// Returns whether a code is that of output.
-pub(crate) fn is_output(code: &str) -> bool
-    ensures { result ≡ is_output code.now }
-{
-    code == "o"
 }
 
 /// Returns whether a time isn't after the moment.

@@ -13,8 +13,8 @@ ghost use Rattle.vt_recording.specs.Gathered.{AreGathered, IsRead};
 ghost use Rattle.vt_recording.specs.Private.Sizes.{AreAhead, is_whole, sizes_in};
 
 use crate::asciicast::{
-    Event, LineScratch, clock_after, document_in, event_in, frame_of, frames_of, is_silent,
-    json_text, version_in,
+    Event, clock_after, document_in, event_in, frame_of, frames_of, is_silent, json_text,
+    version_in,
 };
 use crate::changes::Change;
 use crate::format::{Encoding, Moment, Taken};
@@ -60,7 +60,7 @@ fn play_line(
     encoding: Encoding,
     until: Option<Moment>,
     clock: u64,
-    scratch: &mut LineScratch,
+    scratch: &mut Scratch,
     played: &mut Played,
 ) -> Result<Option<u64>, AllocError>
     requires { played.old.written.replaced ≤ length played.old.written.bytes.items }
@@ -89,7 +89,7 @@ fn play_lines(
     version: u64,
     encoding: Encoding,
     until: Option<Moment>,
-    scratch: &mut LineScratch,
+    scratch: &mut Scratch,
     played: &mut Played,
 ) -> Result<Option<usize>, AllocError>
     requires from_in_range { from ≤ length bytes.now + 1 }
@@ -192,13 +192,12 @@ pub(crate) fn asciicast_played(
     ensures sizes { IfOk result (λ t. is_whole encoding until ≡ true → t.changes.items
         ≡ sizes_in (micros_of until) 0 (timeline.asciicast bytes.now).events) }
 {
-    let mut scratch = LineScratch::new(alloc);
+    let mut scratch = Scratch::new(alloc);
     let mut played = Played::with_capacity(alloc, bytes.len())?;
     let text = json_text(bytes);
     let header = front_line(text);
-    let Some(version) = version_in(alloc, header, &mut scratch.json)? else {
-        let json = &mut scratch.json;
-        let broken = play_object(alloc, text, encoding, until, json, &mut played)?;
+    let Some(version) = version_in(alloc, header, &mut scratch)? else {
+        let broken = play_object(alloc, text, encoding, until, &mut scratch, &mut played)?;
         return Ok(taken_of(played, broken));
     };
     let from = bytes.len() - text.len() + header.len() + 1;
@@ -254,7 +253,7 @@ fn gather_line(
     line: &[u8],
     version: u64,
     clock: u64,
-    scratch: &mut LineScratch,
+    scratch: &mut Scratch,
     gathered: &mut Gathered,
 ) -> Result<Option<u64>, AllocError>
     ensures time { IfOk result (λ time. time
@@ -276,7 +275,7 @@ fn gather_lines(
     bytes: &[u8],
     from: usize,
     version: u64,
-    scratch: &mut LineScratch,
+    scratch: &mut Scratch,
     gathered: &mut Gathered,
 ) -> Result<Option<usize>, AllocError>
     requires from_in_range { from ≤ length bytes.now + 1 }
@@ -343,12 +342,12 @@ fn gather_object(
 pub(crate) fn asciicast_timeline(alloc: Global, bytes: &[u8]) -> Result<Timeline, AllocError>
     ensures { IfOk result (λ t. IsRead (λ x. x ≡ timeline.asciicast bytes.now) t) }
 {
-    let mut scratch = LineScratch::new(alloc);
+    let mut scratch = Scratch::new(alloc);
     let mut gathered = Gathered::with_capacity(alloc, bytes.len())?;
     let text = json_text(bytes);
     let header = front_line(text);
-    let Some(version) = version_in(alloc, header, &mut scratch.json)? else {
-        let broken = gather_object(alloc, text, &mut scratch.json, &mut gathered)?;
+    let Some(version) = version_in(alloc, header, &mut scratch)? else {
+        let broken = gather_object(alloc, text, &mut scratch, &mut gathered)?;
         return Ok(gathered.timeline(in_recording(broken)));
     };
     let from = bytes.len() - text.len() + header.len() + 1;

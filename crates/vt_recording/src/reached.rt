@@ -1,15 +1,12 @@
 //! The events of a recording before a moment, and the content between two moments.
-ghost use Rattle.std.specs.Prelude.{◌≡◌, ◌≤◌, ◌<◌, ◌+◌, ◌∷◌, ◌^◌, ◌-◌, ◌++◌, drop, length, option_map, true, IfOk, OnOk, Some};
+ghost use Rattle.std.specs.Prelude.{◌≡◌, ◌≤◌, ◌<◌, ◌+◌, ◌∷◌, ◌^◌, ◌-◌, drop, length, option_map, true, IfOk, Some};
 ghost use Rattle.vt_recording.specs.Timeline as timeline;
 ghost use Rattle.vt_recording.specs.Gathered.{events_of};
 ghost use Rattle.vt_recording.specs.Reached.{has_characters, continues, length_of, is_marker, nothing_passed, with_event, is_reached, passed};
-ghost use Rattle.vt_recording.specs.Reached.{IsAmong, StartsAt, EndsBy, IsTakenBetween, step_in, steps_in};
-ghost use Rattle.vt_recording.specs.Moment.{micros_of};
+ghost use Rattle.vt_recording.specs.Reached.{IsAmong, StartsAt, EndsBy, IsTakenBetween};
 
-use crate::asciicast::in_time;
 use crate::format::{Encoding, Format, Moment, Taken};
 use crate::lines::behind;
-use crate::moment::micros_of;
 use crate::taking::{take_apart, timeline_of};
 use crate::timeline::{Event, EventKind, Timeline};
 use std::alloc::{AllocError, Global};
@@ -59,7 +56,7 @@ fn length_of(characters: bool, text: &[u8]) -> u64
 }
 
 /// Returns the number of bytes that don't continue a character.
-pub fn count_characters(text: &[u8]) -> u64
+fn count_characters(text: &[u8]) -> u64
     ensures value { result ≡ length_of true text.now }
     ensures small { result ≤ length text.now }
 {
@@ -183,73 +180,6 @@ pub fn passed_before(
         characters,
         moment,
     )
-}
-
-/// Appends the step of an event with these bytes, if it is output and isn't later than a time.
-fn push_step(
-    characters: bool,
-    until: Option<u64>,
-    event: Event,
-    text: &[u8],
-    steps: &mut Vec<Event>,
-) -> Result<(), AllocError>
-    ensures { OnOk result (steps.new.items ≡ steps.old.items
-        ++ step_in characters until (record { micros = event.micros; kind = event.kind; text = text.now })) }
-{
-    if is_output(event.kind) && in_time(until, event.micros) {
-        steps.push(Event {
-            micros: event.micros,
-            kind: EventKind::Output,
-            length: length_of(characters, text) as usize,
-        })?;
-    }
-    Ok(())
-}
-
-/// Appends the steps of events, by their marks and their bytes joined.
-fn push_steps(
-    characters: bool,
-    until: Option<u64>,
-    events: &[Event],
-    text: &[u8],
-    steps: &mut Vec<Event>,
-) -> Result<(), AllocError>
-    ensures { OnOk result (steps.new.items ≡ steps.old.items ++ steps_in characters until (events_of events.now text.now)) }
-{
-    let mut at = 0;
-    let mut i = 0;
-    while i < events.len() {
-        let event = event_at(events, i);
-        let end = at + event.length.min(text.len() - at);
-        push_step(characters, until, event, &text[at..end], steps)?;
-        at = end;
-        i += 1;
-    }
-    Ok(())
-}
-
-/// Returns the output among a timeline's events as steps: each event with its time, and the number of its bytes in the content of
-/// `take_between`, in which they follow one another. If `until` is a time, later events are left out. The content may end before the
-/// last steps. Returns `Err` if allocation fails.
-pub fn steps_of(
-    alloc: Global,
-    timeline: &Timeline,
-    format: Format,
-    encoding: Encoding,
-    until: Option<Moment>,
-) -> Result<Vec<Event>, AllocError>
-    ensures { IfOk result (λ steps. steps.items ≡ steps_in (has_characters format encoding) (micros_of until)
-        (events_of timeline.now.events.items timeline.now.text.items)) }
-{
-    let mut steps = Vec::new(alloc);
-    push_steps(
-        has_characters(format, encoding),
-        micros_of(until),
-        &timeline.events,
-        &timeline.text,
-        &mut steps,
-    )?;
-    Ok(steps)
 }
 
 /// Returns the number of bytes of the content that come before a moment.

@@ -2,7 +2,7 @@
 use Rattle.std.proofs.Common.{◌≡◌, ◌||◌, ℕ, List, Bool, true, false, not, is_some, Option, Some, None, refl, subst, arith}
 use Rattle.vt_cli.specs.declared.asked.Request.{Request}
 use Rattle.vt_cli.specs.declared.what.Word.{Word}
-use Rattle.vt_cli.specs.declared.what.Word.TheVariants.{Replay, Log, Pages, Trace, Summary}
+use Rattle.vt_cli.specs.declared.what.Word.TheVariants.{Replay, Log, Trace}
 use Rattle.vt_device.specs.declared.fault.Break.{Break}
 use Rattle.vt_recording.specs.declared.format.Format.{Format}
 use Rattle.vt_recording.specs.declared.format.Moment.{Moment}
@@ -25,9 +25,7 @@ module _ (r : Request) (format : Format) (host : Host) (timing : Option (List �
       → IsTakenBy word r format host timing bytes content broken replaced
   by_word (Replay what) part is taken = taken
   by_word Log part is taken = taken
-  by_word Pages part is taken = taken
   by_word Trace part is taken = taken
-  by_word Summary part is taken = taken
   by_word word part is taken = absurd (grind (arith, part, is))
 
   pub taken_by : plays_one_size r format ≡ false

@@ -1,6 +1,6 @@
 -- The state and the reports that a player leaves of more bytes.
-use Rattle.std.proofs.Common.{◌≡◌, ◌∙◌, ℕ, List, [], ◌++◌, ap, refl}
-use Rattle.vt_term.specs.State.{State, power_up}
+use Rattle.std.proofs.Common.{◌≡◌, ◌∙◌, ℕ, List, [], ◌++◌, ap}
+use Rattle.vt_term.specs.State.{State}
 use Rattle.vt_screen.specs.declared.size.Size.{Size}
 use Rattle.vt_term.specs.Sound.{IsSoundAt, IsSoundSized}
 use Rattle.vt_term.specs.Play.{play, both}
@@ -8,11 +8,7 @@ use Rattle.vt_term.specs.Scrolling.{log}
 use Rattle.vt_utf8.specs.Decoding.{pending_after}
 use Rattle.vt_utf8.specs.Play.{play_utf8, translated}
 use Rattle.vt_xterm.specs.Play.{Whole, WholePlayed, FrontState, play_xterm, xterm_log, behind, both as both_whole}
-use Rattle.vt_recording.specs.declared.format.Encoding.{Encoding}
-use Rattle.vt_recording.specs.declared.format.Encoding.TheVariants.{Dec, Utf8}
-use Rattle.vt_recording.specs.declared.format.TerminalType.TheVariants.{Vt220}
-use Rattle.vt_replay.specs.Encoding.{decoded}
-use Rattle.vt_replay.specs.Playing.{language_of, on_terminal, played_as}
+use Rattle.vt_replay.specs.Playing.{on_terminal}
 use Rattle.vt_replay.specs.Resizes.{Utf8Kept, XtermKept, utf8_session, xterm_session}
 
 pub plain_on : (s t : State) (chunk more : List ℕ)
@@ -120,10 +116,3 @@ pub utf8_log_none : (s : State) (pending : List ℕ) → ((size : Size) (s : Sta
     → IsSoundSized s → log s (translated s pending []) ≡ []
 unfolding translated
 utf8_log_none s pending none sound = none s.display.grid.size s sound
-
--- UTF-8 is played as what it is translated to
-pub as_decoded : (encoding : Encoding) (bytes : List ℕ)
-    → played_as (language_of Vt220 encoding) bytes ≡ play power_up (decoded encoding bytes)
-unfolding play_utf8
-as_decoded Dec bytes = refl
-as_decoded Utf8 bytes = refl

@@ -1,5 +1,5 @@
--- The lines and pages of a byte have room in a few texts of the largest screen, and so has a text.
-use Rattle.std.proofs.Common.{ℕ, ◌+◌, ◌*◌, ◌≤◌, max, arith}
+-- The lines of a byte have room in a few texts of the largest screen, and so has a text.
+use Rattle.std.proofs.Common.{ℕ, ◌*◌, ◌≤◌, max, arith}
 use Rattle.std.proofs.lemmas.Nat.{mul-le}
 
 pub text_room : (rows row : ℕ) → rows ≤ 255 → row ≤ 766 → rows * row ≤ 195330
@@ -17,11 +17,3 @@ lines_room rows row few short =
 -- twice as many
 pub xterm_room : (rows row : ℕ) → rows ≤ 255 → row ≤ 766 → 2 * (max rows 22 * row) ≤ 390660
 xterm_room rows row few short = omega (arith, lines_room rows row few short)
-
--- a page, and four times as many
-in_five : (page lines : ℕ) → page ≤ 195330 → lines ≤ 195330 → page + 2 * (2 * lines) ≤ 976650
-in_five page lines first others = omega (arith, first, others)
-
-pub main_most : (rows row : ℕ) → rows ≤ 255 → row ≤ 766 → rows * row + 2 * (2 * (max rows 22 * row)) ≤ 976650
-main_most rows row few short =
-    in_five (rows * row) (max rows 22 * row) (text_room rows row few short) (lines_room rows row few short)

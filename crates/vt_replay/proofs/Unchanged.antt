@@ -1,23 +1,24 @@
 -- Without a change of the size a replay is as on a screen that keeps its size.
-use Rattle.std.proofs.Common.{◌≡◌, ◌∙◌, ◌+◌, ◌∷◌, ℕ, List, [], length, take, drop, cond, nat_lt, Option, Result, ap, refl, arith}
+use Rattle.std.proofs.Common.{◌≡◌, ◌∙◌, ◌+◌, ℕ, List, [], length, Option, Result, ap, refl, arith}
 use Rattle.vt_screen.specs.declared.size.Size.{Size}
 use Rattle.vt_screen.specs.Sizes.{vt220_size}
-use Rattle.vt_term.specs.Play.{Played, both}
+use Rattle.vt_term.specs.Play.{Played}
 use Rattle.vt_cli.specs.declared.what.What.{What}
 use Rattle.vt_cli.specs.declared.what.What.TheVariants.{Text, Reports, Repaint, Status, Show, Picture}
 use Rattle.vt_device.specs.Runs.{Flags, Moves}
 use Rattle.vt_device.specs.Output.{OutputTable, nothing, always}
 use Rattle.vt_device.specs.declared.fault.Fault.{Fault}
 use Rattle.vt_replay.specs.declared.language.Language.{Language}
-use Rattle.vt_replay.specs.declared.resized.Resize.{Resize}
 use Rattle.vt_replay.specs.declared.language.Language.TheVariants.{Dec, Utf8, Xterm}
 use Rattle.vt_replay.specs.Due.{sent_by, there_by, due_at_end, PlayedTable}
 use Rattle.vt_replay.specs.Playing.{Due, due_by, played_at, repainted, replayed_at, ReplayTable}
 use Rattle.vt_xterm_paint.specs.Repaint.{xterm_repaint}
 use Rattle.vt_term.specs.Text.{text}
-use Rattle.vt_replay.specs.Log.{lines_at, screen_at, lines_in, screen_in, paged, lines_with, screen_with}
+use Rattle.vt_replay.specs.Log.{lines_at, screen_at, lines_in, screen_in, lines_with, screen_with}
 use Rattle.vt_replay.specs.Session.{is_between}
-use Rattle.vt_replay.specs.Resizes.{Session, XtermKept, played_on, played_with, repainted_with, replayed_with, ResizedReplayTable}
+use Rattle.vt_replay.specs.Resizes.{Session, XtermKept, played_with, repainted_with, replayed_with, ResizedReplayTable}
+use Rattle.vt_replay.specs.declared.resized.Resize.{Resize}
+use Rattle.vt_replay.specs.Traces.{TracedKept, traced_on, traced_end_on}
 
 pub played : (size : Size) (language : Language) → played_with size [] language ≡ played_at size language
 played size Dec = refl
@@ -122,14 +123,6 @@ log_as_before left left_after held held_after size language result piece f limit
     let ending : screen_with size [] language ≡ screen_in language = screen size language ∙ ap (λ (s : Size). screen_at s language) is in
     coe 0 1 (ι. moves_log left left_after held held_after result piece f limit (written ι) (ending ι)) moves
 
--- a session plays the same, whatever is written of it
-pub same_play : {K : Type 0} (m : Session K) (k : K) (resizes : List Resize) (bytes : List ℕ)
-    → played_on (paged m) k resizes bytes ≡ played_on m k resizes bytes
-same_play m k [] bytes = refl
-same_play m k (r ∷ resizes) bytes =
-    ap (λ (p : Played). cond (nat_lt (length bytes) r.after) (m.played k bytes) (both (m.played k (take r.after bytes)) p))
-    (same_play m (m.on r.size (m.after k (take r.after bytes))) resizes (drop r.after bytes))
-
 -- before the first byte
 pub of_log : (lines lines_due : List ℕ → List ℕ) (played played_due : List ℕ → Played) (left left_after held held_after : Option (List ℕ))
     (result : Result (Unit {0}) Fault) (piece : ℕ) (f : Flags) (limit : ℕ) → lines ≡ lines_due → played ≡ played_due
@@ -137,3 +130,13 @@ pub of_log : (lines lines_due : List ℕ → List ℕ) (played played_due : List
     → moves_log left left_after held held_after result piece f limit lines_due (λ bytes. text (played_due bytes).state)
 of_log lines lines_due played played_due left left_after held held_after result piece f limit same plays moves =
     coe 0 1 (ι. moves_log left left_after held held_after result piece f limit (same ι) (λ bytes. text (plays ι bytes).state)) moves
+
+-- a trace before the first byte
+pub of_trace : {K : Type 0} (m : Session K) (kept begun : TracedKept K) (resizes due : List Resize)
+    (left left_after held held_after : Option (List ℕ)) (result : Result (Unit {0}) Fault) (piece : ℕ) (f : Flags) (limit : ℕ)
+    → kept ≡ begun → due ≡ resizes
+    → moves_log left left_after held held_after result piece f limit (λ bytes. traced_on m kept due bytes) (λ bytes. traced_end_on m kept due bytes)
+    → moves_log left left_after held held_after result piece f limit (λ bytes. traced_on m begun resizes bytes) (λ bytes. traced_end_on m begun resizes bytes)
+of_trace m kept begun resizes due left left_after held held_after result piece f limit same comes moves =
+    coe 0 1 (ι. moves_log left left_after held held_after result piece f limit (λ bytes. traced_on m (same ι) (comes ι) bytes)
+    (λ bytes. traced_end_on m (same ι) (comes ι) bytes)) moves

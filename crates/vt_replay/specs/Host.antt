@@ -6,7 +6,7 @@ use Rattle.vt_screen.specs.Sizes.{vt220_size}
 use Rattle.vt_cli.specs.declared.asked.Request.{Request}
 use Rattle.vt_cli.specs.Source.{size_of}
 use Rattle.vt_cli.specs.declared.what.Word.{Word}
-use Rattle.vt_cli.specs.declared.what.Word.TheVariants.{Replay, Animation, Log, Pages, Trace, Summary, Events, Content, Search, Index}
+use Rattle.vt_cli.specs.declared.what.Word.TheVariants.{Replay, Log, Trace, Events, Content}
 use Rattle.vt_recording.specs.declared.format.Encoding.{Encoding}
 use Rattle.vt_recording.specs.declared.format.Encoding.TheVariants.{Dec, Utf8}
 use Rattle.vt_recording.specs.declared.format.Format.{Format}
@@ -40,28 +40,18 @@ wide_for None None = false
 -- for whatever terminal that is
 abbrev pub named_for : Word → (named : Option TerminalType) → Option TerminalType
 named_for (Replay what) named = named
-named_for (Animation looks) named = named
 named_for Log named = named
-named_for Pages named = named
 named_for Trace named = named
-named_for Summary named = named
 named_for Events named = None
 named_for Content named = None
-named_for Search named = named
-named_for Index named = named
 
 -- ---- the size
 
 -- the word plays a screen of any size
 abbrev pub takes_size : Word → Bool
 takes_size (Replay what) = true
-takes_size (Animation looks) = true
 takes_size Log = true
-takes_size Pages = true
 takes_size Trace = true
-takes_size Summary = true
-takes_size Search = true
-takes_size Index = true
 takes_size word = false
 
 -- a VT220's screen: 24 rows of 80 or 132 columns
@@ -111,21 +101,8 @@ abbrev pub widening : TerminalType → List ℕ
 widening Vt220 = 0x1B ∷ codes "[?3h"
 widening Xterm = 0x1B ∷ codes "[?40h" ++ 0x1B ∷ codes "[?3h" ++ 0x1B ∷ codes "[?40l"
 
--- content for an xterm widens the VT220 that is sent it. Otherwise content is what the host sent
-abbrev pub widening_shown : TerminalType → List ℕ
-widening_shown Vt220 = []
-widening_shown Xterm = widening Xterm
-
--- the bytes that are played before those of a recording. A trace and a summary are of what the host sent alone. A picture that
--- moves and the spans of a search are ready before they are written
+-- the bytes that are played before those of a recording. A trace is of what the host sent alone
 abbrev pub opening : Word → Host → List ℕ
 opening (Replay what) host = cond host.wide (widening host.terminal) []
-opening (Animation looks) host = []
 opening Log host = cond host.wide (widening host.terminal) []
-opening Pages host = cond host.wide (widening host.terminal) []
-opening Trace host = []
-opening Summary host = []
-opening Events host = []
-opening Content host = cond host.wide (widening_shown host.terminal) []
-opening Search host = []
-opening Index host = []
+opening word host = []

@@ -50,10 +50,6 @@ lines_on m k (r ∷ resizes) bytes =
     ++ (m.off r.size (m.after k (take r.after bytes))
     ++ lines_on m (m.on r.size (m.after k (take r.after bytes))) resizes (drop r.after bytes)))
 
--- a session whose lines are those of the log and the pages. The rows that leave at a change are lines
-abbrev pub paged : {K : Type 0} → Session K → Session K
-paged m = record { played = m.played; after = m.after; on = m.on; lines = m.pages; pages = m.pages; off = m.off; trace = m.trace; tracer = m.tracer }
-
 -- the lines that leave a screen of a size, which has these changes, in each language of the host
 abbrev pub lines_with : Size → List Resize → Language → List ℕ → List ℕ
 lines_with size resizes Dec bytes = lines_on plain_session (state_of size) resizes bytes

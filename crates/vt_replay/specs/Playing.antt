@@ -36,10 +36,6 @@ played_at size Dec bytes = play (state_of size) bytes
 played_at size Utf8 bytes = play_utf8 (state_of size) [] bytes
 played_at size Xterm bytes = on_terminal (session_at size bytes)
 
--- what all the bytes of a host leave and report, from power-up of a VT220
-abbrev pub played_as : Language → List ℕ → Played
-played_as language bytes = played_at vt220_size language bytes
-
 -- what is due of a replay: as the host's bytes come, and at their end, and whether that is there
 pub record Due : Type 0 where
   pub written : List ℕ → List ℕ

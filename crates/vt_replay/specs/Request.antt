@@ -1,5 +1,5 @@
 -- The bytes that a request takes from its reader, and those that it gives to its writer. (this profile)
-use Rattle.std.specs.Prelude.{◌≡◌, ◌⊎◌, ℕ, ◌+◌, ◌-◌, ◌≤◌, ◌++◌, ◌&&◌, ◌||◌, List, [], length, Bool, true, false, not, is_some, Option, Some, None, Result, Ok, Err}
+use Rattle.std.specs.Prelude.{◌≡◌, ◌⊎◌, ℕ, ◌+◌, ◌≤◌, ◌++◌, ◌&&◌, ◌||◌, List, [], length, Bool, true, false, not, is_some, Option, Some, None, Result, Ok, Err}
 use Rattle.vt_device.specs.Runs.{Flags}
 use Rattle.vt_cli.specs.declared.asked.Request.{Request}
 use Rattle.vt_recording.specs.declared.format.Format.{Format}
@@ -22,14 +22,9 @@ use Rattle.vt_replay.specs.declared.host.Host.{Host}
 use Rattle.vt_replay.specs.Host.{host_of, plain_host, opening}
 use Rattle.vt_replay.specs.Words.{WordTable}
 use Rattle.vt_replay.specs.EventTable.{IsTableTaken}
-use Rattle.vt_replay.specs.Playing.{language_of}
-use Rattle.vt_replay.specs.Animated.{title_of, IsAnimation}
 use Rattle.vt_replay.specs.Resizes.{carried_out}
-use Rattle.vt_replay.specs.Search.{text_of, IsSearched}
-use Rattle.vt_replay.specs.Index.{IsIndexed}
-use Rattle.vt_cli.specs.declared.what.What.TheVariants.{Picture}
 use Rattle.vt_cli.specs.declared.what.Word.{Word}
-use Rattle.vt_cli.specs.declared.what.Word.TheVariants.{Replay, Animation, Log, Pages, Trace, Summary, Events, Content, Search, Index}
+use Rattle.vt_cli.specs.declared.what.Word.TheVariants.{Replay, Log, Trace, Events}
 
 -- 132 columns were asked for
 abbrev pub asks_wide : Option Bool → Bool
@@ -42,18 +37,10 @@ abbrev pub is_streamed : Format → Option Moment → (wide : Option Bool) → (
 is_streamed format.Raw None wide whole = not (asks_wide wide) && not whole
 is_streamed format until wide whole = false
 
--- the word writes what is made of a whole recording: the table of its events, a picture that moves, the spans of a search, or an index
+-- the word writes what is made of a whole recording: the table of its events
 abbrev pub takes_whole : Word → Bool
-takes_whole (Replay what) = false
-takes_whole (Animation looks) = true
-takes_whole Log = false
-takes_whole Pages = false
-takes_whole Trace = false
-takes_whole Summary = false
 takes_whole Events = true
-takes_whole Content = false
-takes_whole Search = true
-takes_whole Index = true
+takes_whole word = false
 
 -- the word needs the whole input: it writes what is made of it, or begins in the middle
 abbrev pub needs_whole : Request → Bool
@@ -95,12 +82,8 @@ has_sizes format = false
 -- the word carries out changes of the size
 abbrev pub changes_size : Word → Bool
 changes_size (Replay what) = true
-changes_size (Animation looks) = true
 changes_size Log = true
-changes_size Pages = true
 changes_size Trace = true
-changes_size Summary = true
-changes_size Search = true
 changes_size word = false
 
 -- the screen keeps its size: one was asked for, or a width, or no change is carried out. A word that begins in the middle carries none out
@@ -110,19 +93,11 @@ keeps_size r format =
 
 -- ---- what is taken out of a recording
 
--- what is taken out of a recording for a word: the table of its events, a picture that moves, the spans of a search, an index, or its content
+-- what is taken out of a recording for a word: the table of its events, or its content
 abbrev pub IsTakenBy : Word → Request → Format → Host → (timing : Option (List ℕ)) → (bytes content : List ℕ)
     → (broken : Option Break) → (replaced : ℕ) → Type 0
 IsTakenBy Events r format host timing bytes content broken replaced =
     IsTableTaken format r.full r.from r.until timing bytes content broken replaced
-IsTakenBy (Animation looks) r format host timing bytes content broken replaced =
-    IsAnimation looks (keeps_size r format) (title_of r.title) (opening (Replay Picture) host) host.size (language_of host.terminal host.encoding) format
-    host.encoding r.until timing bytes content broken replaced
-IsTakenBy Search r format host timing bytes content broken replaced =
-    IsSearched host.size (keeps_size r format) r.log (text_of r.pattern) (opening (Replay Picture) host) (language_of host.terminal host.encoding) format host.encoding r.from
-    r.until timing bytes content broken replaced
-IsTakenBy Index r format host timing bytes content broken replaced =
-    IsIndexed format host r.every (opening (Replay Picture) host) timing bytes content broken replaced
 IsTakenBy word r format host timing bytes content broken replaced =
     IsTakenBetween format host.encoding r.from r.until timing bytes content broken replaced
 
@@ -138,7 +113,7 @@ abbrev pub AreResizes : (none : Bool) → Request → Format → (timing : Optio
 AreResizes true r format timing bytes host resizes = resizes ≡ []
 AreResizes false r format timing bytes host resizes =
     IsAmong format timing bytes (λ events. resizes
-    ≡ carried_out false (length (opening r.word host)) (changes_in (has_characters format host.encoding) r.until nothing_passed events))
+    ≡ carried_out (length (opening r.word host)) (changes_in (has_characters format host.encoding) r.until nothing_passed events))
 
 -- what is played of a recording: the opening and the content, and the changes of the size
 pub record IsPrepared (r : Request) (format : Format) (timing : Option (List ℕ)) (b : List ℕ) (host : Host) (resizes : List Resize)

@@ -25,8 +25,6 @@ use Rattle.vt_cli.specs.Source.{size_of}
 use Rattle.vt_replay.specs.declared.language.Language.{Language}
 use Rattle.vt_replay.specs.declared.language.Language.TheVariants.{Dec, Utf8, Xterm}
 use Rattle.vt_replay.specs.declared.resized.Resize.{Resize}
-use Rattle.vt_replay.specs.MainPage.{xterm_pages}
-use Rattle.vt_replay.specs.Pages.{pages}
 use Rattle.vt_replay.specs.Playing.{on_terminal, Due, due_by}
 use Rattle.vt_replay.specs.Session.{is_between}
 use Rattle.vt_cli.specs.declared.what.What.{What}
@@ -39,13 +37,12 @@ use Rattle.vt_device.specs.declared.fault.Fault.{Fault}
 -- ---- what is kept between a host's bytes, in each language
 
 -- what bytes leave and report, what they leave to be kept, and what a change of the size makes of that; the lines that
--- bytes scroll off, these and the pages, and the lines that leave at a change; the trace of bytes, and the tracer after them
+-- bytes scroll off, and those that leave at a change; the trace of bytes, and the tracer after them
 pub record Session (K : Type 0) : Type 0 where
   pub played : K → List ℕ → Played
   pub after : K → List ℕ → K
   pub on : Size → K → K
   pub lines : K → List ℕ → List ℕ
-  pub pages : K → List ℕ → List ℕ
   pub off : Size → K → List ℕ
   pub trace : K → Tracer → List ℕ → List ℕ
   pub tracer : K → Tracer → List ℕ → Tracer
@@ -66,7 +63,6 @@ plain_session = record {
   after = λ s bytes. (play s bytes).state;
   on = state_on;
   lines = λ s bytes. log s bytes;
-  pages = λ s bytes. pages s bytes;
   off = log_on;
   trace = λ s t bytes. trace s t bytes;
   tracer = λ s t bytes. tracer_all s t bytes;
@@ -81,7 +77,6 @@ utf8_session = record {
   after = λ k bytes. record { state = (play_utf8 k.state k.pending bytes).state; pending = pending_after k.pending bytes };
   on = λ size k. record { state = state_on size k.state; pending = k.pending };
   lines = λ k bytes. log k.state (translated k.state k.pending bytes);
-  pages = λ k bytes. pages k.state (translated k.state k.pending bytes);
   off = λ size k. log_on size k.state;
   trace = λ k t bytes. trace_utf8 k.state t k.pending bytes;
   tracer = λ k t bytes. tracer_utf8 k.state t k.pending bytes;
@@ -96,7 +91,6 @@ xterm_session = record {
   after = λ k bytes. record { whole = (play_xterm k.whole k.pending bytes).whole; pending = pending_after k.pending bytes };
   on = λ size k. record { whole = whole_on size k.whole; pending = k.pending };
   lines = λ k bytes. xterm_log k.whole k.pending bytes;
-  pages = λ k bytes. xterm_pages k.whole k.pending bytes;
   off = λ size k. xterm_log_on size k.whole;
   trace = λ k t bytes. trace_xterm k.whole t k.pending bytes;
   tracer = λ k t bytes. tracer_xterm k.whole t k.pending bytes;
@@ -145,23 +139,9 @@ resizes_of before at (c ∷ changes) =
 abbrev pub most_changes : ℕ
 most_changes = 1000
 
--- the changes of a screen that doesn't keep its size: the first ones, of bytes that begin with so many that aren't of the content
-abbrev pub carried_out : (keeps : Bool) → (before : ℕ) → List Change → List Resize
-carried_out keeps before changes = cond keeps [] (resizes_of before 0 (take most_changes changes))
-
--- ---- bytes between changes
-
--- the changes that come before the last of so many bytes
-abbrev pub changes_before : (count : ℕ) → List Resize → List Resize
-changes_before count [] = []
-changes_before count (r ∷ resizes) = cond (nat_lt r.after count) (r ∷ changes_before (count - r.after) resizes) []
-
--- what bytes leave before the changes that come after them
-abbrev pub seen_on : {K : Type 0} → Session K → K → List Resize → List ℕ → State
-seen_on m k resizes bytes = (played_on m k (changes_before (length bytes) resizes) bytes).state
-
-abbrev pub seen_with : Size → List Resize → Language → List ℕ → State
-seen_with size resizes language bytes = (played_with size (changes_before (length bytes) resizes) language bytes).state
+-- the changes that are carried out: the first ones, of bytes that begin with so many that aren't of the content
+abbrev pub carried_out : (before : ℕ) → List Change → List Resize
+carried_out before changes = resizes_of before 0 (take most_changes changes)
 
 -- ---- what is written
 

@@ -31,7 +31,6 @@ traced m = record {
   after = λ k bytes. record { kept = m.after k.kept bytes; tracer = m.tracer k.kept k.tracer bytes };
   on = λ size k. record { kept = m.on size k.kept; tracer = tracer_resized k.tracer };
   lines = λ k bytes. m.trace k.kept k.tracer bytes;
-  pages = λ k bytes. m.trace k.kept k.tracer bytes;
   off = λ size k. size_lines k.tracer size;
   trace = λ k t bytes. m.trace k.kept t bytes;
   tracer = λ k t bytes. m.tracer k.kept t bytes;

@@ -1,71 +1,38 @@
 -- The bytes that each word writes. (this profile)
 use Rattle.std.specs.Prelude.{ℕ, List, Result}
 use Rattle.vt_device.specs.Runs.{Flags}
-use Rattle.vt_term.specs.State.{state_of}
-use Rattle.vt_replay.specs.declared.language.Language.{Language}
-use Rattle.vt_replay.specs.declared.language.Language.TheVariants as language
 use Rattle.vt_recording.specs.declared.format.TerminalType.{TerminalType}
-use Rattle.vt_recording.specs.declared.format.TerminalType.TheVariants.{Xterm}
 use Rattle.vt_cli.specs.declared.what.Word.{Word}
-use Rattle.vt_cli.specs.declared.what.Word.TheVariants.{Replay, Animation, Log, Pages, Trace, Summary, Events, Content, Search, Index}
+use Rattle.vt_cli.specs.declared.what.Word.TheVariants.{Replay, Log, Trace, Events, Content}
 use Rattle.vt_device.specs.declared.fault.Fault.{Fault}
 use Rattle.vt_recording.specs.declared.format.Encoding.{Encoding}
-use Rattle.vt_recording.specs.declared.format.Encoding.TheVariants.{Dec, Utf8}
-use Rattle.vt_replay.specs.Encoding.{decoded}
-use Rattle.vt_replay.specs.Log.{lines_on, paged, lines_with, screen_with}
+use Rattle.vt_replay.specs.Log.{lines_with, screen_with}
 use Rattle.vt_device.specs.Output.{OutputTable, always, all, nothing}
 use Rattle.vt_screen.specs.declared.size.Size.{Size}
 use Rattle.vt_replay.specs.Playing.{Due, language_of}
-use Rattle.vt_replay.specs.Resizes.{plain_session, utf8_session, xterm_session, utf8_begun, xterm_begun, replayed_with}
+use Rattle.vt_replay.specs.Resizes.{replayed_with}
 use Rattle.vt_replay.specs.declared.resized.Resize.{Resize}
-use Rattle.vt_replay.specs.Showing.{ShownTable}
-use Rattle.vt_replay.specs.Summaries.{summary_with}
 use Rattle.vt_replay.specs.Traces.{trace_with, trace_end_with}
 
--- ---- pages
-
--- the lines and pages of the host's bytes in each language, on a screen of a size that has these changes
-abbrev pub pages_with : Size → List Resize → Language → List ℕ → List ℕ
-pages_with size resizes language.Dec bytes = lines_on (paged plain_session) (state_of size) resizes bytes
-pages_with size resizes language.Utf8 bytes = lines_on (paged utf8_session) (utf8_begun size) resizes bytes
-pages_with size resizes language.Xterm bytes = lines_on (paged xterm_session) (xterm_begun size) resizes bytes
-
--- ---- words
-
--- what is due of the terminal's bytes for the host's
-abbrev pub of_decoded : Encoding → (written ending : List ℕ → List ℕ) → Due
-of_decoded encoding written ending = record {
-  written = λ bytes. written (decoded encoding bytes);
-  ending = λ bytes. ending (decoded encoding bytes);
-  there = always;
-}
+-- the bytes as they come
+abbrev pub as_they_come : Due
+as_they_come = record { written = all; ending = nothing; there = always }
 
 -- what is due by each word, a row a word, for a terminal of a size, whose screen changes its size, and in an encoding.
--- A replay, a log, its pages, a trace and a summary carry the changes out. A picture that moves, the table of events, the spans of a search and an index are
--- ready before they are written. What content writes under TERM=xterm is below
+-- A replay, a log and a trace carry the changes out. The table of events is ready before it is written
 abbrev pub due_of : Word → Size → List Resize → TerminalType → Encoding → Due
 due_of (Replay what) size resizes terminal encoding = replayed_with size resizes (language_of terminal encoding) what
-due_of (Animation looks) size resizes terminal encoding = of_decoded Dec all nothing
 due_of Log size resizes terminal encoding =
     let language = language_of terminal encoding in
     record { written = lines_with size resizes language; ending = screen_with size resizes language; there = always }
-due_of Pages size resizes terminal encoding =
-    let language = language_of terminal encoding in
-    record { written = pages_with size resizes language; ending = screen_with size resizes language; there = always }
 due_of Trace size resizes terminal encoding =
     let language = language_of terminal encoding in
     record { written = trace_with size resizes language; ending = trace_end_with size resizes language; there = always }
-due_of Summary size resizes terminal encoding =
-    let language = language_of terminal encoding in
-    record { written = nothing; ending = summary_with size resizes language; there = always }
-due_of Events size resizes terminal encoding = of_decoded Dec all nothing
-due_of Content size resizes terminal encoding = of_decoded encoding all nothing
-due_of Search size resizes terminal encoding = of_decoded Dec all nothing
-due_of Index size resizes terminal encoding = of_decoded Dec all nothing
+due_of Events size resizes terminal encoding = as_they_come
+due_of Content size resizes terminal encoding = as_they_come
 
--- what each result states, by the word. Under TERM=xterm content is what a VT220 is sent, so that it shows the same
+-- what each result states, by the word
 abbrev pub WordTable : Result (Unit {0}) Fault → Word → Size → List Resize → TerminalType → Encoding → (piece : ℕ) → (b w : List ℕ) → Flags → (limit : ℕ) → Type 0
-WordTable result Content size resizes Xterm encoding piece b w f limit = ShownTable result piece b w f limit
 WordTable result word size resizes terminal encoding piece b w f limit =
     let due = due_of word size resizes terminal encoding in
     OutputTable due.written due.ending due.there result piece b w f limit

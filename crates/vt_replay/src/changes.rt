@@ -70,19 +70,14 @@ fn first_changes(changes: &[Change]) -> &[Change]
     &changes[..MOST_CHANGES.min(changes.len())]
 }
 
-/// Returns the changes that are carried out of those of a recording: the first ones, unless the screen keeps its size. So many
-/// bytes come before the content.
+/// Returns the changes that are carried out of those of a recording: the first ones. So many bytes come before the content.
 pub(crate) fn carried_out(
     alloc: Global,
-    keeps: bool,
     before: usize,
     changes: &[Change],
 ) -> Result<Vec<Resize>, AllocError>
-    ensures resizes { IfOk result (λ resizes. resizes.items ≡ carried_out keeps before changes.now) }
+    ensures resizes { IfOk result (λ resizes. resizes.items ≡ carried_out before changes.now) }
     ensures sizes { IfOk result (λ resizes. All (λ r. IsSize r.size) resizes.items) }
 {
-    if keeps {
-        return Ok(Vec::new(alloc));
-    }
     resizes_of(alloc, before, first_changes(changes))
 }

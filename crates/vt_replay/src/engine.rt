@@ -12,7 +12,7 @@ ghost use Rattle.vt_replay.specs.declared.language.Language.TheVariants.{Xterm};
 ghost use Rattle.vt_screen.specs.Sizes.{IsSize};
 
 use crate::language::Language;
-use crate::output::{AS_THEY_COME, write_output_from};
+use crate::output::write_output_from;
 use crate::player::{PlainPlayer, Player, Utf8Player, XtermPlayer};
 use crate::resized::{Resize, Resized};
 use crate::session::SessionOutput;
@@ -161,15 +161,7 @@ fn run_session<S: Source, W: Write>(
     ensures whole { S.ended reader.new ≡ true → IsAtEnd (S.remaining reader.new) }
 {
     let mut output = SessionOutput::new(alloc, size, resizes, piece)?;
-    write_output_from(
-        alloc,
-        &mut output,
-        AS_THEY_COME,
-        reader,
-        writer,
-        piece,
-        limit,
-    )
+    write_output_from(alloc, &mut output, reader, writer, piece, limit)
 }
 
 /// Plays a source's bytes in a language on a new terminal of a size, whose screen has these changes. Writes what is
@@ -281,15 +273,7 @@ fn run_by<P: Player, S: Source, W: Write>(
     ensures whole { S.ended reader.new ≡ true → IsAtEnd (S.remaining reader.new) }
 {
     let mut output = SizedOutput::new(Resized::<P>::new(alloc, size, resizes)?, what, piece);
-    write_output_from(
-        alloc,
-        &mut output,
-        AS_THEY_COME,
-        reader,
-        writer,
-        piece,
-        limit,
-    )
+    write_output_from(alloc, &mut output, reader, writer, piece, limit)
 }
 
 /// Plays the reader's bytes as the settings ask, and writes what is due: by `run`, with the kind, chunk size and limit

@@ -36,7 +36,7 @@ fn is_output(kind: EventKind) -> bool
 }
 
 /// Appends a number.
-pub(crate) fn push_decimal(n: u64, out: &mut Vec<u8>) -> Result<(), AllocError>
+fn push_decimal(n: u64, out: &mut Vec<u8>) -> Result<(), AllocError>
     ensures { OnOk result (out.new.items ≡ out.old.items ++ decimal n) }
 {
     let mut buffer = Buffer::new();
@@ -65,7 +65,7 @@ fn push_six_digits(n: u64, out: &mut Vec<u8>) -> Result<(), AllocError>
 }
 
 /// Appends a time in seconds, or `-` if the format has no times.
-pub(crate) fn push_time(timed: bool, micros: u64, out: &mut Vec<u8>) -> Result<(), AllocError>
+fn push_time(timed: bool, micros: u64, out: &mut Vec<u8>) -> Result<(), AllocError>
     ensures { OnOk result (out.new.items ≡ out.old.items ++ time_column timed micros) }
 {
     if !timed {
@@ -196,7 +196,7 @@ fn push_listed(
 }
 
 /// Returns an event by its index.
-pub(crate) fn event_at(events: &[Event], i: usize) -> Event
+fn event_at(events: &[Event], i: usize) -> Event
     requires { i < length events.now }
     ensures { drop i events.now ≡ result ∷ drop (i + 1) events.now }
 {

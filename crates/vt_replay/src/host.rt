@@ -4,7 +4,7 @@ ghost use Rattle.std.specs.Prelude.{◌≡◌, IfSome};
 ghost use Rattle.vt_screen.specs.Sizes.{IsSize, width_of};
 ghost use Rattle.vt_replay.specs.Host.{takes_size, is_vt220, size_named, size_for};
 ghost use Rattle.vt_replay.specs.Host.{terminal_for, encoding_for, wide_for, named_for, host_for, plain_host};
-ghost use Rattle.vt_replay.specs.Host.{widening, widening_shown, opening};
+ghost use Rattle.vt_replay.specs.Host.{widening, opening};
 
 use vt_cli::{Encoding, Format, Request, TerminalType, Word, size_of};
 use vt_recording::Heading;
@@ -81,15 +81,10 @@ fn named_for(word: Word, named: Option<TerminalType>) -> Option<TerminalType>
 {
     match word {
         Word::Replay(_) => named,
-        Word::Animation(_) => named,
         Word::Log => named,
-        Word::Pages => named,
         Word::Trace => named,
-        Word::Summary => named,
         Word::Events => None,
         Word::Content => None,
-        Word::Search => named,
-        Word::Index => named,
     }
 }
 
@@ -97,17 +92,7 @@ fn named_for(word: Word, named: Option<TerminalType>) -> Option<TerminalType>
 fn takes_size(word: Word) -> bool
     ensures { result ≡ takes_size word }
 {
-    match word {
-        Word::Replay(_)
-        | Word::Animation(_)
-        | Word::Log
-        | Word::Pages
-        | Word::Trace
-        | Word::Summary
-        | Word::Search
-        | Word::Index => { true }
-        _ => false,
-    }
+    matches!(word, Word::Replay(_) | Word::Log | Word::Trace)
 }
 
 /// Returns whether so many columns and rows are a VT220's screen.
@@ -197,16 +182,6 @@ fn widening(terminal: TerminalType) -> &'static [u8]
     }
 }
 
-/// Returns the bytes that widen to 132 columns the VT220 that is sent the content for a terminal.
-fn widening_shown(terminal: TerminalType) -> &'static [u8]
-    ensures { result.now ≡ widening_shown terminal }
-{
-    match terminal {
-        TerminalType::Vt220 => b"",
-        TerminalType::Xterm => widening(TerminalType::Xterm),
-    }
-}
-
 /// Returns the bytes that are played before those of a recording.
 pub(crate) fn opening(word: Word, host: Host) -> &'static [u8]
     ensures { result.now ≡ opening word host }
@@ -216,14 +191,9 @@ pub(crate) fn opening(word: Word, host: Host) -> &'static [u8]
     }
     match word {
         Word::Replay(_) => widening(host.terminal),
-        Word::Animation(_) => b"",
         Word::Log => widening(host.terminal),
-        Word::Pages => widening(host.terminal),
         Word::Trace => b"",
-        Word::Summary => b"",
         Word::Events => b"",
-        Word::Content => widening_shown(host.terminal),
-        Word::Search => b"",
-        Word::Index => b"",
+        Word::Content => b"",
     }
 }

@@ -8,7 +8,7 @@ ghost use Rattle.vt_term.specs.Text.{row_text_limit, text_limit};
 ghost use Rattle.vt_utf8.specs.Limits.{utf8_lines_limit};
 ghost use Rattle.vt_xterm.specs.Limits.{xterm_lines_limit};
 ghost use Rattle.vt_xterm.specs.Play.{behind};
-ghost use Rattle.vt_xterm.specs.Resizing.{xterm_log_on};
+ghost use Rattle.vt_xterm.specs.Resizing.{main_row, whole_on, xterm_log_on};
 
 use crate::player::{PlainPlayer, Player, Utf8Player, XtermPlayer};
 use vt_term::laws::{resizes, sized_cuts, sized_log_cuts};
@@ -16,7 +16,7 @@ use vt_term::{Size, SizedTerminal};
 use vt_utf8::laws::sized_cuts as utf8_cuts;
 use vt_utf8::sized::feed_utf8_log_reserved;
 use vt_xterm::SizedFront;
-use vt_xterm::laws::{cuts as xterm_cuts, log_cuts as xterm_log_cuts};
+use vt_xterm::laws::{cuts as xterm_cuts, log_cuts as xterm_log_cuts, resizes as xterm_resizes};
 use vt_xterm::sized::feed_xterm_log_reserved;
 
 /// The most bytes of lines that leave at a byte: twice the text of the largest screen.
@@ -36,7 +36,7 @@ pub(crate) fn lines_fit(terminal: &SizedTerminal)
 
 /// A player that also gives the lines that scroll off.
 pub(crate) trait LogPlayer: Player {
-    /// The row of the cursor.
+    /// The row of the main page's cursor.
     ghost line: { Self → ℕ };
 
     /// The capacity for the lines of a byte.
@@ -68,7 +68,7 @@ pub(crate) trait LogPlayer: Player {
         ensures capacity { vec_capacity lines.old ≤ vec_capacity lines.new };
 
     /// Makes another player, of any size, what this one becomes if the screen changes to that size. Appends the lines
-    /// that leave at the top to `lines`. This has capacity for one for each row above the cursor. It allocates nothing.
+    /// that leave at the top to `lines`. This has capacity for one for each row above that cursor. It allocates nothing.
     fn resize_log_into(&self, target: &mut Self, lines: &mut Vec<u8>)
         requires { vec_len lines.old + 766 * line self.now ≤ vec_capacity lines.old + 766 }
         ensures kept { Self.kept target.new ≡ Self.session.on (Self.screen target.old) (Self.kept self.now) }
@@ -100,17 +100,20 @@ fn push_moved(terminal: &SizedTerminal, size: Size, lines: &mut Vec<u8>)
     terminal.log_on(size, lines).unwrap();
 }
 
-/// Appends what a change to another size adds to the log of a session, in the same way.
+/// Appends what a change to another size adds to the log of a session. `lines` has capacity for one for each row of the main
+/// page above its cursor.
 fn push_moved_xterm(terminal: &SizedTerminal, front: &SizedFront, size: Size, lines: &mut Vec<u8>)
     requires size { IsSize size }
-    requires room { vec_len lines.old + 766 * terminal.now.display.cursor.row ≤ vec_capacity lines.old + 766 }
+    requires one_size { front.now.pages.other.grid.size ≡ terminal.now.display.grid.size }
+    requires room { vec_len lines.old + 766 * main_row (behind terminal.now front.now) ≤ vec_capacity lines.old + 766 }
     ensures lines { lines.new.items ≡ lines.old.items ++ xterm_log_on size (behind terminal.now front.now) }
-    ensures bounded { vec_len lines.new + 766 * (state_on size terminal.now).display.cursor.row
-        ≤ vec_len lines.old + 766 * terminal.now.display.cursor.row }
+    ensures bounded { vec_len lines.new + 766 * main_row (whole_on size (behind terminal.now front.now))
+        ≤ vec_len lines.old + 766 * main_row (behind terminal.now front.now) }
     ensures capacity { vec_capacity lines.old ≤ vec_capacity lines.new }
 {
-    resizes();
+    xterm_resizes();
     let _ = terminal.size();
+    let _ = front.size();
     terminal.soundness();
     front.log_on(terminal, size, lines).unwrap();
 }
@@ -181,7 +184,7 @@ impl LogPlayer for Utf8Player {
 }
 
 impl LogPlayer for XtermPlayer {
-    ghost line = { λ p. p.terminal.display.cursor.row };
+    ghost line = { λ p. main_row (behind p.terminal p.front) };
 
     ghost room = { 390660 };
 
@@ -212,6 +215,7 @@ impl LogPlayer for XtermPlayer {
     fn rows(&self) {
         xterm_log_cuts();
         let _ = self.terminal.size();
+        let _ = self.front.size();
         self.terminal.soundness();
     }
 }

@@ -11,7 +11,7 @@ ghost use Rattle.vt_device.specs.Output.{OutputTable, always};
 use crate::language::Language;
 use crate::log_output::LogOutput;
 use crate::log_player::LogPlayer;
-use crate::output::{AS_THEY_COME, write_output_from};
+use crate::output::write_output_from;
 use crate::player::{PlainPlayer, Utf8Player, XtermPlayer};
 use crate::resized::Resize;
 use std::alloc::Global;
@@ -115,7 +115,7 @@ pub(crate) fn write_log_at<S: Source, W: Write>(
 }
 
 /// Writes the log of a source's bytes by a new player of a size, whose screen has these changes.
-pub(crate) fn write_log_by<P: LogPlayer, S: Source, W: Write>(
+fn write_log_by<P: LogPlayer, S: Source, W: Write>(
     alloc: Global,
     reader: &mut S,
     writer: &mut Watched<W>,
@@ -138,13 +138,5 @@ pub(crate) fn write_log_by<P: LogPlayer, S: Source, W: Write>(
     ensures whole { S.ended reader.new ≡ true → IsAtEnd (S.remaining reader.new) }
 {
     let mut output = LogOutput::<P>::new_with(alloc, size, resizes, piece)?;
-    write_output_from(
-        alloc,
-        &mut output,
-        AS_THEY_COME,
-        reader,
-        writer,
-        piece,
-        limit,
-    )
+    write_output_from(alloc, &mut output, reader, writer, piece, limit)
 }

@@ -1,19 +1,17 @@
-//! An output of a source's bytes in an encoding, and how much of a chunk it takes at once.
+//! An output of a source's bytes, and how much of a chunk it takes at once.
 ghost use Rattle.std.specs.Prelude.{◌≡◌, ◌*◌, ◌≤◌, [], false, true, length, vec_capacity};
 ghost use Rattle.std.specs.Io.KnownBytes.{IsAtEnd};
 ghost use Rattle.vt_device.specs.Runs.{Moves};
-ghost use Rattle.vt_replay.specs.Encoding.{EncodedTable};
+ghost use Rattle.vt_device.specs.Output.{OutputTable};
 
-use crate::decoding::Utf8;
 use std::alloc::Global;
 use std::io::Write;
-use vt_cli::Encoding;
 use vt_device::{Output, Plain, Source, Watched, write_by};
 use vt_recording::Fault;
 use vt_term::REPORT_LIMIT;
 
 /// Returns how many bytes at the front of a chunk have so few reports that `reports` has capacity for them.
-pub fn front_for(chunk: &[u8], reports: &Vec<u8>) -> usize
+pub(crate) fn front_for(chunk: &[u8], reports: &Vec<u8>) -> usize
     ensures within { result ≤ length chunk.now }
     ensures room { 10 * result ≤ vec_capacity reports.now }
     ensures some { 1 ≤ length chunk.now → 10 ≤ vec_capacity reports.now → 1 ≤ result }
@@ -21,18 +19,13 @@ pub fn front_for(chunk: &[u8], reports: &Vec<u8>) -> usize
     chunk.len().min(reports.capacity() / REPORT_LIMIT)
 }
 
-/// The encoding for an output that reads the host's language itself: it is given the bytes as they come.
-pub(crate) const AS_THEY_COME: Encoding = Encoding::Dec;
-
-/// Gives a source's bytes in an encoding to an output, and writes what it makes of them, as `write_output` does of a
-/// reader's. The source hasn't failed or ended before. In UTF-8 the output is given the terminal's bytes, and what is
-/// pending at the end isn't given. `piece` and `limit` count the host's bytes.
+/// Gives a source's bytes to an output, and writes what it makes of them, as `write_output` does of a reader's. The
+/// source hasn't failed or ended before.
 ///
 /// `Err` is what `write_output` returns.
-pub fn write_output_from<O: Output, S: Source, W: Write>(
+pub(crate) fn write_output_from<O: Output, S: Source, W: Write>(
     alloc: Global,
     output: &mut O,
-    encoding: Encoding,
     reader: &mut S,
     writer: &mut Watched<W>,
     piece: usize,
@@ -48,11 +41,8 @@ pub fn write_output_from<O: Output, S: Source, W: Write>(
     requires limit_in_range { limit ≤ 1099511627776 }
     ensures answer { Moves (S.remaining reader.old) (S.remaining reader.new) (W.contents writer.old.device)
         (W.contents writer.new.device)
-        (λ b w. EncodedTable encoding (O.written output.old) (O.ending output.old) (O.there output.old) result piece b w (record { reader_failed = S.failed reader.new; reader_ended = S.ended reader.new; writer_failed = writer.new.failed }) limit) }
+        (λ b w. OutputTable (O.written output.old) (O.ending output.old) (O.there output.old) result piece b w (record { reader_failed = S.failed reader.new; reader_ended = S.ended reader.new; writer_failed = writer.new.failed }) limit) }
     ensures whole { S.ended reader.new ≡ true → IsAtEnd (S.remaining reader.new) }
 {
-    match encoding {
-        Encoding::Dec => write_by::<O, Plain, S, W>(alloc, output, reader, writer, piece, limit),
-        Encoding::Utf8 => write_by::<O, Utf8, S, W>(alloc, output, reader, writer, piece, limit),
-    }
+    write_by::<O, Plain, S, W>(alloc, output, reader, writer, piece, limit)
 }

@@ -1,5 +1,5 @@
 //! The carrying out of a request, by its word.
-ghost use Rattle.std.specs.Prelude.{◌≡◌, ◌≤◌, ◌++◌, true, false, Err, option_map, All, IfOk};
+ghost use Rattle.std.specs.Prelude.{◌≡◌, ◌++◌, true, false, Err, option_map, All, IfOk};
 ghost use Rattle.std.proofs.Props.{props};
 ghost use Rattle.std.specs.Io.KnownBytes.{IsAtEnd};
 ghost use Rattle.vt_device.specs.Runs.{Moves};
@@ -9,25 +9,19 @@ ghost use Rattle.vt_replay.specs.Words.{WordTable};
 ghost use Rattle.vt_replay.specs.Request.{asks_wide, is_streamed, takes_whole, needs_whole, has_sizes, changes_size, keeps_size, plays_one_size, AreResizes, format_of, lacks_times, ended_of, IsStreamed, IsTakenBy, IsPrepared, IsPlayed, OutcomeTable};
 ghost use Rattle.vt_replay.specs.Host.{opening};
 
-use crate::animated::{animation_taken, title_of};
 use crate::changes::carried_out;
-use crate::converting::Converter;
-use crate::counting::write_summary;
 use crate::engine::run_at;
 use crate::events::events_taken;
 use crate::host::{Host, host_for, opening, plain_host};
-use crate::index::index_taken;
 use crate::language::Language;
 use crate::logging::write_log_at;
-use crate::outputs::{ContentOutput, write_word};
-use crate::page_outputs::write_pages_at;
+use crate::outputs::write_content;
 use crate::resized::Resize;
-use crate::search::{search_taken, text_of};
 use crate::tracing::write_trace;
 use std::alloc::{AllocError, Global};
 use std::io::{Read, Write};
-use vt_cli::{Encoding, Format, Moment, Request, TerminalType, What, Word};
-use vt_device::{Source, Watched, write_by};
+use vt_cli::{Format, Moment, Request, Word};
+use vt_device::{Source, Watched};
 use vt_recording::{
     Break, Content, Detected, Fault, Taken, detect, heading_of, read_recording, take_between,
     take_with_changes,
@@ -54,8 +48,8 @@ fn carry_out_word<S: Source, W: Write>(
     ensures whole { S.ended reader.new ≡ true → IsAtEnd (S.remaining reader.new) }
 {
     let (piece, limit) = (request.piece, request.limit);
-    let (size, encoding) = (host.size, host.encoding);
-    let language = Language::of(host.terminal, encoding);
+    let size = host.size;
+    let language = Language::of(host.terminal, host.encoding);
     match request.word {
         Word::Replay(what) => {
             run_at(
@@ -63,27 +57,8 @@ fn carry_out_word<S: Source, W: Write>(
             )
         }
         Word::Log => write_log_at(alloc, reader, writer, language, size, resizes, piece, limit),
-        Word::Pages => {
-            write_pages_at(alloc, reader, writer, language, size, resizes, piece, limit)
-        }
         Word::Trace => { write_trace(alloc, reader, writer, language, size, resizes, piece, limit) }
-        Word::Summary => {
-            write_summary(alloc, reader, writer, language, size, resizes, piece, limit)
-        }
-        Word::Events | Word::Animation(_) | Word::Search | Word::Index => {
-            write_word::<ContentOutput, S, W>(alloc, reader, writer, Encoding::Dec, piece, limit)
-        }
-        Word::Content => match host.terminal {
-            TerminalType::Vt220 => {
-                write_word::<ContentOutput, S, W>(alloc, reader, writer, encoding, piece, limit)
-            }
-            TerminalType::Xterm => {
-                let output = &mut ContentOutput;
-                write_by::<ContentOutput, Converter, S, W>(
-                    alloc, output, reader, writer, piece, limit,
-                )
-            }
-        },
+        Word::Events | Word::Content => write_content(alloc, reader, writer, piece, limit),
     }
 }
 
@@ -117,10 +92,7 @@ fn is_streamed(format: Format, until: Option<Moment>, wide: Option<bool>, whole:
 fn takes_whole(word: Word) -> bool
     ensures { result ≡ takes_whole word }
 {
-    matches!(
-        word,
-        Word::Events | Word::Animation(_) | Word::Search | Word::Index
-    )
+    matches!(word, Word::Events)
 }
 
 /// Returns whether a request needs the whole input, since its word writes what is made of it or begins in the middle.
@@ -185,29 +157,24 @@ pub fn lacks_times(format: Format, timed: bool, until: Option<Moment>) -> bool
 /// The terminal is the request's. If the request names none, it is the one that the first line of a recording by
 /// asciinema or by script names, otherwise a VT220. If the request's encoding is dec, it is a VT220. For an xterm the
 /// host sends UTF-8. For a VT220 it sends in the request's encoding, otherwise in dec, and in a recording by asciinema
-/// in UTF-8. Content is the host's bytes, unless the request is for xterm. Then it is bytes with which a VT220 shows
-/// the same: an update for each chunk.
+/// in UTF-8. Content is the host's bytes.
 ///
 /// The screen has 132 columns if the request asks for them, or if it leaves the width to a recording whose first line names
-/// 132. Then bytes that set DECCOLM are played first, except for trace and summary.
+/// 132. Then bytes that set DECCOLM are played first, except for a trace.
 ///
-/// All replays, log, pages, trace and summary are on a screen of the size that the request asks for. So are a picture
-/// that moves, a search and an index. If the request leaves the size to a recording, they are on the size that its
-/// first line names, if a screen may have that. DECCOLM leaves the width of such a screen, unless it is a VT220's.
+/// All replays, log and trace are on a screen of the size that the request asks for. If the request leaves the size to a
+/// recording, they are on the size that its first line names, if a screen may have that. DECCOLM leaves the width of such
+/// a screen, unless it is a VT220's.
 ///
-/// A replay, a picture that moves, a log, its pages, a trace, a summary and a search carry out the changes of the size that a recording
-/// has up to the moment, each after the content that comes before it. They don't if a size or a width is asked for, or if the request
-/// begins in the middle.
-/// DECCOLM leaves the width of a screen after a change. A change to a size that no screen may have is passed over. An index
-/// is of the first size.
+/// A replay, a log and a trace carry out the changes of the size that a recording has up to the moment, each after the
+/// content that comes before it. They don't if a size or a width is asked for, or if the request begins in the middle.
+/// DECCOLM leaves the width of a screen after a change. A change to a size that no screen may have is passed over.
 ///
 /// The word is carried out on the bytes of raw input as they come, if all of it is wanted and 132 columns weren't asked
 /// for. Otherwise the input is read whole, and the word is carried out on its content between the moments. If the
 /// recording is broken, that is the fault, after what came before was played and written.
 ///
-/// Four words write what is made of a whole recording instead of its content. Events are a table of the recording. A
-/// picture that moves has a frame for each event of output. A search has a line for each span of time, and an index has
-/// checkpoints.
+/// Events are made of a whole recording: they are a table of it.
 pub fn carry_out<R: Read, W: Write>(
     alloc: Global,
     reader: &mut Watched<R>,
@@ -286,16 +253,7 @@ fn has_sizes(format: Format) -> bool
 fn changes_size(word: Word) -> bool
     ensures { result ≡ changes_size word }
 {
-    match word {
-        Word::Replay(_) => true,
-        Word::Animation(_) => true,
-        Word::Log => true,
-        Word::Pages => true,
-        Word::Trace => true,
-        Word::Summary => true,
-        Word::Search => true,
-        _ => false,
-    }
+    matches!(word, Word::Replay(_) | Word::Log | Word::Trace)
 }
 
 /// Returns whether the screen keeps its size, whatever a recording in the format says: a size or a width was asked for, or the word
@@ -317,8 +275,7 @@ fn plays_one_size(request: &Request, format: Format) -> bool
     takes_whole(request.word) || keeps_size(request, format)
 }
 
-/// Takes out of a recording what the word of a request needs: the table of its events, a picture that moves, the spans
-/// of a search, an index, or its content.
+/// Takes out of a recording what the word of a request needs: the table of its events, or its content.
 fn taken_for(
     alloc: Global,
     bytes: &[u8],
@@ -327,33 +284,12 @@ fn taken_for(
     host: Host,
     request: &Request,
 ) -> Result<Taken, AllocError>
-    requires { IsSize host.size }
     ensures { IfOk result (λ t. IsTakenBy request.now.word request.now format host (option_map (λ b. b.now) timing.entry) bytes.now t.content.items t.broken t.replaced) }
 {
     let (from, until) = (request.from, request.until);
     match request.word {
         Word::Events => events_taken(alloc, bytes, timing, format, request.full, from, until),
-        Word::Animation(looks) => {
-            let first = opening(Word::Replay(What::Picture), host);
-            let title = title_of(&request.title);
-            let keeps = keeps_size(request, format);
-            animation_taken(
-                alloc, bytes, timing, format, host, keeps, first, looks, title, until,
-            )
-        }
-        Word::Search => {
-            let first = opening(Word::Replay(What::Picture), host);
-            let text = text_of(&request.pattern);
-            let (keeps, log) = (keeps_size(request, format), request.log);
-            search_taken(
-                alloc, bytes, timing, format, host, keeps, log, first, text, from, until,
-            )
-        }
-        Word::Index => {
-            let first = opening(Word::Replay(What::Picture), host);
-            index_taken(alloc, bytes, timing, format, host, request.every, first)
-        }
-        Word::Replay(_) | Word::Log | Word::Pages | Word::Trace | Word::Summary | Word::Content => {
+        Word::Replay(_) | Word::Log | Word::Trace | Word::Content => {
             take_between(alloc, bytes, timing, format, host.encoding, from, until)
         }
     }
@@ -377,7 +313,6 @@ fn needed_for(
     host: Host,
     request: &Request,
 ) -> Result<Needed, AllocError>
-    requires { IsSize host.size }
     ensures taken { IfOk result (λ n. IsTakenBy request.now.word request.now format host (option_map (λ b. b.now) timing.entry) bytes.now n.taken.content.items n.taken.broken n.taken.replaced) }
     ensures resizes { IfOk result (λ n. AreResizes (plays_one_size request.now format) request.now format (option_map (λ b. b.now) timing.entry) bytes.now host n.resizes.items) }
     ensures sizes { IfOk result (λ n. All (λ r. IsSize r.size) n.resizes.items) }
@@ -391,7 +326,7 @@ fn needed_for(
     }
     let found = take_with_changes(alloc, bytes, timing, format, host.encoding, request.until)?;
     let before = opening(request.word, host).len();
-    let resizes = carried_out(alloc, false, before, &found.changes)?;
+    let resizes = carried_out(alloc, before, &found.changes)?;
     Ok(Needed {
         taken: found.taken,
         resizes,

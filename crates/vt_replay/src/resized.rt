@@ -4,7 +4,7 @@ ghost use Rattle.std.specs.List.{list_all};
 ghost use Rattle.vt_screen.specs.declared.size.Size.{Size};
 ghost use Rattle.vt_screen.specs.Sizes.{IsSize};
 ghost use Rattle.vt_term.specs.Play.{Played, both};
-ghost use Rattle.vt_replay.specs.Resizes.{played_on, kept_on, seen_on, due, is_settled, is_before, sizes_of, coming};
+ghost use Rattle.vt_replay.specs.Resizes.{played_on, kept_on, due, is_settled, is_before, sizes_of, coming};
 ghost use Rattle.vt_replay.specs.Sized.{room_of};
 ghost use Rattle.vt_replay.specs.declared.resized.Later.{Later};
 
@@ -115,7 +115,7 @@ pub(crate) fn bytes_before<P: Player>(later: &VecDeque<Later<P>>) -> usize
 }
 
 /// Returns how many of so many bytes come before the next change.
-pub(crate) fn front_of<L>(later: &VecDeque<L>, left: usize, count: usize) -> usize
+fn front_of<L>(later: &VecDeque<L>, left: usize, count: usize) -> usize
     ensures takes { is_before result left later.now.items ≡ true }
     ensures within { result ≤ count }
     ensures some { is_settled left later.now.items ≡ true → 1 ≤ count → 1 ≤ result }
@@ -141,16 +141,13 @@ fn change<P: Player>(player: &mut P, later: &mut VecDeque<Later<P>>)
 }
 
 /// Carries out the changes that come before the next byte.
-pub(crate) fn settle<P: Player>(player: &mut P, left: &mut usize, later: &mut VecDeque<Later<P>>)
+fn settle<P: Player>(player: &mut P, left: &mut usize, later: &mut VecDeque<Later<P>>)
     ensures on { (bytes : List ℕ)
         → played_on P.session (P.kept player.old) (due left.old (coming later.old.items (λ l. l.after) (λ l. P.screen l.target))) bytes
         ≡ played_on P.session (P.kept player.new) (due left.new (coming later.new.items (λ l. l.after) (λ l. P.screen l.target))) bytes }
     ensures kept { (bytes : List ℕ)
         → kept_on P.session (P.kept player.old) (due left.old (coming later.old.items (λ l. l.after) (λ l. P.screen l.target))) bytes
         ≡ kept_on P.session (P.kept player.new) (due left.new (coming later.new.items (λ l. l.after) (λ l. P.screen l.target))) bytes }
-    ensures seen { (bytes : List ℕ) → 1 ≤ length bytes
-        → seen_on P.session (P.kept player.old) (due left.old (coming later.old.items (λ l. l.after) (λ l. P.screen l.target))) bytes
-        ≡ seen_on P.session (P.kept player.new) (due left.new (coming later.new.items (λ l. l.after) (λ l. P.screen l.target))) bytes }
     ensures settled { is_settled left.new later.new.items ≡ true }
     ensures sizes { (holds : Size → Bool)
         → list_all holds (sizes_of (P.screen player.old) (coming later.old.items (λ l. l.after) (λ l. P.screen l.target))) ≡ true

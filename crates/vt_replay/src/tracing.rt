@@ -7,7 +7,7 @@ ghost use Rattle.vt_device.specs.Output.{OutputTable, always};
 ghost use Rattle.vt_replay.specs.Traces.{traced_begun, traced_on, traced_end_on, trace_with, trace_end_with};
 
 use crate::language::Language;
-use crate::output::{AS_THEY_COME, write_output_from};
+use crate::output::write_output_from;
 use crate::player::{PlainPlayer, Utf8Player, XtermPlayer};
 use crate::resized::Resize;
 use crate::trace_output::TraceOutput;
@@ -81,13 +81,5 @@ fn write_trace_by<P: TracePlayer, S: Source, W: Write>(
     ensures whole { S.ended reader.new ≡ true → IsAtEnd (S.remaining reader.new) }
 {
     let mut output = TraceOutput::<P>::new(alloc, size, resizes, piece)?;
-    write_output_from(
-        alloc,
-        &mut output,
-        AS_THEY_COME,
-        reader,
-        writer,
-        piece,
-        limit,
-    )
+    write_output_from(alloc, &mut output, reader, writer, piece, limit)
 }

@@ -1,7 +1,7 @@
--- A terminal on a screen of another size. (xterm, if its window changes and it keeps no lines that left the screen. This profile: a saved
--- place is brought inside at once, and not when it is restored; a wrap flag is in the last column alone; a column that comes in has
--- the tab stop of power-up)
-use Rattle.std.specs.Prelude.{ℕ, ◌+◌, ◌-◌, List, Bool, ◌==◌, ◌&&◌, min, nat_le, length, if◌then◌else◌}
+-- A terminal on a screen of another size. (xterm, if its window changes and it keeps no lines that left the screen. tmux: a saved place
+-- moves with its row, and the page that isn't shown goes by its own cursor. This profile: a saved place is brought inside at once; a wrap
+-- flag is in the last column alone; a column that comes in has the tab stop of power-up)
+use Rattle.std.specs.Prelude.{ℕ, ◌+◌, ◌-◌, List, Bool, ◌==◌, ◌&&◌, min, max, nat_le, length, if◌then◌else◌}
 use Rattle.vt_screen.specs.Grid.{width_on, grid_on}
 use Rattle.vt_screen.specs.declared.size.Size.{Size}
 use Rattle.vt_term.specs.declared.state.Cursor.{Cursor}
@@ -28,10 +28,10 @@ wrap_on width col wrap = wrap && nat_le width col
 abbrev pub cursor_on : ℕ → ℕ → Cursor → Cursor
 cursor_on rows width c = record { row = min c.row rows; col = col_on width c.col c.wrap; wrap = wrap_on width c.col c.wrap }
 
--- what DECSC saved, its place brought inside in the same way
-abbrev pub saved_on : ℕ → ℕ → Saved → Saved
-saved_on rows width saved = record saved {
-  row = min saved.row rows;
+-- what DECSC saved: its place moves up with its row, after so many rows have left at the top, and is brought inside
+abbrev pub saved_on : ℕ → ℕ → ℕ → Saved → Saved
+saved_on rows width off saved = record saved {
+  row = min (max 1 (saved.row - off)) rows;
   col = col_on width saved.col saved.wrap;
   wrap = wrap_on width saved.col saved.wrap;
 }
@@ -47,8 +47,12 @@ stops_on columns stops = stops_where columns (is_stop_on stops)
 abbrev pub page_on : Size → ℕ → PageState → PageState
 page_on size off page = record {
   grid = grid_on size off page.grid;
-  saved = saved_on size.rows (width_on size page.grid) page.saved;
+  saved = saved_on size.rows (width_on size page.grid) off page.saved;
 }
+
+-- the rows that leave a page by its saved place: as many as this would be below the last row
+abbrev pub hidden_off : Size → PageState → ℕ
+hidden_off size page = page.saved.row - size.rows
 
 -- the screen has as many rows and columns as before
 abbrev pub is_as_large : Size → Display → Bool
@@ -78,3 +82,7 @@ state_on size s = record s { display = display_on size s.display }
 -- what a resize adds to the log: the texts of the rows that leave. (this profile)
 abbrev pub log_on : Size → State → List ℕ
 log_on size s = lines_text (count_off size s.display) s.display.grid
+
+-- the same of a page that isn't shown, and goes by its saved place
+abbrev pub hidden_log : Size → PageState → List ℕ
+hidden_log size page = lines_text (hidden_off size page) page.grid

@@ -121,10 +121,6 @@ state_of size = record { display = display_of size; held = Nothing }
 abbrev pub full_margins : Margins
 full_margins = margins_of vt220_size
 
--- columns 9, 17, .. 129
-abbrev pub stops_at_power_up : List Bool
-stops_at_power_up = stops_of vt220_size.wide
-
 abbrev pub display_at_power_up : Display
 display_at_power_up = display_of vt220_size
 

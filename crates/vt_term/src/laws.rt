@@ -6,7 +6,7 @@ ghost use Rattle.vt_glyph.specs.Invocation.{has_no_glyph, glyph_read, after_read
 ghost use Rattle.vt_glyph.specs.Tables.{substitute_glyph};
 ghost use Rattle.vt_screen.specs.declared.size.Size.{Size};
 ghost use Rattle.vt_screen.specs.Sizes.{IsSize};
-ghost use Rattle.vt_screen.specs.Grid.{scroll_up, cell_at};
+ghost use Rattle.vt_screen.specs.Grid.{scroll_up, cell_at, width_on};
 ghost use Rattle.vt_term.specs.State.{Display, at_place};
 ghost use Rattle.vt_term.specs.Functions.{effect};
 ghost use Rattle.vt_term.specs.Writing.{put_glyph, write_glyphs, write_if_read, IsAfterGlyphs};
@@ -14,7 +14,8 @@ ghost use Rattle.vt_term.specs.Scrolling.{is_line_feed, is_at_end, scrolls_off};
 ghost use Rattle.vt_term.specs.State.{State, power_up, state_of};
 ghost use Rattle.vt_term.specs.Sound.{IsSoundAt, IsSound, IsSoundSized};
 ghost use Rattle.vt_term.specs.Pages.{PageState, IsSoundPageAt, IsSoundSizedPage};
-ghost use Rattle.vt_term.specs.Resizing.{count_off, page_on, state_on, log_on};
+ghost use Rattle.vt_term.specs.Resizing.{count_off, state_on, log_on, page_on, hidden_off, hidden_log};
+ghost use Rattle.vt_term.specs.Text.{lines_text};
 ghost use Rattle.vt_term.specs.Scrolling.{scrolled_off, log};
 ghost use Rattle.vt_term.specs.Play.{play, both, play_all, joined};
 ghost use Rattle.vt_term.specs.Happenings.{happenings, events_in, lines_in};
@@ -84,32 +85,12 @@ pub fn sized_happened()
     sized_soundness();
 }
 
-/// States that the happenings of bytes, one for each byte, have the events of the bytes and the lines that they scroll
-/// off. They may be told in parts.
-pub fn happened()
-    ensures events { (s : State) (bytes : List ℕ) → IsSound s → events_in (happenings s bytes) ≡ events_from s.held bytes }
-    ensures lines { (s : State) (bytes : List ℕ) → IsSound s → lines_in (happenings s bytes) ≡ scrolled_off s bytes }
-    ensures count { (s : State) (bytes : List ℕ) → length (happenings s bytes) ≡ length bytes }
-    ensures two { (s : State) (a b : List ℕ) → IsSound s
-        → happenings s (a ++ b) ≡ happenings s a ++ happenings (play s a).state b }
-{
-    sized_happened();
-}
-
 /// States that the log of chunks in turn is the log of the chunks joined, at any size.
 pub fn sized_log_cuts()
     ensures none { (size : Size) (s : State) → IsSoundAt size s → log s [] ≡ [] }
     ensures two { (s : State) (a b : List ℕ) → log s (a ++ b) ≡ log s a ++ log (play s a).state b }
 {
     one_split();
-}
-
-/// States that the log of chunks in turn is the log of the chunks joined.
-pub fn log_cuts()
-    ensures none { (s : State) → IsSound s → log s [] ≡ [] }
-    ensures two { (s : State) (a b : List ℕ) → log s (a ++ b) ≡ log s a ++ log (play s a).state b }
-{
-    sized_log_cuts();
 }
 
 /// States what the events do that scroll line 1 off: the rows up to the bottom margin move up by one. A line feed does nothing
@@ -145,11 +126,14 @@ pub fn glyph_runs()
 
 /// States what a change of the screen's size keeps. At its own size a state stays as it is, and nothing goes to the
 /// log. A page of which no row leaves stays, too. Cells that both screens have stay, and the cursor stays in its line.
-/// A sound state is sound at the other size, and so is a page.
+/// A sound state is sound at the other size, and so is a page. No line is lost if the height changes alone: what goes to
+/// the log, followed by the rows up to the cursor, is the rows up to the cursor of before. The same is so of a page that goes
+/// by its saved place.
 pub fn resizes()
     ensures own { (s : State) → IsSoundSized s → state_on s.display.grid.size s ≡ s }
     ensures own_log { (s : State) → IsSoundSized s → log_on s.display.grid.size s ≡ [] }
     ensures own_page { (page : PageState) → IsSoundSizedPage page → page_on page.grid.size 0 page ≡ page }
+    ensures own_page_log { (page : PageState) → IsSoundSizedPage page → hidden_log page.grid.size page ≡ [] }
     ensures inside { (size : Size) (s : State) (r c : ℕ) → 1 ≤ r → r ≤ size.rows
         → r + count_off size s.display ≤ s.display.grid.size.rows → 1 ≤ c → c ≤ s.display.grid.width
         → c ≤ (state_on size s).display.grid.width
@@ -157,6 +141,16 @@ pub fn resizes()
     ensures line { (size : Size) (s : State)
         → (state_on size s).display.cursor.row + count_off size s.display ≡ s.display.cursor.row }
     ensures sound { (size : Size) (s : State) → IsSize size → IsSoundSized s → IsSoundAt size (state_on size s) }
+    ensures line_page { (size : Size) (page : PageState) → IsSize size → IsSoundSizedPage page
+        → (page_on size (hidden_off size page) page).saved.row + hidden_off size page ≡ page.saved.row }
     ensures sound_page { (size : Size) (off : ℕ) (page : PageState) → IsSize size → IsSoundSizedPage page
         → IsSoundPageAt size (page_on size off page) }
+    ensures kept { (size : Size) (s : State) → IsSoundSized s → width_on size s.display.grid ≡ s.display.grid.width
+        → log_on size s ++ lines_text (state_on size s).display.cursor.row (state_on size s).display.grid
+        ≡ lines_text s.display.cursor.row s.display.grid }
+    ensures kept_page { (size : Size) (page : PageState) → IsSize size → IsSoundSizedPage page
+        → width_on size page.grid ≡ page.grid.width
+        → hidden_log size page
+        ++ lines_text (page_on size (hidden_off size page) page).saved.row (page_on size (hidden_off size page) page).grid
+        ≡ lines_text page.saved.row page.grid }
 {}

@@ -34,13 +34,13 @@ mod unseen;
 mod writing;
 
 pub use functions::count;
-pub use observing::{Both, Nobody, Observer};
+pub use observing::{Nobody, Observer};
 pub use page::{Page, SizedPage};
 pub use profile::{Profile, Vt220};
 pub use scrolling::Lines;
 pub use sized::{REPORT_LIMIT, SizedTerminal};
 pub use state::{Cursor, Margins, Modes, Saved};
-pub use tabs::{STOPS, stops_at_power_up};
+pub use tabs::STOPS;
 pub use terminal::{ROW_TEXT_LIMIT, TEXT_LIMIT, Terminal};
 pub use unseen::Passed;
 pub use vt_glyph::{Glyph, Set, Sets};

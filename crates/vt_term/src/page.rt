@@ -2,11 +2,9 @@
 ghost use Rattle.std.specs.Prelude.{◌≡◌, ◌≤◌, Bool, IfOk};
 ghost use Rattle.vt_screen.specs.Sizes.{width_of, IsSize};
 ghost use Rattle.vt_term.specs.State.{display_of, state_of};
-ghost use Rattle.vt_term.specs.Resizing.{page_on};
 ghost use Rattle.vt_term.specs.Pages.{PageState, IsSoundSizedPage, page_at_power_up, blank_page, blanked, fitted, page_of, with_page};
 
 use crate::display::Display;
-use crate::resizing::saved_on;
 use crate::sized::SizedTerminal;
 use crate::state::Saved;
 use std::alloc::{AllocError, Global};
@@ -17,8 +15,8 @@ use vt_syntax::Parser;
 /// A page of any size: the cells of a screen, and the state that DECSC saved on it. `new` allocates its memory, and nothing else does.
 #[derive(Drop)]
 pub struct SizedPage {
-    screen: Screen,
-    saved: Saved,
+    pub(crate) screen: Screen,
+    pub(crate) saved: Saved,
 }
 
 impl Model for SizedPage {
@@ -75,18 +73,6 @@ impl SizedPage {
         ensures sound { IsSize self.now.grid.size }
     {
         self.screen.size()
-    }
-
-    /// Makes another page, of any size, show what this one shows after its first `off` rows have left at the top.
-    /// Brings the saved place inside. It never fails and allocates nothing. (xterm: a window that changes its size)
-    pub fn resize_into(&self, off: usize, target: &mut SizedPage)
-        requires { off ≤ self.now.grid.size.rows }
-        ensures { target.new ≡ page_on target.old.grid.size off self.now }
-    {
-        self.soundness();
-        let size = target.screen.size();
-        target.screen.copy_on(&self.screen, off);
-        target.saved = saved_on(self.saved, size.rows, self.screen.width_on(size));
     }
 
     /// States that the page is sound, for proofs. It does nothing when it runs.

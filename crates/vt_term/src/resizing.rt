@@ -2,11 +2,13 @@
 ghost use Rattle.std.specs.Prelude.{◌≡◌, ◌≤◌, ◌+◌, ◌*◌, ◌++◌, vec_len, vec_capacity, IsOk, OnOk, OnErr};
 ghost use Rattle.vt_term.specs.Text.{row_text_limit};
 ghost use Rattle.vt_term.specs.Resizing.{count_off, col_on, cursor_on, saved_on, is_as_large, margins_on, modes_on};
-ghost use Rattle.vt_term.specs.Resizing.{display_on, state_on, log_on};
+ghost use Rattle.vt_term.specs.Resizing.{display_on, state_on, log_on, page_on, hidden_off, hidden_log};
 
 use crate::display::Display;
+use crate::page::SizedPage;
 use crate::sized::SizedTerminal;
 use crate::state::{Cursor, Margins, Modes, Saved};
+use crate::text::push_rows;
 use std::alloc::AllocError;
 use vt_screen::Size;
 
@@ -31,12 +33,13 @@ fn cursor_on(cursor: Cursor, rows: usize, width: usize) -> Cursor
     }
 }
 
-/// Returns what DECSC saved, with its place brought inside in the same way.
-pub(crate) fn saved_on(saved: Saved, rows: usize, width: usize) -> Saved
-    ensures { result ≡ saved_on rows width saved }
+/// Returns what DECSC saved after `off` rows have left at the top. Its place moves up with its row, and is brought inside in the
+/// same way.
+fn saved_on(saved: Saved, rows: usize, width: usize, off: usize) -> Saved
+    ensures { result ≡ saved_on rows width off saved }
 {
     let mut inside = saved;
-    inside.row = saved.row.min(rows);
+    inside.row = saved.row.saturating_sub(off).max(1).min(rows);
     inside.col = col_on(width, saved.col, saved.wrap);
     inside.wrap = saved.wrap && width <= saved.col;
     inside
@@ -85,14 +88,15 @@ impl Display {
         self.soundness();
         let size = target.screen.size();
         let width = self.screen.width_on(size);
-        target.screen.copy_on(&self.screen, self.count_off(size));
+        let off = self.count_off(size);
+        target.screen.copy_on(&self.screen, off);
         target.cursor = cursor_on(self.cursor, size.rows, width);
         target.pen = self.pen;
         target.sets = self.sets;
         target.margins = self.margins_on(size);
         target.stops = self.stops.on(size.wide);
         target.modes = self.modes_on(size);
-        target.saved = saved_on(self.saved, size.rows, width);
+        target.saved = saved_on(self.saved, size.rows, width, off);
     }
 }
 
@@ -123,7 +127,7 @@ impl SizedTerminal {
         let _ = self.size();
         let count = self.count_off(size);
         out.reserve(count * self.row_text_limit())?;
-        self.rows_text_reserved(count, out);
+        push_rows(&self.display.screen, count, out);
         Ok(())
     }
 
@@ -131,7 +135,8 @@ impl SizedTerminal {
     /// included. It never fails and allocates nothing. (xterm: a window that changes its size, without saved lines)
     ///
     /// If the cursor would be below the last row, so many rows leave at the top (`count_off`, `log_on`). The rows and columns
-    /// that both screens have stay, and the others are blank. The cursor and the saved place are brought inside. A wrap flag
+    /// that both screens have stay, and the others are blank. The saved place moves up with its row. The cursor and the saved
+    /// place are brought inside. A wrap flag
     /// stays in the last column, and on a wider screen becomes the next column. Unless the screen has as many rows and
     /// columns as before, its margins are full, and DECOM is reset. Tab stops stay, and columns that come in have those of
     /// power-up.
@@ -140,5 +145,46 @@ impl SizedTerminal {
     {
         self.display.resize_into(&mut target.display);
         target.parser = self.parser.copied();
+    }
+}
+
+impl SizedPage {
+    /// Returns how many rows leave at the top if the screen gets another size and the page goes by its saved place: as many as
+    /// this place would be below the last row.
+    pub fn count_off(&self, size: Size) -> usize
+        ensures off { result ≡ hidden_off size self.now }
+        ensures bound { result ≤ self.now.grid.size.rows }
+    {
+        self.soundness();
+        self.saved.row.saturating_sub(size.rows)
+    }
+
+    /// Appends to `out` what a change to another size adds to the log, as `SizedTerminal::log_on` does, if the page goes by its
+    /// saved place.
+    pub fn log_on(&self, size: Size, out: &mut Vec<u8>) -> Result<(), AllocError>
+        ensures ok { OnOk result (out.new.items ≡ out.old.items ++ hidden_log size self.now) }
+        ensures err { OnErr result (out.new.items ≡ out.old.items) }
+        ensures has_room { vec_len out.old + hidden_off size self.now * row_text_limit self.now.grid.size ≤ vec_capacity out.old
+            → IsOk result }
+        ensures bounded { vec_len out.new ≤ vec_len out.old + hidden_off size self.now * row_text_limit self.now.grid.size }
+        ensures capacity { vec_capacity out.old ≤ vec_capacity out.new }
+    {
+        let count = self.count_off(size);
+        out.reserve(count * (3 * self.size().wide + 1))?;
+        push_rows(&self.screen, count, out);
+        Ok(())
+    }
+
+    /// Makes another page, of any size, show what this one shows after its first `off` rows have left at the top.
+    /// The saved place moves up with its row, and is brought inside. It never fails and allocates nothing. (xterm: a window
+    /// that changes its size; tmux: the saved place)
+    pub fn resize_into(&self, off: usize, target: &mut SizedPage)
+        requires { off ≤ self.now.grid.size.rows }
+        ensures { target.new ≡ page_on target.old.grid.size off self.now }
+    {
+        self.soundness();
+        let size = target.screen.size();
+        target.screen.copy_on(&self.screen, off);
+        target.saved = saved_on(self.saved, size.rows, self.screen.width_on(size), off);
     }
 }

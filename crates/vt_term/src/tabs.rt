@@ -2,7 +2,7 @@
 ghost use Rattle.std.specs.Prelude.{◌≡◌, ◌≤◌, ◌<◌, ◌-◌, ◌↔◌, IsTrue, length, slice_set};
 ghost use Rattle.vt_term.specs.Tabs.{horizontal_tab, set_tab, clear_tabs, next_stop_of, no_stops};
 ghost use Rattle.vt_term.specs.Resizing.{is_stop_on, stops_on};
-ghost use Rattle.vt_term.specs.State.{stops_of, stops_at_power_up, is_stop_at_power_up};
+ghost use Rattle.vt_term.specs.State.{stops_of, is_stop_at_power_up};
 
 use crate::display::Display;
 use crate::same::same_stops;
@@ -66,15 +66,6 @@ fn set_on(stops: &mut [bool], from: &[bool])
     for col in 1..stops.len() + 1 {
         stops[col - 1] = has_stop_on(from, col);
     }
-}
-
-/// Returns the tab stops of a VT220 at power-up, at columns 9, 17, .. 129: index c - 1 for column c. (This profile)
-pub fn stops_at_power_up() -> [bool; STOPS]
-    ensures { result ≡ stops_at_power_up }
-{
-    let mut stops = [false; STOPS];
-    set_at_power_up(&mut stops);
-    stops
 }
 
 impl TabStops {

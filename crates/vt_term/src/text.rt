@@ -6,6 +6,32 @@ ghost use Rattle.vt_term.specs.Text.{text, line_text, lines_text, row_text_limit
 use crate::line::push_line;
 use crate::sized::SizedTerminal;
 use std::alloc::AllocError;
+use vt_screen::Screen;
+
+/// Appends the text of one row of a screen, from 1, to `out`, which has capacity for `row_text_limit` more bytes.
+fn push_row(screen: &Screen, row: usize, out: &mut Vec<u8>)
+    requires row { (1 ≤ row) × (row ≤ screen.now.size.rows) }
+    requires room { vec_len out.old + row_text_limit screen.now.size ≤ vec_capacity out.old }
+    ensures items { out.new.items ≡ out.old.items ++ line_text (row_of screen.now row) }
+    ensures bounded { vec_len out.new ≤ vec_len out.old + row_text_limit screen.now.size }
+    ensures capacity { vec_capacity out.old ≤ vec_capacity out.new }
+{
+    push_line(screen.row(row), out);
+}
+
+/// Appends the texts of the first `count` rows of a screen to `out`, which has capacity for `row_text_limit` more bytes for each
+/// of them.
+pub(crate) fn push_rows(screen: &Screen, count: usize, out: &mut Vec<u8>)
+    requires rows { count ≤ screen.now.size.rows }
+    requires room { vec_len out.old + count * row_text_limit screen.now.size ≤ vec_capacity out.old }
+    ensures items { out.new.items ≡ out.old.items ++ lines_text count screen.now }
+    ensures bounded { vec_len out.new ≤ vec_len out.old + count * row_text_limit screen.now.size }
+    ensures capacity { vec_capacity out.old ≤ vec_capacity out.new }
+{
+    for row in 1..count + 1 {
+        push_row(screen, row, out);
+    }
+}
 
 impl SizedTerminal {
     /// Returns the limit of the text of a row in bytes: three for each cell of the wide screen, and LF.
@@ -47,21 +73,7 @@ impl SizedTerminal {
         ensures bounded { vec_len out.new ≤ vec_len out.old + text_limit self.now.display.grid.size }
         ensures capacity { vec_capacity out.old ≤ vec_capacity out.new }
     {
-        self.rows_text_reserved(self.size().rows, out);
-    }
-
-    /// Appends the texts of the first `count` rows to `out`, which has capacity for `row_text_limit` more bytes for each of them.
-    #[inline(always)]
-    pub(crate) fn rows_text_reserved(&self, count: usize, out: &mut Vec<u8>)
-        requires rows { count ≤ self.now.display.grid.size.rows }
-        requires room { vec_len out.old + count * row_text_limit self.now.display.grid.size ≤ vec_capacity out.old }
-        ensures items { out.new.items ≡ out.old.items ++ lines_text count self.now.display.grid }
-        ensures bounded { vec_len out.new ≤ vec_len out.old + count * row_text_limit self.now.display.grid.size }
-        ensures capacity { vec_capacity out.old ≤ vec_capacity out.new }
-    {
-        for row in 1..count + 1 {
-            self.row_text_reserved(row, out);
-        }
+        push_rows(&self.display.screen, self.size().rows, out);
     }
 
     /// Appends the text of one row, from 1, to `out`, which has capacity for `row_text_limit` more bytes. It never fails
@@ -73,8 +85,6 @@ impl SizedTerminal {
         ensures bounded { vec_len out.new ≤ vec_len out.old + row_text_limit self.now.display.grid.size }
         ensures capacity { vec_capacity out.old ≤ vec_capacity out.new }
     {
-        self.soundness();
-        let cells = self.row(row);
-        push_line(cells, out);
+        push_row(&self.display.screen, row, out);
     }
 }

@@ -1,38 +1,41 @@
 -- The kinds of items without a function, byte by byte.
-use Rattle.std.proofs.Common.{◌≡◌, ℕ, ◌-◌, ◌≤◌, ◌⊎◌, inl, inr, List, [], ◌∷◌, ◌++◌, Bool, true, false, cond, eqb}
-use Rattle.std.proofs.Common.{Option, Some, None, refl, sym, ap, ◌∙◌, arith, flat_map, append-nil, append_assoc, length, take}
-use Rattle.std.specs.Prelude.{◌&&◌, All, slice_index, nat_lt}
+use Rattle.std.proofs.Common.{◌≡◌, ℕ, List, [], ◌∷◌, ◌++◌, Bool, true, false, cond, eqb, Option, Some, None}
+use Rattle.std.proofs.Common.{refl, sym, ap, ◌∙◌, arith, flat_map, append-nil, append_assoc, length}
+use Rattle.std.specs.Prelude.{◌&&◌, nat_lt, if◌then◌else◌}
 use Rattle.std.proofs.lemmas.Bool.Decides.{nat_tests}
-use Rattle.vt_glyph.specs.Invocation.{HasGlyph}
-use Rattle.vt_syntax.specs.declared.event.Event.{Event}
 use Rattle.vt_syntax.specs.declared.held.Held.{Held}
 use Rattle.vt_syntax.specs.declared.held.Held.TheVariants.{Nothing}
-use Rattle.vt_syntax.specs.Class.{IsPlain, is_cancel, class_of, opens_string}
-use Rattle.vt_syntax.specs.Items.{Opening, Beginning, OfEscape, OfControl, OfString, Item, Single, Ended, Cut, ends_string}
-use Rattle.vt_syntax.specs.Items.{IsBeginning, IsItemBefore, IsRest}
-use Rattle.vt_syntax.specs.Split.{Parts, AreItems, bytes_of, items_before, split_one, split_after, split_of}
-use Rattle.vt_syntax.specs.Reading.{function, is_spoilt, without_quiet, marker_of, params_of, values_of}
+use Rattle.vt_syntax.specs.Class.{class_of, opens_string}
+use Rattle.vt_syntax.specs.Items.{Opening, Beginning, OfEscape, OfControl, OfString, Item, ends_string, IsRest}
+use Rattle.vt_syntax.specs.Split.{Parts, items_before, split_one, split_after, split_of}
+use Rattle.vt_syntax.specs.Reading.{is_spoilt, without_quiet, marker_of, params_of, values_of}
 use Rattle.vt_syntax.specs.declared.class.Class.{Class}
 use Rattle.vt_syntax.specs.declared.class.Class.TheVariants.{Quiet, Cancel, Esc, Intermediate, Parameter, Final, High}
 use Rattle.vt_syntax.specs.declared.held.Phase.{Phase}
 use Rattle.vt_syntax.specs.declared.held.Phase.TheVariants.{Start, Values, Inter}
-use Rattle.vt_syntax.specs.Held.{held_of, held_control, phase_of, held_after, held_from, events_from}
+use Rattle.vt_syntax.specs.Held.{held_of, held_control, phase_of, held_after, held_from}
 use Rattle.vt_syntax.specs.Steps.{Step, step_of, step_early_parameter, step_parameter, step_intermediate}
-use Rattle.vt_syntax.specs.Laws.{SplitLaw, SpellingLaw}
-use Rattle.vt_syntax.proofs.Splits.{split_of_split, last_is_rest}
+use Rattle.vt_syntax.specs.Laws.{SplitLaw}
+use Rattle.vt_syntax.proofs.Splits.{last_is_rest}
 use Rattle.vt_syntax.proofs.Cutting.{read_step, held_part}
-use Rattle.std.specs.List.{list_all}
-use Rattle.vt_glyph.specs.LookUp.{contains}
-use Rattle.vt_trace.specs.Skipped.{cut_sequence, spoilt_sequence, all_kinds, item_kind, cut_kind, sequence_kind, item_kinds, rest_kind}
-use Rattle.vt_trace.specs.Skipped.{kinds_of, is_empty, code_of}
-use Rattle.vt_syntax.specs.declared.event.Event.TheVariants.{Print, Control, Escape, Sequence}
-use Rattle.vt_syntax.specs.Spelling.{IsEvent, IsGraphic, IsC0, IsC1}
-use Rattle.vt_trace.specs.Summary.{kind_number}
-use Rattle.vt_trace.proofs.Counts.{not_equal}
+use Rattle.vt_trace.specs.Skipped.{cut_sequence, item_kind, item_kinds, rest_kind, kinds_of, is_empty, code_of}
 use Rattle.vt_trace.specs.Trace.{is_nothing, is_string, cuts_off, ends_silent, open_kind, ended_kind, code_after}
-use Rattle.vt_trace.specs.Runs.{is_graphic, step_kind, byte_kind, IsItem}
-use Rattle.vt_trace.proofs.Runs.{tail_of_plain, not_between, not_cut, not_ended, event_ends, first_quiet, rest_quiet, rest_event}
-use Rattle.vt_trace.proofs.Runs.{last_apart, no_one, tail_of_all, glyph_events, glyph_held}
+
+-- the kind of an item without a function: of one that is cut off, or of one that has ended
+abbrev pub step_kind : ℕ → (cut ended : Bool) → ℕ → List ℕ
+step_kind code cut ended kind = if cut then open_kind code ∷ [] else (if ended then kind ∷ [] else [])
+
+-- the kind of the item without a function that a byte cuts off or ends
+abbrev pub byte_kind : ℕ → Held → ℕ → List ℕ
+byte_kind code held b = step_kind code (cuts_off held b) (ends_silent held b) (ended_kind code held b)
+
+-- the kinds of the items without a function that bytes end or cut off, and of what is left. Before them this part is
+-- held, and the C1 control `code` opened it if it is a string
+unfoldable pub kinds_from : (code : ℕ) → Held → List ℕ → List ℕ
+kinds_from code held [] = if is_nothing held then [] else open_kind code ∷ []
+kinds_from code held (b ∷ bytes) =
+    byte_kind code held b
+    ++ kinds_from (code_after code (is_string held) (held_from held (b ∷ [])) b) (held_from held (b ∷ [])) bytes
 
 string_code : (code : ℕ) → opens_string code ≡ true → eqb code 0 ≡ false
 unfolding opens_string
@@ -239,182 +242,34 @@ open_rest (Some (OfControl opening inside)) is = go (is_spoilt (without_quiet in
 open_rest (Some (OfString opening code content)) is =
     ap (λ (v : Bool). cond v cut_sequence code ∷ []) (string_code code is.1)
 
-nothing_left : (rest : Option Beginning) → held_of rest ≡ Nothing → code_of rest ≡ 0
-nothing_left None is = refl
-nothing_left (Some (OfEscape inside)) is = refl
-nothing_left (Some (OfControl opening inside)) is = refl
-nothing_left (Some (OfString opening code content)) is = absurd cc
+-- what is held after more bytes
+held_more : (held : Held) (bytes front : List ℕ) → SplitLaw → held ≡ held_after bytes
+    → held_after (bytes ++ front) ≡ held_from held front
+held_more held bytes front law is =
+    law.held_append Nothing bytes front ∙ ap (λ (h : Held). held_from h front) (sym is)
 
--- ---- an event that is one item
-
-no_kind : (code : ℕ) (h : Held) (b : ℕ) → cuts_off h b ≡ false → ends_silent h b ≡ false → byte_kind code h b ≡ []
-no_kind code h b whole inner =
-    ap (λ (v : Bool). step_kind code v (ends_silent h b) (ended_kind code h b)) whole
-    ∙ ap (λ (v : Bool). step_kind code false v (ended_kind code h b)) inner
-
-same_kinds : (bytes : List ℕ) (b : ℕ) → cuts_off (held_after bytes) b ≡ false → ends_silent (held_after bytes) b ≡ false
-    → item_kinds (bytes ++ b ∷ []) ≡ item_kinds bytes
-same_kinds bytes b whole inner =
+pub kinds_more : (bytes more : List ℕ) (code : ℕ) (held : Held) → SplitLaw → code ≡ code_of (split_of bytes).rest
+    → held ≡ held_after bytes → kinds_of (bytes ++ more) ≡ item_kinds bytes ++ kinds_from code held more
+unfolding kinds_from
+kinds_more bytes [] code held law is_code is_held =
+    let rest = (split_of bytes).rest in
+    ap (λ (l : List ℕ). kinds_of l) (append-nil bytes)
+    ∙ ap (λ (l : List ℕ). item_kinds bytes ++ l) (sym (open_rest rest (last_is_rest bytes)))
+    ∙ ap (λ n. item_kinds bytes ++ cond (is_nothing (held_of rest)) [] (open_kind n ∷ [])) (sym is_code)
+    ∙ ap (λ (h : Held). item_kinds bytes ++ cond (is_nothing h) [] (open_kind code ∷ [])) (sym is_held)
+kinds_more bytes (b ∷ more) code held law is_code is_held =
+    let byte : List ℕ = b ∷ [] in
+    let code_then : ℕ = code_after code (is_string held) (held_from held byte) b in
+    let code_is : code_then ≡ code_of (split_of (bytes ++ byte)).rest =
+    ap (λ n. code_after n (is_string held) (held_from held byte) b) is_code
+    ∙ ap (λ (h : Held). code_after (code_of (split_of bytes).rest) (is_string h) (held_from h byte) b) is_held
+    ∙ sym (code_of_byte bytes b) in
+    let held_is : held_from held byte ≡ held_after (bytes ++ byte) = sym (held_more held bytes byte law is_held) in
+    let one : item_kinds (bytes ++ byte) ≡ item_kinds bytes ++ byte_kind code held b =
     kinds_of_byte bytes b
-    ∙ ap (λ (l : List ℕ). item_kinds bytes ++ l) (no_kind (code_of (split_of bytes).rest) (held_after bytes) b whole inner)
-    ∙ append-nil (item_kinds bytes)
-
-module _ (law : SpellingLaw) (split : SplitLaw) where
-  next_held : (bytes : List ℕ) (b : ℕ) → held_from (held_after bytes) (b ∷ []) ≡ held_after (bytes ++ b ∷ [])
-  next_held bytes b = sym (split.held_append Nothing bytes (b ∷ []))
-
-  -- bytes inside a sequence, up to its last
-  inside_kinds : (front : List ℕ) (last : ℕ) (e : Event) (bytes : List ℕ) → All IsPlain (front ++ last ∷ []) → is_graphic e ≡ false
-      → events_from (held_after bytes) front ≡ [] → events_from (held_after bytes) (front ++ last ∷ []) ≡ e ∷ []
-      → item_kinds (bytes ++ (front ++ last ∷ [])) ≡ item_kinds bytes
-  inside_kinds [] last e bytes all other none events =
-      let inside = not_between law split [] last e (held_after bytes) all other events in
-      same_kinds bytes last (not_cut (held_after bytes) last inside (all 0 0 (omega arith))) (event_ends (held_after bytes) last e events)
-  inside_kinds (b ∷ front) last e bytes all other none events =
-      let h = held_after bytes in
-      let here = first_quiet law split h b front none in
-      let whole = rest_event law split h b (front ++ last ∷ []) e here events in
-      let rest = tail_of_plain b (front ++ last ∷ []) all in
-      let inside = not_between law split (b ∷ front) last e h all other events in
-      ap item_kinds (sym (append_assoc bytes (b ∷ []) (front ++ last ∷ [])))
-      ∙ inside_kinds front last e (bytes ++ b ∷ []) rest other
-      (ap (λ (k : Held). events_from k front) (sym (next_held bytes b)) ∙ rest_quiet law split h b front none)
-      (ap (λ (k : Held). events_from k (front ++ last ∷ [])) (sym (next_held bytes b)) ∙ whole)
-      ∙ same_kinds bytes b (not_cut h b inside (all 0 0 (omega arith)))
-      (not_ended h b (not_between law split front last e (held_from h (b ∷ [])) rest other whole))
-
-  -- an event between sequences
-  one_item : (front : List ℕ) (last : ℕ) (e : Event) (bytes : List ℕ) → held_after bytes ≡ Nothing
-      → IsItem (front ++ last ∷ []) e → events_from Nothing front ≡ [] → events_from Nothing (front ++ last ∷ []) ≡ e ∷ []
-      → item_kinds (bytes ++ (front ++ last ∷ [])) ≡ item_kinds bytes
-  one_item [] last e bytes nothing is none events =
-      same_kinds bytes last (ap (λ (h : Held). cuts_off h last) nothing)
-      (event_ends (held_after bytes) last e (ap (λ (h : Held). events_from h (last ∷ [])) nothing ∙ events))
-  one_item (b ∷ front) last e bytes nothing (inl one) none events = absurd (no_one b front last one)
-  one_item (b ∷ front) last e bytes nothing (inr is) none events =
-      let h = held_after bytes in
-      let silent = ap (λ (k : Held). events_from k (b ∷ front)) nothing ∙ none in
-      let asked = ap (λ (k : Held). events_from k (b ∷ (front ++ last ∷ []))) nothing ∙ events in
-      let here = first_quiet law split h b front silent in
-      let whole = rest_event law split h b (front ++ last ∷ []) e here asked in
-      ap item_kinds (sym (append_assoc bytes (b ∷ []) (front ++ last ∷ [])))
-      ∙ inside_kinds front last e (bytes ++ b ∷ []) is.1 is.0
-      (ap (λ (k : Held). events_from k front) (sym (next_held bytes b)) ∙ rest_quiet law split h b front silent)
-      (ap (λ (k : Held). events_from k (front ++ last ∷ [])) (sym (next_held bytes b)) ∙ whole)
-      ∙ same_kinds bytes b (ap (λ (k : Held). cuts_off k b) nothing)
-      (not_ended h b (not_between law split front last e (held_from h (b ∷ [])) is.1 is.0 whole))
-
-  pub kinds_of_item : (item : List ℕ) (e : Event) (bytes : List ℕ) → 1 ≤ length item → held_after bytes ≡ Nothing
-      → IsItem item e → events_from Nothing (take (length item - 1) item) ≡ [] → events_from Nothing item ≡ e ∷ []
-      → item_kinds (bytes ++ item) ≡ item_kinds bytes
-  kinds_of_item item e bytes some nothing is none events =
-      let parts = last_apart item some in
-      ap (λ (l : List ℕ). item_kinds (bytes ++ l)) (sym parts)
-      ∙ one_item (take (length item - 1) item) (slice_index item (length item - 1)) e bytes nothing (rw parts is) none
-      (ap (λ (l : List ℕ). events_from Nothing l) parts ∙ events)
-
-  pub code_of_item : (item bytes : List ℕ) → held_after bytes ≡ Nothing → held_from Nothing item ≡ Nothing
-      → code_of (split_of bytes).rest ≡ code_of (split_of (bytes ++ item)).rest
-  code_of_item item bytes nothing ends =
-      nothing_left (split_of bytes).rest nothing
-      ∙ sym (nothing_left (split_of (bytes ++ item)).rest (split.held_append Nothing bytes item
-      ∙ ap (λ (h : Held). held_from h item) nothing ∙ ends))
-
-  -- graphic bytes between sequences
-  pub kinds_of_run : (run bytes : List ℕ) → held_after bytes ≡ Nothing → All HasGlyph run → item_kinds (bytes ++ run) ≡ item_kinds bytes
-  kinds_of_run [] bytes nothing all = ap item_kinds (append-nil bytes)
-  kinds_of_run (b ∷ run) bytes nothing all =
-      let first : HasGlyph b = all 0 0 (omega arith) in
-      ap item_kinds (sym (append_assoc bytes (b ∷ []) run))
-      ∙ kinds_of_run run (bytes ++ b ∷ [])
-      (sym (next_held bytes b) ∙ ap (λ (h : Held). held_from h (b ∷ [])) nothing ∙ glyph_held law b first) (tail_of_all b run all)
-      ∙ same_kinds bytes b (ap (λ (h : Held). cuts_off h b) nothing)
-      (event_ends (held_after bytes) b (Print b) (ap (λ (h : Held). events_from h (b ∷ [])) nothing ∙ glyph_events law b first))
-
--- ---- all kinds
-
--- each of these numbers is that of a kind
-abbrev AreKinds : List ℕ → Type 0
-AreKinds kinds = list_all (contains all_kinds) kinds ≡ true
-
-also : (v p q : Bool) → (p ≡ true → q ≡ true) → v && p ≡ true → v && q ≡ true
-also true p q then_so is = then_so is
-also false p q then_so is = absurd cc
-
-kinds_joined : (xs ys : List ℕ) → AreKinds xs → AreKinds ys → AreKinds (xs ++ ys)
-kinds_joined [] ys first later = later
-kinds_joined (x ∷ xs) ys first later =
-    also (contains all_kinds x) (list_all (contains all_kinds) xs) (list_all (contains all_kinds) (xs ++ ys))
-    (λ rest. kinds_joined xs ys rest later) first
-
--- no event has the number of a kind
-graphic_number : (b : ℕ) → IsGraphic b → contains all_kinds b ≡ false
-graphic_number b (inl is) = let low = is.0 in let high = is.1 in grind (arith, nat_tests)
-graphic_number b (inr low) = grind (arith, nat_tests)
-
-control_number : (b : ℕ) → IsC0 b ⊎ IsC1 b → contains all_kinds b ≡ false
-unfolding opens_string
-control_number b (inl is) =
-    let low = is.0 in
-    let can = not_equal b 0x18 is.1 in
-    let esc = not_equal b 0x1B is.2 in
-    grind (arith, nat_tests)
-control_number b (inr is) =
-    let low = is.0 in
-    let high = is.1 in
-    let none = is.2 in
-    grind (arith, nat_tests)
-
-high_number : (n : ℕ) → 0x100 ≤ n → contains all_kinds n ≡ false
-high_number n low = grind (arith, nat_tests)
-
-pub event_number : (event : Event) → IsEvent event → contains all_kinds (kind_number event) ≡ false
-event_number (Print b) is = graphic_number b is
-event_number (Control b) is = control_number b is
-event_number (Escape inter last) is = high_number (kind_number (Escape inter last)) (omega arith)
-event_number (Sequence marker params inter last) is =
-    high_number (kind_number (Sequence marker params inter last)) (omega arith)
-
-string_kind : (code : ℕ) → opens_string code ≡ true → AreKinds (code ∷ [])
-unfolding opens_string
-string_kind code opens = grind (arith, nat_tests)
-
-single_kind : (b : ℕ) → AreKinds (item_kind (Single b))
-single_kind b = grind (arith, nat_tests)
-
-sequence_kinds : (events : List Event) (last : ℕ) → AreKinds (sequence_kind events last)
-sequence_kinds events last = go (is_cancel last) (is_empty events)
-  where
-    go : (v w : Bool) → AreKinds (cond v (cut_sequence ∷ []) (cond w (spoilt_sequence ∷ []) []))
-    go true w = refl
-    go false true = refl
-    go false false = refl
-
-begun_kind : (beginning : Beginning) → IsBeginning beginning → AreKinds (cut_kind beginning ∷ [])
-begun_kind (OfEscape inside) is = refl
-begun_kind (OfControl opening inside) is = refl
-begun_kind (OfString opening code content) is = string_kind code is.1
-
-item_is_kind : (item : Item) (after : List ℕ) → IsItemBefore after item → AreKinds (item_kind item)
-item_is_kind (Single b) after is = single_kind b
-item_is_kind (Ended (OfEscape inside) last) after is = sequence_kinds (function (OfEscape inside) last) last
-item_is_kind (Ended (OfControl opening inside) last) after is = sequence_kinds (function (OfControl opening inside) last) last
-item_is_kind (Ended (OfString opening code content) last) after is = string_kind code is.0.1
-item_is_kind (Cut beginning) [] is = absurd is
-item_is_kind (Cut beginning) (b ∷ after) is = begun_kind beginning is.0
-
-items_are_kinds : (items : List Item) (rest : Option Beginning) → AreItems items rest → AreKinds (flat_map item_kind items)
-items_are_kinds [] rest are = refl
-items_are_kinds (item ∷ items) rest are =
-    kinds_joined (item_kind item) (flat_map item_kind items) (item_is_kind item (bytes_of items rest) are.0)
-    (items_are_kinds items rest are.1)
-
-rest_is_kind : (rest : Option Beginning) → IsRest rest → AreKinds (rest_kind rest)
-rest_is_kind None is = refl
-rest_is_kind (Some beginning) is = begun_kind beginning is
-
-pub all_are_kinds : (bytes : List ℕ) → list_all (contains all_kinds) (kinds_of bytes) ≡ true
-all_are_kinds bytes =
-    let split = split_of bytes in
-    kinds_joined (item_kinds bytes) (rest_kind split.rest) (items_are_kinds split.items split.rest (split_of_split bytes).each)
-    (rest_is_kind split.rest (last_is_rest bytes))
+    ∙ ap (λ n. item_kinds bytes ++ byte_kind n (held_after bytes) b) (sym is_code)
+    ∙ ap (λ (h : Held). item_kinds bytes ++ byte_kind code h b) (sym is_held) in
+    ap (λ (l : List ℕ). kinds_of l) (sym (append_assoc bytes byte more))
+    ∙ kinds_more (bytes ++ byte) more code_then (held_from held byte) law code_is held_is
+    ∙ ap (λ (l : List ℕ). l ++ kinds_from code_then (held_from held byte) more) one
+    ∙ append_assoc (item_kinds bytes) (byte_kind code held b) (kinds_from code_then (held_from held byte) more)

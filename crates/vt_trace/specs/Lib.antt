@@ -3,9 +3,6 @@ pub mod Ignored
 pub mod Lines
 pub mod Skipped
 pub mod Trace
-pub mod Summary
-pub mod Spans
-pub mod Counted
 pub mod Runs
 pub mod Observed
 pub mod Utf8

@@ -6,8 +6,6 @@ use Rattle.std.specs.Option.{option_to_list}
 use Rattle.vt_syntax.specs.declared.event.Event.{Event}
 use Rattle.vt_syntax.specs.declared.event.Event.TheVariants.{Print, Control, Escape, Sequence}
 use Rattle.vt_syntax.specs.Class.{is_plain}
-use Rattle.vt_screen.specs.Grid.{last_row}
-use Rattle.vt_term.specs.Names.{name_on}
 
 -- ---- bytes as text
 
@@ -68,11 +66,3 @@ line_named place event None = line place (codes "ignored") (bytes_column event)
 -- the line of an event by these names, on a screen of so many rows
 unfoldable pub event_line_by : Names → ℕ → ℕ → Event → List ℕ
 event_line_by names rows place event = line_named place event (names rows event)
-
--- the line of an event by a VT220's names, on a screen of so many rows
-abbrev pub event_line_on : ℕ → ℕ → Event → List ℕ
-event_line_on rows place event = event_line_by name_on rows place event
-
--- the line of an event on a VT220
-abbrev pub event_line : ℕ → Event → List ℕ
-event_line place event = event_line_on last_row place event

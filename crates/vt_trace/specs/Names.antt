@@ -1,12 +1,9 @@
--- All names of events, in the order of the summary (this profile). The names themselves are in the tables of functions.
-use Rattle.std.specs.Prelude.{ℕ, ◌≡◌, ◌≢◌, ◌+◌, ◌<◌, List, [], ◌∷◌, ◌++◌, false, codes, get_or, length, map, nat_eq, take}
-use Rattle.std.specs.Cmp.Lexicographic.{pointwise}
+-- All names of events (this profile). The names themselves are in the tables of functions.
+use Rattle.std.specs.Prelude.{ℕ, ◌+◌, List, [], ◌∷◌, ◌++◌, codes, get_or, map, take}
 use denote.Enum.Declared.{tag_of}
 use Rattle.vt_glyph.specs.Designation.{finals}
-use Rattle.vt_term.specs.Names.{name_on}
 use Rattle.vt_term.specs.Functions.{FunctionTable, set_name, controls, plain_escapes, space_escapes, number_sign_escapes}
 use Rattle.vt_term.specs.Functions.{plain_sequences, private_sequences, quote_sequences, exclamation_sequences}
-use Rattle.vt_trace.specs.Lines.{Names}
 use Rattle.vt_trace.specs.declared.functions.TheConstants.{SEQUENCES}
 use Rattle.vt_trace.specs.declared.functions.Basic.{Basic}
 use Rattle.vt_trace.specs.contracts.functions.Basic.{the_type as basic}
@@ -45,25 +42,6 @@ names =
 
 abbrev pub numbered : ℕ → List ℕ
 numbered number = get_or names number []
-
--- ---- lists of names
-
--- the names of events, and a list of them in the order of a summary
-pub record Listing : Type 0 where
-  pub called : Names
-  pub listed : List (List ℕ)
-
--- the names of a VT220, and the list of them
-abbrev pub vt220_listing : Listing
-vt220_listing = record { called = name_on; listed = names }
-
-abbrev pub numbered_in : Listing → ℕ → List ℕ
-numbered_in d number = get_or d.listed number []
-
--- no two names are the same
-abbrev pub AreApart : Listing → Type 0
-AreApart d =
-    (i j : ℕ) → i < length d.listed → j < length d.listed → i ≢ j → pointwise nat_eq (numbered_in d i) (numbered_in d j) ≡ false
 
 -- ---- the functions of the code; private contracts alone speak of them
 

@@ -1,6 +1,6 @@
 -- The parts that are no event: the items of the split that have no function, and what is left at the end. (this profile)
 use Rattle.std.specs.Prelude.{ℕ, List, [], ◌∷◌, ◌++◌, Bool, true, false, Option, Some, None}
-use Rattle.std.specs.Prelude.{codes, length, map, nat_lt, take, if◌then◌else◌}
+use Rattle.std.specs.Prelude.{codes, length, nat_lt, take, if◌then◌else◌}
 use Rattle.std.specs.List.{flat_map}
 use Rattle.vt_syntax.specs.declared.event.Event.{Event}
 use Rattle.vt_syntax.specs.Items.{Beginning, OfEscape, OfControl, OfString, Item, Single, Ended, Cut}
@@ -30,10 +30,6 @@ kind_names =
     ∷ (0x9E, codes "PM string")
     ∷ (0x9F, codes "APC string")
     ∷ []
-
--- the numbers of all kinds
-abbrev pub all_kinds : List ℕ
-all_kinds = 0x18 ∷ 0x7F ∷ map (λ row. row.0) kind_names
 
 -- the name of a kind; CAN and DEL have none
 unfoldable pub kind_name : ℕ → Option (List ℕ)

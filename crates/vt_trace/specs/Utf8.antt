@@ -1,5 +1,5 @@
--- The trace and the summary of UTF-8: of the host's own characters, at their places in the host's bytes. (this profile)
-use Rattle.std.specs.Prelude.{◌≡◌, ℕ, ◌+◌, ◌==◌, List, [], ◌∷◌, ◌++◌, true, false, Option, Some, None, nat_lt, length, take, map, if◌then◌else◌}
+-- The trace of UTF-8: of the host's own characters, at their places in the host's bytes. (this profile)
+use Rattle.std.specs.Prelude.{◌≡◌, ℕ, ◌+◌, ◌==◌, List, [], ◌∷◌, ◌++◌, true, false, Option, Some, None, nat_lt, length, take, if◌then◌else◌}
 use Rattle.vt_term.specs.State.{State}
 use Rattle.vt_term.specs.Names.{name_on}
 use Rattle.vt_term.specs.Happenings.{Happening, happening}
@@ -9,10 +9,6 @@ use Rattle.vt_utf8.specs.Translation.{translation}
 use Rattle.vt_trace.specs.declared.tracing.Tracer.{Tracer}
 use Rattle.vt_trace.specs.Lines.{Names}
 use Rattle.vt_trace.specs.Trace.{between, open_lines, text_of, traced_at, tracer_at}
-use Rattle.vt_screen.specs.Grid.{last_row}
-use Rattle.vt_trace.specs.Names.{Listing, vt220_listing}
-use Rattle.vt_trace.specs.Summary.{summary_by}
-use Rattle.vt_trace.specs.Spans.{Span, summary_in}
 
 -- ---- bytes of characters beyond ASCII, and ill-formed bytes
 
@@ -105,35 +101,3 @@ pub record Traces {W : Type 0} (d : Dialect W) (w : W) (t : Tracer) (pending byt
   pub reports : out ≡ before ++ reports_all d w (characters pending bytes)
   pub tracer : u ≡ dialect_tracer d w t pending bytes
   pub lines : new ≡ old ++ dialect_trace d w t pending bytes
-
--- ---- the summary
-
--- a character beyond ASCII counts as one graphic byte does
-abbrev pub counted_as : ℕ → ℕ
-counted_as c = if nat_lt c 0x80 then c else 0xE9
-
--- the bytes that are counted for bytes of UTF-8 after a pending part
-abbrev pub counted_bytes : List ℕ → List ℕ → List ℕ
-counted_bytes pending bytes = map counted_as (characters pending bytes)
-
--- the summary of a host's UTF-8, by these names on a screen of so many rows
-unfoldable pub summary_utf8_by : Listing → ℕ → List ℕ → List ℕ
-summary_utf8_by d rows bytes = summary_by d rows (counted_bytes [] bytes)
-
--- the summary of a host's UTF-8 by a VT220's names, on a screen of so many rows
-abbrev pub summary_utf8_on : ℕ → List ℕ → List ℕ
-summary_utf8_on rows bytes = summary_utf8_by vt220_listing rows bytes
-
--- the spans that are counted for spans of UTF-8 after a pending part
-abbrev pub counted_spans : (pending : List ℕ) → List Span → List Span
-counted_spans pending [] = []
-counted_spans pending (span ∷ spans) =
-    record { rows = span.rows; bytes = counted_bytes pending span.bytes } ∷ counted_spans (pending_after pending span.bytes) spans
-
--- the summary of a host's UTF-8 that comes in spans
-unfoldable pub summary_utf8_in : Listing → List Span → List ℕ
-summary_utf8_in d spans = summary_in d (counted_spans [] spans)
-
--- the summary of a host's UTF-8 on a VT220
-abbrev pub summary_utf8 : List ℕ → List ℕ
-summary_utf8 bytes = summary_utf8_on last_row bytes

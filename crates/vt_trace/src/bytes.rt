@@ -1,6 +1,5 @@
 //! Bytes and numbers, appended to an output that has capacity for them.
-ghost use Rattle.std.specs.Prelude.{◌≡◌, ◌+◌, ◌*◌, ◌≤◌, ◌<◌, ◌++◌, Option, length, decimal, vec_len, vec_capacity};
-ghost use Rattle.std.specs.Option.{option_to_list};
+ghost use Rattle.std.specs.Prelude.{◌≡◌, ◌+◌, ◌*◌, ◌≤◌, ◌<◌, ◌++◌, length, decimal, vec_len, vec_capacity};
 ghost use Rattle.vt_trace.specs.Lines.{hex_digit, shown_byte, shown};
 
 use itoa::Buffer;
@@ -50,32 +49,6 @@ pub fn push_shown(b: u8, out: &mut Vec<u8>)
         push_bytes(&[b], out);
     } else {
         push_bytes(&[b'\\', b'x', hex_digit(b / 16), hex_digit(b % 16)], out);
-    }
-}
-
-/// Appends a byte, if there is one.
-#[inline(always)]
-pub(crate) fn push_option(b: Option<u8>, out: &mut Vec<u8>)
-    requires { vec_len out.old + 1 ≤ vec_capacity out.old }
-    ensures items { out.new.items ≡ out.old.items ++ option_to_list b }
-    ensures bounded { vec_len out.new ≤ vec_len out.old + 1 }
-    ensures capacity { vec_capacity out.old ≤ vec_capacity out.new }
-{
-    if let Some(b) = b {
-        push_bytes(&[b], out);
-    }
-}
-
-/// Appends a byte as text, if there is one.
-#[inline(always)]
-pub(crate) fn push_shown_option(b: Option<u8>, out: &mut Vec<u8>)
-    requires { vec_len out.old + 4 ≤ vec_capacity out.old }
-    ensures items { out.new.items ≡ out.old.items ++ shown (option_to_list b) }
-    ensures bounded { vec_len out.new ≤ vec_len out.old + 4 }
-    ensures capacity { vec_capacity out.old ≤ vec_capacity out.new }
-{
-    if let Some(b) = b {
-        push_shown(b, out);
     }
 }
 

@@ -1,30 +1,17 @@
 //! The line of an event.
-ghost use Rattle.std.specs.Prelude.{◌≡◌, ◌+◌, ◌≤◌, ◌++◌, [], take, length, vec_len, vec_capacity};
+ghost use Rattle.std.specs.Prelude.{◌≡◌, ◌+◌, ◌≤◌, ◌++◌, take, length, vec_len, vec_capacity};
 ghost use Rattle.vt_syntax.specs.Event.{event_of};
-ghost use Rattle.vt_trace.specs.Lines.{values_column, bytes_column, event_line, event_line_by, event_line_on};
+ghost use Rattle.vt_trace.specs.Lines.{values_column, bytes_column, event_line_by};
 
 use crate::buffer::{
     BUFFER, put, put_bytes, put_number, put_option, put_shown, put_shown_option, put_values,
 };
-use crate::bytes::{push_bytes, push_option, push_shown, push_shown_option};
-use crate::names::{Naming, Vt220Names};
+use crate::bytes::push_bytes;
+use crate::names::Naming;
 use vt_syntax::EventKind;
-use vt_term::ROWS;
 
 /// The most bytes of the line of an event.
 pub const LINE_LIMIT: usize = 160;
-
-/// Appends the line of an event that begins at a place, on a screen of so many rows. `out` has capacity for it.
-/// `values` are those of a control sequence.
-pub fn push_line_on(rows: usize, place: u64, kind: EventKind, values: &[u16], out: &mut Vec<u8>)
-    requires few { length values.now ≤ 16 }
-    requires room { vec_len out.old + LINE_LIMIT ≤ vec_capacity out.old }
-    ensures items { out.new.items ≡ out.old.items ++ event_line_on rows place (event_of kind values.now) }
-    ensures bounded { vec_len out.new ≤ vec_len out.old + LINE_LIMIT }
-    ensures capacity { vec_capacity out.old ≤ vec_capacity out.new }
-{
-    push_line_by(&Vt220Names, rows, place, kind, values, out);
-}
 
 /// Appends the line of an event by the names of a dialect, on a screen of so many rows. `out` has capacity for it.
 pub(crate) fn push_line_by<N: Naming>(
@@ -44,18 +31,6 @@ pub(crate) fn push_line_by<N: Naming>(
     let mut buffer = [0; BUFFER];
     let end = put_line(names, rows, place, kind, values, 0, &mut buffer);
     push_bytes(&buffer[..end], out);
-}
-
-/// Appends the line of an event that begins at a place, on a VT220. `out` has capacity for it. `values` are those of a
-/// control sequence.
-pub fn push_line(place: u64, kind: EventKind, values: &[u16], out: &mut Vec<u8>)
-    requires few { length values.now ≤ 16 }
-    requires room { vec_len out.old + LINE_LIMIT ≤ vec_capacity out.old }
-    ensures items { out.new.items ≡ out.old.items ++ event_line place (event_of kind values.now) }
-    ensures bounded { vec_len out.new ≤ vec_len out.old + LINE_LIMIT }
-    ensures capacity { vec_capacity out.old ≤ vec_capacity out.new }
-{
-    push_line_on(ROWS, place, kind, values, out);
 }
 
 /// Writes the line of an event that begins at a place, on a screen of so many rows.
@@ -135,34 +110,6 @@ fn put_bytes_column(kind: EventKind, values: &[u16], at: usize, buffer: &mut [u8
             let at = put_values(values, at, buffer);
             let at = put_shown_option(inter, at, buffer);
             put_shown(last, at, buffer)
-        }
-    }
-}
-
-/// Appends the bytes of an event without its values as text.
-pub(crate) fn push_kind(kind: EventKind, out: &mut Vec<u8>)
-    requires { vec_len out.old + 14 ≤ vec_capacity out.old }
-    ensures items { out.new.items ≡ out.old.items ++ bytes_column (event_of kind []) }
-    ensures bounded { vec_len out.new ≤ vec_len out.old + 14 }
-    ensures capacity { vec_capacity out.old ≤ vec_capacity out.new }
-{
-    match kind {
-        EventKind::Print(b) => push_shown(b, out),
-        EventKind::Control(b) => push_shown(b, out),
-        EventKind::Escape { inter, last } => {
-            push_bytes(b"\\x1B", out);
-            push_shown_option(inter, out);
-            push_shown(last, out);
-        }
-        EventKind::Sequence {
-            marker,
-            inter,
-            last,
-        } => {
-            push_bytes(b"\\x1B[", out);
-            push_option(marker, out);
-            push_shown_option(inter, out);
-            push_shown(last, out);
         }
     }
 }

@@ -1,14 +1,11 @@
 //! The names of events, as the specification's tables have them.
-ghost use Rattle.std.specs.Prelude.{◌≡◌, ◌≤◌, ◌<◌, ℕ, [], Some, length, IfSome, option_copied, option_map};
-ghost use Rattle.vt_glyph.specs.Invocation.{HasGlyph};
+ghost use Rattle.std.specs.Prelude.{◌≡◌, ◌≤◌, ◌<◌, ℕ, [], length, IfSome, option_copied, option_map};
 ghost use Rattle.vt_syntax.specs.Event.{event_of};
-ghost use Rattle.vt_syntax.specs.declared.event.Event.TheVariants.{Print};
 ghost use Rattle.vt_screen.specs.Grid.{last_row};
 ghost use Rattle.vt_term.specs.Functions.{designation};
-ghost use Rattle.vt_term.specs.Names.{name_of, name_on, name_with, control_name, plain_escape_name, escape_with_name, print_name};
-ghost use Rattle.vt_trace.specs.Ignored.{is_ignored};
+ghost use Rattle.vt_term.specs.Names.{name_on, name_with, control_name, plain_escape_name, escape_with_name, print_name};
 ghost use Rattle.vt_trace.specs.Lines.{Names};
-ghost use Rattle.vt_trace.specs.Names.{Listing, AreApart, numbered, numbered_in, word_of, basic_word, sequence_word, slot_begins};
+ghost use Rattle.vt_trace.specs.Names.{numbered, word_of, basic_word, sequence_word, slot_begins};
 
 use crate::functions::Basic::{self, *};
 use crate::functions::Slot::{self, *};
@@ -16,19 +13,6 @@ use crate::functions::{ControlFunction, FUNCTIONS, Sequence, word_at};
 use crate::sequences::sequence;
 use vt_glyph::Set;
 use vt_syntax::EventKind;
-use vt_term::ROWS;
-
-/// Returns the name of an event on a screen of so many rows, and `None` if it is ignored. `values` are those of a control sequence.
-#[inline(always)]
-pub fn name_on(rows: usize, kind: EventKind, values: &[u16]) -> Option<&'static str>
-    ensures word { option_copied result ≡ name_on rows (event_of kind values.now) }
-    ensures short { IfSome result (λ word. length word.now ≤ 23) }
-{
-    match index(rows, kind, values) {
-        Some(index) => Some(word_at(index)),
-        None => None,
-    }
-}
 
 /// The names of events.
 pub trait Naming {
@@ -53,93 +37,16 @@ impl Naming for Vt220Names {
 
     #[inline(always)]
     fn name_of(&self, rows: usize, kind: EventKind, values: &[u16]) -> Option<&'static str> {
-        name_on(rows, kind, values)
+        match index(rows, kind, values) {
+            Some(index) => Some(word_at(index)),
+            None => None,
+        }
     }
-}
-
-/// The most names that are counted.
-pub const NAMES: usize = 96;
-
-/// A list of the names that events may have, each with a number.
-pub trait Listed {
-    /// The names of events, and a list of them in the order of a summary.
-    ghost listing: { Listing };
-
-    /// Returns the number of an event's name on a screen of so many rows, and `None` if the event is ignored. `values` are those of a
-    /// control sequence.
-    fn number_of(&self, rows: usize, kind: EventKind, values: &[u16]) -> Option<usize>
-        ensures word { option_map (numbered_in listing) result ≡ listing.called rows (event_of kind values.now) }
-        ensures within { IfSome result (λ number. number < length listing.listed) };
-
-    /// Returns the number of the name that each byte with a glyph has.
-    fn text(&self) -> usize
-        ensures word { (rows b : ℕ) → HasGlyph b → listing.called rows (Print b) ≡ Some (numbered_in listing result) }
-        ensures within { result < length listing.listed };
-
-    /// Returns how many names there are.
-    fn count(&self) -> usize
-        ensures { result ≡ length listing.listed };
-
-    /// Returns the name with a number.
-    fn word(&self, number: usize) -> &'static str
-        requires { number < length listing.listed }
-        ensures word { result.now ≡ numbered_in listing number }
-        ensures short { length result.now ≤ 23 };
-
-    /// States that at most `NAMES` names are listed, and that no two are the same.
-    fn apart(&self)
-        ensures few { length listing.listed ≤ 96 }
-        ensures apart { AreApart listing };
-}
-
-impl Listed for Vt220Names {
-    ghost use Rattle.vt_trace.specs.Names.{vt220_listing};
-
-    ghost listing = { vt220_listing };
-
-    #[inline(always)]
-    fn number_of(&self, rows: usize, kind: EventKind, values: &[u16]) -> Option<usize> {
-        index(rows, kind, values)
-    }
-
-    #[inline(always)]
-    fn text(&self) -> usize {
-        ControlFunction::Basic(Text).index()
-    }
-
-    #[inline(always)]
-    fn count(&self) -> usize {
-        FUNCTIONS
-    }
-
-    #[inline(always)]
-    fn word(&self, number: usize) -> &'static str {
-        word_at(number)
-    }
-
-    #[inline(always)]
-    fn apart(&self) {}
-}
-
-/// Returns the name of an event on a VT220, and `None` if it is ignored. `values` are those of a control sequence.
-#[inline(always)]
-pub fn name(kind: EventKind, values: &[u16]) -> Option<&'static str>
-    ensures word { option_copied result ≡ name_of (event_of kind values.now) }
-    ensures short { IfSome result (λ word. length word.now ≤ 23) }
-{
-    name_on(ROWS, kind, values)
-}
-
-/// Returns whether an event is ignored on a VT220: it leaves every state as it is, and reports nothing.
-pub fn is_ignored(kind: EventKind, values: &[u16]) -> bool
-    ensures { result ≡ is_ignored (event_of kind values.now) }
-{
-    name(kind, values).is_none()
 }
 
 /// Returns the index of an event's control function on a screen of so many rows, and `None` if the event is ignored.
 #[inline(always)]
-pub(crate) fn index(rows: usize, kind: EventKind, values: &[u16]) -> Option<usize>
+fn index(rows: usize, kind: EventKind, values: &[u16]) -> Option<usize>
     ensures word { option_map numbered result ≡ name_on rows (event_of kind values.now) }
     ensures within { IfSome result (λ index. index < FUNCTIONS) }
 {

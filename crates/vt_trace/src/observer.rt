@@ -98,11 +98,10 @@ pub fn trace_as<P: Profile, N: Naming>(
     count
 }
 
-/// Appends the trace of a byte, before which the parser's held part is held. The terminal doesn't play it: the caller does so
-/// afterwards. `out` has capacity for the trace.
+/// Appends the trace of a byte. The terminal doesn't play it: the caller does so afterwards. `out` has capacity for the
+/// trace.
 pub fn trace_byte<N: Naming>(
     terminal: &SizedTerminal,
-    parser: Parser,
     names: &N,
     tracer: &mut Tracer,
     byte: u8,
@@ -110,25 +109,22 @@ pub fn trace_byte<N: Naming>(
 )
     requires place { tracer.old.place + 1 < 2 ^ 64 }
     requires room { vec_len out.old + TRACE_LIMIT ≤ vec_capacity out.old }
-    ensures lines { out.new.items ≡ out.old.items
-        ++ traced_told N.names tracer.old (happenings (record terminal.now { held = parser }) (byte ∷ [])) }
-    ensures tracer { tracer.new ≡ tracer_told tracer.old (happenings (record terminal.now { held = parser }) (byte ∷ [])) }
+    ensures lines { out.new.items ≡ out.old.items ++ traced_told N.names tracer.old (happenings terminal.now (byte ∷ [])) }
+    ensures tracer { tracer.new ≡ tracer_told tracer.old (happenings terminal.now (byte ∷ [])) }
     ensures bounded { vec_len out.new ≤ vec_len out.old + TRACE_LIMIT }
     ensures capacity { vec_capacity out.old ≤ vec_capacity out.new }
 {
-    // The contracts of these two give the soundness of the state.
     terminal.soundness();
-    let _ = parser.held();
     one_split();
     let piece = [byte];
-    let mut ahead = parser.copied();
+    let mut parser = terminal.parser();
     let mut values = Values::new();
-    let Taken { event, .. } = ahead.next(&piece, &mut values);
+    let Taken { event, .. } = parser.next(&piece, &mut values);
     let mut observer = Tracing {
         names,
         tracer,
         out,
-        parser,
+        parser: terminal.parser(),
         values: Values::new(),
     };
     match event {

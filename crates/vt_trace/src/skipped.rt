@@ -1,12 +1,10 @@
 //! The lines of items that are no event, since they have no function.
 ghost use Rattle.std.specs.Prelude.{◌≡◌, ◌+◌, ◌*◌, ◌^◌, ◌≤◌, ◌<◌, ◌++◌, [], ◌∷◌, ◌&&◌, ◌||◌, ℕ, List, All, length, take, drop, true};
 ghost use Rattle.std.specs.Prelude.{if◌then◌else◌, IfSome, option_copied, vec_len, vec_capacity};
-ghost use Rattle.std.specs.Option.{option_to_list};
 ghost use Rattle.vt_syntax.specs.Event.{event_in, event_of};
 ghost use Rattle.vt_syntax.specs.Spelling.{IsEvent};
 ghost use Rattle.vt_syntax.specs.Held.{events_from, held_from, IsHeldPart};
 ghost use Rattle.vt_syntax.specs.Content.{goes_on};
-ghost use Rattle.vt_trace.specs.Runs.{step_kind};
 ghost use Rattle.vt_trace.specs.Observed.{AreRead, ArePassed, skim};
 ghost use Rattle.vt_trace.specs.Skipped.{kind_name, kind_column, first_column, skipped_line, is_empty};
 ghost use Rattle.vt_trace.specs.Trace.{is_nothing, is_string, cuts_off, ends_silent, code_after, text_end};
@@ -66,22 +64,6 @@ pub(crate) struct Step {
     pub(crate) code: u8,
     /// Whether nothing is held after the byte.
     pub(crate) is_between: bool,
-}
-
-impl Step {
-    /// Returns the kind of the item without a function that the byte cuts off or ends. `code` is that of a string that was
-    /// held before.
-    pub(crate) fn skipped(&self, code: u8) -> Option<u8>
-        ensures { option_to_list result ≡ step_kind code self.now.cut self.now.ended self.now.kind }
-    {
-        if self.cut {
-            Some(open_kind(code))
-        } else if self.ended {
-            Some(self.kind)
-        } else {
-            None
-        }
-    }
 }
 
 /// Reads a byte with a parser. `code` is the C1 control that opened the string which is held, and 0 if none is.

@@ -15,5 +15,5 @@ mod updating;
 mod views;
 mod writing;
 
-pub use updating::{UPDATE_LIMIT, UpdateError};
-pub use views::{update, update_reserved};
+pub use updating::UPDATE_LIMIT;
+pub use views::update_reserved;

@@ -1,2 +1,2 @@
 //! The calls for a terminal of any size.
-pub use crate::updating::{SizedUpdateError, update, update_limit, update_reserved};
+pub use crate::updating::{update_limit, update_reserved};

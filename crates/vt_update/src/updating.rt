@@ -1,5 +1,5 @@
 //! The update: bytes are chosen and played on the shown terminal. They are sent if that gives the wanted state.
-ghost use Rattle.std.specs.Prelude.{◌≡◌, ◌↔◌, ◌⊎◌, ◌+◌, ◌*◌, ◌≤◌, ◌<◌, ◌≢◌, ◌++◌, [], IsTrue, IsErrOf, OnOk, OnErr};
+ghost use Rattle.std.specs.Prelude.{◌≡◌, ◌↔◌, ◌+◌, ◌*◌, ◌≤◌, ◌<◌, ◌++◌, [], IsTrue};
 ghost use Rattle.std.specs.Prelude.{drop, length, take, vec_len, vec_capacity};
 ghost use Rattle.std.specs.Bool.{OnTrue, OnFalse};
 ghost use Rattle.std.specs.Str.{IsAscii};
@@ -18,7 +18,6 @@ ghost use Rattle.vt_update.specs.Limits.{update_limit};
 
 use crate::choice::push_choice;
 use crate::laws::sized_leading;
-use thiserror::Error;
 use vt_paint::PAINT_LIMIT;
 use vt_paint::laws::{sized_spoken, spoken};
 use vt_paint::sized::{
@@ -39,31 +38,6 @@ const REPORT_ROOM: usize = 10 * 64;
 pub const UPDATE_LIMIT: usize = PAINT_LIMIT + REPORT_ROOM;
 
 const _: () = prove!(UPDATE_LIMIT == 94152);
-
-/// The reason for which no update was appended.
-#[derive(Clone, Copy, Debug, PartialEq, Eq, Error)]
-pub enum UpdateError {
-    /// One of the two terminals is inside a sequence.
-    #[error("partial")]
-    Partial,
-    /// Allocation failed.
-    #[error("memory")]
-    Memory,
-}
-
-/// The reason for which no update between two terminals of any size was appended.
-#[derive(Clone, Copy, Debug, PartialEq, Eq, Error)]
-pub enum SizedUpdateError {
-    /// One of the two terminals is inside a sequence.
-    #[error("partial")]
-    Partial,
-    /// The two terminals have different sizes. No bytes change a terminal's size.
-    #[error("other size")]
-    OtherSize,
-    /// Allocation failed.
-    #[error("memory")]
-    Memory,
-}
 
 /// Returns the limit of an update of a screen of a size in bytes, and the capacity that it needs: that of a repaint, and
 /// capacity to play it.
@@ -145,66 +119,15 @@ fn copy_part(from: usize, all: &[u8], part: &mut [u8])
     part.copy_from_slice(&all[from..from + part.len()]);
 }
 
-/// Appends to `out` bytes that lead from `shown` to `to`, two terminals of one size, and brings `shown` into the state of `to`.
+/// Appends to `out` bytes that lead from `shown` to `to`, and brings `shown` into the state of `to`. Both are between
+/// sequences. Returns whether they have one size. If not, it does nothing, since no bytes change a terminal's size. `out` has
+/// capacity for `update_limit` more bytes. It never fails and allocates nothing.
 ///
 /// If width and tab stops are equal, it appends at most `changes_limit` bytes: 28 for each cell that differs, and 230. (With 100
 /// rows or more it is 234 in place of 230.) Otherwise it appends the repaint. An update after an update to the same state is
 /// empty.
 ///
 /// The bytes are ASCII: graphic characters, and the control functions that `Spoken` names, in their 7-bit forms.
-///
-/// It first reserves `update_limit` bytes of capacity.
-///
-/// # Errors
-///
-/// Returns `Partial` if one of the two is inside a sequence, which is checked first. Returns `OtherSize` if their sizes differ,
-/// and `Memory` if allocation fails. `shown` and the contents of `out` are then unchanged.
-pub fn update(
-    shown: &mut SizedTerminal,
-    to: &SizedTerminal,
-    out: &mut Vec<u8>,
-) -> Result<(), SizedUpdateError>
-    ensures leads { OnOk result (Updates shown.old to.now out.old.items out.new.items) }
-    ensures shown { OnOk result (shown.new ≡ to.now) }
-    ensures nothing { OnOk result ((out.new.items ≡ out.old.items) ↔ (shown.old ≡ to.now)) }
-    ensures partial { IsErrOf result SizedUpdateError.Partial ↔ ((shown.old.held ≢ Nothing) ⊎ (to.now.held ≢ Nothing)) }
-    ensures other_size { IsErrOf result SizedUpdateError.OtherSize
-        ↔ ((shown.old.held ≡ Nothing) × (to.now.held ≡ Nothing)
-        × (shown.old.display.grid.size ≢ to.now.display.grid.size)) }
-    ensures memory { IsErrOf result SizedUpdateError.Memory
-        → vec_capacity out.old < vec_len out.old + update_limit to.now.display.grid.size }
-    ensures same_out { OnErr result (out.new.items ≡ out.old.items) }
-    ensures same_shown { OnErr result (shown.new ≡ shown.old) }
-    ensures small { OnOk result (shown.old.display.grid.width ≡ to.now.display.grid.width
-        → shown.old.display.stops ≡ to.now.display.stops
-        → vec_len out.new
-        ≤ vec_len out.old
-        + changes_limit to.now.display.grid.size
-        (differing_at to.now.display.grid.size shown.old.display.grid to.now.display.grid)) }
-    ensures repaint { OnOk result (HasOtherColumns shown.old to.now → out.new.items ≡ out.old.items ++ paint to.now) }
-    ensures speaks { OnOk result (Speaks (drop (vec_len out.old) out.new.items)) }
-    ensures ascii { OnOk result (IsAscii (drop (vec_len out.old) out.new.items)) }
-    ensures bounded { vec_len out.new ≤ vec_len out.old + update_limit to.now.display.grid.size }
-    ensures capacity { vec_capacity out.old ≤ vec_capacity out.new }
-{
-    if !shown.is_between() || !to.is_between() {
-        return Err(SizedUpdateError::Partial);
-    }
-    let size = to.size();
-    if !shown.size().same(size) {
-        return Err(SizedUpdateError::OtherSize);
-    }
-    out.reserve(update_limit(size))
-        .map_err(|_| SizedUpdateError::Memory)?;
-    shown.soundness();
-    to.soundness();
-    bring::<MOST, MOST>(shown, to, out);
-    Ok(())
-}
-
-/// Appends to `out` bytes that lead from `shown` to `to`, and brings `shown` into the state of `to`. Both are between
-/// sequences. Returns whether they have one size. If not, it does nothing. `out` has capacity for `update_limit` more bytes. It
-/// never fails and allocates nothing.
 pub fn update_reserved(shown: &mut SizedTerminal, to: &SizedTerminal, out: &mut Vec<u8>) -> bool
     requires shown { shown.old.held ≡ Nothing }
     requires to { to.now.held ≡ Nothing }

@@ -1,5 +1,5 @@
-//! The calls of the update for a VT220's `Terminal`. Each calls that for its `SizedTerminal`.
-ghost use Rattle.std.specs.Prelude.{◌≡◌, ◌↔◌, ◌⊎◌, ◌+◌, ◌*◌, ◌≤◌, ◌<◌, ◌≢◌, ◌++◌, IsErrOf, OnOk, OnErr, drop, vec_len, vec_capacity};
+//! The update of a VT220's `Terminal`.
+ghost use Rattle.std.specs.Prelude.{◌≡◌, ◌↔◌, ◌+◌, ◌*◌, ◌≤◌, ◌++◌, drop, vec_len, vec_capacity};
 ghost use Rattle.std.specs.Str.{IsAscii};
 ghost use Rattle.vt_syntax.specs.declared.held.Held.TheVariants.{Nothing};
 ghost use Rattle.vt_paint.specs.Repaint.{paint};
@@ -7,50 +7,16 @@ ghost use Rattle.vt_paint.specs.Changes.{differing};
 ghost use Rattle.vt_paint.specs.Spoken.{Speaks};
 ghost use Rattle.vt_update.specs.Leads.{Updates, HasOtherColumns};
 
-use crate::updating::{UPDATE_LIMIT, UpdateError, bring};
+use crate::updating::{UPDATE_LIMIT, bring};
 use vt_term::{ROWS, STOPS, Terminal};
 
-/// Appends to `out` bytes that lead from `shown` to `to`, and brings `shown` into the state of `to`.
+/// Appends to `out` bytes that lead from `shown` to `to`, and brings `shown` into the state of `to`. Both are between
+/// sequences. `out` has capacity for `UPDATE_LIMIT` more bytes. It never fails and allocates nothing.
 ///
 /// If width and tab stops are equal, it appends at most 28 * n + 230 bytes for n cells that differ. Otherwise it
 /// appends the repaint. An update after an update to the same state is empty.
 ///
 /// The bytes are ASCII: graphic characters, and the control functions that `Spoken` names, in their 7-bit forms.
-///
-/// It first reserves `UPDATE_LIMIT` bytes of capacity.
-///
-/// # Errors
-///
-/// Returns `Partial` if one of the two is inside a sequence, which is checked first. Returns `Memory` if allocation
-/// fails. `shown` and the contents of `out` are then unchanged.
-#[inline(always)]
-pub fn update(shown: &mut Terminal, to: &Terminal, out: &mut Vec<u8>) -> Result<(), UpdateError>
-    ensures leads { OnOk result (Updates shown.old to.now out.old.items out.new.items) }
-    ensures shown { OnOk result (shown.new ≡ to.now) }
-    ensures nothing { OnOk result ((out.new.items ≡ out.old.items) ↔ (shown.old ≡ to.now)) }
-    ensures partial { IsErrOf result UpdateError.Partial ↔ ((shown.old.held ≢ Nothing) ⊎ (to.now.held ≢ Nothing)) }
-    ensures memory { IsErrOf result UpdateError.Memory → vec_capacity out.old < vec_len out.old + UPDATE_LIMIT }
-    ensures same_out { OnErr result (out.new.items ≡ out.old.items) }
-    ensures same_shown { OnErr result (shown.new ≡ shown.old) }
-    ensures small { OnOk result (shown.old.display.grid.width ≡ to.now.display.grid.width
-        → shown.old.display.stops ≡ to.now.display.stops
-        → vec_len out.new ≤ vec_len out.old + 28 * differing shown.old.display.grid to.now.display.grid + 230) }
-    ensures repaint { OnOk result (HasOtherColumns shown.old to.now → out.new.items ≡ out.old.items ++ paint to.now) }
-    ensures speaks { OnOk result (Speaks (drop (vec_len out.old) out.new.items)) }
-    ensures ascii { OnOk result (IsAscii (drop (vec_len out.old) out.new.items)) }
-    ensures bounded { vec_len out.new ≤ vec_len out.old + UPDATE_LIMIT }
-    ensures capacity { vec_capacity out.old ≤ vec_capacity out.new }
-{
-    if !shown.is_between() || !to.is_between() {
-        return Err(UpdateError::Partial);
-    }
-    out.reserve(UPDATE_LIMIT).map_err(|_| UpdateError::Memory)?;
-    update_reserved(shown, to, out);
-    Ok(())
-}
-
-/// Appends to `out` bytes that lead from `shown` to `to`, and brings `shown` into the state of `to`. Both are between
-/// sequences. `out` has capacity for `UPDATE_LIMIT` more bytes. It never fails and allocates nothing.
 #[inline(always)]
 pub fn update_reserved(shown: &mut Terminal, to: &Terminal, out: &mut Vec<u8>)
     requires shown { shown.old.held ≡ Nothing }

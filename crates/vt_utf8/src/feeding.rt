@@ -1,6 +1,6 @@
 //! Feeding: UTF-8 changes a terminal's state, and gives report bytes.
 ghost use Rattle.std.specs.Prelude.{◌≡◌, ◌<◌, ◌+◌, ◌*◌, ◌≤◌, ◌++◌, ◌⊎◌, [], ◌∷◌, ℕ, List, All, length, take, flat_map};
-ghost use Rattle.std.specs.Prelude.{slice_index, vec_len, vec_capacity, OnOk, OnErr, IsOk, IfSome};
+ghost use Rattle.std.specs.Prelude.{slice_index, vec_len, vec_capacity, IfSome};
 ghost use Rattle.std.specs.Bool.{OnTrue};
 ghost use Rattle.std.specs.Option.{option_to_list};
 ghost use Rattle.std.specs.declared.option.Option.TheVariants.{None};
@@ -20,47 +20,16 @@ ghost use Rattle.vt_utf8.specs.Private.Cut.{IsCut};
 ghost use Rattle.vt_utf8.specs.Private.Feeds.{FeedsUtf8, utf8_off};
 ghost use Rattle.vt_utf8.specs.Sinks.{point, Feeds, FitsFeed, Grows};
 
+use crate::ascii::ascii_run;
 use crate::coded::coded;
 use crate::decoder::{Decoder, whole_character};
 use crate::laws::{sized_silence, sized_writes};
 use crate::log::{BytesLog, Log};
 use crate::sink::Sink;
 use crate::translation::{BYTE_LIMIT, TRANSLATION_LIMIT, has_one_cell_left, translation};
-use std::alloc::AllocError;
 use vt_syntax::Held;
 use vt_term::laws::{sized_cuts as played_cuts, sized_log_cuts};
 use vt_term::{Glyph, Lines, Nobody, REPORT_LIMIT, SizedTerminal, Vt220};
-
-/// Plays a chunk of a host's UTF-8, and appends the reports to `out`. `decoder` keeps what is pending between chunks.
-///
-/// It first reserves ten bytes of capacity for each byte of the chunk. Returns `Err` if that fails, or is more than any
-/// vector may hold. Then the terminal, the decoder and the contents of `out` are unchanged.
-#[tactic(auto, using(crate::proofs::Sizes::utf8_kept))]
-pub fn feed_utf8(
-    terminal: &mut SizedTerminal,
-    decoder: &mut Decoder,
-    piece: &[u8],
-    out: &mut Vec<u8>,
-) -> Result<(), AllocError>
-    ensures size { terminal.new.display.grid.size ≡ terminal.old.display.grid.size }
-    ensures state { OnOk result (terminal.new ≡ (play_utf8 terminal.old decoder.old piece.now).state) }
-    ensures pending { OnOk result (decoder.new ≡ pending_after decoder.old piece.now) }
-    ensures reports { OnOk result (out.new.items
-        ≡ out.old.items ++ (play_utf8 terminal.old decoder.old piece.now).reports) }
-    ensures bounded { vec_len out.new ≤ vec_len out.old + 10 * length piece.now }
-    ensures same_state { OnErr result (terminal.new ≡ terminal.old) }
-    ensures same_pending { OnErr result (decoder.new ≡ decoder.old) }
-    ensures same_out { OnErr result (out.new.items ≡ out.old.items) }
-    ensures has_room { vec_len out.old + 10 * length piece.now ≤ vec_capacity out.old → IsOk result }
-    ensures capacity { vec_capacity out.old ≤ vec_capacity out.new }
-{
-    let Some(room) = piece.len().checked_mul(REPORT_LIMIT) else {
-        return Err(AllocError);
-    };
-    out.reserve(room)?;
-    feed_utf8_reserved(terminal, decoder, piece, out);
-    Ok(())
-}
 
 /// Plays a chunk of a host's UTF-8, and appends the reports to `out`. `decoder` keeps what is pending between chunks.
 /// `out` has capacity for ten more bytes for each byte of the chunk. It never fails and allocates nothing.
@@ -183,17 +152,15 @@ pub fn feed_characters<L: Log, S: Sink<L>>(
     at
 }
 
-/// Returns how many ASCII bytes at the front of a chunk that isn't empty a sink takes as one run. Speed: no search begins at a byte that
-/// isn't ASCII.
+/// Returns how many bytes at the front of a chunk that isn't empty are ASCII. Speed: no search begins at a byte that isn't.
 #[inline(always)]
-fn run_front<L: Log, S: Sink<L>>(piece: &[u8]) -> usize
+fn ascii_front(piece: &[u8]) -> usize
     requires { 1 ≤ length piece.now }
     ensures within { result ≤ length piece.now }
     ensures ascii { All (λ b. b < 0x80) (take result piece.now) }
-    ensures run { 1 ≤ result → S.IsRun (take result piece.now) }
 {
     if piece[0] < 0x80 {
-        return S::front_run(piece);
+        return ascii_run(piece);
     }
     0
 }
@@ -220,7 +187,7 @@ fn feed_next<L: Log, S: Sink<L>>(
     ensures grows { Grows out.old out.new (10 * result) }
 {
     if decoder.is_empty() {
-        let run = run_front::<L, S>(piece);
+        let run = ascii_front(piece);
         if run > 0 {
             return feed_ascii(terminal, sink, decoder, &piece[..run], limit, log, out);
         }
@@ -242,7 +209,6 @@ fn feed_ascii<L: Log, S: Sink<L>>(
 ) -> usize
     requires nothing { decoder.now ≡ [] }
     requires ascii { All (λ b. b < 0x80) run.now }
-    requires run { S.IsRun run.now }
     requires room { vec_len out.old + 10 * length run.now ≤ vec_capacity out.old }
     requires fits { FitsFeed S.OneSize S.most terminal.old sink.old limit }
     ensures within { result ≤ length run.now }
@@ -325,18 +291,16 @@ fn feed_whole<L: Log, S: Sink<L>>(
     }
 }
 
-/// Returns how many ASCII bytes at the front of a chunk that isn't empty cut off one pending byte, and are taken as one
-/// run: none if it isn't cut off.
+/// Returns how many ASCII bytes at the front of a chunk that isn't empty cut off one pending byte: none if it isn't cut off.
 #[inline(always)]
-fn cut_front<L: Log, S: Sink<L>>(decoder: &Decoder, piece: &[u8]) -> usize
+fn cut_front(decoder: &Decoder, piece: &[u8]) -> usize
     requires { 1 ≤ length piece.now }
     ensures within { result ≤ length piece.now }
     ensures ascii { All (λ b. b < 0x80) (take result piece.now) }
-    ensures run { 1 ≤ result → S.IsRun (take result piece.now) }
     ensures cut { 1 ≤ result → IsCut decoder.now (slice_index piece.now 0) }
 {
     if decoder.is_cut_by(piece[0]) {
-        return run_front::<L, S>(piece);
+        return ascii_front(piece);
     }
     0
 }
@@ -367,7 +331,7 @@ fn feed_pending<L: Log, S: Sink<L>>(
     if log.is_full(limit) {
         return 0;
     }
-    let run = cut_front::<L, S>(decoder, piece);
+    let run = cut_front(decoder, piece);
     if run == 0 {
         feed_byte(terminal, sink, decoder, piece[0], log, out);
         return 1;
@@ -376,8 +340,7 @@ fn feed_pending<L: Log, S: Sink<L>>(
     feed_cut(terminal, sink, &piece[..run], log, out)
 }
 
-/// Plays U+FFFD for one byte that a run of ASCII cuts off, and the first byte of the run, or more of them. Returns how
-/// many bytes of the run it played.
+/// Plays U+FFFD for one byte that ASCII cuts off, and the first ASCII byte, or more of them. Returns how many of these it played.
 #[inline(always)]
 fn feed_cut<L: Log, S: Sink<L>>(
     terminal: &mut SizedTerminal,
@@ -388,7 +351,6 @@ fn feed_cut<L: Log, S: Sink<L>>(
 ) -> usize
     requires some { 1 ≤ length run.now }
     requires ascii { All (λ b. b < 0x80) run.now }
-    requires run { S.IsRun run.now }
     requires room { vec_len out.old + 10 * length run.now ≤ vec_capacity out.old }
     requires lines_room { L.HasRoom log.old (2 * S.most terminal.old.display.grid.size) }
     requires one_size { S.OneSize terminal.old sink.old }
@@ -496,7 +458,6 @@ pub fn feed_character<L: Log, S: Sink<L>>(
         (point terminal.new sink.new log.new out.new.items) }
     ensures grows { Grows out.old out.new 10 }
 {
-    sink.lone_byte();
     if (c as u32) < 0x80 {
         let _ = sink.take_some(terminal, &[c as u8], log, out);
     } else {

@@ -1,6 +1,6 @@
 //! The feeds of a VT220's `Terminal`. Each calls that of its `SizedTerminal`.
 ghost use Rattle.std.specs.Prelude.{◌≡◌, ◌<◌, ◌+◌, ◌*◌, ◌≤◌, ◌++◌, ◌⊎◌, [], length, take};
-ghost use Rattle.std.specs.Prelude.{vec_len, vec_capacity, OnOk, OnErr, IsOk};
+ghost use Rattle.std.specs.Prelude.{vec_len, vec_capacity};
 ghost use Rattle.std.specs.Option.{option_to_list};
 ghost use Rattle.vt_term.specs.Play.{play};
 ghost use Rattle.vt_term.specs.Scrolling.{log};
@@ -11,38 +11,12 @@ ghost use Rattle.vt_utf8.specs.Play.{translated_all, translated, play_utf8};
 use crate::decoder::Decoder;
 use crate::feeding::{
     feed_beyond_ascii as sized_feed_beyond_ascii,
-    feed_beyond_ascii_log as sized_feed_beyond_ascii_log, feed_utf8 as sized_feed_utf8,
+    feed_beyond_ascii_log as sized_feed_beyond_ascii_log,
     feed_utf8_log_reserved as sized_feed_utf8_log_reserved,
     feed_utf8_reserved as sized_feed_utf8_reserved,
 };
 use crate::translation::{BYTE_LIMIT, Bytes, TRANSLATION_LIMIT, translated as sized_translated};
-use std::alloc::AllocError;
 use vt_term::{ROW_TEXT_LIMIT, Terminal};
-
-/// Plays a chunk of a host's UTF-8, and appends the reports to `out`. `decoder` keeps what is pending between chunks.
-///
-/// It first reserves ten bytes of capacity for each byte of the chunk. Returns `Err` if that fails, or is more than any
-/// vector may hold. Then the terminal, the decoder and the contents of `out` are unchanged.
-#[inline(always)]
-pub fn feed_utf8(
-    terminal: &mut Terminal,
-    decoder: &mut Decoder,
-    piece: &[u8],
-    out: &mut Vec<u8>,
-) -> Result<(), AllocError>
-    ensures state { OnOk result (terminal.new ≡ (play_utf8 terminal.old decoder.old piece.now).state) }
-    ensures pending { OnOk result (decoder.new ≡ pending_after decoder.old piece.now) }
-    ensures reports { OnOk result (out.new.items
-        ≡ out.old.items ++ (play_utf8 terminal.old decoder.old piece.now).reports) }
-    ensures bounded { vec_len out.new ≤ vec_len out.old + 10 * length piece.now }
-    ensures same_state { OnErr result (terminal.new ≡ terminal.old) }
-    ensures same_pending { OnErr result (decoder.new ≡ decoder.old) }
-    ensures same_out { OnErr result (out.new.items ≡ out.old.items) }
-    ensures has_room { vec_len out.old + 10 * length piece.now ≤ vec_capacity out.old → IsOk result }
-    ensures capacity { vec_capacity out.old ≤ vec_capacity out.new }
-{
-    sized_feed_utf8(&mut terminal.sized, decoder, piece, out)
-}
 
 /// Plays a chunk of a host's UTF-8, and appends the reports to `out`. `decoder` keeps what is pending between chunks.
 /// `out` has capacity for ten more bytes for each byte of the chunk. It never fails and allocates nothing.

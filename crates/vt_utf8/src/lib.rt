@@ -18,7 +18,7 @@ mod translation;
 pub use ascii::ascii_run;
 pub use decoder::{Decoder, whole_character};
 pub use feeds::{
-    LINES_LIMIT, UTF8_LINES_LIMIT, feed_beyond_ascii, feed_beyond_ascii_log, feed_utf8,
+    LINES_LIMIT, UTF8_LINES_LIMIT, feed_beyond_ascii, feed_beyond_ascii_log,
     feed_utf8_log_reserved, feed_utf8_reserved, translated,
 };
 pub use log::Log;

@@ -5,7 +5,6 @@ ghost use Rattle.vt_term.specs.State.{State};
 ghost use Rattle.vt_utf8.specs.Decoding.{characters, pending_after};
 ghost use Rattle.vt_utf8.specs.Sinks.{Point, point, AreInTurn, FitsFeed, Grows};
 
-use crate::ascii::ascii_run;
 use crate::laws::sized_text;
 use crate::log::{BytesLog, Log};
 use crate::text::write_text;
@@ -23,16 +22,7 @@ pub trait Sink<L: Log> {
     /// The most bytes of lines that a character scrolls off.
     ghost most: { Size → ℕ };
 
-    /// ASCII bytes that are taken as one run.
-    ghost IsRun: { List ℕ → Type 0 };
-
-    /// Returns how many bytes at the front of a chunk are ASCII, and taken as one run.
-    fn front_run(piece: &[u8]) -> usize
-        ensures within { result ≤ length piece.now }
-        ensures ascii { All (λ b. b < 0x80) (take result piece.now) }
-        ensures run { IsRun (take result piece.now) };
-
-    /// Takes the front of such a run, until the log is full. Returns how many bytes it took.
+    /// Takes the front of ASCII bytes, until the log is full. Returns how many it took.
     fn take_run(
         &mut self,
         terminal: &mut SizedTerminal,
@@ -42,7 +32,6 @@ pub trait Sink<L: Log> {
         out: &mut Vec<u8>,
     ) -> usize
         requires ascii { All (λ b. b < 0x80) run.now }
-        requires run { IsRun run.now }
         requires room { vec_len out.old + 10 * length run.now ≤ vec_capacity out.old }
         requires fits { FitsFeed OneSize most terminal.old self.old limit }
         ensures within { result ≤ length run.now }
@@ -51,7 +40,7 @@ pub trait Sink<L: Log> {
             (point terminal.new self.new log.new out.new.items) }
         ensures grows { Grows out.old out.new (10 * result) };
 
-    /// Takes the first byte of such a run, or more of its bytes. Returns how many bytes it took.
+    /// Takes the first of ASCII bytes, or more of them. Returns how many it took.
     fn take_some(
         &mut self,
         terminal: &mut SizedTerminal,
@@ -61,7 +50,6 @@ pub trait Sink<L: Log> {
     ) -> usize
         requires some { 1 ≤ length run.now }
         requires ascii { All (λ b. b < 0x80) run.now }
-        requires run { IsRun run.now }
         requires room { vec_len out.old + 10 * length run.now ≤ vec_capacity out.old }
         requires lines_room { L.HasRoom log.old (most terminal.old.display.grid.size) }
         requires one_size { OneSize terminal.old self.old }
@@ -93,10 +81,6 @@ pub trait Sink<L: Log> {
     /// States that characters may be taken in parts. It does nothing when it runs.
     fn in_turn(&self)
         ensures { AreInTurn Takes OneSize };
-
-    /// States that an ASCII byte alone is a run. It does nothing when it runs.
-    fn lone_byte(&self)
-        ensures { (b : ℕ) → b < 0x80 → IsRun (b ∷ []) };
 }
 
 /// A VT220 takes characters as the bytes that they are translated to.
@@ -110,13 +94,6 @@ impl<L: BytesLog> Sink<L> for Vt220 {
     ghost OneSize = { λ s k. ⊤ };
 
     ghost most = { lines_limit };
-
-    ghost IsRun = { λ run. ⊤ };
-
-    #[inline(always)]
-    fn front_run(piece: &[u8]) -> usize {
-        ascii_run(piece)
-    }
 
     #[inline(always)]
     fn take_run(
@@ -165,7 +142,4 @@ impl<L: BytesLog> Sink<L> for Vt220 {
         played_cuts();
         played_soundness();
     }
-
-    #[inline(always)]
-    fn lone_byte(&self) {}
 }

@@ -1,5 +1,5 @@
 -- Bytes that are played may be cut anywhere.
-use Rattle.std.proofs.Common.{◌≡◌, ℕ, suc, ◌<◌, true, false, List, [], ◌∷◌, ◌++◌, All, refl, sym, ap, ◌∙◌, arith, append_assoc}
+use Rattle.std.proofs.Common.{◌≡◌, ℕ, suc, ◌<◌, true, List, [], ◌∷◌, ◌++◌, All, refl, sym, ap, ◌∙◌, arith, append_assoc}
 use Rattle.std.specs.Prelude.{nat_lt}
 use Rattle.std.proofs.lemmas.Bool.Decides.{nat_tests}
 use Rattle.std.proofs.lemmas.List.Sums.{fold-append}
@@ -13,13 +13,9 @@ use Rattle.vt_utf8.specs.Decoding.{characters, pending_after}
 use Rattle.vt_utf8.proofs.Cuts.{characters-append, ascii-characters}
 use Rattle.vt_xterm.specs.Pages.{Screens}
 use Rattle.vt_xterm.specs.Front.{xterm_effect}
-use Rattle.vt_xterm.specs.Play.{Whole, WholePlayed, screens_of, after_events, reports_of, play_bytes, play_ascii, play_character, both}
+use Rattle.vt_xterm.specs.Play.{Whole, WholePlayed, screens_of, after_events, reports_of, play_bytes, play_character, both}
 use Rattle.vt_xterm.specs.Play.{play_characters, play_xterm, play_xterm_all, nothing_played}
 use Rattle.vt_xterm.specs.Log.{xterm_line_off, xterm_lines_off}
-use Rattle.vt_xterm.specs.declared.subparameters.Subparameters.TheVariants.{Outside}
-use Rattle.vt_xterm.specs.Subparameters.{is_apart, Pass}
-use Rattle.vt_xterm.proofs.Passing.{ascii-passed}
-use Rattle.vt_xterm.proofs.Untouched.{bytes-leave}
 
 pub both-assoc : (a b c : WholePlayed) → both a (both b c) ≡ both (both a b) c
 both-assoc a b c =
@@ -101,32 +97,23 @@ xterm-joined w pending (piece ∷ pieces) =
 
 -- ---- ASCII
 
-pub character-ascii : (w : Whole) (b : ℕ) → b < 0x80 → play_character w b ≡ play_ascii w b
+pub character-ascii : (w : Whole) (b : ℕ) → b < 0x80 → play_character w b ≡ play_bytes w (b ∷ [])
 unfolding play_character
 character-ascii w b low = let is : nat_lt b 0x80 ≡ true = grind (arith, nat_tests) in rw is refl
 
--- a byte that passes as it is
-pub character-passed : (w : Whole) (b : ℕ) → b < 0x80 → w.pages.subparameters ≡ Outside
-    → is_apart Outside w.state.held b ≡ false → play_character w b ≡ play_bytes w (b ∷ [])
-character-passed w b low none apart = character-ascii w b low ∙ ascii-passed w b none apart
-
-pub characters-passed : SplitLaw → (w : Whole) (bytes : List ℕ) → IsHeldPart w.state.held → w.pages.subparameters ≡ Outside
-    → Pass w.state.held bytes → All (λ b. b < 0x80) bytes → play_characters w bytes ≡ play_bytes w bytes
-unfolding Pass play_bytes
-characters-passed split w [] held none pass all = sym (bytes-nothing split w held)
-characters-passed split w (b ∷ bytes) held none pass all =
+pub characters-ascii : SplitLaw → (w : Whole) (bytes : List ℕ) → IsHeldPart w.state.held → All (λ b. b < 0x80) bytes
+    → play_characters w bytes ≡ play_bytes w bytes
+characters-ascii split w [] held all = sym (bytes-nothing split w held)
+characters-ascii split w (b ∷ bytes) held all =
     let first = play_bytes w (b ∷ []) in
     let rest : All (λ b. b < 0x80) bytes = λ k d less. all (suc k) d (omega (arith, less)) in
-    ap (λ (p : WholePlayed). both p (play_characters p.whole bytes)) (character-passed w b (all 0 0 (omega arith)) none pass.0)
+    ap (λ (p : WholePlayed). both p (play_characters p.whole bytes)) (character-ascii w b (all 0 0 (omega arith)))
     ∙ ap (λ (p : WholePlayed). both first p)
-    (characters-passed split first.whole bytes (bytes-held split w (b ∷ [])) (bytes-leave w (b ∷ []) ∙ none) pass.1 rest)
+    (characters-ascii split first.whole bytes (bytes-held split w (b ∷ [])) rest)
     ∙ sym (bytes-two split w (b ∷ []) bytes)
 
-pub xterm-ascii : (w : Whole) (bytes : List ℕ) → All (λ b. b < 0x80) bytes → play_xterm w [] bytes ≡ play_characters w bytes
+pub xterm-ascii : SplitLaw → (w : Whole) (bytes : List ℕ) → IsHeldPart w.state.held → All (λ b. b < 0x80) bytes
+    → play_xterm w [] bytes ≡ play_bytes w bytes
 unfolding play_xterm
-xterm-ascii w bytes all = ap (λ (cs : List ℕ). play_characters w cs) (ascii-characters bytes all)
-
-pub xterm-passed : SplitLaw → (w : Whole) (bytes : List ℕ) → IsHeldPart w.state.held → w.pages.subparameters ≡ Outside
-    → Pass w.state.held bytes → All (λ b. b < 0x80) bytes → play_xterm w [] bytes ≡ play_bytes w bytes
-xterm-passed split w bytes held none pass all =
-    xterm-ascii w bytes all ∙ characters-passed split w bytes held none pass all
+xterm-ascii split w bytes held all =
+    ap (λ (cs : List ℕ). play_characters w cs) (ascii-characters bytes all) ∙ characters-ascii split w bytes held all

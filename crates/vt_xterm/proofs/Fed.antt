@@ -1,11 +1,10 @@
 -- The result of feeding.
-use Rattle.std.proofs.Common.{◌≡◌, ℕ, ◌+◌, List, [], ◌∷◌, ◌++◌, All, ◌<◌, take, drop, length, refl, sym, ap, ◌∙◌, append_assoc, subst, Bool, false, arith, None, Option, Some}
-use Rattle.std.specs.Prelude.{◌≤◌, nat_lt, slice_index}
+use Rattle.std.proofs.Common.{◌≡◌, ℕ, ◌+◌, List, [], ◌∷◌, ◌++◌, take, drop, refl, sym, ap, ◌∙◌, append_assoc, subst, false, arith, None, Option, Some}
+use Rattle.std.specs.Prelude.{◌≤◌, nat_lt}
 use Rattle.std.proofs.lemmas.Bool.Decides.{nat_tests}
 use Rattle.std.proofs.Common.{append-nil}
 use Rattle.std.proofs.Math.Seq.{take-add}
 use Rattle.std.proofs.lemmas.List.{take_all}
-use Rattle.std.proofs.lemmas.List.Elements.{All-take}
 use Rattle.vt_syntax.specs.declared.event.Event.{Event}
 use Rattle.vt_syntax.specs.declared.event.Event.TheVariants.{Sequence}
 use Rattle.vt_syntax.specs.declared.held.Held.{Held}
@@ -16,22 +15,18 @@ use Rattle.vt_term.specs.Reports.{report}
 use Rattle.vt_term.specs.Play.{play}
 use Rattle.vt_utf8.specs.Translation.{translation}
 use Rattle.vt_term.specs.Observing.{Feeds, happenings_of}
-use Rattle.vt_xterm.specs.Pages.{PagesState, Screens, screens, shown_by, with_subparameters}
+use Rattle.vt_xterm.specs.Pages.{PagesState, Screens, screens, shown_by}
 use Rattle.vt_xterm.specs.declared.sides.Sides.{Sides}
 use Rattle.vt_xterm.specs.Pages.{bounds_of}
 use Rattle.vt_xterm.specs.Bounded.{held_beyond}
 use Rattle.vt_xterm.specs.Front.{xterm_effect, function_in, functions_of, plain_functions}
-use Rattle.vt_xterm.specs.Play.{Whole, WholePlayed, both, play_bytes, after_events, play_ascii, play_beyond, screens_beyond, outside}
+use Rattle.vt_xterm.specs.Play.{Whole, WholePlayed, both, play_bytes, after_events, play_beyond, screens_beyond}
 use Rattle.vt_xterm.specs.Play.{play_character, play_characters, nothing_played, whole_of}
 use Rattle.vt_xterm.specs.Terminals.{PlaysTerminals}
 use Rattle.vt_xterm.specs.Private.Feeds.{Leaves, FeedsBytes}
 use Rattle.vt_xterm.specs.Private.Profiles.{screens_on, unbounded}
 use Rattle.vt_xterm.specs.Private.Finding.{SetsNone, AllKeepNone}
-use Rattle.vt_xterm.specs.declared.subparameters.Subparameters.{Subparameters}
-use Rattle.vt_xterm.specs.declared.subparameters.Subparameters.TheVariants.{Outside}
-use Rattle.vt_xterm.specs.Subparameters.{before as before_byte, after as after_byte, is_apart, itself, kept, Pass}
-use Rattle.vt_xterm.proofs.Cuts.{bytes-two, bytes-nothing, character-ascii, characters-passed, characters-two}
-use Rattle.vt_xterm.proofs.Passing.{none-read, shorter-pass, held-quiet}
+use Rattle.vt_xterm.proofs.Cuts.{bytes-two, bytes-nothing}
 use Rattle.vt_xterm.proofs.NoSides.{events-on, after-none, reports-none}
 use Rattle.vt_xterm.proofs.Terminals.{bytes-terminals}
 
@@ -136,145 +131,39 @@ feeds-event s mid t pages q bytes event before after is read left kept told =
 
 -- ---- a character
 
--- bytes that pass as they are
-pub leaves-passed : SplitLaw → (w v : Whole) (bytes before after : List ℕ) → IsHeldPart w.state.held
-    → w.pages.subparameters ≡ Outside → Pass w.state.held bytes → All (λ b. b < 0x80) bytes
-    → FeedsBytes w bytes v before after → Leaves (play_characters w bytes) v before after
-leaves-passed split w v bytes before after held none pass all fed =
-    subst (λ (p : WholePlayed). Leaves p v before after) (sym (characters-passed split w bytes held none pass all)) fed
-
-pub one-byte : (n b : ℕ) → 1 ≤ n → take n (b ∷ []) ≡ b ∷ []
-one-byte n b some = take_all n (b ∷ []) (omega (arith, some))
-
--- the front of those that pass as they are
-pub leaves-front : SplitLaw → (w v : Whole) (run : List ℕ) (n : ℕ) (before after : List ℕ) → IsHeldPart w.state.held
-    → w.pages.subparameters ≡ Outside → Pass w.state.held run → All (λ b. b < 0x80) run → FeedsBytes w (take n run) v before after
-    → Leaves (play_characters w (take n run)) v before after
-leaves-front split w v run n before after held none pass all fed =
-    leaves-passed split w v (take n run) before after held none (shorter-pass w.state.held n run pass)
-    (All-take (λ b. b < 0x80) n run all) fed
-
-pub first-byte : (run : List ℕ) → 1 ≤ length run → take 1 run ≡ slice_index run 0 ∷ []
-first-byte [] some = absurd (omega (arith, some))
-first-byte (b ∷ run) some = refl
-
-pub leaves-first : (w v : Whole) (run before after : List ℕ) → 1 ≤ length run
-    → Leaves (play_characters w (slice_index run 0 ∷ [])) v before after → Leaves (play_characters w (take 1 run)) v before after
-leaves-first w v run before after some left =
-    subst (λ (bytes : List ℕ). Leaves (play_characters w bytes) v before after) (sym (first-byte run some)) left
-
-pub characters-none : (w : Whole) (out : List ℕ) → Leaves (play_characters w []) w out out
-characters-none w out = leaves-nothing (nothing_played w) w out refl
-
-pub characters-more : (w v u : Whole) (run : List ℕ) (at n : ℕ) (before out after : List ℕ)
-    → Leaves (play_characters w (take at run)) v before out → Leaves (play_characters v (take n (drop at run))) u out after
-    → Leaves (play_characters w (take (at + n) run)) u before after
-characters-more w v u run at n before out after first second =
-    let a = take at run in
-    let b = take n (drop at run) in
-    rw (take-add at n run) (leaves-both (play_characters w a) (play_characters v b) (play_characters w (a ++ b)) v u before out after
-    first second (characters-two w a b ∙ ap (λ (x : Whole). both (play_characters w a) (play_characters x b)) (sym first.whole)))
-
--- one character
-pub leaves-one : (p : WholePlayed) (w v : Whole) (c : ℕ) (before after : List ℕ) → play_character w c ≡ p → Leaves p v before after
-    → Leaves (play_characters w (c ∷ [])) v before after
-leaves-one p w v c before after is left =
-    leaves-both p (nothing_played v) (play_characters w (c ∷ [])) v v before after after left
-    (record { whole = refl; reports = sym (append-nil after) })
-    (ap (λ (q : WholePlayed). both q (nothing_played q.whole)) is ∙ ap (λ (x : Whole). both p (nothing_played x)) (sym left.whole))
-
--- an ASCII byte: those before it, itself unless it is kept from the terminal, and what is read then
-pub leaves-ascii : SplitLaw → (w : Whole) (s t : State) (q : PagesState) (b : ℕ) (before mid after : List ℕ) → b < 0x80
-    → FeedsBytes w (before_byte w.pages.subparameters w.state.held b) (whole_of s w.pages) before mid
-    → FeedsBytes (whole_of s w.pages) (itself (is_apart w.pages.subparameters w.state.held b) b) (whole_of t q) mid after
-    → Leaves (play_characters w (b ∷ [])) (whole_of t (with_subparameters (kept t.held (after_byte w.pages.subparameters w.state.held b)) q))
-    before after
-unfolding play_ascii
-leaves-ascii split w s t q b before mid after low first second =
-    let k = w.pages.subparameters in
-    let h = w.state.held in
-    let xs = before_byte k h b in
-    let ys = itself (is_apart k h b) b in
-    let next = after_byte k h b in
-    let all : FeedsBytes w (xs ++ ys) (whole_of t q) before after =
-    leaves-both (play_bytes w xs) (play_bytes (whole_of s w.pages) ys) (play_bytes w (xs ++ ys)) (whole_of s w.pages) (whole_of t q)
-    before mid after first second
-    (bytes-two split w xs ys ∙ ap (λ (x : Whole). both (play_bytes w xs) (play_bytes x ys)) (sym first.whole)) in
-    leaves-one (play_ascii w b) w (whole_of t (with_subparameters (kept t.held next) q)) b before after (character-ascii w b low)
-    (record {
-      whole = ap (λ (x : Whole). whole_of x.state (with_subparameters (kept x.state.held next) x.pages)) all.whole;
-      reports = all.reports;
-    })
-
--- by the parts of the call
-module _ (split : SplitLaw) (s t u : State) (p q r : PagesState) (k next : Subparameters) (b : ℕ) (bytes out after : List ℕ) (apart : Bool)
-    (low : b < 0x80) (held : IsHeldPart s.held) (read : k ≡ p.subparameters) (first : bytes ≡ before_byte k s.held b)
-    (alone : apart ≡ is_apart k s.held b) (later : next ≡ after_byte k s.held b) (left : t ≡ record s { held = held_from s.held bytes }) where
-  same-bytes : bytes ≡ before_byte p.subparameters s.held b
-  same-bytes = first ∙ ap (λ (j : Subparameters). before_byte j s.held b) read
-
-  -- the bytes before it
-  pub first-fed : FeedsBytes (whole_of s p) (before_byte p.subparameters s.held b) (whole_of t p) out out
-  first-fed =
-      subst (λ (l : List ℕ). FeedsBytes (whole_of s p) l (whole_of t p) out out) same-bytes
-      (feeds-part (whole_of s p) t bytes out (held-quiet s.held s.held k b bytes refl first held) left)
-
-  pub itself-is : itself apart b ≡ itself (is_apart p.subparameters s.held b) b
-  itself-is = ap (λ (a : Bool). itself a b) (alone ∙ ap (λ (j : Subparameters). is_apart j s.held b) read)
-
-  pub leaves-read : FeedsBytes (whole_of t p) (itself apart b) (whole_of u q) out after
-      → r ≡ with_subparameters (kept u.held next) q → Leaves (play_characters (whole_of s p) (b ∷ [])) (whole_of u r) out after
-  leaves-read fed is =
-      subst (λ (x : PagesState). Leaves (play_characters (whole_of s p) (b ∷ [])) (whole_of u x) out after)
-      (ap (λ (j : Subparameters). with_subparameters (kept u.held j) q)
-      (sym (later ∙ ap (λ (j : Subparameters). after_byte j s.held b) read)) ∙ sym is)
-      (leaves-ascii split (whole_of s p) t u q b out out after low first-fed
-      (subst (λ (l : List ℕ). FeedsBytes (whole_of t p) l (whole_of u q) out after) itself-is fed))
-
 -- beyond ASCII it is played as on a VT220, or between left and right margins
-pub character-beyond : (s : State) (pages : PagesState) (c : ℕ) (b : Option Sides) → 0x80 ≤ c → pages.subparameters ≡ Outside
-    → bounds_of (screens s pages) ≡ b → play_character (whole_of s pages) c ≡ play_beyond (whole_of s pages) b c
+pub character-beyond : (s : State) (pages : PagesState) (c : ℕ) (b : Option Sides) → 0x80 ≤ c → bounds_of (screens s pages) ≡ b
+    → play_character (whole_of s pages) c ≡ play_beyond (whole_of s pages) b c
 unfolding play_character
-character-beyond s pages c b high none bounds =
+character-beyond s pages c b high bounds =
     let is : nat_lt c 0x80 ≡ false = grind (arith, nat_tests) in
-    rw is (ap (λ (x : Option Sides). play_beyond (outside (whole_of s pages)) x c) bounds
-    ∙ ap (λ (p : PagesState). play_beyond (whole_of s p) b c) (none-read pages none))
+    rw is (ap (λ (x : Option Sides). play_beyond (whole_of s pages) x c) bounds)
 
--- it ends subparameters
-pub beyond-outside : (s : State) (pages : PagesState) (c : ℕ) → 0x80 ≤ c
-    → play_characters (whole_of s pages) (c ∷ []) ≡ play_characters (whole_of s (with_subparameters Outside pages)) (c ∷ [])
-unfolding play_character
-beyond-outside s pages c high = let is : nat_lt c 0x80 ≡ false = grind (arith, nat_tests) in rw is refl
-
-pub leaves-outside : (s t : State) (pages p q : PagesState) (c : ℕ) (before after : List ℕ) → 0x80 ≤ c
-    → p ≡ with_subparameters Outside pages → Leaves (play_characters (whole_of s p) (c ∷ [])) (whole_of t q) before after
-    → Leaves (play_characters (whole_of s pages) (c ∷ [])) (whole_of t q) before after
-leaves-outside s t pages p q c before after high is left =
-    subst (λ (x : WholePlayed). Leaves x (whole_of t q) before after)
-    (ap (λ (y : PagesState). play_characters (whole_of s y) (c ∷ [])) is ∙ sym (beyond-outside s pages c high)) left
-
-silent-beyond : (s : State) (pages : PagesState) (c : ℕ) → 0x80 ≤ c → pages.subparameters ≡ Outside → bounds_of (screens s pages) ≡ None
+silent-beyond : (s : State) (pages : PagesState) (c : ℕ) → 0x80 ≤ c → bounds_of (screens s pages) ≡ None
     → (play s (translation s c)).reports ≡ [] → (play_characters (whole_of s pages) (c ∷ [])).reports ≡ []
-silent-beyond s pages c high outside none silent =
+silent-beyond s pages c high none silent =
     append-nil (play_character (whole_of s pages) c).reports
-    ∙ ap (λ (p : WholePlayed). p.reports) (character-beyond s pages c None high outside none) ∙ silent
+    ∙ ap (λ (p : WholePlayed). p.reports) (character-beyond s pages c None high none) ∙ silent
 
-pub leaves-beyond : (s t : State) (pages : PagesState) (c : ℕ) (out after : List ℕ) → 0x80 ≤ c → pages.subparameters ≡ Outside
+pub leaves-beyond : (s t : State) (pages : PagesState) (c : ℕ) (out after : List ℕ) → 0x80 ≤ c
     → bounds_of (screens s pages) ≡ None → t ≡ (play s (translation s c)).state → (play s (translation s c)).reports ≡ []
     → after ≡ out → Leaves (play_characters (whole_of s pages) (c ∷ [])) (whole_of t pages) out after
-leaves-beyond s t pages c out after high outside none left silent same = record {
+leaves-beyond s t pages c out after high none left silent same = record {
   whole = ap (λ (x : State). whole_of x pages) left
-      ∙ ap (λ (p : WholePlayed). p.whole) (sym (character-beyond s pages c None high outside none));
-  reports = same ∙ sym (ap (λ (r : List ℕ). out ++ r) (silent-beyond s pages c high outside none silent) ∙ append-nil out);
+      ∙ ap (λ (p : WholePlayed). p.whole) (sym (character-beyond s pages c None high none));
+  reports = same ∙ sym (ap (λ (r : List ℕ). out ++ r) (silent-beyond s pages c high none silent) ∙ append-nil out);
 }
 
 pub leaves-between : (s t : State) (pages q : PagesState) (c : ℕ) (m : Sides) (out : List ℕ) → 0x80 ≤ c
-    → pages.subparameters ≡ Outside → bounds_of (screens s pages) ≡ Some m → t ≡ shown_by (screens_beyond m c (whole_of s pages)) (held_beyond s.held)
+    → bounds_of (screens s pages) ≡ Some m → t ≡ shown_by (screens_beyond m c (whole_of s pages)) (held_beyond s.held)
     → q ≡ (screens_beyond m c (whole_of s pages)).pages
     → Leaves (play_characters (whole_of s pages) (c ∷ [])) (whole_of t q) out out
-leaves-between s t pages q c m out high none bounds left same =
-    let is = character-beyond s pages c (Some m) high none bounds in record {
-      whole = rw (left, same) (ap (λ (p : WholePlayed). p.whole) (sym is));
+leaves-between s t pages q c m out high bounds left kept =
+    let is = character-beyond s pages c (Some m) high bounds in record {
+      whole = rw (left, kept) (ap (λ (p : WholePlayed). p.whole) (sym is));
       reports = sym (ap (λ (r : List ℕ). out ++ r)
           (append-nil (play_character (whole_of s pages) c).reports ∙ ap (λ (p : WholePlayed). p.reports) is) ∙ append-nil out);
     }
+
+pub one-byte : (n b : ℕ) → 1 ≤ n → take n (b ∷ []) ≡ b ∷ []
+one-byte n b some = take_all n (b ∷ []) (omega (arith, some))

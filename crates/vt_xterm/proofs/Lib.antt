@@ -9,11 +9,6 @@ mod WrittenBeyond
 pub mod Bounds
 pub mod SoundScreens
 pub mod Stays
-pub mod Untouched
-pub mod Passing
-pub mod Spelled
-mod Calm
-mod CalmRuns
 mod Places
 mod Fitting
 mod Landing

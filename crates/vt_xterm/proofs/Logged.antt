@@ -1,32 +1,27 @@
 -- The lines that are kept, in parts.
-use Rattle.std.proofs.Common.{◌≡◌, ℕ, ◌+◌, List, [], ◌∷◌, ◌++◌, take, drop, sym, ap, ◌∙◌, subst, append-nil, All, ◌<◌, Bool, true, false, Option, Some, None}
-use Rattle.std.specs.Prelude.{flat_map, ◌≤◌, length, slice_index, if◌then◌else◌}
+use Rattle.std.proofs.Common.{◌≡◌, ℕ, ◌+◌, List, [], ◌∷◌, ◌++◌, take, drop, sym, ap, ◌∙◌, subst, append-nil, Bool, true, false, Option, Some, None}
+use Rattle.std.specs.Prelude.{flat_map, ◌≤◌, if◌then◌else◌}
 use Rattle.std.proofs.Math.Seq.{take-add}
-use Rattle.std.proofs.lemmas.List.Elements.{All-take}
 use Rattle.std.proofs.lemmas.Grind.{flat_map-append}
 use Rattle.vt_syntax.specs.Laws.{SplitLaw}
 use Rattle.vt_term.specs.Text.{line_text}
 use Rattle.vt_syntax.specs.declared.event.Event.{Event}
-use Rattle.vt_syntax.specs.Held.{IsHeldPart, events_from, held_from}
+use Rattle.vt_syntax.specs.Held.{events_from, held_from}
 use Rattle.vt_term.specs.State.{State}
 use Rattle.vt_term.specs.Scrolling.{scrolled_off}
 use Rattle.vt_utf8.specs.Decoding.{pending_after}
 use Rattle.vt_utf8.specs.Translation.{translation}
 use Rattle.vt_xterm.specs.declared.sides.Sides.{Sides}
-use Rattle.vt_xterm.specs.Pages.{PagesState, screens, bounds_of, with_subparameters}
+use Rattle.vt_xterm.specs.Pages.{PagesState, screens, bounds_of}
 use Rattle.vt_xterm.specs.Log.{page_line_off, line_off_between, xterm_line_off, xterm_lines_off}
 use Rattle.vt_xterm.specs.Play.{Whole, WholePlayed, screens_of, xterm_log}
-use Rattle.vt_xterm.specs.Play.{play_bytes, play_ascii, play_character, play_characters, play_xterm, whole_of}
+use Rattle.vt_xterm.specs.Play.{play_bytes, play_character, play_characters, play_xterm, whole_of}
 use Rattle.vt_xterm.specs.Terminals.{PlaysTerminals}
 use Rattle.vt_utf8.specs.Logs.{AreKept}
 use Rattle.vt_utf8.proofs.Logged.{Rows, keeps-nothing, keeps-both}
-use Rattle.vt_xterm.specs.declared.subparameters.Subparameters.{Subparameters}
-use Rattle.vt_xterm.specs.declared.subparameters.Subparameters.TheVariants.{Outside}
-use Rattle.vt_xterm.specs.Subparameters.{before, after, is_apart, itself, Pass}
-use Rattle.vt_xterm.proofs.Cuts.{bytes-two, character-ascii, characters-passed, characters-two, xterm-nothing, xterm-two}
+use Rattle.vt_xterm.proofs.Cuts.{bytes-two, characters-two, xterm-nothing, xterm-two}
 use Rattle.vt_xterm.proofs.Terminals.{bytes-terminals}
-use Rattle.vt_xterm.proofs.Fed.{character-beyond, beyond-outside, first-byte, first-fed, itself-is}
-use Rattle.vt_xterm.proofs.Passing.{shorter-pass, before-quiet}
+use Rattle.vt_xterm.proofs.Fed.{character-beyond}
 
 -- ---- the law of the log
 
@@ -63,106 +58,35 @@ module _ {O : Type 0} (Keeps : O → Rows → O → Type 0) (HasRoom IsFull : O 
       (ap (λ (x : WholePlayed). x.lines) (characters-two w xs ys)
       ∙ ap (λ (x : Whole). (play_characters w xs).lines ++ (play_characters x ys).lines) (sym is))
 
-  -- ---- bytes without an event
-
-  pub part-keeps : (w : Whole) (bytes : List ℕ) (o : O) → events_from w.state.held bytes ≡ []
-      → Keeps o (play_bytes w bytes).lines o
-  unfolding play_bytes
-  part-keeps w bytes o none =
-      keeps-nothing Keeps HasRoom IsFull kept o (xterm_lines_off (events_from w.state.held bytes) (screens_of w))
-      (ap (λ (events : List Event). xterm_lines_off events (screens_of w)) none)
-
   -- ---- a character
 
-  -- bytes that pass as they are
-  pub keeps-passed : SplitLaw → (w : Whole) (bytes : List ℕ) (o p : O) → IsHeldPart w.state.held → w.pages.subparameters ≡ Outside
-      → Pass w.state.held bytes → All (λ b. b < 0x80) bytes → Keeps o (play_bytes w bytes).lines p
-      → Keeps o (play_characters w bytes).lines p
-  keeps-passed split w bytes o p held none pass all keeps =
-      subst (λ (x : WholePlayed). Keeps o x.lines p) (sym (characters-passed split w bytes held none pass all)) keeps
-
-  pub keeps-front : SplitLaw → (w : Whole) (run : List ℕ) (n : ℕ) (o p : O) → IsHeldPart w.state.held
-      → w.pages.subparameters ≡ Outside → Pass w.state.held run → All (λ b. b < 0x80) run
-      → Keeps o (play_bytes w (take n run)).lines p → Keeps o (play_characters w (take n run)).lines p
-  keeps-front split w run n o p held none pass all keeps =
-      keeps-passed split w (take n run) o p held none (shorter-pass w.state.held n run pass) (All-take (λ b. b < 0x80) n run all) keeps
-
-  pub keeps-first : (w : Whole) (run : List ℕ) (o p : O) → 1 ≤ length run
-      → Keeps o (play_characters w (slice_index run 0 ∷ [])).lines p → Keeps o (play_characters w (take 1 run)).lines p
-  keeps-first w run o p some keeps =
-      subst (λ (bytes : List ℕ). Keeps o (play_characters w bytes).lines p) (sym (first-byte run some)) keeps
-
-  pub keeps-more-characters : (w v : Whole) (run : List ℕ) (at n : ℕ) (o p q : O) → v ≡ (play_characters w (take at run)).whole
-      → Keeps o (play_characters w (take at run)).lines p → Keeps p (play_characters v (take n (drop at run))).lines q
-      → Keeps o (play_characters w (take (at + n) run)).lines q
-  keeps-more-characters w v run at n o p q is first second =
-      subst (λ (bytes : List ℕ). Keeps o (play_characters w bytes).lines q) (sym (take-add at n run))
-      (keeps-characters w v (take at run) (take n (drop at run)) o p q is first second)
-
-  -- an ASCII byte: those before it complete no event
-  pub keeps-byte-itself : SplitLaw → (w : Whole) (s : State) (b : ℕ) (o p : O) → b < 0x80
-      → events_from w.state.held (before w.pages.subparameters w.state.held b) ≡ []
-      → whole_of s w.pages ≡ (play_bytes w (before w.pages.subparameters w.state.held b)).whole
-      → Keeps o (play_bytes (whole_of s w.pages) (itself (is_apart w.pages.subparameters w.state.held b) b)).lines p
-      → Keeps o (play_characters w (b ∷ [])).lines p
-  unfolding play_ascii
-  keeps-byte-itself split w s b o p low quiet left keeps =
-      let k = w.pages.subparameters in
-      let h = w.state.held in
-      let xs = before k h b in
-      let ys = itself (is_apart k h b) b in
-      let none = part-keeps w xs o quiet in
-      keeps-both Keeps HasRoom IsFull kept o o p (play_bytes w xs).lines (play_bytes (whole_of s w.pages) ys).lines
-      (play_characters w (b ∷ [])).lines none keeps
-      (append-nil (play_character w b).lines ∙ ap (λ (x : WholePlayed). x.lines) (character-ascii w b low)
-      ∙ ap (λ (x : WholePlayed). x.lines) (bytes-two split w xs ys)
-      ∙ ap (λ (x : Whole). (play_bytes w xs).lines ++ (play_bytes x ys).lines) (sym left))
-
-  -- by the parts of the call
-  pub keeps-read : SplitLaw → (s t : State) (p : PagesState) (k next : Subparameters) (b : ℕ) (bytes : List ℕ) (apart : Bool) (o q : O)
-      → b < 0x80 → IsHeldPart s.held → k ≡ p.subparameters → bytes ≡ before k s.held b → apart ≡ is_apart k s.held b
-      → next ≡ after k s.held b → t ≡ record s { held = held_from s.held bytes }
-      → Keeps o (play_bytes (whole_of t p) (itself apart b)).lines q → Keeps o (play_characters (whole_of s p) (b ∷ [])).lines q
-  keeps-read split s t p k next b bytes apart o q low held read first alone later left keeps =
-      keeps-byte-itself split (whole_of s p) t b o q low (before-quiet p.subparameters s.held b held)
-      (first-fed split s t t p p p k next b bytes [] [] apart low held read first alone later left).whole
-      (subst (λ (l : List ℕ). Keeps o (play_bytes (whole_of t p) l).lines q)
-      (itself-is split s t t p p p k next b bytes [] [] apart low held read first alone later left) keeps)
-
-  beyond-lines : (s : State) (pages : PagesState) (c : ℕ) → 0x80 ≤ c → pages.subparameters ≡ Outside → bounds_of (screens s pages) ≡ None
+  beyond-lines : (s : State) (pages : PagesState) (c : ℕ) → 0x80 ≤ c → bounds_of (screens s pages) ≡ None
       → (play_characters (whole_of s pages) (c ∷ [])).lines ≡ if pages.alternate then [] else scrolled_off s (translation s c)
-  beyond-lines s pages c high outside none =
+  beyond-lines s pages c high none =
       append-nil (play_character (whole_of s pages) c).lines
-      ∙ ap (λ (x : WholePlayed). x.lines) (character-beyond s pages c None high outside none)
+      ∙ ap (λ (x : WholePlayed). x.lines) (character-beyond s pages c None high none)
 
-  pub keeps-alternate : (s : State) (pages : PagesState) (c : ℕ) (o : O) → 0x80 ≤ c → pages.subparameters ≡ Outside
-      → bounds_of (screens s pages) ≡ None → pages.alternate ≡ true → Keeps o (play_characters (whole_of s pages) (c ∷ [])).lines o
-  keeps-alternate s pages c o high outside none is =
+  pub keeps-alternate : (s : State) (pages : PagesState) (c : ℕ) (o : O) → 0x80 ≤ c → bounds_of (screens s pages) ≡ None
+      → pages.alternate ≡ true → Keeps o (play_characters (whole_of s pages) (c ∷ [])).lines o
+  keeps-alternate s pages c o high none is =
       keeps-nothing Keeps HasRoom IsFull kept o (play_characters (whole_of s pages) (c ∷ [])).lines
-      (beyond-lines s pages c high outside none ∙ ap (λ (b : Bool). if b then [] else scrolled_off s (translation s c)) is)
+      (beyond-lines s pages c high none ∙ ap (λ (b : Bool). if b then [] else scrolled_off s (translation s c)) is)
 
-  pub keeps-main : (s : State) (pages : PagesState) (c : ℕ) (o p : O) → 0x80 ≤ c → pages.subparameters ≡ Outside
-      → bounds_of (screens s pages) ≡ None → pages.alternate ≡ false → Keeps o (scrolled_off s (translation s c)) p
+  pub keeps-main : (s : State) (pages : PagesState) (c : ℕ) (o p : O) → 0x80 ≤ c → bounds_of (screens s pages) ≡ None
+      → pages.alternate ≡ false → Keeps o (scrolled_off s (translation s c)) p
       → Keeps o (play_characters (whole_of s pages) (c ∷ [])).lines p
-  keeps-main s pages c o p high outside none is keeps =
+  keeps-main s pages c o p high none is keeps =
       subst (λ (rows : Rows). Keeps o rows p)
-      (sym (beyond-lines s pages c high outside none ∙ ap (λ (b : Bool). if b then [] else scrolled_off s (translation s c)) is))
+      (sym (beyond-lines s pages c high none ∙ ap (λ (b : Bool). if b then [] else scrolled_off s (translation s c)) is))
       keeps
 
-  -- it ends subparameters
-  pub keeps-outside : (s : State) (pages p : PagesState) (c : ℕ) (o q : O) → 0x80 ≤ c → p ≡ with_subparameters Outside pages
-      → Keeps o (play_characters (whole_of s p) (c ∷ [])).lines q → Keeps o (play_characters (whole_of s pages) (c ∷ [])).lines q
-  keeps-outside s pages p c o q high is keeps =
-      subst (λ (x : WholePlayed). Keeps o x.lines q)
-      (ap (λ (y : PagesState). play_characters (whole_of s y) (c ∷ [])) is ∙ sym (beyond-outside s pages c high)) keeps
-
   -- between left and right margins no line scrolls off
-  pub keeps-between : (s : State) (pages : PagesState) (c : ℕ) (m : Sides) (o : O) → 0x80 ≤ c → pages.subparameters ≡ Outside
+  pub keeps-between : (s : State) (pages : PagesState) (c : ℕ) (m : Sides) (o : O) → 0x80 ≤ c
       → bounds_of (screens s pages) ≡ Some m → Keeps o (play_characters (whole_of s pages) (c ∷ [])).lines o
-  keeps-between s pages c m o high outside bounds =
+  keeps-between s pages c m o high bounds =
       keeps-nothing Keeps HasRoom IsFull kept o (play_characters (whole_of s pages) (c ∷ [])).lines
       (append-nil (play_character (whole_of s pages) c).lines
-      ∙ ap (λ (x : WholePlayed). x.lines) (character-beyond s pages c (Some m) high outside bounds))
+      ∙ ap (λ (x : WholePlayed). x.lines) (character-beyond s pages c (Some m) high bounds))
 
   -- ---- bytes whose events are a VT220's
 
@@ -182,7 +106,14 @@ module _ {O : Type 0} (Keeps : O → Rows → O → Type 0) (HasRoom IsFull : O 
       subst (λ (rows : Rows). Keeps o rows p)
       (sym (terminals-lines s pages bytes none all ∙ ap (λ (b : Bool). if b then [] else scrolled_off s bytes) is)) keeps
 
-  -- ---- bytes that are one event
+  -- ---- bytes without an event, and bytes that are one event
+
+  pub part-keeps : (w : Whole) (bytes : List ℕ) (o : O) → events_from w.state.held bytes ≡ []
+      → Keeps o (play_bytes w bytes).lines o
+  unfolding play_bytes
+  part-keeps w bytes o none =
+      keeps-nothing Keeps HasRoom IsFull kept o (xterm_lines_off (events_from w.state.held bytes) (screens_of w))
+      (ap (λ (events : List Event). xterm_lines_off events (screens_of w)) none)
 
   pub event-keeps : (s mid : State) (pages : PagesState) (bytes : List ℕ) (event : Event) (o p : O)
       → events_from s.held bytes ≡ event ∷ [] → mid ≡ record s { held = held_from s.held bytes }

@@ -48,7 +48,6 @@ pub back-again : (s : Screens) (t : Display) → s.pages.alternate ≡ false →
         resizes = s.pages.resizes;
         brackets = s.pages.brackets;
         sides = (unwrapped s).pages.sides;
-        subparameters = s.pages.subparameters;
       };
     }
 back-again s t main width =
@@ -67,7 +66,6 @@ pub back-reset : (s : Screens) (t : Display) → s.pages.sides ≡ None → s.pa
         resizes = s.pages.resizes;
         brackets = s.pages.brackets;
         sides = None;
-        subparameters = s.pages.subparameters;
       };
     }
 unfolding bounds
@@ -80,7 +78,6 @@ back-reset s t none main width =
         resizes = s.pages.resizes;
         brackets = s.pages.brackets;
         sides = sides;
-        subparameters = s.pages.subparameters;
       };
     } in
     back-again s t main width ∙ ap (λ (sides : Option Sides). made (change_sides (λ m. record m { wrap = false }) sides)) none

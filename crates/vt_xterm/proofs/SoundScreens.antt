@@ -39,6 +39,7 @@ use Rattle.vt_term.specs.State.{display_of}
 use Rattle.vt_screen.specs.Cells.{blank}
 use Rattle.vt_screen.specs.Laws.{RowLaws, TestLaws}
 use Rattle.vt_screen.specs.declared.cell.Cell.{Cell}
+use Rattle.vt_utf8.specs.Similar.{shown}
 use Rattle.vt_term.proofs.Tables.{AllRows, looked_up-holds, same-numbers}
 use Rattle.vt_xterm.specs.Columns.{cursor_character_absolute, line_position_absolute, line_position_forward}
 use Rattle.vt_xterm.specs.Columns.{cursor_next_line, cursor_preceding_line}

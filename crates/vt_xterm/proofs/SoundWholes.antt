@@ -6,7 +6,7 @@ use Rattle.vt_syntax.specs.declared.event.Event.{Event}
 use Rattle.vt_syntax.specs.declared.held.Held.{Held}
 use Rattle.vt_syntax.specs.declared.held.Held.TheVariants as held
 use Rattle.vt_syntax.specs.declared.held.Held.TheVariants.{Nothing, Text, Spoilt}
-use Rattle.vt_syntax.specs.Held.{IsHeldPart, events_from, held_from, spell}
+use Rattle.vt_syntax.specs.Held.{IsHeldPart, events_from, spell}
 use Rattle.vt_syntax.specs.Laws.{SplitLaw, SpellingLaw}
 use Rattle.vt_glyph.specs.Tables.{IsGlyph, space}
 use Rattle.vt_glyph.specs.Laws.{GlyphLaws, SetsLaws, SpellingLaws}
@@ -28,14 +28,8 @@ use Rattle.vt_xterm.specs.Pages.{Screens, on_display, bounds_of}
 use Rattle.vt_xterm.specs.Bounded.{writing, writing_both, writing_wide, writing_beyond, is_at_end, beyond_in, held_beyond}
 use Rattle.vt_xterm.specs.Front.{xterm_effect}
 use Rattle.vt_xterm.specs.Play.{Whole, IsSoundWholeAt, behind, front_of, screens_of, after_events, play_bytes, play_character}
-use Rattle.vt_xterm.specs.Play.{play_ascii, play_characters, play_xterm, play_beyond, screens_beyond, reading_on, outside}
-use Rattle.vt_xterm.specs.declared.subparameters.Subparameters.{Subparameters}
-use Rattle.vt_xterm.specs.declared.subparameters.Subparameters.TheVariants.{Outside}
-use Rattle.vt_xterm.specs.Subparameters.{passed, after}
-use Rattle.vt_xterm.proofs.Beyond.{beyond-like}
-use Rattle.vt_xterm.proofs.Passing.{kept-outside, kept-none, kept-twice}
-use Rattle.vt_xterm.proofs.Untouched.{stays-leaves}
-use Rattle.vt_xterm.proofs.Bounds.{next_line-in, next_line-part, width-part, size-part}
+use Rattle.vt_xterm.specs.Play.{play_characters, play_xterm, play_beyond}
+use Rattle.vt_xterm.proofs.Bounds.{next_line-in, next_line-part, width-part}
 use Rattle.vt_xterm.proofs.SoundScreens.{AreSound, writing-keeps, after-fit, one-screen, with-sets, event-keeps, after_events-keeps}
 use Rattle.vt_xterm.proofs.SoundScreens.{page_of-sound}
 use Rattle.vt_xterm.proofs.Fitting.{Fit, wide-sides}
@@ -74,17 +68,15 @@ module _ (glyphs : GlyphLaws) (sets : SetsLaws) (rows : RowLaws) (tests : TestLa
       after_events-fit events size (xterm_effect event s) (event-keeps glyphs sets rows tests event size s i)
       (event-fit glyphs sets rows tests event size s i fit)
 
-  -- bytes, whatever is read of subparameters then
-  bytes-sound : SplitLaw → (size : Size) (w : Whole) (bytes : List ℕ) (k : Subparameters) → IsSoundWholeAt size w
-      → IsSoundWholeAt size (reading_on k (play_bytes w bytes)).whole
+  bytes-sound : SplitLaw → (size : Size) (w : Whole) (bytes : List ℕ) → IsSoundWholeAt size w
+      → IsSoundWholeAt size (play_bytes w bytes).whole
   unfolding play_bytes
-  bytes-sound split size w bytes k i =
+  bytes-sound split size w bytes i =
       let events = events_from w.state.held bytes in
       let after = after_events-keeps glyphs sets rows tests events size (screens_of w) (i.state.display, i.other) in record {
         state = record { display = after.0; held = split.held_part (spell w.state.held ++ bytes) };
         other = after.1;
         sides = after_events-fit events size (screens_of w) (i.state.display, i.other) i.sides;
-        subparameters = kept-twice (held_from w.state.held bytes) k;
       }
 
   -- ---- a character beyond ASCII between left and right margins
@@ -130,8 +122,8 @@ module _ (glyphs : GlyphLaws) (sets : SetsLaws) (rows : RowLaws) (tests : TestLa
       (writing_wide-keeps (shown c) (are c) size m s fits i))
 
   between-sound : ShownGlyph → (size : Size) (w : Whole) (c : ℕ) (m : Sides) → IsSoundWholeAt size w
-      → w.pages.subparameters ≡ Outside → FitsMargins m w.state.display → IsSoundWholeAt size (play_beyond w (Some m) c).whole
-  between-sound are size w c m i none at =
+      → FitsMargins m w.state.display → IsSoundWholeAt size (play_beyond w (Some m) c).whole
+  between-sound are size w c m i at =
       let s = screens_of w in
       let both = beyond_in-holds (AreSound size) w.state.held (writing_beyond c m) s (i.state.display, i.other)
       (writing_beyond-keeps are c size m s at.sides (i.state.display, i.other)) in record {
@@ -139,59 +131,48 @@ module _ (glyphs : GlyphLaws) (sets : SetsLaws) (rows : RowLaws) (tests : TestLa
         other = both.1;
         sides = beyond_in-holds Fit w.state.held (writing_beyond c m) s i.sides
             (beyond-fit c m s (own-display size w.state.display i.state.display) at i.sides);
-        subparameters = kept-none (held_beyond w.state.held) (screens_beyond m c w).pages.subparameters
-            (stays-leaves w.pages (screens_beyond m c w).pages (beyond-like (λ g. g.size) size-part m c w).1 ∙ none);
       }
 
   module _ (split : SplitLaw) (spelled : SpellingLaw) (spelling : SpellingLaws) (played : PlaySound) (nothing : PlaysNothing)
       (are : ShownGlyph) where
-    translated-sound : (size : Size) (w : Whole) (c : ℕ) → 0x80 ≤ c → IsSoundWholeAt size w → w.pages.subparameters ≡ Outside
-        → bounds_of (screens_of w) ≡ None → IsSoundWholeAt size (play_beyond w None c).whole
-    translated-sound size w c beyond i unread none =
+    translated-sound : (size : Size) (w : Whole) (c : ℕ) → 0x80 ≤ c → IsSoundWholeAt size w → bounds_of (screens_of w) ≡ None
+        → IsSoundWholeAt size (play_beyond w None c).whole
+    translated-sound size w c beyond i none =
         let after = played size w.state (translation w.state c) i.state in record {
           state = after;
           other = i.other;
           sides = wide-sides size w.pages.sides w.state.display (play w.state (translation w.state c)).state.display after.display
               (translation-width (nothing size) spelled glyphs spelling w.state c i.state beyond) none i.sides;
-          subparameters =
-              kept-none (play w.state (translation w.state c)).state.held w.pages.subparameters unread;
         }
 
-    beyond-sound : (size : Size) (w : Whole) (c : ℕ) → 0x80 ≤ c → IsSoundWholeAt size w → w.pages.subparameters ≡ Outside
+    beyond-sound : (size : Size) (w : Whole) (c : ℕ) → 0x80 ≤ c → IsSoundWholeAt size w
         → IsSoundWholeAt size (play_beyond w (bounds_of (screens_of w)) c).whole
     unfolding between.bounds
-    beyond-sound size w c beyond i unread = go w.pages.sides refl i.sides
+    beyond-sound size w c beyond i = go w.pages.sides refl i.sides
       where
         last : ℕ
         last = last_column w.state.display
 
         narrow : (m : Sides) → w.pages.sides ≡ Some m → FitsMargins m w.state.display → (b : Bool) → are_narrow last m ≡ b
             → IsSoundWholeAt size (play_beyond w (if b then Some m else None) c).whole
-        narrow m e at true is = between-sound are size w c m i unread at
+        narrow m e at true is = between-sound are size w c m i at
         narrow m e at false is =
-            translated-sound size w c beyond i unread
+            translated-sound size w c beyond i
             (ap (between.bounds last) e ∙ ap (λ (b : Bool). if b then Some m else None) is)
 
         go : (sides : Option Sides) → w.pages.sides ≡ sides → FitsSides w.state.display sides
             → IsSoundWholeAt size (play_beyond w (between.bounds last sides) c).whole
-        go None e at = translated-sound size w c beyond i unread (ap (between.bounds last) e)
+        go None e at = translated-sound size w c beyond i (ap (between.bounds last) e)
         go (Some m) e at = narrow m e at (are_narrow last m) refl
 
-    -- without subparameters
-    outside-sound : (size : Size) (w : Whole) → IsSoundWholeAt size w → IsSoundWholeAt size (outside w)
-    outside-sound size w i =
-        record { state = i.state; other = i.other; sides = i.sides; subparameters = kept-outside w.state.held }
-
     pub character-sound : (size : Size) (w : Whole) (c : ℕ) → IsSoundWholeAt size w → IsSoundWholeAt size (play_character w c).whole
-    unfolding play_character play_ascii
+    unfolding play_character
     character-sound size w c i = go (nat_lt c 0x80) refl
       where
-        go : (b : Bool) → nat_lt c 0x80 ≡ b → IsSoundWholeAt size (if b then play_ascii w c
-            else play_beyond (outside w) (bounds_of (screens_of w)) c).whole
-        go true low =
-            let k = w.pages.subparameters in
-            bytes-sound split size w (passed k w.state.held c) (after k w.state.held c) i
-        go false high = beyond-sound size (outside w) c (grind (arith, nat_tests)) (outside-sound size w i) refl
+        go : (b : Bool) → nat_lt c 0x80 ≡ b → IsSoundWholeAt size (if b then play_bytes w (c ∷ [])
+            else play_beyond w (bounds_of (screens_of w)) c).whole
+        go true low = bytes-sound split size w (c ∷ []) i
+        go false high = beyond-sound size w c (grind (arith, nat_tests)) i
 
     characters-sound : (size : Size) (w : Whole) (cs : List ℕ) → IsSoundWholeAt size w
         → IsSoundWholeAt size (play_characters w cs).whole
@@ -204,9 +185,4 @@ module _ (glyphs : GlyphLaws) (sets : SetsLaws) (rows : RowLaws) (tests : TestLa
     xterm-sound size w pending bytes i = characters-sound size w (characters pending bytes) i
 
 pub power_up-sound : (size : Size) → IsSoundAt size (state_of size) → IsSoundWholeAt size (behind (state_of size) (front_of size))
-power_up-sound size i = record {
-  state = i;
-  other = page_of-sound size (display_of size) i.display;
-  sides = tt;
-  subparameters = refl;
-}
+power_up-sound size i = record { state = i; other = page_of-sound size (display_of size) i.display; sides = tt }

@@ -1,19 +1,33 @@
 -- An xterm as a sink of characters.
-use Rattle.std.proofs.Common.{◌≡◌, ◌≤◌, ℕ, List, [], ◌∷◌, ◌++◌, refl, sym, ap, ◌∙◌, subst}
+use Rattle.std.proofs.Common.{◌≡◌, ℕ, ◌<◌, List, ◌++◌, All, refl, sym, ap, ◌∙◌, subst}
+use Rattle.vt_syntax.specs.Laws.{SplitLaw}
+use Rattle.vt_syntax.specs.Held.{IsHeldPart}
 use Rattle.vt_term.specs.State.{State}
 use Rattle.vt_utf8.specs.Logs.{AreKept}
 use Rattle.vt_utf8.specs.Sinks.{point, AreInTurn, Feeds}
 use Rattle.vt_utf8.proofs.Logged.{Rows, keeps-nothing}
-use Rattle.vt_xterm.specs.declared.subparameters.Subparameters.TheVariants.{Outside}
-use Rattle.vt_xterm.specs.Pages.{PagesState, with_subparameters}
-use Rattle.vt_xterm.specs.Play.{Whole, WholePlayed, FrontState, behind, both, nothing_played, play_characters, play_xterm, whole_of}
-use Rattle.vt_xterm.specs.Private.Feeds.{FeedsXterm, KeepSizes, TakesXterm, whole_at}
-use Rattle.vt_xterm.proofs.Cuts.{characters-two}
-use Rattle.vt_xterm.proofs.Fed.{leaves-nothing, leaves-both, leaves-outside}
-use Rattle.vt_xterm.proofs.Logged.{keeps-characters, keeps-outside}
+use Rattle.vt_xterm.specs.Pages.{PagesState}
+use Rattle.vt_xterm.specs.Play.{Whole, WholePlayed, FrontState, behind, both, nothing_played, play_bytes, play_characters, play_xterm, whole_of}
+use Rattle.vt_xterm.specs.Private.Feeds.{Leaves, FeedsBytes, FeedsXterm, KeepSizes, TakesXterm, whole_at}
+use Rattle.vt_xterm.proofs.Cuts.{characters-ascii, characters-two}
+use Rattle.vt_xterm.proofs.Fed.{leaves-nothing, leaves-both}
+use Rattle.vt_xterm.proofs.Logged.{keeps-characters}
 use Rattle.vt_xterm.proofs.OfOneSize.{keep-nothing, keep-both, keep-shown, still-one}
 
 module _ {L : Type 0} (Keeps : L → Rows → L → Type 0) where
+  -- ASCII is taken as its bytes
+  pub takes-bytes : SplitLaw → (s t : State) (p q : PagesState) (bytes before after : List ℕ) (o u : L) → IsHeldPart s.held
+      → All (λ b. b < 0x80) bytes → FeedsBytes (whole_of s p) bytes (whole_of t q) before after
+      → Keeps o (play_bytes (whole_of s p) bytes).lines u → KeepSizes s p t q
+      → TakesXterm Keeps (point s p o before) bytes (point t q u after)
+  takes-bytes split s t p q bytes before after o u held all fed keeps sizes =
+      let is : play_characters (whole_of s p) bytes ≡ play_bytes (whole_of s p) bytes =
+      characters-ascii split (whole_of s p) bytes held all in record {
+        leaves = subst (λ (x : WholePlayed). Leaves x (whole_of t q) before after) (sym is) fed;
+        keeps = subst (λ (x : WholePlayed). Keeps o x.lines u) (sym is) keeps;
+        sizes = sizes;
+      }
+
   -- by the parts of a front
   pub feeds-xterm : (s t : State) (inside front new : FrontState) (bytes before after : List ℕ) (o u : L) → inside ≡ front
       → Feeds (TakesXterm Keeps) (point s inside.pages o before) inside.pending bytes (point t new.pages u after) new.pending
@@ -47,18 +61,6 @@ module _ {L : Type 0} (Keeps : L → Rows → L → Type 0) where
           (ap (λ (x : WholePlayed). x.lines) is);
       sizes = keep-shown s t p size;
     }
-
-    -- it ends subparameters
-    pub takes-outside : (s t : State) (pages p q : PagesState) (c : ℕ) (before after : List ℕ) (o u : L) → 0x80 ≤ c
-        → p ≡ with_subparameters Outside pages → TakesXterm Keeps (point s p o before) (c ∷ []) (point t q u after)
-        → TakesXterm Keeps (point s pages o before) (c ∷ []) (point t q u after)
-    takes-outside s t pages p q c before after o u high is takes =
-        let sizes : KeepSizes s (with_subparameters Outside pages) t q =
-        subst (λ (x : PagesState). KeepSizes s x t q) is takes.sizes in record {
-          leaves = leaves-outside s t pages p q c before after high is takes.leaves;
-          keeps = keeps-outside Keeps HasRoom IsFull kept s pages p c o u high is takes.keeps;
-          sizes = record { shown = sizes.shown; other = sizes.other };
-        }
 
     pub in-turn : AreInTurn (TakesXterm Keeps) (λ s p. p.other.grid.size ≡ s.display.grid.size)
     in-turn = record {

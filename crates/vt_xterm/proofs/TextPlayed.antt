@@ -27,9 +27,7 @@ use Rattle.vt_utf8.proofs.Texts.{GlyphsLeave, GlyphsTwo, FitsRow, OfText, PlaysT
 use Rattle.vt_xterm.specs.Pages.{PagesState}
 use Rattle.vt_xterm.specs.Play.{Whole, WholePlayed, both, play_character, play_characters, nothing_played, whole_of, screens_of}
 use Rattle.vt_xterm.specs.Terminals.{AreTerminals, PlaysTerminals}
-use Rattle.vt_xterm.proofs.Cuts.{character-passed}
-use Rattle.vt_xterm.proofs.Passing.{between-pass}
-use Rattle.vt_xterm.specs.declared.subparameters.Subparameters.TheVariants.{Outside}
+use Rattle.vt_xterm.proofs.Cuts.{character-ascii}
 use Rattle.vt_xterm.proofs.Fed.{character-beyond}
 use Rattle.vt_xterm.proofs.NoSides.{none-bounds}
 use Rattle.vt_xterm.proofs.OfOneSize.{played-size}
@@ -52,26 +50,25 @@ ascii-plays spelled s c between low high =
     (subst AreTerminals (sym (graphic-events spelled (c ∷ []) have)) one)
 
 -- a character of text is played as on a VT220
-as-terminal : SpellingLaw → (s : State) (pages : PagesState) (c : ℕ) (ascii : Bool) → pages.sides ≡ None
-    → pages.subparameters ≡ Outside → s.held ≡ Nothing → IsInText ascii c
-    → play_character (whole_of s pages) c ≡ as_terminal (whole_of s pages) (translation s c)
-as-terminal spelled s pages c ascii none unread between (inl is) =
+as-terminal : SpellingLaw → (s : State) (pages : PagesState) (c : ℕ) (ascii : Bool) → pages.sides ≡ None → s.held ≡ Nothing
+    → IsInText ascii c → play_character (whole_of s pages) c ≡ as_terminal (whole_of s pages) (translation s c)
+as-terminal spelled s pages c ascii none between (inl is) =
     let w = whole_of s pages in
     let low : 0x20 ≤ c = is.1.0 in
     let high : c ≤ 0x7E = is.1.1 in
     let below : c < 0x80 = omega (arith, high) in
-    character-passed w c below unread (between-pass s.held c between)
+    character-ascii w c below
     ∙ bytes-terminals w (c ∷ []) none (ascii-plays spelled s c between low high)
     ∙ ap (λ (b : List ℕ). as_terminal w b) (sym (translation-ascii s c below))
-as-terminal spelled s pages c ascii none unread between (inr (beyond, _)) =
-    character-beyond s pages c None beyond unread (none-bounds (screens_of (whole_of s pages)) none)
+as-terminal spelled s pages c ascii none between (inr (beyond, _)) =
+    character-beyond s pages c None beyond (none-bounds (screens_of (whole_of s pages)) none)
 
 no-lines : (b : Bool) (rows : List (List Cell)) → rows ≡ [] → (if b then [] else rows) ≡ []
 no-lines true rows is = refl
 no-lines false rows is = is
 
 module _ (spelled : SpellingLaw) {size : Size} (plays : OfText PlaysText size) (off : OfText TextOff size) (leave : GlyphsLeave) (parts : GlyphsTwo)
-    (keeps : KeepsSoundAt size) (pages : PagesState) (none : pages.sides ≡ None) (unread : pages.subparameters ≡ Outside) where
+    (keeps : KeepsSoundAt size) (pages : PagesState) (none : pages.sides ≡ None) where
   -- one character
   step : (s : State) (c : ℕ) → IsSoundAt size s → IsReady s → IsInText (reads_ascii s.display.sets) c → FitsRow s (glyphs_of c)
       → (play_character (whole_of s pages) c ≡ nothing_played (whole_of (after_glyphs s (glyphs_of c)) pages))
@@ -87,7 +84,7 @@ module _ (spelled : SpellingLaw) {size : Size} (plays : OfText PlaysText size) (
       ∙ ap (λ (g : List ℕ). silently s (write_glyphs g s.display)) own in
       let silent : scrolled_off s (translation s c) ≡ [] =
       ap (λ (b : List ℕ). scrolled_off s b) (sym (translated-one s c)) ∙ off s (c ∷ []) sound ready all fits in (
-        as-terminal spelled s pages c (reads_ascii s.display.sets) none unread ready.held is
+        as-terminal spelled s pages c (reads_ascii s.display.sets) none ready.held is
             ∙ ap (λ (p : Played). record {
               whole = record w { state = p.state };
               reports = p.reports;

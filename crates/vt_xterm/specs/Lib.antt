@@ -3,7 +3,6 @@ pub mod Repeating
 pub mod Tabs
 pub mod Scroll
 pub mod Attributes
-pub mod Subparameters
 pub mod Sides
 pub mod Pages
 pub mod Bounded

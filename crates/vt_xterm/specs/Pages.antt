@@ -14,29 +14,18 @@ use Rattle.vt_term.specs.Modes.{private_modes, with_mode, column_mode, origin_mo
 use Rattle.vt_xterm.specs.declared.sides.Sides.{Sides}
 use Rattle.vt_xterm.specs.Sides.{full_sides, are_sides, sides_of, bounds}
 use Rattle.vt_xterm.specs.Sides as between
-use Rattle.vt_xterm.specs.declared.subparameters.Subparameters.{Subparameters}
-use Rattle.vt_xterm.specs.declared.subparameters.Subparameters.TheVariants.{Outside}
 
 -- the page that isn't shown; whether the alternate page is the one that is shown; whether DECCOLM has an effect;
--- whether pasted text is wanted in brackets; the left and right margins, if DECLRMM is set; how far subparameters have
--- come, of which no event knows
+-- whether pasted text is wanted in brackets; the left and right margins, if DECLRMM is set
 pub record PagesState : Type 0 where
   pub other : PageState
   pub alternate : Bool
   pub resizes : Bool
   pub brackets : Bool
   pub sides : Option Sides
-  pub subparameters : Subparameters
 
 abbrev pub pages_of : Size → PagesState
-pages_of size = record {
-  other = blank_page size;
-  alternate = false;
-  resizes = false;
-  brackets = false;
-  sides = None;
-  subparameters = Outside;
-}
+pages_of size = record { other = blank_page size; alternate = false; resizes = false; brackets = false; sides = None }
 
 -- the pages of a VT220's size at power-up
 abbrev pub pages_at_power_up : PagesState
@@ -50,10 +39,6 @@ pub record Screens : Type 0 where
 -- a function of the display alone
 abbrev pub on_display : (Display → Display) → Screens → Screens
 on_display f s = record s { display = f s.display }
-
--- how far subparameters have come
-abbrev pub with_subparameters : Subparameters → PagesState → PagesState
-with_subparameters k pages = record pages { subparameters = k }
 
 -- ---- left and right margins
 
@@ -200,10 +185,7 @@ is_window_wide s = not s.pages.resizes && s.display.grid.width == s.display.grid
 abbrev pub reset_to_initial_state : Screens → Screens
 reset_to_initial_state s = record {
   display = column_mode (is_window_wide s) (display_of s.display.grid.size);
-  pages = record (pages_of s.display.grid.size) {
-    resizes = s.pages.resizes;
-    subparameters = s.pages.subparameters;
-  };
+  pages = record (pages_of s.display.grid.size) { resizes = s.pages.resizes };
 }
 
 -- ---- a terminal's state and the pages, for contracts

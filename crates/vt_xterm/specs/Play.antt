@@ -1,7 +1,6 @@
 -- The state, the reports and the lines that scroll off after UTF-8 under TERM=xterm. (this profile)
-use Rattle.std.specs.Prelude.{◌≡◌, ℕ, List, [], ◌∷◌, ◌++◌, Option, Some, None, nat_lt, flat_map, if◌then◌else◌}
+use Rattle.std.specs.Prelude.{ℕ, List, [], ◌∷◌, ◌++◌, Option, Some, None, nat_lt, flat_map, if◌then◌else◌}
 use Rattle.vt_syntax.specs.declared.event.Event.{Event}
-use Rattle.vt_syntax.specs.declared.held.Held.{Held}
 use Rattle.vt_syntax.specs.Held.{events_from, held_from}
 use Rattle.vt_screen.specs.declared.cell.Cell.{Cell}
 use Rattle.vt_screen.specs.declared.size.Size.{Size}
@@ -18,10 +17,7 @@ use Rattle.vt_utf8.specs.Decoding.{characters, pending_after}
 use Rattle.vt_utf8.specs.Translation.{translation}
 use Rattle.vt_xterm.specs.declared.sides.Sides.{Sides}
 use Rattle.vt_xterm.specs.Sides.{FitsSides}
-use Rattle.vt_xterm.specs.declared.subparameters.Subparameters.{Subparameters}
-use Rattle.vt_xterm.specs.declared.subparameters.Subparameters.TheVariants.{Outside}
-use Rattle.vt_xterm.specs.Subparameters.{before, passed, after, kept}
-use Rattle.vt_xterm.specs.Pages.{PagesState, Screens, screens, shown_by, pages_of, bounds_of, with_subparameters}
+use Rattle.vt_xterm.specs.Pages.{PagesState, Screens, screens, shown_by, pages_of, bounds_of}
 use Rattle.vt_xterm.specs.Bounded.{writing_beyond, held_beyond, beyond_in}
 use Rattle.vt_xterm.specs.Front.{xterm_effect}
 use Rattle.vt_xterm.specs.Log.{xterm_lines_off}
@@ -31,13 +27,11 @@ pub record Whole : Type 0 where
   pub state : State
   pub pages : PagesState
 
--- what holds of all that bytes leave, if the two pages have this size: subparameters are read only while the terminal
--- reads the parameters of their sequence. (this profile)
+-- what holds of all that bytes leave, if the two pages have this size. (this profile)
 pub record IsSoundWholeAt (size : Size) (w : Whole) : Type 0 where
   pub state : IsSoundAt size w.state
   pub other : IsSoundPageAt size w.pages.other
   pub sides : FitsSides w.state.display w.pages.sides
-  pub subparameters : kept w.state.held w.pages.subparameters ≡ w.pages.subparameters
 
 -- what holds of all that bytes leave at a VT220's size
 abbrev pub IsSoundWhole : Whole → Type 0
@@ -120,35 +114,9 @@ abbrev pub play_beyond : Whole → Option Sides → ℕ → WholePlayed
 play_beyond w None c = play_translation w c
 play_beyond w (Some m) c = play_between m c w
 
--- ---- characters
-
-abbrev pub held_on : Held → List ℕ → Held
-held_on h [] = h
-held_on h (b ∷ bytes) = held_from h (b ∷ bytes)
-
--- what is held when the terminal reads the byte of an ASCII character, after its bytes before it
-abbrev pub held_before : Whole → ℕ → Held
-held_before w b = held_on w.state.held (before w.pages.subparameters w.state.held b)
-
--- what is read of subparameters after a play
-abbrev pub reading_on : Subparameters → WholePlayed → WholePlayed
-reading_on k p = record p {
-  whole = whole_of p.whole.state (with_subparameters (kept p.whole.state.held k) p.whole.pages);
-}
-
--- an ASCII character: its byte is played, but subparameters as the terminal's bytes for them
-unfoldable pub play_ascii : Whole → ℕ → WholePlayed
-play_ascii w b =
-    reading_on (after w.pages.subparameters w.state.held b)
-    (play_bytes w (passed w.pages.subparameters w.state.held b))
-
--- no subparameters are being read
-abbrev pub outside : Whole → Whole
-outside w = whole_of w.state (with_subparameters Outside w.pages)
-
--- a character; one beyond ASCII cuts a sequence off, and so ends subparameters
+-- a character: an ASCII one is played as its byte
 unfoldable pub play_character : Whole → ℕ → WholePlayed
-play_character w c = if nat_lt c 0x80 then play_ascii w c else play_beyond (outside w) (bounds_of (screens_of w)) c
+play_character w c = if nat_lt c 0x80 then play_bytes w (c ∷ []) else play_beyond w (bounds_of (screens_of w)) c
 
 -- two plays, one after the other
 abbrev pub both : WholePlayed → WholePlayed → WholePlayed

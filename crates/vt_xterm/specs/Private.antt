@@ -2,4 +2,3 @@
 pub mod Finding
 pub mod Feeds
 pub mod Profiles
-pub mod Calm

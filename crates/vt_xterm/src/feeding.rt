@@ -1,6 +1,6 @@
 //! Feeding: what a host sends under TERM=xterm changes a terminal's state, and gives report bytes.
 ghost use Rattle.std.specs.Prelude.{◌≡◌, ◌<◌, ◌+◌, ◌*◌, ◌≤◌, ◌++◌, ◌⊎◌, [], ◌∷◌, length, take, flat_map};
-ghost use Rattle.std.specs.Prelude.{vec_len, vec_capacity, None, OnOk, OnErr, IsOk};
+ghost use Rattle.std.specs.Prelude.{vec_len, vec_capacity, None};
 ghost use Rattle.vt_syntax.specs.Event.{event_of};
 ghost use Rattle.vt_term.specs.Text.{line_text};
 ghost use Rattle.vt_utf8.specs.Decoding.{pending_after};
@@ -14,48 +14,11 @@ use crate::finder::Finder;
 use crate::front::{SizedFront, SizedPages};
 use crate::log::{LineLog, PageLog, feed_terminals};
 use crate::playing::carry_out_whole;
-use std::alloc::AllocError;
 use vt_syntax::laws::one_split;
 use vt_syntax::{EventKind, Taken, Values};
-use vt_term::{Lines, Nobody, REPORT_LIMIT, SizedTerminal};
+use vt_term::{Lines, Nobody, SizedTerminal};
 use vt_utf8::TRANSLATION_LIMIT;
 use vt_utf8::sized::{feed_character, feed_characters};
-
-/// Plays a chunk of a host's bytes, in UTF-8 and with the functions of xterm, and appends the reports to `out`. `front` keeps
-/// what is pending between chunks, and the page that isn't shown.
-///
-/// It first reserves ten bytes of capacity for each byte of the chunk. Returns `Err` if that fails, or is more than any
-/// vector may hold. Then the terminal, the front and the contents of `out` are unchanged.
-pub fn feed_xterm(
-    terminal: &mut SizedTerminal,
-    front: &mut SizedFront,
-    piece: &[u8],
-    out: &mut Vec<u8>,
-) -> Result<(), AllocError>
-    requires one_size { front.old.pages.other.grid.size ≡ terminal.old.display.grid.size }
-    ensures size { terminal.new.display.grid.size ≡ terminal.old.display.grid.size }
-    ensures other_size { front.new.pages.other.grid.size ≡ front.old.pages.other.grid.size }
-    ensures state { OnOk result (terminal.new
-        ≡ (play_xterm (behind terminal.old front.old) front.old.pending piece.now).whole.state) }
-    ensures pages { OnOk result (front.new.pages
-        ≡ (play_xterm (behind terminal.old front.old) front.old.pending piece.now).whole.pages) }
-    ensures pending { OnOk result (front.new.pending ≡ pending_after front.old.pending piece.now) }
-    ensures reports { OnOk result (out.new.items ≡ out.old.items
-        ++ (play_xterm (behind terminal.old front.old) front.old.pending piece.now).reports) }
-    ensures bounded { vec_len out.new ≤ vec_len out.old + 10 * length piece.now }
-    ensures same_state { OnErr result (terminal.new ≡ terminal.old) }
-    ensures same_front { OnErr result (front.new ≡ front.old) }
-    ensures same_out { OnErr result (out.new.items ≡ out.old.items) }
-    ensures has_room { vec_len out.old + 10 * length piece.now ≤ vec_capacity out.old → IsOk result }
-    ensures capacity { vec_capacity out.old ≤ vec_capacity out.new }
-{
-    let Some(room) = piece.len().checked_mul(REPORT_LIMIT) else {
-        return Err(AllocError);
-    };
-    out.reserve(room)?;
-    feed_xterm_reserved(terminal, front, piece, out);
-    Ok(())
-}
 
 /// Plays a chunk of a host's bytes, in UTF-8 and with the functions of xterm, and appends the reports to `out`. `front` keeps
 /// what is pending between chunks, and the page that isn't shown. `out` has capacity for ten more bytes for each byte of the

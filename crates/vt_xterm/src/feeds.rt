@@ -1,15 +1,14 @@
 //! The feeds of a VT220's `Terminal` under TERM=xterm. Each calls that of its `SizedTerminal`.
 ghost use Rattle.std.specs.Prelude.{◌≡◌, ◌<◌, ◌+◌, ◌*◌, ◌≤◌, ◌++◌, ◌⊎◌, length, take};
-ghost use Rattle.std.specs.Prelude.{vec_len, vec_capacity, OnOk, OnErr, IsOk};
+ghost use Rattle.std.specs.Prelude.{vec_len, vec_capacity};
 ghost use Rattle.vt_utf8.specs.Decoding.{pending_after};
 ghost use Rattle.vt_xterm.specs.Play.{behind, play_xterm, xterm_log};
 
 use crate::feeding::{
-    feed_xterm as sized_feed_xterm, feed_xterm_log_reserved as sized_feed_xterm_log_reserved,
+    feed_xterm_log_reserved as sized_feed_xterm_log_reserved,
     feed_xterm_reserved as sized_feed_xterm_reserved,
 };
 use crate::front::Front;
-use std::alloc::AllocError;
 use vt_term::{TEXT_LIMIT, Terminal};
 use vt_utf8::UTF8_LINES_LIMIT;
 
@@ -17,35 +16,6 @@ use vt_utf8::UTF8_LINES_LIMIT;
 pub const LINES_LIMIT: usize = 2 * TEXT_LIMIT;
 
 const _: () = prove!(UTF8_LINES_LIMIT <= LINES_LIMIT);
-
-/// Plays a chunk of a host's bytes, in UTF-8 and with the functions of xterm, and appends the reports to `out`. `front` keeps
-/// what is pending between chunks, and the page that isn't shown.
-///
-/// It first reserves ten bytes of capacity for each byte of the chunk. Returns `Err` if that fails, or is more than any
-/// vector may hold. Then the terminal, the front and the contents of `out` are unchanged.
-#[inline(always)]
-pub fn feed_xterm(
-    terminal: &mut Terminal,
-    front: &mut Front,
-    piece: &[u8],
-    out: &mut Vec<u8>,
-) -> Result<(), AllocError>
-    ensures state { OnOk result (terminal.new
-        ≡ (play_xterm (behind terminal.old front.old) front.old.pending piece.now).whole.state) }
-    ensures pages { OnOk result (front.new.pages
-        ≡ (play_xterm (behind terminal.old front.old) front.old.pending piece.now).whole.pages) }
-    ensures pending { OnOk result (front.new.pending ≡ pending_after front.old.pending piece.now) }
-    ensures reports { OnOk result (out.new.items ≡ out.old.items
-        ++ (play_xterm (behind terminal.old front.old) front.old.pending piece.now).reports) }
-    ensures bounded { vec_len out.new ≤ vec_len out.old + 10 * length piece.now }
-    ensures same_state { OnErr result (terminal.new ≡ terminal.old) }
-    ensures same_front { OnErr result (front.new ≡ front.old) }
-    ensures same_out { OnErr result (out.new.items ≡ out.old.items) }
-    ensures has_room { vec_len out.old + 10 * length piece.now ≤ vec_capacity out.old → IsOk result }
-    ensures capacity { vec_capacity out.old ≤ vec_capacity out.new }
-{
-    sized_feed_xterm(&mut terminal.sized, &mut front.sized, piece, out)
-}
 
 /// Plays a chunk of a host's bytes, in UTF-8 and with the functions of xterm, and appends the reports to `out`. `front` keeps
 /// what is pending between chunks, and the page that isn't shown. `out` has capacity for ten more bytes for each byte of the

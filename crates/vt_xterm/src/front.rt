@@ -1,17 +1,14 @@
 //! The state that a front keeps.
-ghost use Rattle.std.specs.Prelude.{◌≡◌, ◌≤◌, ◌↔◌, IsTrue, IfOk, IfSome, None, Some, false, length, is_some};
+ghost use Rattle.std.specs.Prelude.{◌≡◌, ◌≤◌, IfOk, IfSome, None, Some, false, length, is_some};
 ghost use Rattle.std.specs.Bool.{OnFalse};
 ghost use Rattle.vt_screen.specs.Sizes.{IsSize};
 ghost use Rattle.vt_term.specs.State.{display_at_power_up, power_up, display_of, state_of};
 ghost use Rattle.vt_term.specs.Pages.{IsSoundSizedPage, with_page};
-ghost use Rattle.vt_xterm.specs.Pages.{pages_of, change_sides, with_subparameters};
-ghost use Rattle.vt_xterm.specs.Subparameters.{kept};
-ghost use Rattle.vt_xterm.specs.declared.subparameters.Subparameters.TheVariants.{Outside};
+ghost use Rattle.vt_xterm.specs.Pages.{pages_of, change_sides};
 ghost use Rattle.vt_xterm.specs.Sides.{AreSides, full_sides, bounds};
 ghost use Rattle.vt_xterm.specs.Play.{front_at_power_up, front_of};
 
 use crate::sides::Sides;
-use crate::subparameters::{Subparameters, takes_values};
 use std::alloc::{AllocError, Global};
 use std::marker::Model;
 use vt_term::{Size, SizedPage, SizedTerminal, Terminal};
@@ -30,8 +27,6 @@ pub struct SizedPages {
     pub(crate) brackets: bool,
     /// The left and right margins, if DECLRMM is set.
     pub(crate) sides: Option<Sides>,
-    /// How far subparameters have come.
-    pub(crate) subparameters: Subparameters,
 }
 
 impl Model for SizedPages {
@@ -39,14 +34,7 @@ impl Model for SizedPages {
 
     ghost Value = { PagesState };
 
-    ghost view = { λ p. record {
-      other = p.other;
-      alternate = p.alternate;
-      resizes = p.resizes;
-      brackets = p.brackets;
-      sides = p.sides;
-      subparameters = p.subparameters;
-    } };
+    ghost view = { λ p. record { other = p.other; alternate = p.alternate; resizes = p.resizes; brackets = p.brackets; sides = p.sides } };
 }
 
 impl SizedPages {
@@ -69,7 +57,6 @@ impl SizedPages {
     /// Returns whether DECLRMM is set.
     #[inline(always)]
     pub fn has_sides(&self) -> bool
-        ensures value { result ≡ is_some self.now.sides }
         ensures none { OnFalse result (self.now.sides ≡ None) }
     {
         self.sides.is_some()
@@ -117,33 +104,6 @@ impl SizedPages {
         }
     }
 
-    /// Returns whether no subparameters have come.
-    #[inline(always)]
-    pub fn is_outside(&self) -> bool
-        ensures { IsTrue result ↔ (self.now.subparameters ≡ Outside) }
-    {
-        self.subparameters == Subparameters::Outside
-    }
-
-    /// Ends subparameters.
-    #[inline(always)]
-    pub(crate) fn leave_subparameters(&mut self)
-        ensures { self.new ≡ with_subparameters Outside self.old }
-    {
-        self.subparameters = Subparameters::Outside;
-    }
-
-    /// Keeps how far subparameters have come, if the terminal reads the parameters of their sequence.
-    pub(crate) fn read_on(&mut self, terminal: &SizedTerminal, k: Subparameters)
-        ensures { self.new ≡ with_subparameters (kept terminal.now.held k) self.old }
-    {
-        self.subparameters = if takes_values(terminal.held()) {
-            k
-        } else {
-            Subparameters::Outside
-        };
-    }
-
     /// Makes the pages equal to others of the same size.
     fn copy_from(&mut self, other: &SizedPages)
         requires { self.old.other.grid.size ≡ other.now.other.grid.size }
@@ -154,16 +114,11 @@ impl SizedPages {
         self.resizes = other.resizes;
         self.brackets = other.brackets;
         self.sides = other.sides;
-        self.subparameters = other.subparameters;
     }
 
-    /// Makes the pages as at power-up: both blank, and the main one shown. Whether DECCOLM has an effect stays, and so does
-    /// how far subparameters have come.
+    /// Makes the pages as at power-up: both blank, and the main one shown. Whether DECCOLM has an effect stays.
     pub(crate) fn reset(&mut self)
-        ensures { self.new ≡ record (pages_of self.old.other.grid.size) {
-          resizes = self.old.resizes;
-          subparameters = self.old.subparameters;
-        } }
+        ensures { self.new ≡ record (pages_of self.old.other.grid.size) { resizes = self.old.resizes } }
     {
         self.other.reset();
         self.alternate = false;
@@ -173,7 +128,7 @@ impl SizedPages {
 }
 
 /// What a terminal of any size lacks under TERM=xterm: what is pending of UTF-8, the page that isn't shown, three
-/// modes, side margins, and how far subparameters have come. `new` allocates its memory, and nothing else does.
+/// modes, and side margins. `new` allocates its memory, and nothing else does.
 #[derive(Drop)]
 pub struct SizedFront {
     /// What is pending of UTF-8.
@@ -206,7 +161,6 @@ impl SizedFront {
                 resizes: false,
                 brackets: false,
                 sides: None,
-                subparameters: Subparameters::Outside,
             },
         })
     }
@@ -215,7 +169,9 @@ impl SizedFront {
     pub fn size(&self) -> Size
         ensures size { result ≡ self.now.pages.other.grid.size }
         ensures sound { IsSize self.now.pages.other.grid.size }
+        ensures page { IsSoundSizedPage self.now.pages.other }
     {
+        self.pages.soundness();
         self.pages.other.size()
     }
 
@@ -275,13 +231,6 @@ impl SizedFront {
         self.pages.sides
     }
 
-    /// Returns how far subparameters have come.
-    pub fn subparameters(&self) -> Subparameters
-        ensures { result ≡ self.now.pages.subparameters }
-    {
-        self.pages.subparameters
-    }
-
     /// Returns whether the left and right margins bound functions on a screen of this width: they leave a column out.
     pub fn is_bounded(&self, width: usize) -> bool
         ensures { result ≡ is_some (bounds width self.now.pages.sides) }
@@ -291,7 +240,7 @@ impl SizedFront {
 }
 
 /// What a VT220's terminal lacks under TERM=xterm: what is pending of UTF-8, the page that isn't shown, three modes,
-/// side margins, and how far subparameters have come. `new` allocates its memory, and nothing else does.
+/// and the left and right margins. `new` allocates its memory, and nothing else does.
 #[derive(Drop)]
 pub struct Front {
     /// The front, whose size is a VT220's.

@@ -1,26 +1,23 @@
 //! Laws over the definitions alone. A caller cites a law by a call of its function.
-ghost use Rattle.std.specs.Prelude.{◌≡◌, ◌<◌, ℕ, List, [], ◌++◌, All, None, true, false, if◌then◌else◌};
-ghost use Rattle.std.specs.List.{list_any};
+ghost use Rattle.std.specs.Prelude.{◌≡◌, ◌<◌, ◌+◌, ℕ, List, [], ◌++◌, All, None, if◌then◌else◌};
 ghost use Rattle.vt_syntax.specs.declared.event.Event.{Event};
 ghost use Rattle.vt_syntax.specs.Held.{IsHeldPart};
-ghost use Rattle.vt_syntax.specs.Reading.{events_of};
-ghost use Rattle.vt_term.specs.State.{Display, power_up, state_of};
+ghost use Rattle.vt_term.specs.State.{power_up, state_of};
 ghost use Rattle.vt_screen.specs.declared.size.Size.{Size};
 ghost use Rattle.vt_screen.specs.Sizes.{IsSize};
 ghost use Rattle.vt_term.specs.Sound.{IsSound, IsSoundDisplay, IsSoundDisplayAt, IsSoundAt, IsSoundSized};
-ghost use Rattle.vt_term.specs.Pages.{IsSoundPage, IsSoundPageAt, IsSoundSizedPage, page_of, with_page};
-ghost use Rattle.vt_term.specs.Saving.{save_cursor, restore_cursor};
+ghost use Rattle.vt_term.specs.Pages.{IsSoundPage, IsSoundPageAt, IsSoundSizedPage};
 ghost use Rattle.vt_term.specs.Play.{play, joined};
 ghost use Rattle.vt_term.specs.Scrolling.{scrolled_off};
 ghost use Rattle.vt_utf8.specs.Decoding.{pending_after};
-ghost use Rattle.vt_xterm.specs.Pages.{Screens, show_and_save, restored, bounds_of, unwrapped};
-ghost use Rattle.vt_xterm.specs.Front.{xterm_effect, is_page_function, is_paste_function, is_side_function, into_alternate, through_alternate};
+ghost use Rattle.vt_xterm.specs.Pages.{Screens};
+ghost use Rattle.vt_xterm.specs.Front.{xterm_effect};
 ghost use Rattle.vt_xterm.specs.Sides.{FitsSides};
-ghost use Rattle.vt_xterm.specs.Subparameters.{Pass, kept};
-ghost use Rattle.vt_xterm.specs.declared.subparameters.Subparameters.TheVariants.{Outside};
-ghost use Rattle.vt_xterm.specs.Play.{Whole, IsSoundWhole, IsSoundWholeAt, behind, front_of, front_at_power_up, screens_of};
+ghost use Rattle.vt_xterm.specs.Play.{Whole, IsSoundWhole, IsSoundWholeAt, behind, front_of, front_at_power_up};
 ghost use Rattle.vt_xterm.specs.Play.{play_bytes, play_xterm, play_xterm_all, both, nothing_played, xterm_log};
-ghost use Rattle.vt_xterm.specs.Resizing.{whole_on, xterm_log_on};
+ghost use Rattle.vt_xterm.specs.Resizing.{whole_on, xterm_log_on, main_page, main_row, main_off};
+ghost use Rattle.vt_screen.specs.Grid.{width_on};
+ghost use Rattle.vt_term.specs.Text.{lines_text};
 ghost use Rattle.vt_xterm.specs.Terminals.{PlaysTerminals};
 
 use vt_glyph::laws::{glyphs, soundness as sets_soundness, spelling};
@@ -78,13 +75,12 @@ pub fn cuts()
         → play_xterm_all w pending pieces ≡ play_xterm w pending (joined pieces) }
 {}
 
-/// States at any size that ASCII with nothing pending is played by its events, if none of its colons begins
-/// subparameters, and none are being read. Suppose that DECLRMM is reset, and that
+/// States at any size that ASCII with nothing pending is played by its events. Suppose that DECLRMM is reset, and that
 /// all these events have a VT220's effect. Then the bytes leave and report what they do on a VT220, and the pages stay.
 /// On the main page the bytes also scroll off what they do there.
 pub fn sized_transparent()
-    ensures ascii { (w : Whole) (bytes : List ℕ) → IsHeldPart w.state.held → w.pages.subparameters ≡ Outside
-        → Pass w.state.held bytes → All (λ b. b < 0x80) bytes → play_xterm w [] bytes ≡ play_bytes w bytes }
+    ensures ascii { (w : Whole) (bytes : List ℕ) → IsHeldPart w.state.held → All (λ b. b < 0x80) bytes
+        → play_xterm w [] bytes ≡ play_bytes w bytes }
     ensures terminals { (w : Whole) (bytes : List ℕ) → w.pages.sides ≡ None → PlaysTerminals w.state bytes → play_bytes w bytes ≡ record {
       whole = record w { state = (play w.state bytes).state };
       reports = (play w.state bytes).reports;
@@ -94,13 +90,12 @@ pub fn sized_transparent()
     one_split();
 }
 
-/// States that ASCII with nothing pending is played by its events, if none of its colons begins subparameters, and none
-/// are being read. Suppose that DECLRMM is reset, and that all these
+/// States that ASCII with nothing pending is played by its events. Suppose that DECLRMM is reset, and that all these
 /// events have a VT220's effect. Then the bytes leave and report what they do on a VT220, and the pages stay. On the
 /// main page the bytes also scroll off what they do there.
 pub fn transparent()
-    ensures ascii { (w : Whole) (bytes : List ℕ) → IsSound w.state → w.pages.subparameters ≡ Outside
-        → Pass w.state.held bytes → All (λ b. b < 0x80) bytes → play_xterm w [] bytes ≡ play_bytes w bytes }
+    ensures ascii { (w : Whole) (bytes : List ℕ) → IsSound w.state → All (λ b. b < 0x80) bytes
+        → play_xterm w [] bytes ≡ play_bytes w bytes }
     ensures terminals { (w : Whole) (bytes : List ℕ) → w.pages.sides ≡ None → PlaysTerminals w.state bytes → play_bytes w bytes ≡ record {
       whole = record w { state = (play w.state bytes).state };
       reports = (play w.state bytes).reports;
@@ -117,99 +112,25 @@ pub fn log_cuts()
         ≡ xterm_log w pending a ++ xterm_log (play_xterm w pending a).whole (pending_after pending a) b }
 {}
 
-/// States what ?1049h gives back at ?1049l, if the display became any other of the same width in between. The cells of
-/// the main page are back. The cursor that was saved is restored; under DECOM it is brought between left and right
-/// margins. The margins stay, without a pending wrap. Everything else stays as it became.
-pub fn alternate()
-    ensures back { (s : Screens) (t : Display) → s.pages.alternate ≡ false → t.grid.width ≡ s.display.grid.width
-        → show_and_save false (record (show_and_save true s) { display = t }) ≡ record {
-          display = restored (bounds_of (unwrapped s)) (with_page (page_of (save_cursor s.display)) t);
-          pages = record {
-            other = page_of t;
-            alternate = false;
-            resizes = s.pages.resizes;
-            brackets = s.pages.brackets;
-            sides = (unwrapped s).pages.sides;
-            subparameters = s.pages.subparameters;
-          };
-        } }
-    ensures reset { (s : Screens) (t : Display) → s.pages.sides ≡ None → s.pages.alternate ≡ false
-        → t.grid.width ≡ s.display.grid.width
-        → show_and_save false (record (show_and_save true s) { display = t }) ≡ record {
-          display = restore_cursor (with_page (page_of (save_cursor s.display)) t);
-          pages = record {
-            other = page_of t;
-            alternate = false;
-            resizes = s.pages.resizes;
-            brackets = s.pages.brackets;
-            sides = None;
-            subparameters = s.pages.subparameters;
-          };
-        } }
-{}
-
-/// States that every event leaves the width, and the pages but for the left and right margins. The exceptions are RIS,
-/// and SM and RM of ?3, ?40, ?47, ?1047 and ?1049. SM and RM of ?2004 also change whether pasted text is wanted in
-/// brackets. DECLRMM stays reset at every event but SM of ?69. While it is reset, all these events leave the pages.
-pub fn pages()
-    ensures stay { (event : Event) (s : Screens) → is_page_function event ≡ false → is_paste_function event ≡ false
-        → ((xterm_effect event s).pages ≡ record s.pages { sides = (xterm_effect event s).pages.sides })
-        × ((xterm_effect event s).display.grid.width ≡ s.display.grid.width) }
-    ensures brackets { (event : Event) (s : Screens) → is_page_function event ≡ false
-        → ((xterm_effect event s).pages ≡ record s.pages {
-          brackets = (xterm_effect event s).pages.brackets;
-          sides = (xterm_effect event s).pages.sides;
-        })
-        × ((xterm_effect event s).display.grid.width ≡ s.display.grid.width) }
-    ensures reset { (event : Event) (s : Screens) → s.pages.sides ≡ None → is_side_function event ≡ false
-        → (xterm_effect event s).pages.sides ≡ None }
-    ensures stay_reset { (event : Event) (s : Screens) → s.pages.sides ≡ None → is_side_function event ≡ false
-        → is_page_function event ≡ false → is_paste_function event ≡ false
-        → ((xterm_effect event s).pages ≡ s.pages)
-        × ((xterm_effect event s).display.grid.width ≡ s.display.grid.width) }
-    ensures brackets_reset { (event : Event) (s : Screens) → s.pages.sides ≡ None → is_side_function event ≡ false
-        → is_page_function event ≡ false
-        → ((xterm_effect event s).pages ≡ record s.pages { brackets = (xterm_effect event s).pages.brackets })
-        × ((xterm_effect event s).display.grid.width ≡ s.display.grid.width) }
-{}
-
-/// States what comes back after ?1049h on the main page, bytes without a function of the pages, and ?1049l. The cells
-/// are those of before. The saved cursor is restored. Under DECOM the cursor is brought between left and right margins,
-/// unless DECLRMM is reset. If DECOM was reset, the cursor's position is that of before.
-pub fn comes_back()
-    ensures display { (w : Whole) (bytes : List ℕ) → IsSoundWhole w → w.pages.alternate ≡ false
-        → list_any is_page_function (events_of bytes) ≡ false
-        → (play_bytes w (through_alternate bytes)).whole.state.display
-        ≡ restored (bounds_of (screens_of (play_bytes w (into_alternate bytes)).whole))
-        (with_page (page_of (save_cursor w.state.display)) (play_bytes w (into_alternate bytes)).whole.state.display) }
-    ensures display_reset { (w : Whole) (bytes : List ℕ) → IsSoundWhole w → w.pages.sides ≡ None → w.pages.alternate ≡ false
-        → list_any is_side_function (events_of bytes) ≡ false → list_any is_page_function (events_of bytes) ≡ false
-        → (play_bytes w (through_alternate bytes)).whole.state.display
-        ≡ restore_cursor (with_page (page_of (save_cursor w.state.display)) (play_bytes w (into_alternate bytes)).whole.state.display) }
-    ensures cells { (w : Whole) (bytes : List ℕ) → IsSoundWhole w → w.pages.alternate ≡ false
-        → list_any is_page_function (events_of bytes) ≡ false
-        → (play_bytes w (through_alternate bytes)).whole.state.display.grid ≡ w.state.display.grid }
-    ensures cursor { (w : Whole) (bytes : List ℕ) → IsSoundWhole w → w.pages.alternate ≡ false
-        → list_any is_page_function (events_of bytes) ≡ false → w.state.display.modes.decom ≡ false
-        → ((play_bytes w (through_alternate bytes)).whole.state.display.cursor.row ≡ w.state.display.cursor.row)
-        × ((play_bytes w (through_alternate bytes)).whole.state.display.cursor.col ≡ w.state.display.cursor.col) }
-{
-    one_split();
-    spelled();
-}
-
 /// States what a change of the screen's size keeps: at its own size a session stays as it is, and nothing goes to the log. At another
 /// size the terminal and the page that isn't shown are sound and of that size, and the left and right margins fit it.
+/// No line is lost if the height changes alone: what goes to the log, followed by the rows of the main page up to its cursor, is
+/// these rows of before. While that page isn't shown, its cursor is the place that was saved on it.
 pub fn resizes()
     ensures own { (w : Whole) → IsSoundSized w.state → IsSoundPageAt w.state.display.grid.size w.pages.other
         → whole_on w.state.display.grid.size w ≡ w }
-    ensures own_log { (w : Whole) → IsSoundSized w.state → xterm_log_on w.state.display.grid.size w ≡ [] }
+    ensures own_log { (w : Whole) → IsSoundSized w.state → IsSoundPageAt w.state.display.grid.size w.pages.other
+        → xterm_log_on w.state.display.grid.size w ≡ [] }
+    ensures kept { (size : Size) (w : Whole) → IsSize size → IsSoundSized w.state → IsSoundPageAt w.state.display.grid.size w.pages.other
+        → width_on size (main_page w).grid ≡ (main_page w).grid.width
+        → xterm_log_on size w ++ lines_text (main_row (whole_on size w)) (main_page (whole_on size w)).grid
+        ≡ lines_text (main_row w) (main_page w).grid }
+    ensures line { (size : Size) (w : Whole) → IsSize size → IsSoundSized w.state → IsSoundSizedPage w.pages.other
+        → main_row (whole_on size w) + main_off size w.state.display w.pages ≡ main_row w }
     ensures sound { (size : Size) (w : Whole) → IsSize size → IsSoundSized w.state → IsSoundSizedPage w.pages.other
         → IsSoundAt size (whole_on size w).state × IsSoundPageAt size (whole_on size w).pages.other }
     ensures sides { (size : Size) (w : Whole) → IsSize size → IsSoundSized w.state → FitsSides w.state.display w.pages.sides
         → FitsSides (whole_on size w).state.display (whole_on size w).pages.sides }
-    ensures subparameters { (size : Size) (w : Whole) → kept w.state.held w.pages.subparameters ≡ w.pages.subparameters
-        → kept (whole_on size w).state.held (whole_on size w).pages.subparameters ≡ (whole_on size w).pages.subparameters }
 {
     resized();
 }

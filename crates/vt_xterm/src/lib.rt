@@ -4,7 +4,6 @@
 //! shown. Every function that its table lacks is a VT220's.
 #![tactic(auto)]
 
-mod ascii;
 mod attributes;
 mod bounded;
 mod columns;
@@ -20,15 +19,12 @@ mod playing;
 mod profile;
 mod repeating;
 mod resizing;
-mod runs;
 mod sides;
 mod sink;
 pub mod sized;
-mod subparameters;
 mod tabs;
 
 pub use attributes::{begins_colour, colour_length};
-pub use feeds::{LINES_LIMIT, feed_xterm, feed_xterm_log_reserved, feed_xterm_reserved};
+pub use feeds::{LINES_LIMIT, feed_xterm_log_reserved, feed_xterm_reserved};
 pub use front::{Front, SizedFront};
 pub use sides::Sides;
-pub use subparameters::Subparameters;

@@ -1,30 +1,25 @@
 //! TERM=xterm as a sink of characters.
 ghost use Rattle.std.specs.Prelude.{◌≡◌, ◌+◌, ◌≤◌, ◌∷◌, [], ℕ, None, vec_len, vec_capacity};
 ghost use Rattle.vt_utf8.specs.Limits.{lines_limit as utf8_lines_limit};
-ghost use Rattle.vt_utf8.specs.Sinks.{point};
 ghost use Rattle.vt_xterm.specs.Limits.{lines_limit};
 ghost use Rattle.vt_xterm.specs.Pages.{screens, bounds_of};
 ghost use Rattle.vt_xterm.specs.Play.{play_characters, whole_of};
-ghost use Rattle.vt_xterm.specs.Private.Feeds.{Leaves, TakesXterm};
-ghost use Rattle.vt_xterm.specs.declared.subparameters.Subparameters.TheVariants.{Outside};
+ghost use Rattle.vt_xterm.specs.Private.Feeds.{Leaves};
 
-use crate::ascii::{feed_calm, feed_some_calm};
 use crate::bounded::character_between;
 use crate::front::SizedPages;
 use crate::log::PageLog;
-use crate::runs::calm_front;
-use vt_syntax::laws::spelled;
+use vt_syntax::laws::{one_split, spelled};
 use vt_term::SizedTerminal;
 use vt_term::laws::{glyph_runs, sized_soundness as played_soundness};
 use vt_utf8::laws::sized_text;
 use vt_utf8::sized::feed_beyond_ascii;
 use vt_utf8::{Sink, write_text};
 
-/// What is kept besides a VT220's state is the pages. Text is taken at once while DECLRMM is reset and no subparameters have come.
+/// What is kept besides a VT220's state is the pages. Text is taken at once while DECLRMM is reset.
 impl<L: PageLog> Sink<L> for SizedPages {
     ghost use Rattle.std.specs.Prelude.{◌≡◌};
     ghost use Rattle.vt_xterm.specs.Limits.{lines_limit};
-    ghost use Rattle.vt_xterm.specs.Private.Calm.{IsCalmRun};
     ghost use Rattle.vt_xterm.specs.Private.Feeds.{TakesXterm};
 
     ghost Takes = { TakesXterm L.Keeps };
@@ -32,13 +27,6 @@ impl<L: PageLog> Sink<L> for SizedPages {
     ghost OneSize = { λ s pages. pages.other.grid.size ≡ s.display.grid.size };
 
     ghost most = { lines_limit };
-
-    ghost IsRun = { IsCalmRun };
-
-    #[inline(always)]
-    fn front_run(piece: &[u8]) -> usize {
-        calm_front(piece)
-    }
 
     #[inline(always)]
     fn take_run(
@@ -49,7 +37,9 @@ impl<L: PageLog> Sink<L> for SizedPages {
         log: &mut L,
         out: &mut Vec<u8>,
     ) -> usize {
-        feed_calm(terminal, self, run, limit, log, out)
+        terminal.soundness();
+        one_split();
+        log.play(terminal, self, run, limit, out)
     }
 
     #[inline(always)]
@@ -60,7 +50,9 @@ impl<L: PageLog> Sink<L> for SizedPages {
         log: &mut L,
         out: &mut Vec<u8>,
     ) -> usize {
-        feed_some_calm(terminal, self, run, log, out)
+        terminal.soundness();
+        one_split();
+        log.play_some(terminal, self, run, out)
     }
 
     #[inline(always)]
@@ -71,9 +63,6 @@ impl<L: PageLog> Sink<L> for SizedPages {
         played_soundness();
         sized_text();
         if self.has_sides() {
-            return 0;
-        }
-        if !self.is_outside() {
             return 0;
         }
         write_text(terminal, piece)
@@ -87,43 +76,17 @@ impl<L: PageLog> Sink<L> for SizedPages {
         log: &mut L,
         out: &mut Vec<u8>,
     ) {
-        self.leave_subparameters();
-        feed_outside(terminal, self, c, log, out);
+        match self.bounds(terminal.width()) {
+            Some(sides) => character_between(terminal, self, sides, c),
+            None => feed_unbounded(terminal, self, c, log, out),
+        }
     }
 
     #[inline(always)]
     fn in_turn(&self) {}
-
-    #[inline(always)]
-    fn lone_byte(&self) {}
 }
 
-/// Plays a character beyond ASCII if no subparameters are being read. It causes no report.
-#[inline(always)]
-fn feed_outside<L: PageLog>(
-    terminal: &mut SizedTerminal,
-    pages: &mut SizedPages,
-    c: char,
-    log: &mut L,
-    out: &mut Vec<u8>,
-)
-    requires beyond { 0x80 ≤ c }
-    requires outside { pages.old.subparameters ≡ Outside }
-    requires room { vec_len out.old + 10 ≤ vec_capacity out.old }
-    requires lines_room { L.HasRoom log.old (lines_limit terminal.old.display.grid.size) }
-    ensures takes { TakesXterm L.Keeps (point terminal.old pages.old log.old out.old.items) (c ∷ [])
-        (point terminal.new pages.new log.new out.new.items) }
-    ensures left { (n : ℕ) → L.HasRoom log.old (n + lines_limit terminal.old.display.grid.size) → L.HasRoom log.new n }
-    ensures out { out.new.items ≡ out.old.items }
-    ensures capacity { vec_capacity out.old ≤ vec_capacity out.new }
-{
-    match pages.bounds(terminal.width()) {
-        Some(sides) => character_between(terminal, pages, sides, c),
-        None => feed_unbounded(terminal, pages, c, log, out),
-    }
-}
-
-/// Plays a character beyond ASCII as `feed_outside` does, if left and right margins bound nothing.
+/// Plays a character beyond ASCII if left and right margins bound nothing. It causes no report.
 #[inline(always)]
 fn feed_unbounded<L: PageLog>(
     terminal: &mut SizedTerminal,
@@ -134,7 +97,6 @@ fn feed_unbounded<L: PageLog>(
 )
     requires beyond { 0x80 ≤ c }
     requires unbounded { bounds_of (screens terminal.old pages.now) ≡ None }
-    requires outside { pages.now.subparameters ≡ Outside }
     requires room { vec_len out.old + 10 ≤ vec_capacity out.old }
     requires lines_room { L.HasRoom log.old (lines_limit terminal.old.display.grid.size) }
     ensures size { terminal.new.display.grid.size ≡ terminal.old.display.grid.size }

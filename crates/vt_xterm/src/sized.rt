@@ -1,7 +1,6 @@
 //! The calls for a terminal of any size.
-pub use crate::ascii::parser_before;
 pub use crate::feeding::{
-    feed_xterm, feed_xterm_character, feed_xterm_character_log, feed_xterm_log_reserved,
-    feed_xterm_reserved, xterm_lines_limit,
+    feed_xterm_character, feed_xterm_character_log, feed_xterm_log_reserved, feed_xterm_reserved,
+    xterm_lines_limit,
 };
 pub use crate::front::SizedPages;

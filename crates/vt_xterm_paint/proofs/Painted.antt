@@ -36,7 +36,6 @@ use Rattle.vt_paint.specs.Pieces.{left_of, needs_header, header, glyph_events, p
 use Rattle.vt_paint.specs.Items.{is_wide, width_events, stop_events, made_stops, stops_item, saved_events, saved_item, cells_item}
 use Rattle.vt_paint.specs.Items.{margins_item, origin_item, wrap_item, row_item, modes_item, shift_item, first_items, placed_items}
 use Rattle.vt_paint.specs.Repaint.{made_events}
-use Rattle.vt_xterm.specs.declared.subparameters.Subparameters.TheVariants.{Outside}
 use Rattle.vt_xterm.specs.declared.sides.Sides.{Sides}
 use Rattle.vt_xterm.specs.Sides.{bounds}
 use Rattle.vt_xterm.specs.Pages.{Screens, on_display, with_page_mode, bounds_of}
@@ -268,14 +267,7 @@ modes-each P known m quiet wraps =
 abbrev pub on_pages : PageState → Bool → Display → Screens
 on_pages other alternate s = record {
   display = s;
-  pages = record {
-    other = other;
-    alternate = alternate;
-    resizes = true;
-    brackets = false;
-    sides = None;
-    subparameters = Outside;
-  };
+  pages = record { other = other; alternate = alternate; resizes = true; brackets = false; sides = None };
 }
 
 -- the event has a VT220's effect on such screens
@@ -454,14 +446,7 @@ module _ (other : PageState) (alternate : Bool) where
 abbrev pub on_sides : PageState → Bool → Sides → Display → Screens
 on_sides other alternate m s = record {
   display = s;
-  pages = record {
-    other = other;
-    alternate = alternate;
-    resizes = true;
-    brackets = false;
-    sides = Some m;
-    subparameters = Outside;
-  };
+  pages = record { other = other; alternate = alternate; resizes = true; brackets = false; sides = Some m };
 }
 
 module _ (other : PageState) (alternate : Bool) (m : Sides) where

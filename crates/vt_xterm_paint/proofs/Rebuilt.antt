@@ -6,11 +6,10 @@ use Rattle.std.proofs.lemmas.Bool.{eq-eqb, le-leb, lt-ltb}
 use Rattle.std.proofs.lemmas.List.Elements.{All-tail}
 use Rattle.std.proofs.lemmas.Str.Ascii.{All-from_ascii}
 use Rattle.vt_syntax.specs.declared.event.Event.{Event}
-use Rattle.vt_syntax.specs.declared.held.Held.{Held}
 use Rattle.vt_syntax.specs.declared.held.Held.TheVariants.{Nothing}
 use Rattle.vt_syntax.specs.Spelling.{IsEvent, spell_events}
 use Rattle.vt_syntax.specs.Held.{IsHeldPart, events_from, held_from}
-use Rattle.vt_syntax.specs.Laws.{SplitLaw, SpellingLaw}
+use Rattle.vt_syntax.specs.Laws.{SplitLaw}
 use Rattle.vt_syntax.specs.Steps.{step_to}
 use Rattle.vt_syntax.proofs.Steps.{same_held, same_events}
 use Rattle.vt_syntax.proofs.Spelled.{ascii_bytes, events_steps}
@@ -40,17 +39,13 @@ use Rattle.vt_utf8.specs.Translation.{translation}
 use Rattle.vt_xterm.specs.declared.sides.Sides.{Sides}
 use Rattle.vt_xterm.specs.Sides.{AreSides, FitsSides, is_pending}
 use Rattle.vt_xterm.specs.Pages as front
-use Rattle.vt_xterm.specs.Pages.{PagesState, Screens, with_page_mode, pages_of, bounds_of, with_subparameters}
+use Rattle.vt_xterm.specs.Pages.{PagesState, Screens, with_page_mode, pages_of, bounds_of}
 use Rattle.vt_xterm.specs.Bounded.{bounded_effect}
 use Rattle.vt_xterm.specs.Front.{functions_of, function_in, effect_between, xterm_effect}
-use Rattle.vt_xterm.specs.Play.{Whole, WholePlayed, screens_of, play_bytes, play_beyond, play_character, play_characters, outside}
+use Rattle.vt_xterm.specs.Play.{Whole, WholePlayed, screens_of, play_bytes, play_beyond, play_character, play_characters}
 use Rattle.vt_xterm.specs.Play.{IsSoundWhole, IsSoundWholeAt, play_xterm, both, nothing_played, behind, front_at_power_up}
 use Rattle.vt_xterm.proofs.Beyond.{beyond-size, beyond-held}
-use Rattle.vt_xterm.proofs.Cuts.{characters-two, xterm-two}
-use Rattle.vt_xterm.proofs.Passing.{none-read}
-use Rattle.vt_xterm.proofs.Spelled.{events-pass, begun-played}
-use Rattle.vt_xterm.specs.declared.subparameters.Subparameters.TheVariants.{Outside}
-use Rattle.vt_xterm.specs.Subparameters.{kept as kept_by}
+use Rattle.vt_xterm.proofs.Cuts.{characters-two, characters-ascii, xterm-two}
 use Rattle.vt_utf8.proofs.Cuts.{pending-append}
 use Rattle.vt_xterm_paint.specs.Repaint.{other_shown, paste_item, xterm_paint_limit, IsRebuiltAt}
 use Rattle.vt_xterm_paint.specs.Repaint.{are_sent, sent_sides, shown_events, shown_sides}
@@ -74,14 +69,7 @@ items-lead size s other alternate i =
 abbrev on_shown : PageState → Bool → Option Sides → Display → Screens
 on_shown other alternate sides s = record {
   display = s;
-  pages = record {
-    other = other;
-    alternate = alternate;
-    resizes = true;
-    brackets = false;
-    sides = sides;
-    subparameters = Outside;
-  };
+  pages = record { other = other; alternate = alternate; resizes = true; brackets = false; sides = sides };
 }
 
 sent-is : (width : ℕ) (m : Sides) → AreSides width m → sent_sides width (Some m) ≡ Some m
@@ -144,11 +132,11 @@ private-leads : (n : ℕ) (on : Bool) (x y : Screens) → with_page_mode on n x 
     → Leads (private_mode n on ∷ []) x y
 private-leads n on x y is silent = one-leads (private_mode n on) x y (private-effect n on x ∙ is) silent
 
-start-of : (alternate : Bool) (u : Screens) → min 1 u.display.grid.size.narrow ≡ 1 → u.pages.subparameters ≡ Outside
+start-of : (alternate : Bool) (u : Screens) → min 1 u.display.grid.size.narrow ≡ 1
     → Leads (private_mode 40 true ∷ reset_to_initial_state ∷ private_mode 47 (not alternate) ∷ []) u
     (on_pages (blank_page u.display.grid.size) (not alternate) (display_of u.display.grid.size))
 unfolding with_page_mode sequences_of sequence_report
-start-of alternate u col none =
+start-of alternate u col =
     then-leads (private_mode 40 true ∷ []) _ u allowed _ (private-leads 40 true u allowed refl refl)
     (then-leads (reset_to_initial_state ∷ []) (private_mode 47 (not alternate) ∷ []) allowed reset _
     (one-leads reset_to_initial_state allowed reset (reset-effect allowed) refl)
@@ -164,23 +152,22 @@ start-of alternate u col none =
     reset = front.reset_to_initial_state allowed
 
     shown : (alternate : Bool) → with_page_mode (not alternate) 47 reset ≡ on_pages (blank_page size) (not alternate) (display_of size)
-    shown true = rw (col, none) refl
+    shown true = rw col refl
     shown false =
         let fits : eqb size.narrow size.narrow ≡ true = eq-eqb size.narrow size.narrow refl in
-        rw (fits, col, none) refl
+        rw (fits, col) refl
 
     silent : (alternate : Bool) → report (private_mode 47 (not alternate)) reset.display ≡ []
     silent true = refl
     silent false = refl
 
 start-leads : (size : Size) (alternate : Bool) (u : Screens) → IsSize size → u.display.grid.size ≡ size
-    → u.pages.subparameters ≡ Outside
     → Leads (private_mode 40 true ∷ reset_to_initial_state ∷ private_mode 47 (not alternate) ∷ []) u
     (on_pages (blank_page size) (not alternate) (display_of size))
-start-leads size alternate u sized is none =
+start-leads size alternate u sized is =
     subst (λ (z : Size). Leads (private_mode 40 true ∷ reset_to_initial_state ∷ private_mode 47 (not alternate) ∷ []) u
     (on_pages (blank_page z) (not alternate) (display_of z))) is
-    (start-of alternate u (let narrow = ap (λ (z : Size). z.narrow) is in omega (arith, sized.narrow, narrow)) none)
+    (start-of alternate u (let narrow = ap (λ (z : Size). z.narrow) is in omega (arith, sized.narrow, narrow)))
 
 -- the blank page that fits a screen is blank, and has its size
 record IsFit (size : Size) (page : PageState) : Type 0 where
@@ -230,28 +217,23 @@ between-leads size alternate page sized =
     then-leads (private_mode 47 alternate ∷ []) (private_mode 3 false ∷ []) _ (shown fit) _ (exchange-leads size alternate page)
     narrow
 
-end-leads : (s : Display) (pages : PagesState) → pages.subparameters ≡ Outside
+end-leads : (s : Display) (pages : PagesState)
     → Leads (private_mode 40 pages.resizes ∷ paste_item pages.brackets) (on_shown pages.other pages.alternate pages.sides s)
     (record { display = s; pages = pages })
 unfolding with_page_mode sequences_of sequence_report
-end-leads s pages unread =
-    subst (λ (p : PagesState). Leads (private_mode 40 pages.resizes ∷ paste_item pages.brackets)
-    (on_shown pages.other pages.alternate pages.sides s) (record { display = s; pages = p })) (none-read pages unread)
-    (then-leads (private_mode 40 pages.resizes ∷ []) (paste_item pages.brackets)
-    (on_shown pages.other pages.alternate pages.sides s) allowed _ (allow pages.resizes) (paste pages.brackets))
+end-leads s pages =
+    then-leads (private_mode 40 pages.resizes ∷ []) (paste_item pages.brackets)
+    (on_shown pages.other pages.alternate pages.sides s) allowed _ (allow pages.resizes) (paste pages.brackets)
   where
-    left : PagesState
-    left = with_subparameters Outside pages
-
     allowed : Screens
-    allowed = record { display = s; pages = record left { brackets = false } }
+    allowed = record { display = s; pages = record pages { brackets = false } }
 
     allow : (on : Bool) → Leads (private_mode 40 on ∷ []) (on_shown pages.other pages.alternate pages.sides s)
-        (record { display = s; pages = record left { resizes = on; brackets = false } })
+        (record { display = s; pages = record pages { resizes = on; brackets = false } })
     allow true = private-leads 40 true _ _ refl refl
     allow false = private-leads 40 false _ _ refl refl
 
-    paste : (on : Bool) → Leads (paste_item on) allowed (record { display = s; pages = record left { brackets = on } })
+    paste : (on : Bool) → Leads (paste_item on) allowed (record { display = s; pages = record pages { brackets = on } })
     paste true = private-leads 2004 true _ _ refl refl
     paste false = none-leads _ _ refl
 
@@ -282,10 +264,10 @@ other-sound size page i start =
 -- ---- the whole
 
 all-leads : (size : Size) (w : Whole) (u : Screens) → IsSize size → IsSoundWholeAt size w
-    → w.pages.subparameters ≡ Outside → IsSoundDisplayAt size (display_of size) → u.display.grid.size ≡ size
-    → u.pages.subparameters ≡ Outside → Leads (xterm_repaint_events w) u (screens_of w)
+    → IsSoundDisplayAt size (display_of size) → u.display.grid.size ≡ size
+    → Leads (xterm_repaint_events w) u (screens_of w)
 unfolding xterm_repaint_events
-all-leads size w u sized i unread start is none =
+all-leads size w u sized i start is =
     let alternate = w.pages.alternate in
     let other = w.pages.other in
     let hidden = with_page other (display_of size) in
@@ -300,7 +282,7 @@ all-leads size w u sized i unread start is none =
     (on_pages blank (not alternate) hidden)) events items in
     then-leads (private_mode 40 true ∷ reset_to_initial_state ∷ private_mode 47 (not alternate) ∷ []) _ u
     (on_pages blank (not alternate) (display_of size)) (screens_of w)
-    (start-leads size alternate u sized is none)
+    (start-leads size alternate u sized is)
     (then-leads (made_events (other_shown w.pages)) _ (on_pages blank (not alternate) (display_of size))
     (on_pages blank (not alternate) hidden) (screens_of w) hidden-items
     (then-leads (private_mode 47 alternate ∷ private_mode 3 false ∷ []) _ (on_pages blank (not alternate) hidden)
@@ -309,7 +291,7 @@ all-leads size w u sized i unread start is none =
     (then-leads (shown_events (shown_sides w) s) _ (on_pages other alternate (display_of size))
     (on_shown other alternate w.pages.sides s) (screens_of w)
     (shown-leads size s other alternate w.pages.sides i.state.display i.sides)
-    (end-leads s w.pages unread))))
+    (end-leads s w.pages))))
 
 -- ---- bytes
 
@@ -350,16 +332,15 @@ lost-played : (size : Size) → ((s : State) (bytes : List ℕ) → IsSoundAt si
 unfolding play_character
 lost-played size kept silent u [] sound = record { of_size = sound.display.of_size; held = sound.held; silent = refl }
 lost-played size kept silent u (b ∷ part) sound =
-    let quiet = beyond-played size kept silent (outside u) replacement (bounds_of (screens_of u)) (omega arith) sound in
+    let quiet = beyond-played size kept silent u replacement (bounds_of (screens_of u)) (omega arith) sound in
     record { of_size = quiet.of_size; held = quiet.held; silent = ap (λ (r : List ℕ). r ++ []) quiet.silent }
 
 module _ (size : Size) (sized : IsSize size) (split : SplitLaw) (start : IsSoundAt size (state_of size))
     (kept : (s : State) (bytes : List ℕ) → IsSoundAt size s → IsSoundAt size (play s bytes).state)
-    (silent : (s : State) (c : ℕ) → IsSoundAt size s → 0x80 ≤ c → (play s (translation s c)).reports ≡ [])
-    (spelled : SpellingLaw) where
+    (silent : (s : State) (c : ℕ) → IsSoundAt size s → 0x80 ≤ c → (play s (translation s c)).reports ≡ []) where
   events-rebuild : (es : List Event) (more : List ℕ) (w u : Whole) (part : List ℕ) → All IsEvent es
       → spell_events es ≡ 0x1B ∷ more → All (λ b. b < 0x80) (spell_events es) → w.state.held ≡ Nothing
-      → ((s : Screens) → s.display.grid.size ≡ size → s.pages.subparameters ≡ Outside → Leads es s (screens_of w)) → IsSoundAt size u.state → pending_of part ≡ part
+      → ((s : Screens) → s.display.grid.size ≡ size → Leads es s (screens_of w)) → IsSoundAt size u.state → pending_of part ≡ part
       → Rebuilds (spell_events es) w [] u part
   unfolding play_xterm
   events-rebuild es more w u part are begins ascii between leads sound is =
@@ -371,29 +352,23 @@ module _ (size : Size) (sized : IsSize size) (split : SplitLaw) (start : IsSound
       let chars : characters part bytes ≡ given_up part ++ bytes =
       ap (λ (t : List ℕ). characters part t) begins ∙ escape-characters part more is rest
       ∙ ap (λ (t : List ℕ). given_up part ++ t) (sym begins) in
-      let after = outside lost.whole in
-      let played = bytes-played es more w after are begins before.held between (leads (screens_of after) before.of_size refl) in
-      let all : play_xterm u part bytes ≡ both lost (play_bytes after bytes) =
+      let played = bytes-played es more w lost.whole are begins before.held between (leads (screens_of lost.whole) before.of_size) in
+      let all : play_xterm u part bytes ≡ both lost (play_bytes lost.whole bytes) =
       ap (λ (cs : List ℕ). play_characters u cs) chars ∙ characters-two u (given_up part) bytes
-      ∙ ap (λ (p : WholePlayed). both lost p) (begun-played split lost.whole bytes more before.held begins (events-pass split spelled es are) ascii) in
+      ∙ ap (λ (p : WholePlayed). both lost p) (characters-ascii split lost.whole bytes before.held ascii) in
       record {
         whole = ap (λ (p : WholePlayed). p.whole) all ∙ played.0;
         reports = ap (λ (p : WholePlayed). p.reports) all
-            ∙ ap (λ (r : List ℕ). r ++ (play_bytes after bytes).reports) before.silent ∙ played.1;
+            ∙ ap (λ (r : List ℕ). r ++ (play_bytes lost.whole bytes).reports) before.silent ∙ played.1;
         pending = ap (λ (t : List ℕ). pending_after part t) begins ∙ escape-pending part more is rest;
       }
-
-  -- between sequences no subparameters are being read
-  unread : (w : Whole) → IsSoundWholeAt size w → w.state.held ≡ Nothing → w.pages.subparameters ≡ Outside
-  unread w i between = sym i.subparameters ∙ ap (λ (h : Held). kept_by h w.pages.subparameters) between
 
   pub rebuilds : (w : Whole) → IsSoundWholeAt size w → w.state.held ≡ Nothing → IsRebuiltAt size w
   unfolding xterm_repaint xterm_repaint_events
   rebuilds w i between u part sound is =
       let within = repaint-within size w (other-sound size w.pages.other i.other start.display) i.state.display in
       events-rebuild (xterm_repaint_events w) _ w u part within.events refl
-      (All-from_ascii (spell_events (xterm_repaint_events w)) within.ascii) between
-      (λ s is none. all-leads size w s sized i (unread w i between) start.display is none) sound is
+      (All-from_ascii (spell_events (xterm_repaint_events w)) within.ascii) between (λ s is. all-leads size w s sized i start.display is) sound is
 
 -- the session at power-up is sound, and what is played keeps it so
 pub reached : IsSound power_up → ((w : Whole) → IsSoundWhole w → w.state.held ≡ Nothing → IsRebuilt w)

@@ -7,7 +7,6 @@ use Rattle.vt_term.specs.State.{State}
 use Rattle.vt_paint.specs.Limits.{cell_limit, row_limit, paint_limit}
 use Rattle.vt_paint.proofs.RowLimits.{three_digits, vt220_limited}
 use Rattle.vt_xterm.specs.Sides.{FitsSides}
-use Rattle.vt_xterm.specs.declared.subparameters.Subparameters.TheVariants.{Outside}
 use Rattle.vt_xterm.specs.Play.{FrontState, behind}
 use Rattle.vt_xterm_paint.specs.Repaint.{xterm_paint_limit, IsRebuiltAt, IsRebuilt}
 
@@ -27,9 +26,9 @@ xterm-limited size is = omega (arith, vt220_limited size is)
 
 -- a session that is named otherwise
 pub rebuilt-at : (size : Size) (s t : State) (f g : FrontState) → s ≡ t → f ≡ g → size ≡ vt220_size
-    → (FitsSides s.display f.pages.sides → f.pages.subparameters ≡ Outside → IsRebuiltAt size (behind s f))
-    → FitsSides t.display g.pages.sides → g.pages.subparameters ≡ Outside → IsRebuilt (behind t g)
+    → (FitsSides s.display f.pages.sides → IsRebuiltAt size (behind s f))
+    → FitsSides t.display g.pages.sides → IsRebuilt (behind t g)
 rebuilt-at size s t f g state front is rebuilt =
-    subst (λ (x : State). FitsSides x.display g.pages.sides → g.pages.subparameters ≡ Outside → IsRebuilt (behind x g)) state
-    (subst (λ (x : FrontState). FitsSides s.display x.pages.sides → x.pages.subparameters ≡ Outside → IsRebuilt (behind s x)) front
-    (subst (λ (z : Size). FitsSides s.display f.pages.sides → f.pages.subparameters ≡ Outside → IsRebuiltAt z (behind s f)) is rebuilt))
+    subst (λ (x : State). FitsSides x.display g.pages.sides → IsRebuilt (behind x g)) state
+    (subst (λ (x : FrontState). FitsSides s.display x.pages.sides → IsRebuilt (behind s x)) front
+    (subst (λ (z : Size). FitsSides s.display f.pages.sides → IsRebuiltAt z (behind s f)) is rebuilt))

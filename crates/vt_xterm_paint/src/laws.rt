@@ -12,7 +12,7 @@ ghost use Rattle.vt_xterm_paint.specs.Repaint.{IsRebuiltAt};
 
 use crate::XTERM_PAINT_LIMIT;
 use vt_paint::laws::{reached as state_reached, vt220_limit as vt220_paint_limit};
-use vt_syntax::laws::{one_split, spelled};
+use vt_syntax::laws::one_split;
 use vt_term::laws::{sized_soundness, soundness};
 use vt_utf8::laws::sized_silence;
 use vt_xterm::laws::soundness as session_soundness;
@@ -24,7 +24,6 @@ pub fn sized_rebuilds()
     ensures { (size : Size) (w : Whole) → IsSoundWholeAt size w → w.state.held ≡ Nothing → IsRebuiltAt size w }
 {
     one_split();
-    spelled();
     sized_soundness();
     sized_silence();
 }

@@ -8,4 +8,4 @@ pub mod sized;
 mod views;
 
 pub use paint::XTERM_PAINT_LIMIT;
-pub use views::{repaint_xterm, repaint_xterm_reserved};
+pub use views::repaint_xterm_reserved;

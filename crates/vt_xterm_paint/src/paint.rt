@@ -1,5 +1,5 @@
 //! The repaint of a session of any size.
-ghost use Rattle.std.specs.Prelude.{◌≡◌, ◌↔◌, ◌⊎◌, ◌+◌, ◌-◌, ◌≤◌, ◌<◌, ◌++◌, ◌∷◌, ◌≢◌, [], true, IsErrOf, OnOk, OnErr};
+ghost use Rattle.std.specs.Prelude.{◌≡◌, ◌+◌, ◌-◌, ◌≤◌, ◌<◌, ◌++◌, ◌∷◌, [], true};
 ghost use Rattle.std.specs.Prelude.{vec_len, vec_capacity, IfSome};
 ghost use Rattle.vt_syntax.specs.declared.held.Held.TheVariants.{Nothing};
 ghost use Rattle.vt_syntax.specs.Spelling.{spell_events};
@@ -8,7 +8,6 @@ ghost use Rattle.vt_paint.specs.Controls.{private_mode};
 ghost use Rattle.vt_paint.specs.Limits.{paint_limit};
 ghost use Rattle.vt_paint.specs.Repaint.{made_events};
 ghost use Rattle.vt_xterm.specs.Sides.{FitsSides};
-ghost use Rattle.vt_xterm.specs.declared.subparameters.Subparameters.TheVariants.{Outside};
 ghost use Rattle.vt_xterm.specs.Play.{IsSoundWholeAt, behind};
 ghost use Rattle.vt_xterm_paint.specs.Repaint.{other_shown, showing_other, paste_item, xterm_repaint, xterm_paint_limit, IsRebuiltAt};
 ghost use Rattle.vt_xterm_paint.specs.Repaint.{sent_sides, sides_to, sides_item, column_named, is_wrapping, shown_events};
@@ -17,7 +16,7 @@ use crate::laws::sized_rebuilds;
 use vt_paint::sized::{
     paint_limit, repaint_first_reserved, repaint_items_reserved, repaint_placed_reserved,
 };
-use vt_paint::{DECCOLM, Function, PAINT_LIMIT, PaintError, push_bytes, push_number};
+use vt_paint::{DECCOLM, Function, PAINT_LIMIT, push_bytes, push_number};
 use vt_term::{Size, SizedTerminal};
 use vt_xterm::{Sides, SizedFront};
 
@@ -72,7 +71,7 @@ fn push_paste(brackets: bool, out: &mut Vec<u8>)
 fn soundness(t: &SizedTerminal, front: &SizedFront, scratch: &SizedTerminal)
     requires size { front.now.pages.other.grid.size ≡ t.now.display.grid.size }
     requires scratch { scratch.now.display ≡ other_shown front.now.pages }
-    ensures { FitsSides t.now.display front.now.pages.sides → front.now.pages.subparameters ≡ Outside
+    ensures { FitsSides t.now.display front.now.pages.sides
         → IsSoundWholeAt t.now.display.grid.size (behind t.now front.now) }
 {
     t.soundness();
@@ -89,7 +88,7 @@ fn push_hidden(
     requires size { front.now.pages.other.grid.size ≡ t.now.display.grid.size }
     requires scratch { scratch.old.display.grid.size ≡ t.now.display.grid.size }
     requires room { vec_len out.old + (paint_limit t.now.display.grid.size - 2) ≤ vec_capacity out.old }
-    ensures sound { FitsSides t.now.display front.now.pages.sides → front.now.pages.subparameters ≡ Outside
+    ensures sound { FitsSides t.now.display front.now.pages.sides
         → IsSoundWholeAt t.now.display.grid.size (behind t.now front.now) }
     ensures scratch { scratch.new ≡ showing_other front.now.pages }
     ensures items { out.new.items ≡ out.old.items ++ spell_events (made_events (other_shown front.now.pages)) }
@@ -224,48 +223,6 @@ pub fn xterm_paint_limit(size: Size) -> usize
     2 * paint_limit(size) + 52
 }
 
-/// Appends the repaint of a session to `out`: the bytes that rebuild a terminal and its pages on any terminal and front of their size. `scratch`
-/// then shows a copy of the page that isn't shown. They also rebuild the left and right margins, if these fit the terminal, as all do that a
-/// host sets. Other margins are left out, and so are subparameters, which a host leaves none of between sequences.
-///
-/// It first reserves `xterm_paint_limit` bytes of capacity.
-///
-/// # Errors
-///
-/// Returns `Partial` if the terminal is inside a sequence or the front inside a character, which is checked first. Returns `Memory`
-/// if allocation fails. `scratch` and the contents of `out` are then unchanged.
-pub fn repaint_xterm(
-    t: &SizedTerminal,
-    front: &SizedFront,
-    scratch: &mut SizedTerminal,
-    out: &mut Vec<u8>,
-) -> Result<(), PaintError>
-    requires size { front.now.pages.other.grid.size ≡ t.now.display.grid.size }
-    requires scratch { scratch.old.display.grid.size ≡ t.now.display.grid.size }
-    ensures items { OnOk result (out.new.items ≡ out.old.items ++ xterm_repaint (behind t.now front.now)) }
-    ensures rebuilds { OnOk result (FitsSides t.now.display front.now.pages.sides → front.now.pages.subparameters ≡ Outside
-        → IsRebuiltAt t.now.display.grid.size (behind t.now front.now)) }
-    ensures partial { IsErrOf result PaintError.Partial ↔ ((t.now.held ≢ Nothing) ⊎ (front.now.pending ≢ [])) }
-    ensures memory { IsErrOf result PaintError.Memory
-        → vec_capacity out.old < vec_len out.old + xterm_paint_limit t.now.display.grid.size }
-    ensures scratch { OnOk result (scratch.new ≡ showing_other front.now.pages) }
-    ensures unchanged { OnErr result (out.new.items ≡ out.old.items) }
-    ensures same_scratch { OnErr result (scratch.new ≡ scratch.old) }
-    ensures bounded { vec_len out.new ≤ vec_len out.old + xterm_paint_limit t.now.display.grid.size }
-    ensures capacity { vec_capacity out.old ≤ vec_capacity out.new }
-{
-    if !t.is_between() {
-        return Err(PaintError::Partial);
-    }
-    if !front.pending().is_empty() {
-        return Err(PaintError::Partial);
-    }
-    out.reserve(xterm_paint_limit(t.size()))
-        .map_err(|_| PaintError::Memory)?;
-    repaint_xterm_reserved(t, front, scratch, out);
-    Ok(())
-}
-
 /// Appends the repaint of a session between sequences to `out`, which has capacity for `xterm_paint_limit` more bytes. `scratch` then
 /// shows a copy of the page that isn't shown. The pending bytes of UTF-8 are left out. It never fails and allocates nothing.
 pub fn repaint_xterm_reserved(
@@ -279,7 +236,7 @@ pub fn repaint_xterm_reserved(
     requires scratch { scratch.old.display.grid.size ≡ t.now.display.grid.size }
     requires room { vec_len out.old + xterm_paint_limit t.now.display.grid.size ≤ vec_capacity out.old }
     ensures items { out.new.items ≡ out.old.items ++ xterm_repaint (behind t.now front.now) }
-    ensures rebuilds { FitsSides t.now.display front.now.pages.sides → front.now.pages.subparameters ≡ Outside
+    ensures rebuilds { FitsSides t.now.display front.now.pages.sides
         → IsRebuiltAt t.now.display.grid.size (behind t.now front.now) }
     ensures scratch { scratch.new ≡ showing_other front.now.pages }
     ensures bounded { vec_len out.new ≤ vec_len out.old + xterm_paint_limit t.now.display.grid.size }

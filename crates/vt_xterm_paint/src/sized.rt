@@ -1,2 +1,2 @@
 //! The calls for a terminal and a front of any size.
-pub use crate::paint::{repaint_xterm, repaint_xterm_reserved, xterm_paint_limit};
+pub use crate::paint::{repaint_xterm_reserved, xterm_paint_limit};

@@ -1,49 +1,13 @@
 //! The calls of the repaint for a VT220's `Terminal`. Each calls that for its `SizedTerminal`.
-ghost use Rattle.std.specs.Prelude.{◌≡◌, ◌↔◌, ◌⊎◌, ◌+◌, ◌≤◌, ◌<◌, ◌++◌, ◌≢◌, [], IsErrOf, OnOk, OnErr, vec_len, vec_capacity};
+ghost use Rattle.std.specs.Prelude.{◌≡◌, ◌+◌, ◌≤◌, ◌++◌, vec_len, vec_capacity};
 ghost use Rattle.vt_syntax.specs.declared.held.Held.TheVariants.{Nothing};
 ghost use Rattle.vt_xterm.specs.Sides.{FitsSides};
-ghost use Rattle.vt_xterm.specs.declared.subparameters.Subparameters.TheVariants.{Outside};
 ghost use Rattle.vt_xterm.specs.Play.{behind};
 ghost use Rattle.vt_xterm_paint.specs.Repaint.{showing_other, xterm_repaint, IsRebuilt};
 
-use crate::paint::{
-    XTERM_PAINT_LIMIT, repaint_xterm as sized_repaint_xterm,
-    repaint_xterm_reserved as sized_repaint_xterm_reserved,
-};
-use vt_paint::PaintError;
+use crate::paint::{XTERM_PAINT_LIMIT, repaint_xterm_reserved as sized_repaint_xterm_reserved};
 use vt_term::Terminal;
 use vt_xterm::Front;
-
-/// Appends the repaint of a session to `out`: the bytes that rebuild a terminal and its pages on any terminal and front. `scratch`
-/// then shows a copy of the page that isn't shown. They also rebuild the left and right margins, if these fit the terminal, as all do that a
-/// host sets. Other margins are left out, and so are subparameters, which a host leaves none of between sequences.
-///
-/// It first reserves `XTERM_PAINT_LIMIT` bytes of capacity.
-///
-/// # Errors
-///
-/// Returns `Partial` if the terminal is inside a sequence or the front inside a character, which is checked first. Returns `Memory`
-/// if allocation fails. `scratch` and the contents of `out` are then unchanged.
-#[inline(always)]
-pub fn repaint_xterm(
-    t: &Terminal,
-    front: &Front,
-    scratch: &mut Terminal,
-    out: &mut Vec<u8>,
-) -> Result<(), PaintError>
-    ensures items { OnOk result (out.new.items ≡ out.old.items ++ xterm_repaint (behind t.now front.now)) }
-    ensures rebuilds { OnOk result (FitsSides t.now.display front.now.pages.sides → front.now.pages.subparameters ≡ Outside
-        → IsRebuilt (behind t.now front.now)) }
-    ensures partial { IsErrOf result PaintError.Partial ↔ ((t.now.held ≢ Nothing) ⊎ (front.now.pending ≢ [])) }
-    ensures memory { IsErrOf result PaintError.Memory → vec_capacity out.old < vec_len out.old + XTERM_PAINT_LIMIT }
-    ensures scratch { OnOk result (scratch.new ≡ showing_other front.now.pages) }
-    ensures unchanged { OnErr result (out.new.items ≡ out.old.items) }
-    ensures same_scratch { OnErr result (scratch.new ≡ scratch.old) }
-    ensures bounded { vec_len out.new ≤ vec_len out.old + XTERM_PAINT_LIMIT }
-    ensures capacity { vec_capacity out.old ≤ vec_capacity out.new }
-{
-    sized_repaint_xterm(&t.sized, &front.sized, &mut scratch.sized, out)
-}
 
 /// Appends the repaint of a session between sequences to `out`, which has capacity for `XTERM_PAINT_LIMIT` more bytes. `scratch` then
 /// shows a copy of the page that isn't shown. The pending bytes of UTF-8 are left out. It never fails and allocates nothing.
@@ -57,8 +21,7 @@ pub fn repaint_xterm_reserved(
     requires between { t.now.held ≡ Nothing }
     requires room { vec_len out.old + XTERM_PAINT_LIMIT ≤ vec_capacity out.old }
     ensures items { out.new.items ≡ out.old.items ++ xterm_repaint (behind t.now front.now) }
-    ensures rebuilds { FitsSides t.now.display front.now.pages.sides → front.now.pages.subparameters ≡ Outside
-        → IsRebuilt (behind t.now front.now) }
+    ensures rebuilds { FitsSides t.now.display front.now.pages.sides → IsRebuilt (behind t.now front.now) }
     ensures scratch { scratch.new ≡ showing_other front.now.pages }
     ensures bounded { vec_len out.new ≤ vec_len out.old + XTERM_PAINT_LIMIT }
     ensures capacity { vec_capacity out.old ≤ vec_capacity out.new }

@@ -2,4 +2,3 @@ mod Unbounded
 pub mod Played
 mod Colours
 mod Same
-mod Listed

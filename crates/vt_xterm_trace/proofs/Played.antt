@@ -11,8 +11,7 @@ use Rattle.vt_syntax.specs.Laws.{SplitLaw, SpellingLaw}
 use Rattle.vt_term.specs.State.{State}
 use Rattle.vt_term.specs.Play.{play}
 use Rattle.vt_term.specs.Sound.{IsSoundSized}
-use Rattle.vt_syntax.specs.Held.{events_from}
-use Rattle.vt_term.specs.Scrolling.{lines_off, scrolled_off}
+use Rattle.vt_term.specs.Scrolling.{scrolled_off}
 use Rattle.vt_term.specs.Happenings.{Happening, happenings, happenings_on}
 use Rattle.vt_term.specs.Observing.{Feeds, happenings_of}
 use Rattle.vt_utf8.specs.Decoding.{characters, pending_after}
@@ -22,21 +21,16 @@ use Rattle.vt_trace.specs.Observed.{traced_told, tracer_told}
 use Rattle.vt_trace.specs.Utf8.{after_all, reports_all, dialect_trace, Traces}
 use Rattle.vt_trace.proofs.Beyond.{happens_all, tail_of, traces_told, dialect_append, dialect_tracers, shorter_ascii, run_front}
 use Rattle.vt_xterm.specs.declared.sides.Sides.{Sides}
-use Rattle.vt_xterm.specs.declared.subparameters.Subparameters.{Subparameters}
-use Rattle.vt_xterm.specs.declared.subparameters.Subparameters.TheVariants.{Outside}
-use Rattle.vt_xterm.specs.Subparameters.{is_apart, Pass}
-use Rattle.vt_xterm.specs.Pages.{PagesState, screens, bounds_of, with_subparameters}
+use Rattle.vt_xterm.specs.Pages.{PagesState, screens, bounds_of}
 use Rattle.vt_xterm.specs.Play.{Whole, WholePlayed, FrontState, behind, xterm, screens_of, play_bytes, play_beyond, play_character}
-use Rattle.vt_xterm.specs.Play.{play_characters, play_xterm, whole_of, outside, held_before}
+use Rattle.vt_xterm.specs.Play.{play_characters, play_xterm, whole_of}
 use Rattle.vt_xterm.specs.Private.Finding.{SetsNone}
 use Rattle.vt_xterm.specs.Private.Profiles.{screens_on, unbounded}
-use Rattle.vt_xterm.proofs.Cuts.{character-passed, characters-passed}
-use Rattle.vt_xterm.proofs.Fed.{feeds-profile, character-beyond, beyond-outside}
-use Rattle.vt_xterm.proofs.Passing.{passed-held}
-use Rattle.vt_xterm.proofs.Untouched.{bytes-leave}
+use Rattle.vt_xterm.proofs.Cuts.{character-ascii, characters-ascii}
+use Rattle.vt_xterm.proofs.Fed.{feeds-profile, character-beyond}
 use Rattle.vt_xterm_trace.specs.Names.{xterm_names}
 use Rattle.vt_xterm_trace.specs.Trace.{xterm_dialect, trace_xterm, tracer_xterm}
-use Rattle.vt_xterm_trace.proofs.Unbounded.{lines-none, lines-pass, shorter-lines, happens-same}
+use Rattle.vt_xterm_trace.proofs.Unbounded.{lines-none, shorter-lines, happens-same}
 
 -- ---- characters
 
@@ -96,43 +90,29 @@ cut-none w t pending = refl
 
 -- ---- ASCII
 
--- what happens at a byte before which this is held
-abbrev happening_after : Whole → ℕ → Held → Happening
-happening_after w b h = record {
-  held = h;
-  byte = b;
-  before = w.state.display;
-  events = events_from h (b ∷ []);
-  lines = lines_off (events_from h (b ∷ [])) w.state.display;
-}
-
--- bytes that pass to the terminal as they are
-happens-ascii : (w : Whole) (bytes : List ℕ) → w.pages.subparameters ≡ Outside → Pass w.state.held bytes → All (λ b. b < 0x80) bytes
+happens-ascii : (w : Whole) (bytes : List ℕ) → All (λ b. b < 0x80) bytes
     → happens_all xterm_dialect w bytes ≡ happenings_on xterm (screens_of w) w.state.held bytes
-unfolding play_bytes Pass
-happens-ascii w [] unread pass all = refl
-happens-ascii w (b ∷ bytes) unread pass all =
-    let first : Whole = (play_bytes w (b ∷ [])).whole in
-    let own : (play_character w b).whole ≡ first =
-    ap (λ (p : WholePlayed). p.whole) (character-passed w b (all 0 0 (omega arith)) unread pass.0) in
-    ap (λ (v : Whole). xterm_dialect.happens w b ∷ happens_all xterm_dialect v bytes) own
-    ∙ ap (λ (hs : List Happening). xterm_dialect.happens w b ∷ hs)
-    (happens-ascii first bytes (bytes-leave w (b ∷ []) ∙ unread) pass.1 (tail_of b bytes all))
-    ∙ ap (λ (h : Held). happening_after w b h ∷ happenings_on xterm (screens_of first) first.state.held bytes)
-    (passed-held w b unread pass.0)
+unfolding play_bytes
+happens-ascii w [] all = refl
+happens-ascii w (b ∷ bytes) all =
+    let own : (play_character w b).whole ≡ (play_bytes w (b ∷ [])).whole =
+    ap (λ (p : WholePlayed). p.whole) (character-ascii w b (all 0 0 (omega arith))) in
+    ap (λ (hs : List Happening). xterm_dialect.happens w b ∷ hs)
+    (happens-ascii (play_character w b).whole bytes (tail_of b bytes all)
+    ∙ ap (λ (v : Whole). happenings_on xterm (screens_of v) v.state.held bytes) own)
 
--- ASCII bytes without ?69h that pass as they are and were traced by what happens at them, while DECLRMM is reset
+-- ASCII bytes without ?69h that were traced by what happens at them, while DECLRMM is reset
 pub traces-ascii : SplitLaw → (s z : State) (pages new_pages : PagesState) (t u : Tracer) (bytes before out old new : List ℕ)
-    → IsHeldPart s.held → pages.sides ≡ None → pages.subparameters ≡ Outside → Pass s.held bytes
-    → SetsNone (happenings_of unbounded screens_on s pages bytes) → All (λ b. b < 0x80) bytes → Feeds unbounded screens_on s pages bytes z new_pages before out
+    → IsHeldPart s.held → pages.sides ≡ None → SetsNone (happenings_of unbounded screens_on s pages bytes)
+    → All (λ b. b < 0x80) bytes → Feeds unbounded screens_on s pages bytes z new_pages before out
     → new ≡ old ++ traced_told xterm_names t (happenings_of unbounded screens_on s pages bytes)
     → u ≡ tracer_told t (happenings_of unbounded screens_on s pages bytes)
     → Traces xterm_dialect (whole_of s pages) t [] bytes (whole_of z new_pages) u [] before out old new
-traces-ascii split s z pages new_pages t u bytes before out old new held none unread pass saw all fed lines tracer =
+traces-ascii split s z pages new_pages t u bytes before out old new held none saw all fed lines tracer =
     let w : Whole = whole_of s pages in
     let left = feeds-profile split s z pages new_pages bytes before out held none saw fed in
-    let played : play_characters w bytes ≡ play_bytes w bytes = characters-passed split w bytes held unread pass all in
-    let happened = happens-ascii w bytes unread pass all ∙ sym (happens-same (screens_of w) s.held bytes none saw) in
+    let played : play_characters w bytes ≡ play_bytes w bytes = characters-ascii split w bytes held all in
+    let happened = happens-ascii w bytes all ∙ sym (happens-same (screens_of w) s.held bytes none saw) in
     traces_told xterm_dialect w (whole_of z new_pages) t u bytes before out old new all
     (left.whole ∙ sym (after-played w bytes ∙ ap (λ (p : WholePlayed). p.whole) played))
     (left.reports ∙ ap (λ (l : List ℕ). before ++ l) (sym (reports-played w bytes ∙ ap (λ (p : WholePlayed). p.reports) played)))
@@ -143,8 +123,7 @@ traces-ascii split s z pages new_pages t u bytes before out old new held none un
 pub traces-byte : (s z : State) (pages new_pages : PagesState) (t u : Tracer) (b : ℕ) (before out old new : List ℕ)
     → b < 0x80 → whole_of z new_pages ≡ (play_characters (whole_of s pages) (b ∷ [])).whole
     → out ≡ before ++ (play_characters (whole_of s pages) (b ∷ [])).reports
-    → new ≡ old ++ traced_told xterm_names t (happenings (record s { held = held_before (whole_of s pages) b }) (b ∷ []))
-    → u ≡ tracer_told t (happenings (record s { held = held_before (whole_of s pages) b }) (b ∷ []))
+    → new ≡ old ++ traced_told xterm_names t (happenings s (b ∷ [])) → u ≡ tracer_told t (happenings s (b ∷ []))
     → Traces xterm_dialect (whole_of s pages) t [] (b ∷ []) (whole_of z new_pages) u [] before out old new
 unfolding scrolled_off
 traces-byte s z pages new_pages t u b before out old new low left told lines tracer =
@@ -155,38 +134,33 @@ traces-byte s z pages new_pages t u b before out old new low left told lines tra
 
 -- bytes of lines at the front of a run
 pub traces-front : SplitLaw → SpellingLaw → (s z : State) (pages new_pages : PagesState) (t u : Tracer) (run : List ℕ) (k n : ℕ)
-    (before out old new : List ℕ) → IsHeldPart s.held → s.held ≡ Nothing → pages.sides ≡ None → pages.subparameters ≡ Outside
-    → All (λ b. b < 0x80) run
+    (before out old new : List ℕ) → IsHeldPart s.held → s.held ≡ Nothing → pages.sides ≡ None → All (λ b. b < 0x80) run
     → All IsOfLines (take k run) → n ≤ length (take k run)
     → Feeds unbounded screens_on s pages (take n (take k run)) z new_pages before out
     → new ≡ old ++ traced_told xterm_names t (happenings_of unbounded screens_on s pages (take n (take k run)))
     → u ≡ tracer_told t (happenings_of unbounded screens_on s pages (take n (take k run)))
     → Traces xterm_dialect (whole_of s pages) t [] (take n run) (whole_of z new_pages) u [] before out old new
-traces-front split spelling s z pages new_pages t u run k n before out old new held between none unread low of_lines within fed lines tracer =
+traces-front split spelling s z pages new_pages t u run k n before out old new held between none low of_lines within fed lines tracer =
     let bytes = take n (take k run) in
     let ascii = shorter_ascii n (take k run) (shorter_ascii k run low) in
     let saw : SetsNone (happenings_of unbounded screens_on s pages bytes) =
     subst (λ (h : Held). SetsNone (happenings_on unbounded (screens_on s.display pages) h bytes)) (sym between)
     (lines-none spelling unbounded (screens_on s.display pages) bytes (shorter-lines n (take k run) of_lines)) in
-    let pass : Pass s.held bytes =
-    subst (λ (h : Held). Pass h bytes) (sym between) (lines-pass spelling bytes (shorter-lines n (take k run) of_lines)) in
     subst (λ (l : List ℕ). Traces xterm_dialect (whole_of s pages) t [] l (whole_of z new_pages) u [] before out old new)
     (run_front run k n within)
-    (traces-ascii split s z pages new_pages t u bytes before out old new held none unread pass saw ascii fed lines tracer)
+    (traces-ascii split s z pages new_pages t u bytes before out old new held none saw ascii fed lines tracer)
 
--- the first byte of a run, before which this is held
-pub traces-first : (s z : State) (pages new_pages : PagesState) (h : Held) (t u : Tracer) (run before out old new : List ℕ)
-    → h ≡ held_before (whole_of s pages) (slice_index run 0) → 1 ≤ length run → All (λ b. b < 0x80) run
+-- the first byte of a run
+pub traces-first : (s z : State) (pages new_pages : PagesState) (t u : Tracer) (run before out old new : List ℕ)
+    → 1 ≤ length run → All (λ b. b < 0x80) run
     → whole_of z new_pages ≡ (play_characters (whole_of s pages) (slice_index run 0 ∷ [])).whole
     → out ≡ before ++ (play_characters (whole_of s pages) (slice_index run 0 ∷ [])).reports
-    → new ≡ old ++ traced_told xterm_names t (happenings (record s { held = h }) (slice_index run 0 ∷ []))
-    → u ≡ tracer_told t (happenings (record s { held = h }) (slice_index run 0 ∷ []))
+    → new ≡ old ++ traced_told xterm_names t (happenings s (slice_index run 0 ∷ []))
+    → u ≡ tracer_told t (happenings s (slice_index run 0 ∷ []))
     → Traces xterm_dialect (whole_of s pages) t [] (take 1 run) (whole_of z new_pages) u [] before out old new
-traces-first s z pages new_pages h t u [] before out old new is some low left told lines tracer = absurd (omega (arith, some))
-traces-first s z pages new_pages h t u (b ∷ run) before out old new is some low left told lines tracer =
-    traces-byte s z pages new_pages t u b before out old new (low 0 0 (omega arith)) left told
-    (lines ∙ ap (λ (x : Held). old ++ traced_told xterm_names t (happenings (record s { held = x }) (b ∷ []))) is)
-    (tracer ∙ ap (λ (x : Held). tracer_told t (happenings (record s { held = x }) (b ∷ []))) is)
+traces-first s z pages new_pages t u [] before out old new some low left told lines tracer = absurd (omega (arith, some))
+traces-first s z pages new_pages t u (b ∷ run) before out old new some low left told lines tracer =
+    traces-byte s z pages new_pages t u b before out old new (low 0 0 (omega arith)) left told lines tracer
 
 -- ---- characters beyond ASCII
 
@@ -198,11 +172,8 @@ beyond-none silent w c (Some m) high sound = refl
 pub beyond-silent : ((s : State) (c : ℕ) → 0x80 ≤ c → IsSoundSized s → (play s (translation s c)).reports ≡ [])
     → (s : State) (pages : PagesState) (c : ℕ) → 0x80 ≤ c → IsSoundSized s → (play_character (whole_of s pages) c).reports ≡ []
 beyond-silent silent s pages c high sound =
-    let q : PagesState = with_subparameters Outside pages in
-    sym (append-nil (play_character (whole_of s pages) c).reports)
-    ∙ ap (λ (p : WholePlayed). p.reports) (beyond-outside s pages c high) ∙ append-nil (play_character (whole_of s q) c).reports
-    ∙ ap (λ (p : WholePlayed). p.reports) (character-beyond s q c (bounds_of (screens s q)) high refl refl)
-    ∙ beyond-none silent (whole_of s q) c (bounds_of (screens s q)) high sound
+    ap (λ (p : WholePlayed). p.reports) (character-beyond s pages c (bounds_of (screens s pages)) high refl)
+    ∙ beyond-none silent (whole_of s pages) c (bounds_of (screens s pages)) high sound
 
 -- nothing is appended
 pub beyond-out : (s : State) (pages : PagesState) (c : ℕ) (before out : List ℕ)

@@ -14,14 +14,12 @@ use Rattle.vt_term.specs.Happenings.{Happening, happenings_on, events_in}
 use Rattle.vt_term.specs.Machines.{Machine, screens_after}
 use Rattle.vt_term.specs.Scrolling.{lines_off}
 use Rattle.vt_term.proofs.Passing.{opens-nothing}
-use Rattle.vt_xterm.specs.Subparameters.{Pass}
 use Rattle.vt_xterm.specs.Pages.{Screens}
 use Rattle.vt_xterm.specs.Front.{screen_effect}
 use Rattle.vt_xterm.specs.Play.{xterm}
 use Rattle.vt_xterm.specs.Private.Finding.{AllKeepNone, SetsNone, none-append}
 use Rattle.vt_xterm.specs.Private.Profiles.{unbounded}
 use Rattle.vt_xterm.proofs.NoSides.{event-none, after-none}
-use Rattle.vt_xterm.proofs.Passing.{between-pass}
 
 -- ---- bytes of lines set no DECLRMM
 
@@ -44,16 +42,6 @@ lines-none law m s (b ∷ bytes) all =
     none-append (events_from Nothing (b ∷ [])) _ (subst AllKeepNone (sym (law.single b opens)) (single-none b))
     (subst (λ (k : Held). SetsNone (happenings_on m next k bytes)) (sym (law.single_held b opens))
     (lines-none law m next bytes (All-tail IsOfLines b bytes all)))
-
--- they pass to the terminal as they are
-pub lines-pass : SpellingLaw → (bytes : List ℕ) → All IsOfLines bytes → Pass Nothing bytes
-unfolding Pass
-lines-pass law [] all = tt
-lines-pass law (b ∷ bytes) all = (
-  between-pass Nothing b refl,
-  subst (λ (k : Held). Pass k bytes) (sym (law.single_held b (opens-nothing b (all 0 0 (omega arith)))))
-      (lines-pass law bytes (All-tail IsOfLines b bytes all)),
-)
 
 -- their front
 pub shorter-lines : (n : ℕ) (bytes : List ℕ) → All IsOfLines bytes → All IsOfLines (take n bytes)

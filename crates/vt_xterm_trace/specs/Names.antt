@@ -9,7 +9,6 @@ use Rattle.vt_term.specs.Modes.{private_modes}
 use Rattle.vt_term.specs.Functions.{byte, row, numbers_of}
 use Rattle.vt_term.specs.Names.{name_on, sequence_name_on}
 use Rattle.vt_trace.specs.Lines.{Names}
-use Rattle.vt_trace.specs.Names.{Listing, names}
 use Rattle.vt_xterm.specs.Attributes.{without_colours}
 use Rattle.vt_xterm.specs.Pages.{page_modes}
 use Rattle.vt_xterm.specs.Bounded.{is_bare}
@@ -102,29 +101,3 @@ xterm_names rows (Print b) = name_on rows (Print b)
 xterm_names rows (Control b) = name_on rows (Control b)
 xterm_names rows (Escape inter last) = name_on rows (Escape inter last)
 xterm_names rows (Sequence marker params inter last) = xterm_sequence_name rows marker inter last params.items
-
--- ---- all names
-
--- the names that a VT220's functions don't have, in the order of the table
-abbrev pub own_names : List (List ℕ)
-own_names =
-    codes "CNL"
-    ∷ codes "CPL"
-    ∷ codes "CHA"
-    ∷ codes "CHT"
-    ∷ codes "SU"
-    ∷ codes "SD"
-    ∷ codes "CBT"
-    ∷ codes "HPA"
-    ∷ codes "HPR"
-    ∷ codes "REP"
-    ∷ codes "VPA"
-    ∷ codes "VPR"
-    ∷ codes "SCP"
-    ∷ codes "RCP"
-    ∷ codes "DECSLRM"
-    ∷ []
-
--- the names of xterm, and the list of them in the order of a summary: those of a VT220 come first
-abbrev pub xterm_listing : Listing
-xterm_listing = record { called = xterm_names; listed = names ++ own_names }

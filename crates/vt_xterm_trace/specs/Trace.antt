@@ -1,27 +1,25 @@
 -- The trace of what a host sends under TERM=xterm. (this profile)
-use Rattle.std.specs.Prelude.{◌≡◌, ℕ, List, [], ◌∷◌, true, false, nat_lt, ⊤}
+use Rattle.std.specs.Prelude.{◌≡◌, ℕ, List, [], ◌∷◌, true, nat_lt, ⊤}
 use Rattle.vt_syntax.specs.declared.event.Event.{Event}
 use Rattle.vt_syntax.specs.Held.{events_from}
 use Rattle.vt_term.specs.Names.{name_on}
 use Rattle.vt_term.specs.Scrolling.{lines_off}
 use Rattle.vt_trace.specs.declared.tracing.Tracer.{Tracer}
 use Rattle.vt_trace.specs.Utf8.{Dialect, dialect_trace, dialect_tracer}
-use Rattle.vt_xterm.specs.Subparameters.{is_apart}
-use Rattle.vt_xterm.specs.Play.{Whole, held_before, play_character}
+use Rattle.vt_xterm.specs.Play.{Whole, play_character}
 use Rattle.vt_xterm.specs.Terminals.{PlaysTerminals}
 use Rattle.vt_xterm_trace.specs.Names.{xterm_names}
 
--- the dialect: xterm's names, and the states and the reports that characters have under TERM=xterm. What happens at an ASCII character
--- happens at its byte, after the terminal's bytes before it: the event of SGR with subparameters has the values that these stand for
+-- the dialect: xterm's names, and the states and the reports that characters have under TERM=xterm
 abbrev pub xterm_dialect : Dialect Whole
 xterm_dialect = record {
   names = xterm_names;
   happens = λ w c. record {
-    held = held_before w c;
+    held = w.state.held;
     byte = c;
     before = w.state.display;
-    events = events_from (held_before w c) (c ∷ []);
-    lines = lines_off (events_from (held_before w c) (c ∷ [])) w.state.display;
+    events = events_from w.state.held (c ∷ []);
+    lines = lines_off (events_from w.state.held (c ∷ [])) w.state.display;
   };
   after = λ w c. (play_character w c).whole;
   reports = λ w c. (play_character w c).reports;
@@ -42,12 +40,9 @@ abbrev pub HaveNames : List Event → Type 0
 HaveNames [] = ⊤
 HaveNames (event ∷ events) = ((rows : ℕ) → xterm_names rows event ≡ name_on rows event) × HaveNames events
 
--- no ASCII character begins subparameters, and the events of all have a VT220's names and effect, each in the state that
--- those before it leave
+-- the events of ASCII characters have a VT220's names and effect, each in the state that those before it leave
 abbrev pub PlaysVt220s : Whole → List ℕ → Type 0
 PlaysVt220s w [] = ⊤
 PlaysVt220s w (c ∷ cs) =
-    (nat_lt c 0x80 ≡ true
-    → (is_apart w.pages.subparameters w.state.held c ≡ false) × PlaysTerminals w.state (c ∷ [])
-    × HaveNames (events_from w.state.held (c ∷ [])))
+    (nat_lt c 0x80 ≡ true → PlaysTerminals w.state (c ∷ []) × HaveNames (events_from w.state.held (c ∷ [])))
     × PlaysVt220s (play_character w c).whole cs

@@ -3,7 +3,6 @@ ghost use Rattle.std.specs.Prelude.{◌≡◌, ◌++◌, [], List, ℕ, None};
 ghost use Rattle.vt_utf8.specs.Decoding.{characters, pending_after};
 ghost use Rattle.vt_trace.specs.declared.tracing.Tracer.{Tracer};
 ghost use Rattle.vt_trace.specs.Utf8.{trace_utf8, tracer_utf8};
-ghost use Rattle.vt_xterm.specs.declared.subparameters.Subparameters.TheVariants.{Outside};
 ghost use Rattle.vt_xterm.specs.Play.{Whole, play_xterm};
 ghost use Rattle.vt_xterm_trace.specs.Trace.{trace_xterm, tracer_xterm, PlaysVt220s};
 
@@ -19,14 +18,12 @@ pub fn cuts()
         ≡ tracer_xterm (play_xterm w pending a).whole (tracer_xterm w t pending a) (pending_after pending a) b }
 {}
 
-/// States that characters without a function of xterm have the trace of UTF-8 while DECLRMM is reset and no subparameters have
-/// come. None of them begins subparameters. Their events have a VT220's names and effect, each in the state that those before it leave.
+/// States that characters without a function of xterm have the trace of UTF-8 while DECLRMM is reset. Their events have
+/// a VT220's names and effect, each in the state that those before it leave.
 pub fn transparent()
-    ensures lines { (w : Whole) (t : Tracer) (pending bytes : List ℕ) → w.pages.sides ≡ None → w.pages.subparameters ≡ Outside
-        → PlaysVt220s w (characters pending bytes)
+    ensures lines { (w : Whole) (t : Tracer) (pending bytes : List ℕ) → w.pages.sides ≡ None → PlaysVt220s w (characters pending bytes)
         → trace_xterm w t pending bytes ≡ trace_utf8 w.state t pending bytes }
-    ensures tracer { (w : Whole) (t : Tracer) (pending bytes : List ℕ) → w.pages.sides ≡ None → w.pages.subparameters ≡ Outside
-        → PlaysVt220s w (characters pending bytes)
+    ensures tracer { (w : Whole) (t : Tracer) (pending bytes : List ℕ) → w.pages.sides ≡ None → PlaysVt220s w (characters pending bytes)
         → tracer_xterm w t pending bytes ≡ tracer_utf8 w.state t pending bytes }
 {
     played_transparent();

@@ -3,7 +3,6 @@ ghost use Rattle.std.specs.Prelude.{◌≡◌, ◌≤◌, ◌<◌, ◌+◌, ◌*
 ghost use Rattle.vt_syntax.specs.declared.held.Held.TheVariants.{Nothing};
 ghost use Rattle.vt_syntax.specs.Class.{IsOfLines};
 ghost use Rattle.vt_utf8.specs.Decoding.{pending_after};
-ghost use Rattle.vt_xterm.specs.declared.subparameters.Subparameters.TheVariants.{Outside};
 ghost use Rattle.vt_xterm.specs.Play.{behind, play_xterm};
 ghost use Rattle.vt_xterm_trace.specs.Trace.{trace_xterm, tracer_xterm};
 
@@ -14,7 +13,7 @@ use vt_term::{Profile, SizedTerminal};
 use vt_trace::{TRACE_LIMIT, Traceable, Tracer, trace_as, trace_byte, trace_dialect};
 use vt_utf8::laws::sized_silence;
 use vt_xterm::SizedFront;
-use vt_xterm::sized::{SizedPages, feed_xterm_character, parser_before};
+use vt_xterm::sized::{SizedPages, feed_xterm_character};
 
 /// What is kept besides a VT220's state is the pages.
 ///
@@ -60,8 +59,7 @@ impl Traceable<XtermNames> for SizedPages {
                 out,
             );
         }
-        let parser = parser_before(terminal, self, run[0]);
-        trace_byte(terminal, parser, &XtermNames, tracer, run[0], out);
+        trace_byte(terminal, &XtermNames, tracer, run[0], out);
         feed_xterm_character(terminal, self, run[0] as char, reports);
         1
     }
@@ -74,22 +72,18 @@ impl Traceable<XtermNames> for SizedPages {
     }
 }
 
-/// Returns how many bytes of lines are at the front, if the terminal is between sequences, no subparameters have come, and
-/// DECLRMM is reset; otherwise 0. No byte of lines opens a sequence, so none sets DECLRMM.
+/// Returns how many bytes of lines are at the front, if the terminal is between sequences and DECLRMM is reset;
+/// otherwise 0. No byte of lines opens a sequence, so none sets DECLRMM.
 fn lines_front(terminal: &SizedTerminal, pages: &SizedPages, run: &[u8]) -> usize
     ensures within { result ≤ length run.now }
     ensures between { 1 ≤ result → terminal.now.held ≡ Nothing }
     ensures none { 1 ≤ result → pages.now.sides ≡ None }
-    ensures outside { 1 ≤ result → pages.now.subparameters ≡ Outside }
     ensures lines { All IsOfLines (take result run.now) }
 {
     if pages.has_sides() {
         return 0;
     }
     if !terminal.is_between() {
-        return 0;
-    }
-    if !pages.is_outside() {
         return 0;
     }
     lines_run(run)

@@ -110,8 +110,10 @@ extern "C" {
 #define VT220_ROOM 5        /* the output buffer is too small; *written is the size that is needed */
 #define VT220_UNSUPPORTED 6 /* the processor is older than x86-64-v2 */
 #define VT220_NO_ROW 7      /* there is no such row */
-#define VT220_LANGUAGE 10   /* there is no such language, or a terminal has another one; 8 and 9 are of vt220-keys.h */
-#define VT220_SIZE 11       /* there is no such size, or two handles have different sizes */
+#define VT220_LANGUAGE 10   /* the terminal has another language than the call needs; 8 and 9 are of vt220-keys.h */
+#define VT220_SIZE 11       /* two handles have different sizes */
+#define VT220_NO_LANGUAGE 12 /* there is no such language */
+#define VT220_NO_SIZE 13    /* there is no such size */
 
 /* What a host sends. VT220_UTF8 | VT220_XTERM is VT220_XTERM. */
 #define VT220_BYTES 0 /* a VT220's bytes */
@@ -269,18 +271,19 @@ uint32_t vt220_open(vt220 *t);
  * is shown, and the alternate page is blank.
  *   language         VT220_BYTES, VT220_UTF8 or VT220_XTERM
  *   rows, columns    the size: 24 and 80 for that of a VT220, or 2 to 255 rows and 2 to 255 columns
- * Returns VT220_OK, VT220_IN_USE, VT220_MEMORY, VT220_UNSUPPORTED, VT220_LANGUAGE or VT220_SIZE. */
+ * Returns VT220_OK, VT220_IN_USE, VT220_MEMORY, VT220_UNSUPPORTED, VT220_NO_LANGUAGE or VT220_NO_SIZE. */
 uint32_t vt220_open_as(vt220 *t, uint32_t language, size_t rows, size_t columns);
 
 /* Changes the size of a terminal, as xterm does if its window changes, also inside a sequence. If the cursor would be
  * below the last row, so many rows leave at the top that it is in the last one. They go nowhere: read them before, with
- * vt220_row_text. The rows and columns that both screens have stay, and the others are blank. The cursor and what DECSC
- * saved are brought inside. The margins are those of the whole screen, and DECOM is reset, unless the screen has as
- * many rows and columns as before. Tab stops stay, and columns that come in have those of power-up. Under TERM=xterm as
- * many rows leave the page that isn't shown. The host isn't told: a program with a pseudo-terminal sets its size
- * (TIOCSWINSZ).
+ * vt220_row_text. The rows and columns that both screens have stay, and the others are blank. What DECSC saved moves up
+ * with its row. Its place and the cursor are brought inside. The margins are those of the whole screen, and DECOM is
+ * reset, unless the screen has as many rows and columns as before. Tab stops stay, and columns that come in have those of
+ * power-up. Under TERM=xterm the main page goes by its own cursor, also while the alternate page is shown: by the place
+ * that was saved on it. As many rows leave the alternate page while the main page is shown. The host isn't told: a
+ * program with a pseudo-terminal sets its size (TIOCSWINSZ).
  *   rows, columns    2 to 255 rows and 2 to 255 columns; DECCOLM then leaves the width, also that of 24 by 80
- * Returns VT220_OK, VT220_CLOSED, VT220_MEMORY or VT220_SIZE. */
+ * Returns VT220_OK, VT220_CLOSED, VT220_MEMORY or VT220_NO_SIZE. */
 uint32_t vt220_resize(vt220 *t, size_t rows, size_t columns);
 
 /* Closes a terminal and frees its memory. Does nothing if it is closed. */
@@ -406,7 +409,8 @@ uint32_t vt220_repaint(const vt220 *t, vt220_scratch *s, uint8_t *out, size_t si
  * with the page that is shown, and rebuilds it on a terminal of either. So it shows a session under TERM=xterm on a
  * VT220. For VT220_XTERM it is vt220_repaint.
  *   language    VT220_BYTES or VT220_UTF8; VT220_XTERM if `t` has this language
- * Returns what vt220_repaint does, or VT220_LANGUAGE. *written is 0 then. */
+ * Returns what vt220_repaint does, VT220_LANGUAGE if `t` isn't under TERM=xterm, or VT220_NO_LANGUAGE. *written is 0
+ * then. */
 uint32_t vt220_repaint_as(const vt220 *t, uint32_t language, vt220_scratch *s, uint8_t *out, size_t size,
                           size_t *written);
 
@@ -441,8 +445,8 @@ uint32_t vt220_draw(const vt220 *shown, const vt220 *to, vt220_scratch *s, uint8
 /* Finds the cells of a row of `to`, from 1 on, for which `shown` has another cell or none. Call it before vt220_update,
  * and redraw these cells alone. If `shown` and `to` differ in their width (vt220_width), redraw the whole screen
  * instead: no mark names the cells of `shown` after the width of `to`. The cursor and DECSCNM aren't part of the cells.
- * Returns VT220_OK, VT220_CLOSED, VT220_NO_ROW, or VT220_SIZE if the two have different sizes or more than 132
- * columns. On an error *marks isn't modified. */
+ * Returns VT220_OK, VT220_CLOSED, VT220_NO_ROW, VT220_SIZE if the two have different sizes, or VT220_ROOM if they have
+ * more than 132 columns. On an error *marks isn't modified. */
 uint32_t vt220_row_changes(const vt220 *shown, const vt220 *to, size_t row, vt220_row_marks *marks);
 
 /* Finds the same cells, at any size. changed[c - 1] receives whether column c differs, for each column of the row of

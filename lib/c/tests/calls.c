@@ -460,11 +460,13 @@ static void dropped_replies(void) {
 static void statuses(void) {
     CHECK(strcmp(vt220_status_text(VT220_CLOSED), "a handle is closed") == 0);
     CHECK(strcmp(vt220_status_text(VT220_PARTIAL), "a terminal is inside a sequence") == 0);
-    for (uint32_t status = 0; status < 12; status++) {
+    for (uint32_t status = 0; status < 14; status++) {
         CHECK(vt220_status_text(status) != NULL && strcmp(vt220_status_text(status), "unknown status") != 0);
         for (uint32_t before = 0; before < status; before++) CHECK(strcmp(vt220_status_text(status), vt220_status_text(before)) != 0);
     }
-    CHECK(strcmp(vt220_status_text(12), "unknown status") == 0 && strcmp(vt220_status_text(UINT32_MAX), "unknown status") == 0);
+    CHECK(strcmp(vt220_status_text(VT220_SIZE), "two handles have different sizes") == 0 && strcmp(vt220_status_text(VT220_NO_SIZE), "there is no such size") == 0);
+    CHECK(strcmp(vt220_status_text(VT220_NO_LANGUAGE), "there is no such language") == 0);
+    CHECK(strcmp(vt220_status_text(14), "unknown status") == 0 && strcmp(vt220_status_text(UINT32_MAX), "unknown status") == 0);
 }
 
 int main(void) {

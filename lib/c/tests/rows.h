@@ -63,7 +63,7 @@ static inline void set_field(row *r, const char *field, char *value) {
     }
     if (strcmp(field, "cursor") == 0) r->cursor_row = strtoul(value, &value, 10), r->cursor_col = strtoul(value + 1, NULL, 10);
     else if (strcmp(field, "brush") == 0) snprintf(r->brush, sizeof r->brush, "%s", value);
-    else check(strcmp(field, "differs") == 0, field, "a field's name");
+    else check(strcmp(field, "differs") == 0 || strcmp(field, "left") == 0, field, "a field's name");
 }
 
 /* Sets what the rest of a line names. */

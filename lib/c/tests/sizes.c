@@ -47,9 +47,9 @@ static void no_sizes(void) {
     vt220 t = VT220_INIT;
     for (size_t i = 0; i < sizeof sizes / sizeof sizes[0]; i++) {
         for (uint32_t language = VT220_BYTES; language <= VT220_XTERM; language++)
-            CHECK(vt220_open_as(&t, language, sizes[i][0], sizes[i][1]) == VT220_SIZE && !vt220_is_open(&t));
+            CHECK(vt220_open_as(&t, language, sizes[i][0], sizes[i][1]) == VT220_NO_SIZE && !vt220_is_open(&t));
         t = opened(VT220_XTERM, 24, 80, "x");
-        CHECK(vt220_resize(&t, sizes[i][0], sizes[i][1]) == VT220_SIZE && vt220_rows(&t) == 24 && vt220_width(&t) == 80);
+        CHECK(vt220_resize(&t, sizes[i][0], sizes[i][1]) == VT220_NO_SIZE && vt220_rows(&t) == 24 && vt220_width(&t) == 80);
         vt220_close(&t);
     }
     CHECK(vt220_resize(&t, 24, 80) == VT220_CLOSED);
@@ -179,7 +179,7 @@ static void changes(void) {
     for (size_t i = 0; i < 200; i++) CHECK(changed[i] == (i == 0 || i == 199));
     CHECK(vt220_changes_of(&a, &b, 40, changed, 199) == VT220_ROOM && vt220_changes_of(&a, &b, 41, changed, 200) == VT220_NO_ROW);
     CHECK(vt220_changes_of(&a, &b, 0, changed, 200) == VT220_NO_ROW && vt220_changes_of(&a, &b, 1, NULL, 0) == VT220_ROOM);
-    CHECK(vt220_row_changes(&a, &b, 40, &marks) == VT220_SIZE && vt220_row_changes(&a, &a, 1, &marks) == VT220_SIZE);
+    CHECK(vt220_row_changes(&a, &b, 40, &marks) == VT220_ROOM && vt220_row_changes(&a, &a, 1, &marks) == VT220_ROOM);
     CHECK(vt220_changes_of(&a, &a, 40, changed, 200) == VT220_OK && !changed[0] && !changed[199]);
     CHECK(vt220_changes_of(&a, &a, 41, changed, 200) == VT220_NO_ROW && vt220_changes_of(&a, &a, 1, changed, 199) == VT220_ROOM);
     vt220_close(&b);

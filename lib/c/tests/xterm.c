@@ -1,5 +1,5 @@
-/* xterm FILE: what programs send under TERM=xterm. The vectors of FILE, which is lib/rows/vectors.txt, are played whole, byte by byte and by
- * threes, and each is rebuilt by its repaint. The rest is by hand from the header. */
+/* xterm FILE REPAINTS: what programs send under TERM=xterm. The vectors of FILE, which is lib/rows/vectors.txt, are played whole, byte by byte and by
+ * threes, and each is rebuilt by its repaint. So are the sessions of REPAINTS, which is lib/rows/repaints.txt. The rest is by hand from the header. */
 #include "rows.h"
 
 enum { LEN = 40000, BLOCK = 16384 };
@@ -125,10 +125,15 @@ static void rebuild(const vt220 *p, const struct bytes *made, const char *before
     vt220_close(&q), vt220_close(&like);
 }
 
+/* What a session is rebuilt over: wide pages, also without ?40, the alternate page, bracketed paste, left and right margins, and parts of sequences and
+ * characters. */
+static const char *const others[] = {"", "main\033[?47h\033[?1048halt\xE2", "\033[?40h\033[?3hwide\0337\033[?47h\033[2", "\033[?47h\033[?40h\033[?3h\033]0;x",
+                                     "\033[?40h\033[?3hwide\0337\033[?40l\033[?2004h\033[?47hwide", "\033[?40h\033[?3hwide\0337\033[?1049h\033[?3l\033[4hx",
+                                     "\033[?40h\033[?3h\033[?40lwide\0337\033[?2004h\033[?47hwide\033]0;t", "\033[?40h\033[?47h\033[5;9r\033[?6h\033[12", "a\033[?1049h\xE2\x82",
+                                     "\033[3;9r\033[?69h\033[5;20s\033[?6h\033[2;16Hx\xE2\x82", "\033[?69h\033[5;20s\033[2;20Hx\033[?25;6"};
+
 /* The repaint of a session rebuilds it over other ones, whatever these show, keep and hold. */
 static void rebuild_over_others(const vt220 *p, const char *name) {
-    static const char *const others[] = {"", "main\033[?47h\033[?1048halt\xE2", "\033[?40h\033[?3hwide\0337\033[?47h\033[2", "\033[?47h\033[?40h\033[?3h\033]0;x",
-                                         "\033[?40h\033[?3hwide\0337\033[?40l\033[?2004h\033[?47hwide"};
     struct bytes made = repaint(p);
     for (size_t i = 0; i < sizeof others / sizeof others[0] && made.len > 0; i++) rebuild(p, &made, others[i], i % 2 == 0 ? LEN : 7, name);
     free(made.at);
@@ -143,17 +148,34 @@ static void rebuild_row(const row *r) {
     vt220_close(&p);
 }
 
-/* Sessions whose screens and other pages differ in their width, with and without ?40. */
-static void rebuild_widths(void) {
-    static const char *const inputs[] = {"\033[?40h\033[?3hwide\033[?47hx\033[?3lnarrow", "\033[?40h\033[?3h\033[?3lx", "\033[?40h\033[?3hwide\033[?40l\033[?47h\0337\xF0\x9F",
-                                         "main\033[?1049halt\033[?40h\033[?2004h", "main\033[3;4H\0337\033[?47halt\033[?47l\033[1;7m\033(0q\033[?6h"};
-    for (size_t i = 0; i < sizeof inputs / sizeof inputs[0]; i++) {
-        vt220 p = opened();
-        size_t len = strlen(inputs[i]);
-        CHECK(vt220_feed(&p, (const uint8_t *)inputs[i], len, NULL, 0, NULL) == len);
-        rebuild_over_others(&p, inputs[i]);
-        vt220_close(&p);
-    }
+/* Plays a row of repaints, if it is a session of 24 rows of 80 columns. Returns whether it is. */
+static bool rebuild_session(char *line) {
+    row r = begun_row(&line);
+    bool is_session = strcmp(r.terminal, "xterm") == 0 && strcmp(strsep(&line, "\t"), "80x24") == 0;
+    if (!is_session) return false;
+    append_spelled(&r.input, strsep(&line, "\t\n"));
+    char *wanted = strsep(&line, "\n");
+    vt220 p = opened();
+    CHECK(vt220_feed(&p, r.input.at, r.input.len, NULL, 0, NULL) == r.input.len);
+    struct bytes made = repaint(&p);
+    append_spelled(&r.repaint, wanted == NULL ? "" : wanted);
+    if (r.repaint.len > 0) check_same(&r.repaint, made.at, made.len, r.name, "the repaint");
+    check(made.len > 0, "a repaint", r.name);
+    rebuild_over_others(&p, r.name);
+    free(made.at), free_row(&r);
+    vt220_close(&p);
+    return true;
+}
+
+static void rebuild_sessions(const char *path) {
+    static char line[4096];
+    size_t count = 0;
+    FILE *file = fopen(path, "r");
+    if (file == NULL) abort();
+    while (fgets(line, sizeof line, file) != NULL)
+        if (line[0] != '#') count += rebuild_session(line);
+    fclose(file);
+    CHECK(count > 30);
 }
 
 /* The statuses of the call, and what it writes. */
@@ -193,7 +215,7 @@ static void handles(void) {
     uint8_t out[20], pending[3] = {1, 2, 3};
     size_t written = 9;
     CHECK(!kept_by(&t).alternate && !kept_by(&t).bracketed_paste && kept_by(&t).language == VT220_BYTES && put_pending(&t, pending) == 0 && pending[2] == 3);
-    CHECK(vt220_open_as(&t, 4, VT220_ROWS, 80) == VT220_LANGUAGE && vt220_open_as(&t, UINT32_MAX, VT220_ROWS, 80) == VT220_LANGUAGE && !vt220_is_open(&t));
+    CHECK(vt220_open_as(&t, 4, VT220_ROWS, 80) == VT220_NO_LANGUAGE && vt220_open_as(&t, UINT32_MAX, VT220_ROWS, 80) == VT220_NO_LANGUAGE && !vt220_is_open(&t));
     CHECK(vt220_open_as(&t, VT220_UTF8 | VT220_XTERM, VT220_ROWS, 80) == VT220_OK && vt220_open_as(&t, VT220_XTERM, VT220_ROWS, 80) == VT220_IN_USE && vt220_open(&t) == VT220_IN_USE);
     CHECK(vt220_open_as(&t, 4, VT220_ROWS, 80) == VT220_IN_USE && vt220_is_open(&t) && kept_by(&t).language == VT220_XTERM && vt220_bells(&t) == 0);
     CHECK(vt220_feed(&t, BYTES("a\a\033[?47h"), out, sizeof out, &written) == 8 && written == 0 && kept_by(&t).alternate);
@@ -253,7 +275,7 @@ static void shown_on_a_vt220(void) {
         vt220_close(&q), vt220_close(&other);
     }
     len = 9;
-    CHECK(vt220_repaint_as(&p, 4, &s, out, sizeof out, &len) == VT220_LANGUAGE && len == 0);
+    CHECK(vt220_repaint_as(&p, 4, &s, out, sizeof out, &len) == VT220_NO_LANGUAGE && len == 0);
     CHECK(vt220_open(&other) == VT220_OK && vt220_update(&p, &other, &s, out, sizeof out, &len) == VT220_LANGUAGE && len == 0);
     CHECK(vt220_copy(&p, &other) == VT220_LANGUAGE && kept_by(&p).alternate);
     vt220_close(&p), vt220_close(&other);
@@ -418,10 +440,10 @@ static void page_over_blocks(uint8_t *input) {
 
 int main(int argc, char **argv) {
     uint8_t *input = (uint8_t *)malloc(LEN);
-    if (argc != 2 || input == NULL) return 2;
+    if (argc != 3 || input == NULL) return 2;
     CHECK(vt220_scratch_open(&s) == VT220_OK);
     CHECK(each_row(argv[1], "utf-8", "xterm", each_way) > 100);
-    rebuild_widths();
+    rebuild_sessions(argv[2]);
     repaint_into();
     handles();
     log_handles();

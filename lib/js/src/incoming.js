@@ -57,5 +57,6 @@ export async function incoming(source) {
   }
   const response = await fetch(source);
   if (!response.ok) throw new TypeError(`${source} has the status ${response.status}`);
+  if (/^text\/html\b/.test(response.headers.get("Content-Type"))) throw new TypeError(`${source} is a page in HTML, and no recording`);
   return new Coming(response.body, 0);
 }

@@ -7,8 +7,8 @@ const SHORTEST = 500, LONGEST = 5000; // milliseconds until the next try to conn
 
 /** What a view needs of a timeline, of a terminal that shows only the present. */
 export class Live {
-  constructor(core, options) {
-    this.terminal = new Terminal(core, options);
+  constructor(core, { encoding, terminal, rows, columns }) {
+    this.terminal = new Terminal(core, { encoding, terminal, rows, columns });
     this.duration = 0;
   }
 

@@ -44,9 +44,9 @@ export const STYLE = `
 :host([hidden]) { display: none; }
 * { box-sizing: border-box; }
 #stage { position: relative; }
-/* The text fills the width, but it is never smaller than the least size: then the screen scrolls. */
-#screen { --wide: calc(100cqw / (var(--columns) * .602 + 1.4)); --high: calc(100cqh / (var(--rows) * 1.17 + 1.2)); --size: var(--wide); --glass: var(--vt220-background, #10140f); --glow: var(--vt220-foreground, #b8e0b0); --bright: var(--vt220-bright, #f0fff0); background: var(--glass); color: var(--glow); padding: .6em; border-radius: 6px;
-  overflow: auto hidden; outline-offset: 3px; font: max(var(--vt220-least, 12px), var(--size) * var(--scale, 1)) / 1.17 var(--vt220-font, "DejaVu Sans Mono", Menlo, Consolas, "Liberation Mono", monospace);
+/* The text fills the width, but at the scale 1 it is never smaller than the least size: then the screen scrolls. */
+#screen { --least: 12px; --wide: calc(100cqw / (var(--columns) * .602 + 1.4)); --high: calc((100cqh - 1px) / (var(--rows) * 1.17 + 1.2)); --size: var(--wide); --glass: var(--vt220-background, #10140f); --glow: var(--vt220-foreground, #b8e0b0); --bright: var(--vt220-bright, #f0fff0); background: var(--glass); color: var(--glow); padding: .6em; border-radius: 6px;
+  overflow: auto hidden; outline-offset: 3px; font: calc(max(var(--vt220-least, var(--least)), var(--size)) * var(--scale, 1)) / 1.17 var(--vt220-font, "DejaVu Sans Mono", Menlo, Consolas, "Liberation Mono", monospace);
   font-variant-ligatures: none; cursor: text; scrollbar-color: var(--glow) var(--glass); min-height: calc(var(--rows) * 1.17em + 1.2em); }
 #screen.reversed { --glass: var(--vt220-foreground, #b8e0b0); --glow: var(--vt220-background, #10140f); --bright: #000000; }
 #screen div { white-space: pre; height: 1.17em; width: max-content; min-width: 100%; }
@@ -99,9 +99,10 @@ option { color: #1a1a1a; background: #ffffff; }
 #markers { display: flex; flex-wrap: wrap; gap: .4rem; margin-top: .6rem; padding: 3px; max-height: 8rem; overflow: auto; }
 [hidden], #markers[hidden], .live .timed, :host([no-controls]) :is(.bar, #markers, #said, #notes, details) { display: none; }
 :host([no-controls]) #screen { --vt220-least: 0px; }
-/* With the attribute fit the element has the height of its place, and its screen what the controls leave of that. */
-:host(:is([fit=height], [fit=both])) { display: flex; flex-direction: column; height: 100%; min-height: 0; }
-:host(:is([fit=height], [fit=both])) #stage { flex: 1 1 0; min-height: 0; container-type: size; }
+/* With the attribute fit the element has the height of its place, and its screen what the controls leave of that. What is larger scrolls inside. */
+:host(:is([fit=height], [fit=both])) { display: flex; flex-direction: column; height: 100%; min-height: 0; overflow: auto; }
+:host(:is([fit=height], [fit=both])) #stage { flex: 1 0 8rem; container-type: size; }
+:host(:is([fit=height], [fit=both])) #screen { --least: 6px; min-height: 0; max-height: 100cqh; overflow: auto; outline-offset: -3px; }
 :host([fit=height]) #screen { --size: calc((100cqh - 1rem) / (var(--rows) * 1.17 + 1.2)); } /* without what a scroll bar may take */
 :host([fit=both]) #screen { --size: min(var(--wide), var(--high)); }
 :host(:fullscreen) { overflow: auto; padding: 1rem max(1rem, (100vw - (100vh - 12rem) * 1.75 * var(--columns) / 80 * 24 / var(--rows)) / 2); background: var(--ground); container-type: normal; }

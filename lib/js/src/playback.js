@@ -53,12 +53,17 @@ export class Playback {
   /** Goes on by seconds of the clock on the wall, if it plays. */
   advance(seconds) {
     if (!this.isPlaying) return;
-    const before = this.now;
+    const before = this.now, { shown } = this;
     this.now += seconds * this.speed;
     if (this.skips) this.skipPause();
     this.pass(before);
     if (this.isPlaying && this.now >= this.line.duration) this.isWhole ? this.finish() : (this.now = this.line.duration);
-    this.changed();
+    if (!this.isPlaying || this.shown !== shown) this.changed();
+  }
+
+  /** What can be seen of the moment: how many chunks have come, and the tenth of a second. */
+  get shown() {
+    return `${this.line.chunksAt(this.now)} ${Math.floor(10 * this.now)}`;
   }
 
   /** Tells of what was typed and of the markers after a time up to now. If it stops at markers, it goes back to the first one. */
@@ -80,27 +85,29 @@ export class Playback {
     if (next < this.line.chunks && this.now - last > this.longestPause) this.now = this.line.time(next);
   }
 
+  /** Ends at the end, or goes on at the beginning. */
   finish() {
-    this.tell("ended");
-    if (this.loops > 0 && this.line.duration > 0) {
-      this.loops -= 1;
-      this.now = 0;
-      return;
-    }
-    this.now = this.line.duration;
-    this.isPlaying = false;
+    const isAgain = this.loops > 0 && this.line.duration > 0;
+    this.now = isAgain ? 0 : this.line.duration;
+    this.isPlaying = isAgain;
+    if (isAgain) this.loops -= 1;
+    this.tell(isAgain ? "seek" : "ended");
   }
 
-  go(time) {
+  show(time) {
     this.now = Math.max(0, Math.min(Number(time) || 0, this.line.duration));
     this.from = null;
     this.changed();
+  }
+
+  go(time) {
+    this.show(time);
     this.tell("seek");
   }
 
   /** Shows a moment, and begins to play at another one, unless it goes somewhere before. */
   wait(shown, from) {
-    this.go(shown);
+    this.show(shown);
     this.from = from;
   }
 
@@ -131,9 +138,9 @@ export class Playback {
     return true;
   }
 
-  /** Returns the index of the span that is shown, or -1. */
+  /** Returns the index of the span that is shown, or -1. One that scrolled past has a moment only. */
   get span() {
-    return this.spans.findIndex((span) => span.time <= this.now && this.now < span.until);
+    return this.spans.findIndex((span) => span.time === this.now || (span.time < this.now && this.now < span.until));
   }
 
   goToSpan(index) {

@@ -24,18 +24,52 @@ export interface Options {
   keystrokes: boolean;
 }
 
+/** The moment of an event, in seconds. */
+export interface Moment {
+  time: number;
+}
+
+/** The events of a player. */
+export interface PlayerEvents {
+  /** The first frame is shown. */
+  ready: CustomEvent<Moment>;
+  play: CustomEvent<Moment>;
+  pause: CustomEvent<Moment>;
+  /** The end, after the last turn of a loop. */
+  ended: CustomEvent<Moment>;
+  /** It went to another moment, as at each turn of a loop. */
+  seeked: CustomEvent<Moment>;
+  /** A marker was passed. */
+  marker: CustomEvent<Moment & { index: number; label: string }>;
+  /** `data` was typed then. */
+  input: CustomEvent<Moment & { data: string }>;
+  /** A live one lost its connection, and connects again. */
+  offline: CustomEvent<Moment>;
+  error: CustomEvent<{ reason: string; error: Error }>;
+}
+
+type OtherEvents = Exclude<keyof HTMLElementEventMap, keyof PlayerEvents>;
+
 /**
  * The element `<vt220-player>`. It plays a recording by asciinema, ttyrec or script, the bytes of a program, or what `vt220-page --data` wrote:
  * at the address `src`, given as the property `src`, or inside of the element, in a `<script type="application/x-asciicast">` or, if
  * vt220-page wrote it, `<script type="application/json">`. With the attribute `live` it shows what comes from a WebSocket or an EventSource.
  *
- * All players of a page share one core. Each property of an attribute is null if the attribute isn't there; the recording's own value counts then.
+ * All players of a page share one core. Each property of an attribute is null if the attribute isn't there or is wrong. If it isn't there, the
+ * recording's own value counts. If it is wrong, nothing is played, and an event `error` names it.
  *
- * It dispatches these events, whose `detail` has the `time` in seconds: `ready` (the first frame is shown), `play`, `pause`, `ended`, `seeked`,
- * `marker` (also with `index` and `label`), `input` (also with `data`, what was typed then), `offline` (a live one lost its connection, and
- * connects again). `error` has a `reason` and the `error`.
+ * An attribute may change later. If `encoding`, `terminal`, `rows`, `cols`, `links` or `audio-url` does, the recording is read again, and goes on at
+ * its moment. So does an element that is moved in its document. `autoplay` counts at the beginning alone.
+ *
+ * It dispatches the events of PlayerEvents.
  */
 export declare class Vt220Player extends HTMLElement {
+  addEventListener<K extends keyof PlayerEvents>(type: K, listener: (this: Vt220Player, event: PlayerEvents[K]) => unknown, options?: boolean | AddEventListenerOptions): void;
+  addEventListener<K extends OtherEvents>(type: K, listener: (this: Vt220Player, event: HTMLElementEventMap[K]) => unknown, options?: boolean | AddEventListenerOptions): void;
+  addEventListener(type: string, listener: EventListenerOrEventListenerObject, options?: boolean | AddEventListenerOptions): void;
+  removeEventListener<K extends keyof PlayerEvents>(type: K, listener: (this: Vt220Player, event: PlayerEvents[K]) => unknown, options?: boolean | EventListenerOptions): void;
+  removeEventListener<K extends OtherEvents>(type: K, listener: (this: Vt220Player, event: HTMLElementEventMap[K]) => unknown, options?: boolean | EventListenerOptions): void;
+  removeEventListener(type: string, listener: EventListenerOrEventListenerObject, options?: boolean | EventListenerOptions): void;
   /** What load() takes for the shared core; set it before the first player is made. */
   static wasm: Source | Promise<Source> | undefined;
   /** reader.wasm in the same way. It is loaded when a player gets a recording that vt220-page didn't write. */
@@ -83,7 +117,7 @@ export declare class Vt220Player extends HTMLElement {
   pause(): Promise<void>;
   /** Goes, once the whole recording has been read, to a moment in seconds, as "M:SS", as "50%", or to a marker by its index or a direction. */
   seek(where: number | string | { marker: number | "prev" | "next" }): Promise<void>;
-  /** Searches all time, as the controls for case and expressions say, and returns what was found. */
+  /** Searches all time, as the controls for case and expressions say, and returns what was found. Throws TypeError if it is live. */
   search(text: string): Promise<Span[]>;
   /** Returns the moment that is shown, in seconds. */
   getCurrentTime(): number;

@@ -1,4 +1,5 @@
 // player.js: the element <vt220-player>. player.d.ts describes it.
+import { AGAIN, AT_FIRST, ATTRIBUTES, faultOf } from "./attributes.js";
 import { Live, connected } from "./live.js";
 import { MARKUP, STYLE } from "./look.js";
 import { lacking } from "./notes.js";
@@ -8,22 +9,11 @@ import { Reader } from "./recordings.js";
 import { Searcher } from "./searcher.js";
 import { Timeline } from "./timeline.js";
 import { View, seconds } from "./view.js";
-import { Vt220Error, load } from "./vt220.js";
+import { Vt220Error, checkSize, load } from "./vt220.js";
 
 // How a recording plays, if neither it nor an attribute says so.
 const DEFAULTS = { start: 0, poster: null, speed: 1, pause: 1, autoplay: false, loop: false, stops: false, controls: true, encoding: "dec", terminal: "vt220", rows: 24, columns: 80,
   markers: [], inputs: [], keystrokes: false, audio: null };
-const FLAG = { read: () => true, write: (value) => (value ? "" : null) };
-const TIME = { read: seconds, write: String }, NUMBER = { read: Number, write: String }, TEXT = { read: String, write: String };
-const LOOP = { read: (text) => text === "" || Number(text), write: (value) => (value === true ? "" : value === false ? null : String(value)) };
-const MARKERS = { read: (text) => JSON.parse(text).map((marker) => (Array.isArray(marker) ? marker : [marker, ""])), write: JSON.stringify };
-// The attributes: the property and the option of each, and its form. The two of the size make no option by themselves.
-const ATTRIBUTES = {
-  start: ["startAt", "start", TIME], poster: ["poster", "poster", TIME], speed: ["speed", "speed", NUMBER], "idle-limit": ["idleTimeLimit", "pause", NUMBER],
-  autoplay: ["autoPlay", "autoplay", FLAG], loop: ["loop", "loop", LOOP], markers: ["markers", "markers", MARKERS], "pause-on-markers": ["pauseOnMarkers", "stops", FLAG],
-  encoding: ["encoding", "encoding", TEXT], terminal: ["terminal", "terminal", TEXT], rows: ["rows", null, NUMBER], cols: ["cols", null, NUMBER], links: ["links", "links", FLAG],
-  fit: ["fit", "fit", TEXT], keystrokes: ["keystrokes", "keystrokes", FLAG], "audio-url": ["audioUrl", "audio", TEXT],
-};
 // What is read and shown of a larger file before the rest has come, in bytes.
 const BEGINNING = 1 << 18;
 const LONGEST_TURN = 30; // milliseconds without a turn of the page
@@ -54,11 +44,14 @@ export class Vt220Player extends Base {
   #given = { src: null, timing: null };
   #openings = 0;
   #isBegun = false;
+  #hasFailed = false;
   #parts = [];
   #view = null;
+  #recorded = {}; // the options of the recording
+  #left = null; // the moment at which it goes on, if it was moved or is read again
 
   static get observedAttributes() {
-    return ["src", "timing", "live", "speed", "label", "keystrokes"];
+    return ["src", "timing", "live", "label", ...Object.keys(ATTRIBUTES).filter((name) => !AT_FIRST.includes(name))];
   }
 
   /** A promise of the core that all players share. */
@@ -96,17 +89,41 @@ export class Vt220Player extends Base {
 
   disconnectedCallback() {
     this.#isBegun = false;
+    this.#leave();
     this.#close();
   }
 
+  /** Keeps the moment that is shown, at which it then goes on. One that wasn't touched begins as before. */
+  #leave() {
+    if (this.#view === null || this.#view.options.isLive) return;
+    const { now, from, isPlaying } = this.#view.player;
+    this.#left = from === null ? { now, isPlaying } : null;
+  }
+
   attributeChangedCallback(name, before, now) {
-    if (name === "speed") this.#view?.setSpeed(now);
-    else if (name === "keystrokes") this.#view?.showKeystrokes(now !== null);
-    else if (name === "label") this.shadowRoot.getElementById("screen").setAttribute("aria-label", now ?? "Terminal screen");
-    else if (before !== now) {
-      if (name in this.#given) this.#given[name] = null;
-      if (this.#isBegun) this.#open();
-    }
+    if (name === "label") return this.shadowRoot.getElementById("screen").setAttribute("aria-label", now ?? "Terminal screen");
+    if (before === now) return;
+    if (name in ATTRIBUTES) return this.#change(name);
+    if (name in this.#given) this.#given[name] = null;
+    this.#left = null;
+    if (this.#isBegun) this.#open();
+  }
+
+  /** Carries out an attribute that has changed: while it plays, or by reading the recording again. */
+  #change(name) {
+    const fault = faultOf(this, name), [, option] = ATTRIBUTES[name];
+    if (this.#view !== null && fault !== null) return this.#view.say(fault);
+    if (!this.#hasFailed && !AGAIN.includes(name)) return this.#view?.change(option, this.#options(this.#recorded)[option]);
+    this.#leave();
+    if (this.#isBegun) this.#open();
+  }
+
+  /** Throws if an attribute is wrong. */
+  #check() {
+    const { size: [columns, rows] = [] } = this.#asked(), fault = Object.keys(ATTRIBUTES).map((name) => faultOf(this, name)).find(Boolean);
+    if (fault) throw new TypeError(fault);
+    if (rows !== undefined) checkSize(rows, columns);
+    if (this.src === "") throw new TypeError('src="" names no recording');
   }
 
   /** The address of the recording, or the recording that was given. */
@@ -134,6 +151,7 @@ export class Vt220Player extends Base {
   #give(name, value) {
     if (typeof value === "string") return this.setAttribute(name, value);
     this.#given[name] = value;
+    this.#left = null;
     if (this.isConnected) this.#open();
   }
 
@@ -162,6 +180,7 @@ export class Vt220Player extends Base {
   #open() {
     this.#close();
     this.#isBegun = true;
+    this.#hasFailed = false;
     const opening = this.#openings, isOver = () => opening !== this.#openings, wanted = this.#wanted(), live = this.getAttribute("live");
     if (live !== null || (typeof wanted === "string" && /^wss?:/.test(wanted))) this.loaded = this.#attempt(isOver, (core) => this.#follow(live ?? wanted, core, isOver));
     else if (wanted !== null) this.loaded = this.#attempt(isOver, (core, because) => this.#load(wanted, core, because, isOver));
@@ -172,10 +191,14 @@ export class Vt220Player extends Base {
     let reason = "This needs a browser of 2023 or later with WebAssembly.";
     try {
       const core = await Vt220Player.core;
-      if (!isOver()) await step(core, (text) => (reason = text));
+      if (isOver()) return;
+      reason = "An attribute is wrong.";
+      this.#check();
+      await step(core, (text) => (reason = text));
     } catch (error) {
       if (isOver()) return;
       this.#close();
+      this.#hasFailed = true;
       this.shadowRoot.getElementById("said").textContent = `${reason} (${error.message})`;
       this.dispatchEvent(new CustomEvent("error", { detail: { reason, error } }));
     }
@@ -184,11 +207,12 @@ export class Vt220Player extends Base {
   /** The options of a recording, and those that attributes name. */
   #options(recorded) {
     const options = { links: false, isLive: false, ...DEFAULTS, ...recorded };
+    this.#recorded = recorded;
     for (const [attribute, [, option, form]] of Object.entries(ATTRIBUTES)) {
       if (option !== null && this.hasAttribute(attribute)) options[option] = form.read(this.getAttribute(attribute));
     }
     if (!options.controls) this.toggleAttribute("no-controls", true);
-    return options;
+    return this.#left === null ? options : { ...options, start: this.#left.now, poster: null, autoplay: this.#left.isPlaying, isLeft: true };
   }
 
   /** Returns the terminal, the encoding and the size that attributes ask for. A number that isn't there is a VT220's. */
@@ -221,7 +245,9 @@ export class Vt220Player extends Base {
       this.#view.complete(line, searcher, options);
       this.#view.addNotes(notes);
     }
-    if (!isOver()) this.noted = this.#note(core, line, made.recording.bytes, isOver);
+    if (isOver()) return;
+    this.#left = null;
+    this.noted = this.#note(core, line, made.recording.bytes, isOver);
   }
 
   /** Returns a promise of what is played of a file. The beginning of a large one is shown first. */
@@ -241,8 +267,8 @@ export class Vt220Player extends Base {
 
   /** Shows the beginning of a recording, and plays it, until the whole is there. If it lacks the first frame, it does nothing. */
   #preview(recording, options, core) {
-    const { encoding, terminal, rows, columns, poster, start, links } = options, line = new Timeline(core, recording, { encoding, terminal, rows, columns });
-    if (Math.max(poster ?? start, start) >= line.duration || (links && location.hash !== "")) return line.close();
+    const { encoding, terminal, rows, columns, poster, start } = options, line = new Timeline(core, recording, { encoding, terminal, rows, columns });
+    if (Math.max(poster ?? start, start) >= line.duration || this.#follows(options)) return line.close();
     this.#parts.push(line);
     this.#begin(core, line, null, options, []);
   }
@@ -276,7 +302,13 @@ export class Vt220Player extends Base {
     this.#show(core, line, searcher, options);
     this.#view.addNotes(notes);
     this.tell("ready", this.getCurrentTime());
+    if (this.#follows(options)) this.#view.follow();
     if (options.autoplay) this.#view.toggle();
+  }
+
+  /** Returns whether it begins at the moment or with the search of the page's address. */
+  #follows({ links, isLeft }) {
+    return links && !isLeft && location.hash !== "";
   }
 
   #show(core, line, searcher, options) {
@@ -360,7 +392,9 @@ export class Vt220Player extends Base {
   }
 
   async search(text) {
-    await (await this.#ready()).search(text);
+    const view = await this.#ready();
+    if (view.options.isLive) throw new TypeError("a live player shows only the present, and searches nothing");
+    await view.search(text);
     return this.#view.player.spans;
   }
 
@@ -377,7 +411,7 @@ export class Vt220Player extends Base {
 for (const [attribute, [property, , form]] of Object.entries(ATTRIBUTES)) {
   Object.defineProperty(Vt220Player.prototype, property, {
     get() {
-      return this.hasAttribute(attribute) ? form.read(this.getAttribute(attribute)) : null;
+      return this.hasAttribute(attribute) ? form.read(this.getAttribute(attribute)) ?? null : null;
     },
     set(value) {
       const text = value === null ? null : form.write(value);

@@ -37,7 +37,9 @@ function eventsIn(memory, at, count) {
  * names, of its events, of their bytes in turn, and of the place at which it breaks its format.
  */
 export async function readBy(module, file, timing) {
-  const { exports: calls } = await WebAssembly.instantiate(module), from = given(calls, file), fromTiming = timing === null ? 0 : given(calls, timing);
+  const { exports: calls } = await WebAssembly.instantiate(module);
+  if (typeof calls.read !== "function") throw new TypeError("the reader is another module than reader.wasm");
+  const from = given(calls, file), fromTiming = timing === null ? 0 : given(calls, timing);
   if (calls.read(from, file.length, fromTiming, timing === null ? 0 : timing.length, Number(timing !== null)) !== 0) throw new RangeError("the recording is too large");
   const [format, terminal, columns, rows, count, size, part, at, events, text] = new Float64Array(calls.memory.buffer, calls.out(), FOUND);
   return {

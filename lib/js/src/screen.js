@@ -56,7 +56,7 @@ function copy(event) {
   event.preventDefault();
 }
 
-const NONE = new Set();
+const NONE = new Set(), HIDDEN = { row: 0, column: 0 };
 
 export class Screen {
   /** Shows the rows in `place`. The element `sized` gets the custom properties `--rows` and `--columns`. */
@@ -67,7 +67,7 @@ export class Screen {
     this.wanted = null;
     /** The columns of what is found in each row, from 0. */
     this.hits = [];
-    this.cursorRow = 0;
+    this.cursor = HIDDEN;
     this.isStale = true;
     this.fit(this.drawn);
     place.oncopy = copy;
@@ -98,21 +98,20 @@ export class Screen {
     while (this.rows.length < rows) this.rows.push(this.place.appendChild(document.createElement("div")));
     for (const row of this.rows.splice(rows)) row.remove();
     this.hits = new Array(rows).fill(NONE);
-    this.cursorRow = 0;
+    this.cursor = HIDDEN;
     this.isStale = true;
   }
 
   draw(terminal) {
     this.fit(terminal);
-    const cursor = terminal.cursor, { dectcem, decscnm } = terminal.modes;
+    const { dectcem, decscnm } = terminal.modes, before = this.cursor, cursor = dectcem ? terminal.cursor : HIDDEN;
     const changed = new Set(this.isStale ? this.rows.keys() : this.drawn.changedRows(terminal).map((row) => row - 1));
-    changed.add(cursor.row - 1);
-    if (this.cursorRow > 0) changed.add(this.cursorRow - 1);
+    if (cursor.row !== before.row || cursor.column !== before.column) for (const { row } of [before, cursor]) if (row > 0) changed.add(row - 1);
     for (const row of this.findAgain(terminal)) changed.add(row);
-    for (const row of changed) this.drawRow(terminal, row, dectcem && cursor.row === row + 1 ? cursor.column : 0);
+    for (const row of changed) this.drawRow(terminal, row, cursor.row === row + 1 ? cursor.column : 0);
     this.place.classList.toggle("reversed", decscnm);
     this.drawn = inStateOf(terminal, this.drawn);
-    this.cursorRow = cursor.row;
+    this.cursor = cursor;
     this.isStale = false;
   }
 

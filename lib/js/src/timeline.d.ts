@@ -20,7 +20,10 @@ export interface Recording {
   sizes?: readonly SizeChange[];
 }
 
-/** A span of time in which a text was on the screen, as seen after each chunk. */
+/**
+ * A span of time in which a text was on the screen, as seen after each chunk. If it came and scrolled off within a chunk, and isn't there before and
+ * after it, the span begins and ends with this chunk.
+ */
 export interface Span {
   /** When the chunk came after which the text was there, in seconds, and the position at its end. */
   time: number;
@@ -28,9 +31,11 @@ export interface Span {
   /** When the chunk came after which it was gone, and the position at its end; Infinity if it stayed. */
   until: number;
   end: number;
-  /** Where it first stood: the uppermost row, and the column of its first character there. */
+  /** Where it first was: the uppermost row, or 0 if it only scrolled past, and the column of its first character. */
   row: number;
   column: number;
+  /** If it only scrolled past: the number of the line among all that scrolled off the main page, counted from 1. Otherwise null. */
+  line: number | null;
 }
 
 /** Where the screens of two recordings first differ. */
@@ -81,8 +86,8 @@ export declare class Timeline {
   /** Brings the terminal to the position at a time, and returns it. */
   seekTime(time: number): Terminal;
   /**
-   * Returns each span of time in which a text was on the screen. A row whose last column has a character goes on in the next row, and any
-   * other one ends with a line feed. With `expression` the text is a regular expression, in which ^ and $ are the ends of such lines. Without
+   * Returns each span of time in which a text was on the screen, or scrolled past. A row whose last column has a character goes on in the next row,
+   * and any other one ends with a line feed. With `expression` the text is a regular expression, in which ^ and $ are the ends of such lines. Without
    * `matchCase`, upper and lower case are equal. In a recording in UTF-8 a character is found by what is shown for it.
    * The result depends on the recording and the arguments alone. Throws SyntaxError if the expression can't be read.
    */

@@ -208,11 +208,15 @@ export class Timeline {
       while (this.#sizes[change]?.chunk === chunk) change++;
       screens.play(this.#bytes.subarray(at, this.#ends[chunk]), this.#sizes.slice(changes, change));
       at = this.#ends[chunk];
-      const place = screens.first(wanted);
-      if (place !== null) open ??= { time: this.#times[chunk], position: at, ...place };
-      if (place === null && open !== null) {
-        spans.push({ ...open, until: this.#times[chunk], end: at });
+      const here = { time: this.#times[chunk], position: at }, gone = { until: here.time, end: at }, place = screens.first(wanted);
+      if (place !== null) {
+        open ??= { ...here, ...place, line: null };
+      } else if (open !== null) {
+        spans.push({ ...open, ...gone });
         open = null;
+      } else {
+        const passed = screens.passed(wanted);
+        if (passed !== null) spans.push({ ...here, ...passed, ...gone });
       }
     }
     if (open !== null && spans.length < limit) spans.push({ ...open, until: Infinity, end: Infinity });
@@ -228,7 +232,7 @@ function wantedBy(core, text, encoding, how) {
   return text === "" ? null : pattern(encoding === "utf-8" ? core.shown(text) : text, how);
 }
 
-/** A terminal, and the texts of its rows, which are read again if they changed. */
+/** A terminal, the lines that scrolled off in the last chunk, and the texts of its rows, which are read again if they changed. */
 class Screens {
   constructor(core, options) {
     this.terminal = new Terminal(core, options);
@@ -238,11 +242,15 @@ class Screens {
     this.end = this.terminal.encoding === "utf-8" ? " " : "";
     this.isStale = true;
     this.place = null;
+    /** The lines that scrolled off in the last chunk, and how many did before. */
+    this.lines = [];
+    this.count = 0;
   }
 
   /** Plays a chunk, and then changes of the size. */
   play(bytes, sizes) {
-    this.terminal.feed(bytes);
+    this.count += this.lines.length;
+    this.lines = this.terminal.feedLog(bytes).lines;
     for (const { rows, columns } of sizes) this.terminal.resize(rows, columns);
     const changed = this.seen.changedRows(this.terminal);
     if (changed.length === 0) return;
@@ -250,6 +258,16 @@ class Screens {
     for (const row of changed) this.rows[row - 1] = this.terminal.rowText(row);
     this.seen = inStateOf(this.terminal, this.seen);
     this.isStale = true;
+  }
+
+  /** Returns the number and the first column, from 1, of the first line with a pattern that scrolled off in the last chunk, or null. */
+  passed(wanted) {
+    const { lines, rows, end } = this, { width } = this.terminal;
+    if (lines.length === 0) return null;
+    const all = lines[lines.length - 1].length < width ? lines : [...lines, ...rows], [hit] = hits(wanted, joinedRows(all, width, end));
+    if (hit === undefined) return null;
+    const { row, column } = placeOf(hit[0], all, width, end);
+    return row < lines.length ? { row: 0, column: column + 1, line: this.count + row + 1 } : null;
   }
 
   /** Returns the first row and column of a pattern, from 1, or null. */

@@ -68,7 +68,7 @@ export class View {
     Object.assign(this, { isPointed: false, hadSelection: false, isClick: false });
     const find = (text, how) => this.searcher.search(text, how);
     this.player = new Playback(line, { changed: () => this.draw(), told: (event, time, more) => this.told(event, time, more), find });
-    Object.assign(this.player, { loops: options.loop === true ? Infinity : Number(options.loop), longestPause: options.pause, stops: options.stops });
+    for (const option of ["loop", "pause", "stops", "speed"]) this.change(option, options[option]);
     // What is heard would be out of step if pauses were skipped.
     this.sound = options.audio === null ? null : new Sound(options.audio);
     this.$("skip").checked = this.player.skips = this.sound === null;
@@ -77,7 +77,6 @@ export class View {
     this.$("link").hidden = !options.links;
     for (const part of ["controls", "keys"]) this.$(part).classList.toggle("live", options.isLive);
     this.$("keys").hidden = options.isLive;
-    this.setSpeed(options.speed);
     this.take(line, searcher, options);
     this.listen();
   }
@@ -85,11 +84,28 @@ export class View {
   /** Takes a recording, or its beginning, with its markers and what was typed. */
   take(line, searcher, { markers, inputs, isLive }) {
     Object.assign(this, { line, searcher });
-    Object.assign(this.options, { markers, inputs });
-    Object.assign(this.player, { line, inputs, markers: markers.map(([time]) => time), isWhole: isLive || searcher !== null });
+    this.options.inputs = inputs;
+    Object.assign(this.player, { line, inputs, isWhole: isLive || searcher !== null });
     this.$("time").max = line.duration;
     this.$("time").disabled = !this.player.isWhole;
+    this.setMarkers(markers);
+  }
+
+  setMarkers(markers) {
+    this.options.markers = markers;
+    this.player.markers = markers.map(([time]) => time);
     this.listMarkers();
+  }
+
+  /** Changes an option, while it plays or before. */
+  change(option, value) {
+    const { player } = this, wait = () => player.from !== null && this.wait();
+    const acts = {
+      speed: () => this.setSpeed(value), keystrokes: () => this.showKeystrokes(value), stops: () => (player.stops = value), pause: () => (player.longestPause = value),
+      loop: () => (player.loops = value === true ? Infinity : Number(value)), markers: () => (this.setMarkers(value), this.drawMarks()), start: wait, poster: wait,
+    };
+    this.options[option] = value;
+    acts[option]();
   }
 
   /** Goes on with the whole of a recording, of which it had the beginning. */
@@ -136,17 +152,21 @@ export class View {
     this.on(host, "pointerdown", () => Object.assign(this, { isPointed: true, hadSelection: !selectionIn(this.$("screen")).isCollapsed }));
     this.on(host, "keydown", (event) => this.key(event));
     this.on(globalThis, "resize", () => this.drawMarks());
-    if (this.options.links) this.on(globalThis, "hashchange", () => this.follow());
+    if (this.options.links && !this.options.isLive) this.on(globalThis, "hashchange", () => this.follow());
   }
 
-  /** Shows the moment of the link, or the poster. */
+  /** Shows the poster. */
   start() {
-    const { options, player } = this;
-    this.say(player.isWhole ? "" : "Loading");
-    player.wait(options.poster ?? options.start, options.start);
-    this.$("stage").classList.toggle("waiting", !options.isLive);
-    if (options.links) this.follow();
+    this.say(this.player.isWhole ? "" : "Loading");
+    this.wait();
     this.drawMarks();
+  }
+
+  wait() {
+    const { poster, start, isLive, isLeft } = this.options;
+    if (isLeft) return this.player.show(start);
+    this.player.wait(poster ?? start, start);
+    this.$("stage").classList.toggle("waiting", !isLive);
   }
 
   /** Tells the element's page of an event. The sign that it waits goes with the first one. */
@@ -232,7 +252,8 @@ export class View {
   found() {
     const { spans, span } = this.player;
     if (spans.length === 0) return "This text is never on the screen.";
-    return `${spans.length === 1 ? "Once" : `${spans.length} times`} on the screen; this is number ${span + 1}, in row ${spans[Math.max(0, span)].row}.`;
+    const { row, line, time } = spans[Math.max(0, span)], place = line === null ? `in row ${row}` : `in line ${line}, which scrolled past at ${clock(time)}`;
+    return `${spans.length === 1 ? "Once" : `${spans.length} times`} on the screen; this is number ${span + 1}, ${place}.`;
   }
 
   hit(by) {

@@ -7,7 +7,7 @@ export declare const MOST_ROWS: 255;
 export declare const MOST_COLUMNS: 255;
 
 /** What a call could not do. `BROKEN`: an earlier call ended in a fault of WebAssembly, and the core can't be used any more. */
-export type Code = "MEMORY" | "CLOSED" | "PARTIAL" | "NO_ROW" | "NO_KEY" | "NO_CHARACTER" | "LANGUAGE" | "SIZE" | "BROKEN";
+export type Code = "MEMORY" | "CLOSED" | "PARTIAL" | "NO_ROW" | "NO_KEY" | "NO_CHARACTER" | "LANGUAGE" | "SIZE" | "NO_SIZE" | "BROKEN";
 
 /** Reports a call that changed nothing. */
 export declare class Vt220Error extends Error {
@@ -142,7 +142,7 @@ export type Held = "nothing" | "escape" | "control" | "string";
  * more. A closed terminal throws CLOSED, except from close() and isOpen. On an error nothing has changed.
  */
 export declare class Terminal {
-  /** Throws SIZE if no screen has this size. On a terminal of another size than a VT220's, DECCOLM leaves the width. */
+  /** Throws NO_SIZE if no screen has this size. On a terminal of another size than a VT220's, DECCOLM leaves the width. */
   constructor(core: Core, options?: Options);
   readonly encoding: Encoding;
   readonly terminal: TerminalName;
@@ -179,7 +179,7 @@ export declare class Terminal {
   /**
    * Changes the size, as xterm does if its window changes, also inside a sequence. If the cursor would be below the last row, so many rows leave
    * at the top that it is in the last one: read them before, with rowText. The rows and columns that both screens have stay, and the others are
-   * blank. DECCOLM leaves the width then, also that of 24 by 80. Throws SIZE if no screen has this size.
+   * blank. DECCOLM leaves the width then, also that of 24 by 80. Throws NO_SIZE if no screen has this size.
    */
   resize(rows: number, columns: number): void;
 

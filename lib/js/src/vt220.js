@@ -6,8 +6,8 @@ export const COLUMNS = 132;
 export const MOST_ROWS = 255;
 export const MOST_COLUMNS = 255;
 
-const CODES = ["OK", "MEMORY", "IN_USE", "CLOSED", "PARTIAL", "ROOM", "UNSUPPORTED", "NO_ROW", "NO_KEY", "NO_CHARACTER", "LANGUAGE", "SIZE"];
-const MEMORY = 1, CLOSED = 3, NO_ROW = 7, SIZE = 11, XTERM = 2;
+const CODES = ["OK", "MEMORY", "IN_USE", "CLOSED", "PARTIAL", "ROOM", "UNSUPPORTED", "NO_ROW", "NO_KEY", "NO_CHARACTER", "LANGUAGE", "SIZE", "NO_LANGUAGE", "NO_SIZE"];
+const MEMORY = 1, CLOSED = 3, NO_ROW = 7, SIZE = 11, NO_SIZE = 13, XTERM = 2;
 export const LEAST_ROWS = 2; // the fewest of a screen
 export const LEAST_COLUMNS = 2;
 const NARROW = 80; // the columns of a VT220's screen at power-up
@@ -20,6 +20,7 @@ const SETS = ["g0", "g1", "g2", "g3", "gl", "gr", "singleShift"];
 const SAVED = ["row", "column", "wrap", "origin", ...BRUSH, "g0", "g1", "g2", "g3", "gl", "gr"];
 const FLAGS = new Set(["wrap", "origin", "alternate", "bracketedPaste", ...BRUSH, ...MODES]);
 const SET_NAMES = new Set(["g0", "g1", "g2", "g3"]);
+const OPTIONS = ["rows", "columns", "encoding", "terminal"];
 const ENCODINGS = ["dec", "utf-8"];
 const TERMINALS = ["vt220", "xterm"];
 const LANGUAGE = ["alternate", "bracketedPaste", "length", "first", "second", "third"]; // the length and the bytes of what is pending
@@ -46,10 +47,10 @@ export function isSize(rows, columns) {
   return isOf(rows, LEAST_ROWS, MOST_ROWS) && isOf(columns, LEAST_COLUMNS, MOST_COLUMNS);
 }
 
-/** Throws SIZE if no screen has so many rows and columns. */
-function checkSize(rows, columns) {
+/** Throws NO_SIZE if no screen has so many rows and columns. */
+export function checkSize(rows, columns) {
   if (isSize(rows, columns)) return;
-  throw new Vt220Error(CODES[SIZE], `a screen has ${LEAST_ROWS} to ${MOST_ROWS} rows of ${LEAST_COLUMNS} to ${MOST_COLUMNS} columns, not ${rows} of ${columns}`);
+  throw new Vt220Error(CODES[NO_SIZE], `a screen has ${LEAST_ROWS} to ${MOST_ROWS} rows of ${LEAST_COLUMNS} to ${MOST_COLUMNS} columns, not ${rows} of ${columns}`);
 }
 
 /** Compiles the module: bytes, a module, or a response. */
@@ -68,8 +69,9 @@ async function nearby() {
 }
 
 export async function load(source = nearby()) {
-  const module = await compiled(source);
-  return new Core((await WebAssembly.instantiate(module)).exports, module);
+  const module = await compiled(source), { exports } = await WebAssembly.instantiate(module);
+  if (typeof exports.start !== "function") throw new TypeError("load() takes vt220.wasm, and this is another module");
+  return new Core(exports, module);
 }
 
 /** Returns the exports of the module, and whether one has trapped, which leaves the memory as it is. After that each of them throws. */
@@ -210,7 +212,8 @@ export class Terminal {
 
   constructor(core, options = {}) {
     if (!(core instanceof Core)) throw new TypeError("a terminal needs the core that load() returns");
-    const { rows = ROWS, columns = NARROW } = options;
+    const { rows = ROWS, columns = NARROW } = options, other = Object.keys(options).find((name) => !OPTIONS.includes(name));
+    if (other !== undefined) throw new TypeError(`a terminal has no option ${other}; its options are ${OPTIONS.join(", ")}`);
     this.#language = languageOf(options);
     checkSize(rows, columns);
     this.#core = core;

@@ -99,8 +99,8 @@ function errors({ Terminal, Vt220Error, ROWS, COLUMNS, MOST_ROWS, MOST_COLUMNS }
   for (const row of [0, -1, 25, 1.5, NaN, "3", undefined, 2 ** 32 + 1])
     for (const call of ["rowText", "cells"]) check(`${call} of row ${row}`, thrown(() => t[call](row)) === "NO_ROW");
   check("a message", (() => { try { t.cells(25); } catch (error) { return error instanceof Vt220Error && error instanceof Error && error.message === "there is no such row"; } })());
-  const texts = Array.from({ length: 13 }, (_, status) => core.statusText(status));
-  check("a text for each status", new Set(texts).size === 13 && texts[0] === "success" && texts[12] === "unknown status");
+  const texts = Array.from({ length: 15 }, (_, status) => core.statusText(status));
+  check("a text for each status", new Set(texts).size === 15 && texts[0] === "success" && texts[14] === "unknown status");
   for (const data of ["text", [1, 2], null, new Uint16Array(2)]) check(`fed ${data}`, thrown(() => t.feed(data)) === "TypeError");
   check("another core", thrown(() => t.copyFrom(new Terminal(other))) === "TypeError" && thrown(() => t.update({})) === "TypeError");
   check("no core", thrown(() => new Terminal()) === "TypeError" && thrown(() => new Terminal({})) === "TypeError");
@@ -116,10 +116,12 @@ function errors({ Terminal, Vt220Error, ROWS, COLUMNS, MOST_ROWS, MOST_COLUMNS }
   for (const [rows, columns] of NO_SIZES) {
     const said = `a screen has 2 to 255 rows of 2 to 255 columns, not ${rows} of ${columns}`;
     for (const call of [() => new Terminal(core, { rows, columns }), () => t.resize(rows, columns)]) {
-      check(`the size of ${rows} rows and ${columns} columns`, thrown(call) === "SIZE" && (() => { try { call(); } catch (error) { return error.message === said; } })());
+      check(`the size of ${rows} rows and ${columns} columns`, thrown(call) === "NO_SIZE" && (() => { try { call(); } catch (error) { return error.message === said; } })());
     }
   }
   check("no size changes nothing", t.rows === 24 && t.width === 80);
+  const refused = (() => { try { new Terminal(core, { cols: 120 }); } catch (error) { return String(error); } })();
+  check(`an option that there isn't: ${refused}`, refused === "TypeError: a terminal has no option cols; its options are rows, columns, encoding, terminal");
   check("constants", ROWS === 24 && COLUMNS === 132 && MOST_ROWS === 255 && MOST_COLUMNS === 255 && core.version >= 300);
   if (Symbol.dispose) closed[Symbol.dispose]();
   t.close();
@@ -147,12 +149,14 @@ async function modules({ load, Terminal }, wasm, check) {
   if (typeof Response !== "undefined") check("a load from a response", new Terminal(await load(new Response(wasm))).width === 80);
   const refused = (source) => load(source).then(() => "", String);
   check("a load of other bytes", (await refused(Uint8Array.of(1, 2, 3))) !== "");
+  const other = await refused(Uint8Array.of(0, 0x61, 0x73, 0x6d, 1, 0, 0, 0));
+  check(`a load of another module: ${other}`, other === "TypeError: load() takes vt220.wasm, and this is another module");
   for (const source of ["vt220.wasm", 5, null]) check(`a load of ${source}`, (await refused(source)).startsWith("TypeError: load() takes the bytes of vt220.wasm"));
 }
 
 /** The exports that take closed handles, which the package never passes: their arguments, and what they return. t and x are closed, and pages is under TERM=xterm. */
 const CLOSED = [
-  ["text", ["t"], 3], ["show", ["t"], 3], ["picture", ["t"], 3], ["repaint", ["t", 0], 3], ["repaint", ["x", 2], 3], ["repaint", ["open", 2], 10], ["repaint", ["open", 4], 10], ["row_text", ["t", 1], 3], ["reset", ["t"], 3], ["update", ["t", "open"], 3],
+  ["text", ["t"], 3], ["show", ["t"], 3], ["picture", ["t"], 3], ["repaint", ["t", 0], 3], ["repaint", ["x", 2], 3], ["repaint", ["open", 2], 10], ["repaint", ["open", 4], 12], ["row_text", ["t", 1], 3], ["reset", ["t"], 3], ["update", ["t", "open"], 3],
   ["draw", [0, "t"], 3], ["draw", ["t", "open"], 3], ["draw", ["open", "t"], 3], ["draw", ["open", "open"], 0], ["draw", [0, "pages"], 0],
   ["update", ["open", "t"], 3], ["copy", ["t", "open"], 3], ["copy", ["open", "t"], 3], ["row_changes", ["t", "open", 1], 3], ["row_changes", ["open", "t", 1], 3],
   ["changed_rows", ["t", "open"], 24], ["changed_rows", ["open", "t"], 0], ["changed_rows", ["t", "t"], 0], ["width", ["t"], 0], ["rows", ["t"], 0], ["stops", ["t"], 0], ["resize", ["t", 24, 80], 3], ["resize", ["t", 25, 80], 3], ["row", ["t", 1], 0], ["bells", ["t"], 0], ["is_between", ["t"], 0],

@@ -104,7 +104,7 @@ function leads(Terminal, core, input, repaint, check) {
 
 /** Returns what the fields of a row name, and what is as at power-up. */
 function due(fields) {
-  const { differs: _, repaint, ...changed } = Object.fromEntries(fields.map((one) => [one.slice(0, one.indexOf("=")), one.slice(one.indexOf("=") + 1)]));
+  const { differs: _, left: __, repaint, ...changed } = Object.fromEntries(fields.map((one) => [one.slice(0, one.indexOf("=")), one.slice(one.indexOf("=") + 1)]));
   return { repaint, wanted: { ...AT_POWER_UP, ...Object.fromEntries(Object.entries(changed).map(([one, spelling]) => [one, value(one, spelling)])) } };
 }
 

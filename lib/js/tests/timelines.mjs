@@ -27,20 +27,23 @@ function recording() {
   return { bytes: data, times, ends };
 }
 
-/** Returns the text of a screen from a row on, in which a row with a character in its last column goes on in the next one. */
+/** Returns the text of rows, in which one with a character in its last column goes on in the next one. */
+const joined = (rows, width) => rows.map((row) => (row.length === width ? row : row + "\n")).join("");
+
+/** Returns the text of a screen from a row on. */
 function unwrapped(t, from = 1) {
-  return t.text().split("\n").slice(from - 1, 24).map((row) => (row.length === t.width ? row : row + "\n")).join("");
+  return joined(t.text().split("\n").slice(from - 1, 24), t.width);
 }
 
 function scan({ Terminal }, core, { bytes, times, ends }, needle, matchCase) {
   const t = new Terminal(core), fold = (text) => (matchCase ? text : text.toLowerCase()), spans = [];
   let at = 0, isOn = false;
   ends.forEach((end, i) => {
-    t.feed(bytes.subarray(at, end));
+    const { lines } = t.feedLog(bytes.subarray(at, end));
     at = end;
-    const is = fold(unwrapped(t)).includes(fold(needle));
-    if (is && !isOn) spans.push({ time: times[i], position: end, until: Infinity });
-    if (!is && isOn) spans[spans.length - 1].until = times[i];
+    const is = fold(unwrapped(t)).includes(fold(needle)), isPast = fold(joined(lines, t.width)).includes(fold(needle));
+    if ((is || isPast) && !isOn) spans.push({ time: times[i], position: end, until: Infinity });
+    if (!is && (isOn || isPast)) spans[spans.length - 1].until = times[i];
     isOn = is;
   });
   t.close();
@@ -72,7 +75,7 @@ function searches(vt220, core, made, check) {
     const found = line.search(needle, { matchCase }), wanted = scan(vt220, core, made, needle, matchCase);
     const isSame = found.length === wanted.length && found.every((span, i) => ["time", "position", "until"].every((key) => span[key] === wanted[i][key]));
     check(`the spans of ${needle}: ${found.length}, not ${wanted.length}`, isSame && (needle === "nowhere" || matchCase || found.length > 3));
-    for (const { position, row, column } of found.slice(0, 20)) {
+    for (const { position, row, column } of found.filter(({ line }) => line === null).slice(0, 20)) {
       const at = unwrapped(line.seek(position), row).slice(column - 1).toLowerCase();
       check(`the place of ${needle}`, at.startsWith(needle.toLowerCase()));
     }
@@ -94,6 +97,20 @@ function spoken(...texts) {
     ends.push((at += part.length));
   }
   return { bytes: whole, times: texts.map((_, i) => i + 1), ends };
+}
+
+/** Searches for what scrolls off within a chunk, and isn't on the screen before and after it. */
+function passing({ Timeline }, core, check) {
+  const count = (from, to) => Array.from({ length: to - from }, (_, i) => `line ${from + i}\r\n`).join(""), full = "x".repeat(79);
+  const log = spoken(count(1, 101), count(101, 103), `${count(103, 110)}\x1b[?1049hpage\r\n${"\n".repeat(30)}\x1b[?1049l`, `${full}AB\r\n${"\n".repeat(23)}C`, "\n".repeat(30));
+  const found = (text, how, options = { terminal: "xterm" }) => new Timeline(core, log, options).search(text, how).map(({ time, until, row, column, line }) => [time, until, row, column, line].join());
+  const wanted = [["line 42", "1,1,0,1,42"], ["LINE 42", "1,1,0,1,42"], ["line 101", "2,4,22,1,"], ["line 1", "1,4,23,1,"], ["page", ""], ["AB", "4,4,0,80,110"], ["C", "4,5,24,1,"]];
+  for (const [text, span] of wanted) check(`what scrolls past of ${text}: ${found(text)}`, String(found(text)) === span);
+  check("an expression finds what scrolls past", String(found("^line 4$", { expression: true }, {})) === "1,1,0,1,4");
+  const [{ position, end }] = new Timeline(core, log).search("line 42");
+  check("the chunk in which it scrolls past", position === log.ends[0] && end === position);
+  const spans = new Timeline(core, spoken(`${full}A`, `B\r\n${"\n".repeat(22)}`, "\n".repeat(9))).search("AB").map(({ time, line }) => [time, line].join());
+  check(`a line that goes on in the screen: ${spans}`, String(spans) === "2,1");
 }
 
 /** Searches over the ends of rows, and by expressions. */
@@ -193,7 +210,7 @@ function sizes(vt220, core, check) {
     line.close();
   }
   const line = new vt220.Timeline(core, made), found = line.search("word7 ");
-  check(`the spans at sizes: ${found.length}`, found.length > 3 && found.every((span) => textFrom(line.seekTime(span.time), span).toLowerCase().startsWith("word7 ") || made.times.filter((time) => time === span.time).length > 1));
+  check(`the spans at sizes: ${found.length}`, found.length > 3 && found.filter((span) => span.line === null).every((span) => textFrom(line.seekTime(span.time), span).toLowerCase().startsWith("word7 ") || made.times.filter((time) => time === span.time).length > 1));
   const shown = Array.from({ length: chunks }, (_, i) => i + 1).filter((count) => count % 97 === 0).every((count) => {
     const time = made.times[count - 1], t = line.seekTime(time), is = textFrom(t, { row: 1, column: 1 }).includes("word7 ");
     return is === found.some((span) => span.time <= time && time < span.until);
@@ -217,6 +234,7 @@ export function timelines(vt220, core, check) {
   const made = recording();
   seeks(vt220, core, made, check);
   searches(vt220, core, made, check);
+  passing(vt220, core, check);
   patterns(vt220, core, check);
   differences(vt220, core, check);
   sizes(vt220, core, check);

@@ -19,6 +19,11 @@ export async function use(bytes: Uint8Array): Promise<number | null> {
   await player.seek("50%");
   // @ts-expect-error: no such direction
   await player.seek({ marker: "last" });
+  player.addEventListener("marker", ({ detail }) => `${detail.index} ${detail.label.length} ${detail.time}`);
+  player.addEventListener("error", function ({ detail }) { this.getDuration(); return detail.reason.length; });
+  player.addEventListener("keydown", ({ key }) => key.length);
+  // @ts-expect-error: a seek has no label
+  player.addEventListener("seeked", ({ detail }) => detail.label);
   player.feed(bytes);
   const [span] = await player.search("x");
   return player.getDuration() ?? span?.time ?? null;

@@ -185,8 +185,8 @@ def test_a_number_is_a_row_from_1_to_24(call):
 
 
 def test_the_text_of_a_status_is_that_of_its_number():
-    assert vt220.status_text(7) == "there is no such row"
-    for other in (12, 99, 2**32 - 1, 2**32 + 7, 2**64 + 7, -1):
+    assert [vt220.status_text(status) for status in (7, 11, 13)] == ["there is no such row", "two handles have different sizes", "there is no such size"]
+    for other in (14, 99, 2**32 - 1, 2**32 + 7, 2**64 + 7, -1):
         assert vt220.status_text(other) == "unknown status"
     for wrong in (7.0, "7", None):
         with pytest.raises(TypeError):
@@ -248,7 +248,7 @@ def test_a_file_that_is_no_library_is_refused(tmp_path):
 
 
 def test_an_import_needs_no_library():
-    modules = ["vt220", "vt220.cast", "vt220.expected", "vt220.keyboard", "vt220.picture", "vt220.process", "vt220.pytest_plugin", "vt220.rig", "vt220.screen", "vt220.__main__"]
+    modules = ["vt220", "vt220.cast", "vt220.expected", "vt220.keyboard", "vt220.picture", "vt220.process", "vt220.pytest_plugin", "vt220.recordings", "vt220.rig", "vt220.screen", "vt220.__main__"]
     for module in modules:
         done = python(f"import {module}; print('imported')", VT220_LIBRARY="/no/such/file")
         assert (done.returncode, done.stdout) == (0, "imported\n"), done.stderr
@@ -416,9 +416,9 @@ def test_two_sizes():
             call(large)
     assert large.draw(small) == large.draw()
     for size in ((1, 80), (256, 80), (24, 1), (24, 256)):
-        with pytest.raises(vt220.OtherSize):
+        with pytest.raises(vt220.NoSize):
             vt220.Terminal(rows=size[0], columns=size[1])
-        with pytest.raises(vt220.OtherSize):
+        with pytest.raises(vt220.NoSize):
             small.resize(*size)
     # A terminal that was resized to 24 by 80 isn't a VT220's: DECCOLM leaves its width.
     large.resize(24, 80)

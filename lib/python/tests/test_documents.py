@@ -11,10 +11,11 @@ import vt220.keyboard
 import vt220.picture
 import vt220.process
 import vt220.pytest_plugin
+import vt220.recordings
 import vt220.rig
 import vt220.screen
 
-MODULES = [vt220, vt220.cast, vt220.expected, vt220.keyboard, vt220.picture, vt220.process, vt220.pytest_plugin, vt220.rig, vt220.screen]
+MODULES = [vt220, vt220.cast, vt220.expected, vt220.keyboard, vt220.picture, vt220.process, vt220.pytest_plugin, vt220.recordings, vt220.rig, vt220.screen]
 
 
 def offered(module):

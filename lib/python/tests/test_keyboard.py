@@ -110,3 +110,11 @@ def test_function_keys_are_those_of_terminfo():
             assert spelled(Key[names[name]], POWER_UP) == code.replace("\\E", "\033").encode(), name
             seen += 1
     assert seen >= 25
+
+
+@pytest.mark.parametrize("one, name", [(Key.F5, "F5"), (shift(Key.UP), "S-Up"), (ctrl(alt(Key.F6)), "C-A-F6")])
+def test_a_key_of_an_xterm_alone_names_the_cure(one, name):
+    with pytest.raises(vt220.NoKey, match=f"^a VT220 has no key {name}, and an xterm has: .*terminal=\"xterm\", or pytest with --vt-terminal xterm$"):
+        spelled(one, POWER_UP)
+    with pytest.raises(vt220.NoKey, match="^a VT220 has no key S-KP0$"):
+        spelled(shift(Key.KP_0), POWER_UP)

@@ -117,10 +117,10 @@ def test_another_size_and_a_window_that_changes():
         rig.wait("24 80")
         assert (rig.last.width, len(rig.last.rows), rig.last.hidden) == (80, 24, ())
         for size in ((1, 80), (24, 1), (256, 80), (24, 256)):
-            with pytest.raises(vt220.OtherSize):
+            with pytest.raises(vt220.NoSize):
                 rig.resize(*size)
         assert [event.data for event in rig.events if event.who == "size"] == [b"100x30", b"80x24"]
-    with pytest.raises(vt220.OtherSize):
+    with pytest.raises(vt220.NoSize):
         run("true", columns=300)
 
 
@@ -166,6 +166,27 @@ def test_keys_go_as_the_modes_ask(modes, key, shown):
         rig.wait("ready")
         rig.keys(key)
         rig.wait(text=shown)
+
+
+@pytest.mark.parametrize("text, cure", [("ENTER", "keys(ENTER)"), ("TAB", "keys(TAB)"), ("F6", "keys(F6)"), ("KP_5", "keys(KP_5)"), ("RETURN", "keys(ENTER)"),
+                                        ("PAGE_UP", "keys(PREV_SCREEN)"), ("F99", "only F1 to F20"), ("F0", "only F1 to F20")])
+def test_the_name_of_a_key_is_refused_as_a_text(text, cure):
+    with shell(SHOWS, "ready") as rig:
+        rig.wait("ready")
+        with pytest.raises(ValueError) as caught:
+            rig.keys("x", text, ENTER)
+        assert cure in str(caught.value) and f"keys(*{text!r})" in str(caught.value) and len(rig.events) == 1
+        rig.keys(*text)
+        rig.wait(text=" ".join(f"{ord(letter):02x}" for letter in text))
+        rig.paste(text)
+
+
+@pytest.mark.parametrize("text", ["enter", "ENTER ", "F", "F1x", "OK", "HELP\r", "", "\u00c4"])
+def test_another_text_is_typed(text):
+    with shell(SHOWS, "ready") as rig:
+        rig.wait("ready")
+        rig.keys(text, "!")
+        rig.wait(text=" ".join(f"{byte:02x}" for byte in (text + "!").encode()))
 
 
 def test_a_locked_keyboard_is_a_failure_and_send_is_not():
@@ -219,6 +240,81 @@ def test_the_last_words_of_a_program_that_ends_between_two_looks_are_seen(tmp_pa
         monkeypatch.setattr(rig, "_read", read_before_the_end)
         rig.wait("and over")
         assert looks
+
+
+# Secrets.
+
+def stored(rig, directory):
+    """Returns the words of a report, and after them all that its files and the recording of a good run have."""
+    words = rig.report()
+    files = {path.name: path.read_text() for path in directory.iterdir()}
+    played = [*inside(files["x.html"]), json.loads(rig_module.recorded(rig))]
+    return words, [*files.values(), *(unpacked(each["bytes"]).decode() for each in played), *(json.dumps(each["options"]) for each in played), repr(rig.events)]
+
+
+TYPES = {"keys": lambda rig, **options: rig.keys("s3cret", ENTER, **options), "send": lambda rig, **options: rig.send(b"s3cret\r", **options),
+         "paste": lambda rig, **options: rig.paste("s3cret\n", **options)}
+
+
+@pytest.mark.parametrize("way", TYPES)
+@pytest.mark.parametrize("line", ["stty -echo", "stty raw -echo"])
+def test_what_is_typed_without_echo_is_stored_nowhere(tmp_path, template, line, way):
+    script = f"{line}; printf 'Password: '; head -c 7 >/dev/null; stty sane; printf '\\r\\nName: '; read name; sleep 1000"
+    with shell(script, reports=Reports(tmp_path / "r", "x")) as rig:
+        rig.wait("Password:")
+        TYPES[way](rig)
+        rig.wait("Name:")
+        rig.keys("Eve")
+        rig.wait("Name: Eve")
+        words, files = stored(rig, tmp_path / "r")
+    counted = "(7 bytes)" if way == "send" else "(7 keys)"
+    assert f" s  hidden  {counted}\n" in words and " s  test    Eve\n" in words
+    assert not any("s3cret" in text for text in (words, *files)) and sum(counted in text for text in files) == 5
+    events = [json.loads(line)[1:] for line in (tmp_path / "r" / "x.cast").read_text().splitlines()[1:]]
+    assert [each for each in events if each[0] not in "o"] == [["m", counted], ["i", "Eve"]]
+
+
+@pytest.mark.parametrize("way", TYPES)
+def test_secret_keys_wait_until_the_line_echoes_nothing(tmp_path, template, monkeypatch, way):
+    """A program may show its prompt before it turns the echo off."""
+    os.mkfifo(tmp_path / "go")
+    with shell("printf 'Password: '; read word <go; stty -echo; read -r word; printf 'it has %s' ${#word}; sleep 1000", reports=Reports(tmp_path / "r", "x")) as rig:
+        rig.wait("Password:")
+        read, looks = rig._read, []
+
+        def read_and_let_it_go_on(seconds):
+            if not looks:
+                (tmp_path / "go").write_text("go\n")
+            looks.append(seconds)
+            return read(seconds)
+
+        monkeypatch.setattr(rig, "_read", read_and_let_it_go_on)
+        TYPES[way](rig, secret=True)
+        rig.wait("it has 6")
+        words, files = stored(rig, tmp_path / "r")
+    assert not any("s3cret" in text for text in (words, *files)) and " s  hidden  (7 " in words
+
+
+def test_a_secret_is_not_typed_where_it_is_echoed():
+    with shell("printf ready; read word; sleep 1000", timeout=0.2) as rig:
+        rig.wait("ready", timeout=LONG)
+        for way in TYPES.values():
+            with pytest.raises(Failure, match="the line echoes them"):
+                way(rig, secret=True)
+        assert [event.who for event in rig.events] == ["program"]
+    with shell("printf ready", timeout=LONG) as rig:
+        rig.ended()
+        with pytest.raises(Failure, match="the line echoes them"):
+            rig.keys("s3cret", secret=True)
+
+
+def test_keys_that_are_no_secret_are_stored():
+    with shell(SHOWS, "ready") as rig:
+        rig.wait("ready")
+        for way in TYPES.values():
+            way(rig, secret=False)
+        rig.keys("x")
+        assert [tuple(event)[1:] for event in rig.events if event.who != "program"] == [("test", b"s3cret\r")] * 3 + [("hidden", b"(1 key)")]
 
 
 # Reports.
@@ -335,6 +431,26 @@ def test_an_expression_that_never_came_has_the_hint_too():
     with run("printf", "%s", "[ok]") as rig:
         with pytest.raises(Failure, match=r"never came\nthe screen has this text as it is: write text='\[ok\]'\n"):
             rig.wait("[ok]", row=1, col=1)
+
+
+def test_a_text_of_two_rows_is_refused_with_the_cure():
+    with shell("printf 'one\\r\\ntwo'; sleep 1000") as rig:
+        screen = rig.wait("two")
+        for call in (lambda: rig.wait("one\ntwo"), lambda: rig.wait(text="one\ntwo"), lambda: rig.wait(re.compile("one$\n")), lambda: rig.wait(r"one\r\ntwo", row=1),
+                     lambda: rig.wait(r"one\x0Atwo"), lambda: rig.wait(r"one\012two"), lambda: rig.wait("\u201cone\n"), lambda: screen.at("one\ntwo"), lambda: screen.stored(["one\ntwo"])):
+            with pytest.raises(ValueError, match=r"has a line feed, .*wait\(lambda screen: .*screen.text\)+$"):
+                call()
+        with pytest.raises(ValueError) as caught:
+            rig.wait(text="one\ntwo")
+        # What the error says works.
+        assert rig.wait(eval(re.search(r"wait\((.*)\)$", str(caught.value))[1])) == screen
+        with pytest.raises(ValueError) as caught:
+            rig.wait("o.e\n")
+        assert rig.wait(eval(re.search(r"wait\((.*)\)$", str(caught.value))[1])) == screen
+        for what in (r"one[^\n]*", "[\n]?one", r"one\\?n?", re.compile("one  # the first\n $", re.X)):
+            assert rig.wait(what) == screen
+        with pytest.raises(Failure):
+            rig.wait(re.compile("three  # the last\n", re.X), timeout=0)
 
 
 def test_no_state_is_looked_at_inside_a_sequence():
@@ -496,6 +612,28 @@ def test_a_program_that_ends_is_not_waited_for():
         rig.ended(3)
         with pytest.raises(Failure, match="status 3, not 0"):
             rig.ended()
+
+
+# It needs colours, as most programs of today that use curses.
+COLOURS = "import curses; curses.wrapper(lambda screen: (curses.use_default_colors(), screen.addstr('menu'), screen.getch()))"
+
+
+def test_a_program_that_needs_another_terminal_has_a_hint():
+    with run(sys.executable, "-c", COLOURS) as rig:
+        with pytest.raises(Failure) as caught:
+            rig.wait("menu")
+    assert "use_default_colors" in str(caught.value) and "note: the program ended with an error under TERM=vt220" in str(caught.value)
+    assert 'terminal="xterm"' in str(caught.value) and "--vt-terminal xterm" in str(caught.value)
+    with run(sys.executable, "-c", COLOURS, terminal="xterm") as rig:
+        rig.wait("menu")
+
+
+@pytest.mark.parametrize("script, options", [("exit 0", {}), ("kill $$", {}), ("exit 1", {"terminal": "xterm"}), ("exit 1", {"env": {"TERM": "xterm"}})])
+def test_another_end_has_no_hint(script, options):
+    with shell(script, **options) as rig:
+        with pytest.raises(Failure) as caught:
+            rig.wait("menu")
+    assert "note:" not in str(caught.value)
 
 
 @pytest.mark.parametrize("output, is_told", [("caf\\303\\251", True), ("caf\\351", False), ("cafe", False),
@@ -682,14 +820,35 @@ def test_a_failure_without_its_files_is_still_a_failure(tmp_path):
             rig.wait("never", timeout=0.1)
 
 
-def test_the_command_that_plays_a_recording_can_be_copied(tmp_path):
-    with shell("printf ready; sleep 1000", reports=Reports(tmp_path / "a b", "x[1]")) as rig:
-        rig.wait("ready")
+PROGRAM = pathlib.Path(__file__).resolve().parents[3] / "crates/vt220/out/vt220"
+PLAYED = {
+    "80 columns": ({}, None), "132 columns": ({"columns": 132}, None), "40x120": ({"rows": 40, "columns": 120}, None), "a change": ({}, (30, 100)),
+    "two sizes": ({"rows": 40, "columns": 120}, (20, 60)), "132 columns and a change": ({"columns": 132}, (30, 100)), "another TERM": ({"term": "ansi"}, None),
+}
+
+
+@pytest.mark.parametrize("kind", [{}, {"terminal": "xterm"}, {"encoding": "dec"}], ids=["UTF-8", "xterm", "dec"])
+@pytest.mark.parametrize("name", PLAYED)
+def test_the_line_play_it_plays(tmp_path, name, kind):
+    """Both commands are run as they are printed, and show the screen of the failure."""
+    options, change = PLAYED[name]
+    with run(TELL_SIZE, reports=Reports(tmp_path / "a b", "x[1]"), **options, **kind) as rig:
+        rig.wait(f"{rig.rows} {rig.columns}")
+        # A character beyond ASCII, and a column by CHA, which a VT220 lacks.
+        rig.keys("\\033[%d;%dH%slow\\r\\033[3Gfirst\r" % (rig.rows, rig.columns - 6, "\\351" if "encoding" in kind else "\\342\\224\\202"))
+        rig.wait("^  first.*low" if "terminal" in kind else "^first.*low", row=rig.rows)
+        if change:
+            rig.resize(*change)
+            rig.wait(f"{change[0]} {change[1]}")
         with pytest.raises(Failure) as caught:
-            rig.wait("never", timeout=0.1)
-    command = re.search(r"play it:   (python3 -m vt220 .*)   \(or", str(caught.value))[1]
-    done = subprocess.run(["sh", "-c", command], cwd=tmp_path, env=inner_environment(), capture_output=True, text=True)
-    assert done.stdout.startswith("ready\n")
+            rig.wait("never", timeout=0)
+        text, show = rig.terminal.text(), rig.terminal.show()
+    commands = re.search(r"^play it:   (python3 -m vt220 .*)   \(or: (vt220 show .*)\)$", str(caught.value), re.M)
+    environment = {**inner_environment(), "PATH": f"{PROGRAM.parent}:{os.environ['PATH']}"}
+    for command, shown in zip(commands.groups(), (text, show)):
+        done = subprocess.run(["sh", "-c", command], cwd=tmp_path, env=environment, capture_output=True, text=True)
+        assert (done.returncode, done.stdout, done.stderr) == (0, shown, ""), command
+    assert ("--terminal" in commands[1]) == (name == "another TERM" and kind == {})
 
 
 def test_python_ends_without_a_warning():
@@ -852,6 +1011,36 @@ def test_the_plugin_stores_compares_and_names_stale_screens(tmp_path):
     assert sorted(path.name for path in (tmp_path / "vt220-failures").iterdir()) == [f"test_it.py-test_two-1.{kind}" for kind in ("bytes", "cast", "svg")]
     go("--update-screens")
     assert go().returncode == 0 and not list((tmp_path / "vt220-failures").iterdir())
+
+
+TERMS = """
+def test_it(vt):
+    rigs = [vt.run("sh", "-c", "echo $TERM $LC_ALL", **options) for options in ({}, {"terminal": "vt220"}, {"terminal": "xterm"}, {"encoding": "dec"})]
+    assert [rig.ended().rows[0] for rig in rigs] == open("wanted").read().splitlines()
+"""
+USUAL = ["vt220 C.UTF-8", "vt220 C.UTF-8", "xterm-256color C.UTF-8", "vt220 C"]
+
+
+@pytest.mark.parametrize("options, settings, wanted", [
+    ([], "", USUAL), (["--vt-terminal", "xterm"], "", [USUAL[2], *USUAL[1:]]), ([], "vt_terminal = xterm", [USUAL[2], *USUAL[1:]]),
+    (["--vt-terminal", "vt220"], "vt_terminal = xterm", USUAL), ([], "vt_encoding = dec", [USUAL[3]] * 2 + USUAL[2:]), (["--vt-encoding", "utf-8"], "vt_encoding = dec", USUAL),
+])
+def test_the_plugin_has_a_terminal_and_an_encoding(tmp_path, options, settings, wanted):
+    (tmp_path / "test_it.py").write_text(TERMS)
+    (tmp_path / "wanted").write_text("\n".join(wanted))
+    (tmp_path / "pytest.ini").write_text(f"[pytest]\n{settings}\n")
+    done = subprocess.run(inner(tmp_path, *options), cwd=tmp_path, env=inner_environment(), capture_output=True, text=True)
+    assert done.returncode == 0, done.stdout
+
+
+@pytest.mark.parametrize("options, settings, words", [
+    ([], "vt_terminal = vt100", "vt_terminal is vt220 or xterm, not 'vt100'"), ([], "vt_encoding = latin-1", "vt_encoding is dec or utf-8, not 'latin-1'"),
+    (["--vt-encoding", "dec"], "vt_terminal = xterm", "an xterm's programs are in UTF-8"), (["--vt-terminal", "vt100"], "", "invalid choice: 'vt100'"),
+])
+def test_a_terminal_that_there_is_not_is_refused_at_once(tmp_path, options, settings, words):
+    (tmp_path / "pytest.ini").write_text(f"[pytest]\n{settings}\n")
+    done = subprocess.run(inner(tmp_path, *options), cwd=tmp_path, env=inner_environment(), capture_output=True, text=True)
+    assert done.returncode == 4 and words in done.stderr, done.stderr
 
 
 def test_a_failure_is_next_to_the_last_good_run(tmp_path, template):

@@ -222,10 +222,7 @@ def test_a_failure_names_what_is_shown(tmp_path):
             rig.wait("\u201cWelt\u201d", text="\u2026", timeout=0.1)
     words = str(caught.value)
     assert "/\u201cWelt\u201d/ (shown as /\"Welt\"/) '\u2026' (shown as '.') didn't come" in words and "note:" not in words
-    command = re.search(r"play it:   python3 -m vt220 (.*)   \(or: vt220 show (.*)\)", words)
-    assert command[1] == command[2] and command[1].startswith("--encoding utf-8 ")
-    done = module(*command[1].split())
-    assert done.stdout.startswith('"Welt\n') and rig.recording == b"\xe2\x80\x9cWelt"
+    assert f"play it:   python3 -m vt220 --format asciicast {tmp_path}/r/x.cast " in words and rig.recording == b"\xe2\x80\x9cWelt"
 
 
 def module(*words):
@@ -235,7 +232,7 @@ def module(*words):
 
 def test_the_command_has_an_encoding(tmp_path):
     (tmp_path / "file").write_bytes(b"\xe2\x80\x9c\xe2\x80\x9c\xe9")
-    for words, first in ((["file"], "\u00e2\u00e2\u00e9"), (["--encoding", "dec", "file"], "\u00e2\u00e2\u00e9"), (["--encoding", "utf-8", "file"], '""'),
+    for words, first in ((["file"], '""'), (["--format", "raw", "file"], "\u00e2\u00e2\u00e9"), (["--encoding", "dec", "file"], "\u00e2\u00e2\u00e9"), (["--encoding", "utf-8", "file"], '""'),
                          (["--encoding", "utf-8", "file", "5"], '"')):
         done = module(*words)
         assert (done.returncode, done.stdout.split("\n")[0]) == (0, first), words

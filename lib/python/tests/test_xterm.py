@@ -1,6 +1,5 @@
 """Tests the rig with programs that have TERM=xterm-256color."""
 import pathlib
-import re
 import subprocess
 import sys
 
@@ -75,10 +74,7 @@ def test_a_failure_names_the_terminal(tmp_path):
     assert (tmp_path / "failed.svg").exists() and ("page:" in words) == (template() is not None)
     if template() is not None:
         assert '"terminal": "xterm"' in (tmp_path / "failed.html").read_text(encoding="utf-8")
-    command = re.search(r"play it:   python3 -m vt220 (--terminal xterm .*)   \(or: vt220 show (.*)\)$", words, re.M)
-    assert command[1] == command[2]
-    played = subprocess.run([sys.executable, "-m", "vt220", *command[1].split()], capture_output=True, text=True, check=True)
-    assert played.stdout == "    other\n" + "\n" * 23
+    assert f"play it:   python3 -m vt220 --format asciicast {tmp_path}/failed.cast   (or: vt220 show --format asciicast {tmp_path}/failed.cast)" in words
 
 
 def test_keys_are_those_of_terminfo():

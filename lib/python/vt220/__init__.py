@@ -29,7 +29,7 @@ from typing import Any, Callable, Dict, List, NamedTuple, Optional, Tuple, Type,
 
 __all__ = [
     "ROWS", "COLUMNS", "MOST_ROWS", "MOST_COLUMNS", "REPORT_LIMIT", "TEXT_LIMIT", "ROW_TEXT_LIMIT", "SHOW_LIMIT", "PICTURE_LIMIT", "PAINT_LIMIT", "XTERM_PAINT_LIMIT", "UPDATE_LIMIT", "DRAW_LIMIT",
-    "KEY_LIMIT", "TYPED_LIMIT", "VERSION", "HELD", "ENCODINGS", "TERMINALS", "Error", "Memory", "InUse", "Closed", "Partial", "Room", "Unsupported", "NoRow", "NoKey", "NoCharacter", "OtherLanguage", "OtherSize",
+    "KEY_LIMIT", "TYPED_LIMIT", "VERSION", "HELD", "ENCODINGS", "TERMINALS", "Error", "Memory", "InUse", "Closed", "Partial", "Room", "Unsupported", "NoRow", "NoKey", "NoCharacter", "OtherLanguage", "OtherSize", "NoSize",
     "NoLibrary", "Brush", "Cell", "Cursor", "Margins", "Modes", "Saved", "Sets", "Terminal", "key", "key_length", "shown", "status_text",
     "version",
 ]
@@ -135,9 +135,15 @@ class OtherLanguage(Error, ValueError):
 
 
 class OtherSize(Error, ValueError):
-    """Reports that there is no such size, or that two terminals have different sizes."""
+    """Reports that two terminals have different sizes."""
 
-    words = "there is no such size, or two terminals have different sizes"
+    words = "two terminals have different sizes"
+
+
+class NoSize(Error, ValueError):
+    """Reports that there is no such size."""
+
+    words = "there is no such size"
 
 
 class NoLibrary(Error, ImportError):
@@ -148,7 +154,7 @@ class NoLibrary(Error, ImportError):
 
 _STATUSES: Dict[int, Type[Error]] = {
     1: Memory, 2: InUse, 3: Closed, 4: Partial, 5: Room, 6: Unsupported, 7: NoRow, 8: NoKey, 9: NoCharacter, 10: OtherLanguage,
-    11: OtherSize,
+    11: OtherSize, 13: NoSize,
 }
 
 
@@ -434,10 +440,10 @@ def _check_row(row: int, last: int) -> int:
 
 
 def _check_size(rows: int, columns: int) -> Tuple[int, int]:
-    """Returns a size. Raises OtherSize if no screen has it, and TypeError if the numbers aren't integers."""
+    """Returns a size. Raises NoSize if no screen has it, and TypeError if the numbers aren't integers."""
     size = operator.index(rows), operator.index(columns)
     if not (2 <= size[0] <= MOST_ROWS and 2 <= size[1] <= MOST_COLUMNS):
-        raise OtherSize(f"a screen has 2 to {MOST_ROWS} rows of 2 to {MOST_COLUMNS} columns, not {size[0]} of {size[1]}")
+        raise NoSize(f"a screen has 2 to {MOST_ROWS} rows of 2 to {MOST_COLUMNS} columns, not {size[0]} of {size[1]}")
     return size
 
 
@@ -663,7 +669,7 @@ class Terminal:
         """Changes the size, as xterm does if its window changes. Each has 2 to 255 rows of 2 to 255 columns.
 
         If the cursor would be below the last row, so many rows leave at the top that it is in the last one: read them before, with
-        row_text(). DECCOLM leaves the width then. Raises OtherSize if no screen has this size.
+        row_text(). DECCOLM leaves the width then. Raises NoSize if no screen has this size.
         """
         _expect(_library.vt220_resize(self._opened(), *_check_size(rows, columns)))
 

@@ -6,7 +6,7 @@ told from any other such character. So it is refused, unless the test asks for i
 """
 import functools
 import re
-from typing import Match, Optional, Pattern, Union
+from typing import Iterator, Match, Optional, Pattern, Tuple, Union
 
 from . import shown
 
@@ -16,6 +16,8 @@ SUBSTITUTE = "\u2426"
 _SECOND, _FIXED = r"(?:\ |$)", r"\ "
 # A character of an expression as it is, by its number or by its name, or a sign that follows a backslash.
 _CHARACTER = r"\\(?:x[0-9a-fA-F]{2}|u[0-9a-fA-F]{4}|U[0-9a-fA-F]{8}|N\{[^}]*\}|[0-3][0-7]{2}|.)"
+# A line feed in an expression.
+_LINE_FEED = re.compile(r"\\?\n|\\(?:n|x0a|u000a|U0000000a|012)", re.I)
 # What an expression has outside of a set, with the beginning of one; and inside, with ranges and the end.
 _OUTSIDE = re.compile(rf"(?P<begin>\[\^?\]?)|(?P<first>{_CHARACTER}|.)", re.S)
 _INSIDE = re.compile(rf"(?P<end>\])|(?P<first>{_CHARACTER}|.)(?:-(?P<last>{_CHARACTER}|[^\]]))?", re.S)
@@ -32,21 +34,50 @@ def text_as_shown(text: str, encoding: str) -> str:
 
 @functools.lru_cache(maxsize=256)
 def expression_of_text(text: str, encoding: str, allow_substitutes: bool = False) -> Pattern[str]:
-    """Returns an expression that finds a text in a row of the screen of a program in this encoding. Raises NoGlyph."""
+    """Returns an expression that finds a text in a row of the screen of a program in this encoding. Raises NoGlyph, and ValueError for more than a row."""
+    if "\n" in text:
+        raise _refusal(text, f"{text!r} in screen.text")
     if encoding == "dec":
         return re.compile(re.escape(text))
     return re.compile("".join(_cells(_distinct(one, allow_substitutes)) for one in text))
 
 
 def expression_as_shown(expression: Union[str, Pattern[str]], encoding: str, allow_substitutes: bool = False) -> Pattern[str]:
-    """Returns an expression that finds in a row of such a screen what `expression` finds in a text. Raises NoGlyph."""
+    """Returns an expression that finds in a row of such a screen what `expression` finds in a text. Raises NoGlyph, and ValueError for more than a row."""
     compiled = re.compile(expression)
+    if _has_line_feed(compiled):
+        raise _refusal(compiled.pattern, f"re.search({compiled.pattern!r}, screen.text)")
     if encoding == "dec":
         return compiled
     try:
         return re.compile(_mapped(compiled.pattern, _SECOND, allow_substitutes), compiled.flags)
     except re.error:
         return re.compile(_mapped(compiled.pattern, _FIXED, allow_substitutes), compiled.flags)
+
+
+def _refusal(given: str, condition: str) -> ValueError:
+    """Returns the error of an expected text or an expression that has a line feed."""
+    return ValueError(f"{given!r} has a line feed, and each row is searched by itself. Write wait(lambda screen: {condition})")
+
+
+def _has_line_feed(expression: Pattern[str]) -> bool:
+    """Returns whether an expression has a line feed outside of a set. One as it is doesn't count in a verbose expression."""
+    for is_inside, found in _tokens(expression.pattern):
+        first = found["first"] or ""
+        if not is_inside and _LINE_FEED.fullmatch(first) and not (first == "\n" and expression.flags & re.VERBOSE):
+            return True
+    return False
+
+
+def _tokens(pattern: str) -> Iterator[Tuple[bool, Match[str]]]:
+    """Returns the parts of a pattern, each with whether it is inside a set."""
+    at, is_inside = 0, False
+    while at < len(pattern):
+        found = (_INSIDE if is_inside else _OUTSIDE).match(pattern, at)
+        assert found is not None
+        yield is_inside, found
+        is_inside = is_inside != bool(found.groupdict().get("end" if is_inside else "begin"))
+        at = found.end()
 
 
 def _distinct(character: str, allow_substitutes: bool) -> str:
@@ -68,17 +99,13 @@ def _cells(character: str, second: str = _SECOND) -> str:
 @functools.lru_cache(maxsize=256)
 def _mapped(pattern: str, second: str, allow_substitutes: bool) -> str:
     """Returns a pattern with the cells of each character beyond ASCII in place of the character."""
-    parts, at, is_inside = [], 0, False
-    while at < len(pattern):
-        found = (_INSIDE if is_inside else _OUTSIDE).match(pattern, at)
-        assert found is not None
+    parts = []
+    for is_inside, found in _tokens(pattern):
         number = _number(found["first"])
         if is_inside:
             parts.append(_in_set(found, allow_substitutes))
         else:
             parts.append(found[0] if number < 0 else _cells(_distinct(chr(number), allow_substitutes), second))
-        is_inside = is_inside != bool(found.groupdict().get("end" if is_inside else "begin"))
-        at = found.end()
     return "".join(parts)
 
 

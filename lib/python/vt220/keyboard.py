@@ -4,6 +4,7 @@ The library has the keyboard: this module has its keys as an enumeration, keys w
 key.
 """
 import enum
+import re
 from typing import List, NamedTuple, Union, overload
 
 from . import Modes, NoCharacter, NoKey, key, key_length
@@ -65,6 +66,11 @@ class Key(enum.Enum):
     ESCAPE = "Escape"
 
 
+# Keys that have another name here.
+_OTHER_NAMES = {"RETURN": "ENTER", "ESC": "ESCAPE", "INSERT": "INSERT_HERE", "PAGE_UP": "PREV_SCREEN", "PAGEUP": "PREV_SCREEN", "PAGE_DOWN": "NEXT_SCREEN",
+                "PAGEDOWN": "NEXT_SCREEN"}
+
+
 class Typed(NamedTuple):
     """Holds what typed keys send, the beginning of a key whose end is missing, and the characters that no key sends."""
 
@@ -112,6 +118,29 @@ def ctrl(letter: Union[str, Key, Chord]) -> Union[str, Chord]:
         raise ValueError(f"there is no Ctrl-{letter}") from None
 
 
+def check_text(text: str) -> None:
+    """Raises ValueError if a text is the name of a key in capitals, as "ENTER" is: somebody may have meant the key."""
+    name = _OTHER_NAMES.get(text, text)
+    if name in Key.__members__:
+        cure = f"for the key write keys({name})"
+    elif re.fullmatch(r"F\d+", text, re.A):
+        cure = f"there is no key {text}, only F1 to F20"
+    else:
+        return
+    raise ValueError(f"keys({text!r}) would type {len(text)} letters: {cure}, and for the letters keys(*{text!r})")
+
+
+def _refusal(name: str, modes: Modes, terminal: str) -> str:
+    """Returns why a terminal has no key of this name, and what to do about it."""
+    if terminal == "xterm":
+        return f"an xterm has no key {name}"
+    try:
+        key(name, modes, "utf-8", "xterm")
+    except NoKey:
+        return f"a VT220 has no key {name}"
+    return f"a VT220 has no key {name}, and an xterm has: run the program with terminal=\"xterm\", or pytest with --vt-terminal xterm"
+
+
 def spelled(keys: Union[str, Key, Chord], modes: Modes, encoding: str = "dec", terminal: str = "vt220") -> bytes:
     """Returns the bytes that a key, or each character of a text, sends under these modes. Raises ValueError if no key sends it.
 
@@ -122,7 +151,7 @@ def spelled(keys: Union[str, Key, Chord], modes: Modes, encoding: str = "dec", t
         try:
             return key(keys.value, modes, encoding, terminal)
         except NoKey:
-            raise NoKey(f"{'an xterm' if terminal == 'xterm' else 'a VT220'} has no key {keys.value}") from None
+            raise NoKey(_refusal(keys.value, modes, terminal)) from None
     if not isinstance(keys, str):
         raise TypeError(f"a key is a text or a Key, not {keys!r}")
     sent = []

@@ -97,7 +97,7 @@ def _size(recorded: str) -> Tuple[int, int]:
     made = json.loads(recorded)
     wanted = made.get("asked", {}).get("size") or made.get("read", {}).get("size") or (made["options"]["columns"], made["options"]["rows"])
     columns, rows = wanted
-    return (columns, rows) if is_size(columns, rows) and wanted != [132, 24] else SIZE
+    return (columns, rows) if is_size(columns, rows) else SIZE
 
 
 def _for_size(text: str, size: Tuple[int, int]) -> str:

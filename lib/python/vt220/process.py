@@ -168,6 +168,10 @@ class Process:
         """Changes the size of the pseudo-terminal. The system sends SIGWINCH to the programs in its foreground."""
         _set_size(self.line, rows, columns)
 
+    def echoes(self) -> bool:
+        """Returns whether the line echoes what is typed (ECHO of termios(3)). A prompt for a password turns that off, and so do full-screen programs."""
+        return self.line >= 0 and bool(termios.tcgetattr(self.line)[3] & termios.ECHO)
+
     def ended(self) -> Optional[int]:
         """Returns the command's exit status, the negative number of the signal that ended it, or None while it runs."""
         if self.status is None:

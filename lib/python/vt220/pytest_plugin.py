@@ -7,10 +7,12 @@ from typing import Any, Dict, Iterator, List, Optional, Set
 
 import pytest
 
-from . import ENCODINGS, ROWS
+from . import ENCODINGS, ROWS, TERMINALS
 from .rig import ENDINGS, TIMEOUT, Directory, Failure, Reports, Rig, recorded
 
 _KEY = "vt220_screens"
+# What pytest's options and ini settings choose, with the values and the usual one.
+_CHOICES = (("encoding", ENCODINGS, "utf-8"), ("terminal", TERMINALS, "vt220"))
 # The ids of tests that are still different when each other character is a hyphen: their parts have none.
 _PLAIN = re.compile(r"(\w+/)*\w+\.py(::\w+)+(\[[\w.]+\])?", re.ASCII)
 # A file's name has at most 255 bytes; this leaves enough for the digits that follow, and for the ending.
@@ -34,7 +36,7 @@ class Session:
         self.screens = pathlib.Path(request.path).parent / "screens"
         self.update = bool(config.getoption("--update-screens"))
         self.timeout = float(config.getoption("--vt-timeout"))
-        self.encoding = str(config.getoption("--vt-encoding"))
+        self.encoding, self.terminal = chosen(config)
         self.directory = pathlib.Path(config.rootpath) / config.getoption("--vt-reports")
         self.name = file_name(request.node.nodeid)
         self.colour = config.get_terminal_writer().hasmarkup
@@ -48,13 +50,16 @@ class Session:
                 old.unlink(missing_ok=True)
 
     def run(self, *argv: str, rows: int = ROWS, columns: int = 80, cwd: Optional[Directory] = None, env: Optional[Dict[str, str]] = None,
-            timeout: Optional[float] = None, term: Optional[str] = None, encoding: Optional[str] = None, terminal: str = "vt220") -> Rig:
+            timeout: Optional[float] = None, term: Optional[str] = None, encoding: Optional[str] = None, terminal: Optional[str] = None) -> Rig:
         """Runs a command on a terminal of 24 rows and 80 or 132 columns, or of another size, and returns its Rig.
 
-        The command is in UTF-8, or has the bytes of a VT220. With terminal="xterm" it has TERM=xterm-256color.
+        The command is in UTF-8, or has the bytes of a VT220. With terminal="xterm" it has TERM=xterm-256color. Without these two arguments, the
+        options of pytest and its ini settings decide.
         """
+        terminal = terminal or ("vt220" if encoding == "dec" else self.terminal)
+        encoding = encoding or ("utf-8" if terminal == "xterm" else self.encoding)
         reports = Reports(self.directory, f"{self.name}-{len(self.rigs) + 1}", self.colour, self.good_of(len(self.rigs) + 1))
-        rig = Rig(argv, rows=rows, columns=columns, cwd=cwd, env=env, timeout=timeout or self.timeout, term=term, encoding=encoding or self.encoding,
+        rig = Rig(argv, rows=rows, columns=columns, cwd=cwd, env=env, timeout=timeout or self.timeout, term=term, encoding=encoding,
                   screens=self.screens, update=self.update, reports=reports, used=lambda path: self.used.add(str(path)), terminal=terminal)
         self.rigs.append(rig)
         return rig
@@ -112,12 +117,27 @@ def pytest_addoption(parser: pytest.Parser) -> None:
     group = parser.getgroup("vt220", "tests of terminal programs")
     group.addoption("--update-screens", action="store_true", help="store the screens that matches() compares with")
     group.addoption("--vt-reports", default="vt220-failures", metavar="DIR", help="where pictures, recordings and pages of failures go")
-    group.addoption("--vt-encoding", choices=ENCODINGS, default="utf-8", help="the encoding of programs whose test doesn't choose one (%(default)s)")
+    for name, values, usual in _CHOICES:
+        about = f"the {name} of programs whose test doesn't choose one"
+        group.addoption(f"--vt-{name}", choices=values, help=f"{about} ({usual})")
+        parser.addini(f"vt_{name}", f"{about}: {' or '.join(values)} ({usual})", default=usual)
     group.addoption("--vt-timeout", type=float, default=TIMEOUT, metavar="SECONDS", help="how long a wait takes at most (%(default)s)")
 
 
+def chosen(config: pytest.Config) -> List[str]:
+    """Returns the encoding and the terminal that pytest's options choose, or its ini settings. Raises UsageError."""
+    found = [str(config.getoption(f"--vt-{name}") or config.getini(f"vt_{name}")) for name, _, _ in _CHOICES]
+    for (name, values, _), value in zip(_CHOICES, found):
+        if value not in values:
+            raise pytest.UsageError(f"vt_{name} is {' or '.join(values)}, not {value!r}")
+    if found == ["dec", "xterm"]:
+        raise pytest.UsageError("an xterm's programs are in UTF-8: leave out --vt-encoding dec, or --vt-terminal xterm, or the setting of that name")
+    return found
+
+
 def pytest_configure(config: pytest.Config) -> None:
-    """Begins the list of the stored screens that tests used."""
+    """Begins the list of the stored screens that tests used. Looks at the options and the settings."""
+    chosen(config)
     config._vt220_used = set()  # type: ignore[attr-defined]
 
 

@@ -9,7 +9,6 @@
 
 With pytest the fixture `vt` does the same, and ends each program with its test.
 """
-import codecs
 import errno
 import functools
 import os
@@ -23,10 +22,11 @@ from typing import Callable, Dict, Iterator, List, NamedTuple, Optional, Pattern
 from . import COLUMNS, ROWS, Bytes, Modes, Terminal, _check_size
 from .cast import asciicast
 from .expected import NoGlyph, expression_as_shown, expression_of_text, text_as_shown
-from .keyboard import Chord, Key, alt, ctrl, shift, spelled
+from .keyboard import Chord, Key, alt, check_text, ctrl, shift, spelled
 from .page import NoTemplate, page, recording, side_by_side
 from .picture import svg
 from .process import TERMS, Process, environment
+from .recordings import is_utf_8, terminal_of
 from .screen import MASK, Mask, Place, Screen, Stored, check_column, check_row, check_substitutes, difference, differing, renewed
 
 TIMEOUT = 10.0
@@ -110,7 +110,10 @@ class KeyboardLocked(Failure):
 
 
 class Event(NamedTuple):
-    """Holds something that went over the line: its moment in seconds, who sent it, and the bytes."""
+    """Holds something that went over the line: its moment in seconds, who sent it, and the bytes.
+
+    What the test typed is of "test", or of "hidden" if it is secret: then the bytes are only the number of keys, as "(7 keys)".
+    """
 
     at: float
     who: str
@@ -136,15 +139,23 @@ class Reports(NamedTuple):
             page_line = _write_page(playing, rig) + _write_comparison(both, rig, self.good)
         except OSError as fault:
             return f"no picture and no recording: {fault}"
-        if rig.terminal.terminal == "xterm":
-            option = ["--terminal", "xterm"]
-        else:
-            option = [] if rig.encoding == "dec" else ["--encoding", rig.encoding]
+        words = " ".join(_playing(rig, recording, cast))
         files = f"picture:   {picture}\nrecording: {recording}\nasciicast: {cast}\n{page_line}"
-        if not rig.is_of_a_vt220:
-            return f"{files}play it:   vt220 show {' '.join([*option, shlex.quote(cast)])}"
-        words = " ".join([*option, shlex.quote(recording)])
         return f"{files}play it:   python3 -m vt220 {words}   (or: vt220 show {words})"
+
+
+def _playing(rig: "Rig", recording: str, cast: str) -> List[str]:
+    """Returns the arguments with which a recording of a failure is played: those of python3 -m vt220, and of the program vt220.
+
+    An asciicast has characters, so the bytes of a VT220 are played as they are if its screen has a VT220's size.
+    """
+    if rig.encoding == "dec":
+        words, file = (["--format", "raw"], recording) if rig.is_of_a_vt220 else (["--format", "asciicast", "--encoding", "dec"], cast)
+    else:
+        # The first line names TERM, which the test may have chosen.
+        is_named = terminal_of(rig.environment["TERM"]) == rig.terminal.terminal
+        words, file = ["--format", "asciicast", *([] if is_named else ["--terminal", rig.terminal.terminal])], cast
+    return [*words, shlex.quote(file)]
 
 
 def _is_vt220(rows: int, columns: int) -> bool:
@@ -229,7 +240,7 @@ class Rig:
     def resize(self, rows: int, columns: int) -> None:
         """Changes the size of the window. The program gets SIGWINCH. What it has written before is played first.
 
-        The screen changes as xterm's does (Terminal.resize). Raises OtherSize if no screen has this size.
+        The screen changes as xterm's does (Terminal.resize). Raises NoSize if no screen has this size.
         """
         while self._read(0):
             pass
@@ -313,16 +324,35 @@ class Rig:
 
     # What a test does.
 
-    def send(self, data: Bytes) -> None:
-        """Sends bytes to the program as they are."""
+    def send(self, data: Bytes, *, secret: Optional[bool] = None) -> None:
+        """Sends bytes to the program as they are. `secret` is that of keys()."""
+        __tracebackhide__ = True
         data = bytes(memoryview(data))
-        self._note("test", data)
+        if secret:
+            self._until_echo_is_off()
+        self._type(data, _counted(len(data), "byte"), secret)
+
+    def _type(self, data: bytes, count: str, secret: Optional[bool]) -> None:
+        """Sends what the test types. Of a secret only the count is stored."""
+        is_hidden = not self.process.echoes() if secret is None else secret
+        self._note("hidden" if is_hidden else "test", f"({count})".encode() if is_hidden else data)
         self._output += data
         self._flush()
 
-    def _typing(self) -> Modes:
+    def _until_echo_is_off(self) -> None:
+        """Waits until the line echoes nothing, since what is echoed is a part of the screen. No system call waits for that."""
+        __tracebackhide__ = True
+        deadline = time.monotonic() + self.timeout
+        while self.process.echoes():
+            if self.process.ended() is not None or time.monotonic() > deadline:
+                self._fail("secret keys were pressed, and the line echoes them: they would be stored with the screen")
+            self._read(0.01)
+
+    def _typing(self, secret: Optional[bool]) -> Modes:
         """Returns the modes that a key is sent under, after all that the program has written by now. Fails if the keyboard is locked."""
         __tracebackhide__ = True
+        if secret:
+            self._until_echo_is_off()
         while self._read(0):
             pass
         modes = self.terminal.modes()
@@ -330,27 +360,37 @@ class Rig:
             self._fail("keys were pressed, and the program has locked the keyboard (KAM)", kind=KeyboardLocked)
         return modes
 
-    def keys(self, *keys: Union[str, Key, Chord]) -> None:
+    def keys(self, *keys: Union[str, Key, Chord], secret: Optional[bool] = None) -> None:
         """Presses keys: each character of a text, in the program's encoding, or a Key, as the terminal's modes ask for it now.
 
         With the terminal "xterm" a key may also be a Chord, such as shift(TAB) or ctrl(LEFT). What the program has written by now is played
         first, since it may change the modes.
+
+        Secret keys are stored nowhere, and a report has only their number. Keys are secret if the line echoes nothing when they are pressed.
+        With secret=True this waits until it echoes nothing. With secret=False the keys are stored.
+
+        Raises ValueError if no key sends a character, and if a text is the name of a key, as "ENTER" is.
         """
         __tracebackhide__ = True
-        modes = self._typing()
-        self.send(b"".join(spelled(key, modes, self.encoding, self.terminal.terminal) for key in keys))
+        for key in keys:
+            if isinstance(key, str):
+                check_text(key)
+        modes = self._typing(secret)
+        typed = b"".join(spelled(key, modes, self.encoding, self.terminal.terminal) for key in keys)
+        self._type(typed, _counted(sum(len(key) if isinstance(key, str) else 1 for key in keys), "key"), secret)
 
-    def paste(self, text: str) -> None:
-        """Sends a text as it would be typed quickly: each line feed as the Return key.
+    def paste(self, text: str, *, secret: Optional[bool] = None) -> None:
+        """Sends a text as it would be typed quickly: each line feed as the Return key. `secret` is that of keys().
 
         With the terminal "xterm" it is sent between ESC [200~ and ESC [201~ if the program has asked for that (?2004). A VT220 has no such
         mode.
         """
         __tracebackhide__ = True
-        modes = self._typing()
+        modes = self._typing(secret)
         lines = text.replace("\r\n", "\n").split("\n")
         typed = spelled(Key.ENTER, modes).join(spelled(line, modes, self.encoding) for line in lines)
-        self.send(b"\x1b[200~" + typed + b"\x1b[201~" if self.terminal.bracketed_paste() else typed)
+        typed = b"\x1b[200~" + typed + b"\x1b[201~" if self.terminal.bracketed_paste() else typed
+        self._type(typed, _counted(len(text), "key"), secret)
 
     def wait(self, what: Optional[Condition] = None, *, text: Optional[str] = None, row: Optional[int] = None, col: Optional[int] = None,
              cursor: Optional[Tuple[int, int]] = None, timeout: Optional[float] = None, allow_substitutes: bool = False) -> Screen:
@@ -359,7 +399,7 @@ class Rig:
         `what` is a regular expression that is searched in each row, or a function of the Screen; `text` is a text as it is. `row`
         and `col` say the row, and the column of the first character. `cursor` is the cursor's row and column. Spaces at the end of a row
         are found up to the cursor. Characters that have a similar glyph are found as that. Raises NoGlyph for any other that a VT220
-        lacks. With allow_substitutes=True it is found as U+2426, as all of these are.
+        lacks. With allow_substitutes=True it is found as U+2426, as all of these are. Raises ValueError for a line feed, which no row has.
         """
         __tracebackhide__ = True
         for place in ((row, col), cursor or (None, None)):
@@ -472,14 +512,16 @@ class Rig:
         lines += [f"{row:2}|{line}" for row, line in enumerate(self.last.rows, 1) if line or row == self.last.cursor.row]
         lines.append("the last events:")
         lines += [f"  {event.at:8.3f} s  {event.who:8}{_short(event.data)}" for event in self.events[-8:]]
-        if self.encoding == "dec" and _is_utf_8(self.recording):
+        if self.encoding == "dec" and is_utf_8(bytes(self.recording)):
             lines.append(_UTF_8)
+        if (self.process.ended() or 0) > 0 and self.environment["TERM"] == TERMS["vt220"]:
+            lines.append(_ENDED)
         lines.append(self.reports.write(re.sub(r"\W+", "-", pathlib.Path(self.argv[0]).name), self, marks))
         return "\n".join(lines)
 
 
-# The codes of events in an asciicast. What isn't the program's is input.
-_CODES = {"program": "o", "size": "r"}
+# The codes of events in an asciicast. What else isn't the program's is input. Of what is hidden a marker has the number of keys.
+_CODES = {"program": "o", "size": "r", "hidden": "m"}
 
 
 def _asciicast(rig: Rig) -> Iterator[bytes]:
@@ -513,7 +555,7 @@ def _sizes(rig: Rig) -> Dict[str, object]:
 
 def recorded(rig: Rig, written: Callable[..., str] = recording, **options: object) -> str:
     """Returns what the program wrote, as a call of the module page writes it. The markers are what the test sent."""
-    markers = [(event.at, _short(event.data)) for event in rig.events if event.who == "test"]
+    markers = [(event.at, _short(event.data)) for event in rig.events if event.who in ("test", "hidden")]
     languages = {"encoding": rig.encoding, "terminal": rig.terminal.terminal}
     return written(bytes(rig.recording), _chunks(rig), " ".join(rig.argv), markers=markers, **languages, **_sizes(rig), **options)
 
@@ -523,7 +565,7 @@ def _write_page(path: str, rig: Rig) -> str:
 
     It first shows the end.
     """
-    times = [_micros(event) for event in rig.events if event.who in _CODES]
+    times = [_micros(event) for event in rig.events if event.who in ("program", "size")]
     try:
         text = recorded(rig, page, poster=times[-1] / 1e6 if times else 0)
     except NoTemplate:
@@ -549,12 +591,12 @@ _UTF_8 = ("note: the program's output looks like UTF-8. With encoding=\"dec\" th
           "DEC Multinational. Leave the encoding out, or run the program on texts without UTF-8.")
 
 
-def _is_utf_8(data: bytes) -> bool:
-    """Returns whether bytes have characters of UTF-8 beyond ASCII, and nothing else beyond ASCII. The last character may be cut."""
-    try:
-        return not codecs.getincrementaldecoder("utf-8")().decode(data).isascii()
-    except UnicodeDecodeError:
-        return False
+_ENDED = ("note: the program ended with an error under TERM=vt220, which has no colours. If it is one of today that needs a modern terminal, run it\n"
+          "with terminal=\"xterm\", or pytest with --vt-terminal xterm.")
+
+
+def _counted(count: int, what: str) -> str:
+    return f"{count} {what}" if count == 1 else f"{count} {what}s"
 
 
 def _short(data: bytes) -> str:
@@ -568,6 +610,8 @@ def _hint(screen: Screen, what: Optional[Condition], row: Optional[int], col: Op
     if what is None or callable(what):
         return ""
     text = re.compile(what).pattern
+    if "\n" in text:  # of a verbose expression
+        return ""
     if screen._finds(expression_as_shown(what, screen.encoding, True), row, col) or not screen._finds(expression_of_text(text, screen.encoding, True), row, col):
         return ""
     return f"\nthe screen has this text as it is: write text={text!r}"

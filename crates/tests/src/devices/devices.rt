@@ -4,7 +4,7 @@ ghost use Rattle.std.specs.Prelude.{◌≤◌};
 use super::common::Failed;
 use crate::rows::holds;
 use std::alloc::{AllocError, Global};
-use vt_replay::{Fault, Format, Request, Watched, What, Word, carry_out, feed_pages};
+use vt_replay::{Fault, Format, Request, Watched, What, Word, carry_out};
 use vt_term::Terminal;
 use vt_vectors::{ShortReader, ShortWriter, vector, vector_count};
 
@@ -107,11 +107,6 @@ fn replayed(
         timing: None,
         from: None,
         until: None,
-        title: None,
-        pattern: None,
-        every: 262144,
-        index: None,
-        log: false,
         full: false,
         partial: false,
         quiet: false,
@@ -245,7 +240,6 @@ const WORDS: &[Word] = &[
     Word::Replay(What::Repaint),
     Word::Replay(What::Status),
     Word::Log,
-    Word::Pages,
 ];
 
 /// Returns a replay whose read of this number fails.
@@ -281,18 +275,14 @@ impl Due {
     fn of(&self, word: Word) -> &[u8] {
         match word {
             Word::Replay(What::Reports) => &self.reports,
-            Word::Log | Word::Pages => &self.lines,
+            Word::Log => &self.lines,
             _ => b"",
         }
     }
 
-    fn feed(&mut self, word: Word, byte: &[u8]) -> Result<(), AllocError> {
-        if word == Word::Pages {
-            feed_pages(&mut self.terminal, byte, &mut self.reports, &mut self.lines)
-        } else {
-            self.terminal
-                .feed_log(byte, &mut self.reports, &mut self.lines)
-        }
+    fn feed(&mut self, byte: &[u8]) -> Result<(), AllocError> {
+        self.terminal
+            .feed_log(byte, &mut self.reports, &mut self.lines)
     }
 }
 
@@ -304,7 +294,7 @@ fn reads_fail(alloc: Global, input: &[u8], word: Word, due: &mut Due) -> Result<
             return Ok(false);
         }
         if let Some(byte) = input.get(call..call + 1) {
-            due.feed(word, byte)?;
+            due.feed(byte)?;
         }
     }
     Ok(true)

@@ -1,9 +1,9 @@
-//! Rows of held parts, events and plain runs.
+//! Rows of events and runs. Held parts are in `terminal::held`, and what a sequence does is in lib/rows.
 use crate::rows::holds;
 use arrayvec::ArrayVec;
 use std::alloc::{AllocError, Global};
 use vt_syntax::{
-    Event, EventKind, Front, Held, Inters, Parser, Phase, Taken, Values, front_values, graphic_run,
+    Event, EventKind, Front, Held, Parser, Phase, Taken, Values, front_values, graphic_run,
     is_final, plain_run,
 };
 
@@ -34,11 +34,11 @@ fn control(marker: Option<u8>, params: &[u16], full: bool, phase: Phase) -> Held
     }
 }
 
-fn sequence(params: &[u16], inter: Option<u8>, last: u8) -> Option<Event> {
+fn sequence(params: &[u16], last: u8) -> Option<Event> {
     Some(Event::Sequence {
         marker: None,
         params: values(params),
-        inter,
+        inter: None,
         last,
     })
 }
@@ -49,76 +49,9 @@ fn leaves(bytes: &[u8], held: Held, event: Option<Event>) -> bool {
     *parser.held() == held && parser.is_between() == (held == Held::Nothing) && last == event
 }
 
-/// Returns whether these bytes leave this held part, and the last of them completes no event.
-fn holds_back(bytes: &[u8], held: Held) -> bool {
-    leaves(bytes, held, None)
-}
-
 /// Returns whether the last of these bytes completes this event, and nothing is held.
 fn ends(bytes: &[u8], event: Option<Event>) -> bool {
     leaves(bytes, Held::Nothing, event)
-}
-
-#[test]
-fn escapes_are_held(rt: HostRuntime) {
-    let bell = Some(Event::Control(0x07));
-    let one = Held::Escape(Inters::One(0x28));
-    let zero = Held::Escape(Inters::Zero);
-    holds(&rt, "ESC", holds_back(b"\x1B", zero));
-    holds(&rt, "ESC ( BEL", leaves(b"\x1B(\x07", one, bell));
-    holds(
-        &rt,
-        "two intermediates",
-        holds_back(b"\x1B( ", Held::Escape(Inters::Many)),
-    );
-    holds(
-        &rt,
-        "ESC in a string",
-        holds_back(b"\x9D1\x1B", Held::Escape(Inters::Zero)),
-    );
-}
-
-#[test]
-fn control_sequences_are_held(rt: HostRuntime) {
-    let start = control(None, &[0], false, Phase::Start);
-    let marked = control(Some(b'?'), &[0], false, Phase::Values);
-    let two = control(None, &[0, 0], false, Phase::Values);
-    let inter = control(None, &[1], false, Phase::Inter(b' '));
-    holds(&rt, "CSI", holds_back(b"\x9B", start));
-    holds(&rt, "marker", holds_back(b"\x9B?", marked));
-    holds(&rt, "two values", holds_back(b"\x9B;", two));
-    holds(&rt, "intermediate", holds_back(b"\x9B1 ", inter));
-}
-
-#[test]
-fn sixteen_values_are_held(rt: HostRuntime) {
-    let mut bytes = [b';'; 17];
-    bytes[0] = 0x9B;
-    let all = control(None, &[0; 16], false, Phase::Values);
-    let full = control(None, &[0; 16], true, Phase::Values);
-    holds(&rt, "16 values", holds_back(&bytes[..16], all));
-    holds(&rt, "17 values", holds_back(&bytes, full));
-}
-
-#[test]
-fn what_is_not_carried_out_is_held(rt: HostRuntime) {
-    holds(
-        &rt,
-        "value after an intermediate",
-        holds_back(b"\x9B 1", Held::Spoilt),
-    );
-    holds(&rt, "colon", holds_back(b"\x1B[1:", Held::Spoilt));
-    holds(&rt, "DCS", holds_back(b"\x90A", Held::Text { osc: false }));
-    holds(
-        &rt,
-        "DCS by ESC P",
-        holds_back(b"\x1BPqabc", Held::Text { osc: false }),
-    );
-    holds(
-        &rt,
-        "OSC",
-        holds_back(b"\x1B\x07]1", Held::Text { osc: true }),
-    );
 }
 
 #[test]
@@ -126,72 +59,12 @@ fn controls_are_carried_out_inside_a_sequence(rt: HostRuntime) {
     let held = control(None, &[1], false, Phase::Values);
     let line_feed = Some(Event::Control(0x0A));
     holds(&rt, "LF inside", leaves(b"\x1B[1\n", held, line_feed));
-    holds(
-        &rt,
-        "goes on",
-        ends(b"\x1B[1\n2H", sequence(&[12], None, b'H')),
-    );
+    holds(&rt, "goes on", ends(b"\x1B[1\n2H", sequence(&[12], b'H')));
     let bell = Some(Event::Control(0x07));
     holds(&rt, "BEL", parsed(b"\x1B\x07").1 == bell);
-}
-
-#[test]
-fn sequences_end(rt: HostRuntime) {
+    holds(&rt, "ESC ( BEL", parsed(b"\x1B(\x07").1 == bell);
     let index = Some(Event::Control(0x84));
-    let shift = sequence(&[5], Some(b' '), b'H');
     holds(&rt, "a C1 control in its 7-bit form", ends(b"\x1BD", index));
-    holds(&rt, "intermediate", ends(b"\x1B[5 H", shift));
-    holds(&rt, "spoilt", ends(b"\x1B[1:2H", None));
-}
-
-#[test]
-fn sequences_are_cut_off(rt: HostRuntime) {
-    let home = sequence(&[2], None, b'H');
-    let print = Some(Event::Print(0xE9));
-    let sub = Some(Event::Control(0x1A));
-    holds(&rt, "by CSI", ends(b"\x9B5\x9B2H", home));
-    holds(&rt, "by a graphic byte", ends(b"\x1B[1\xE9", print));
-    holds(&rt, "by SUB", ends(b"\x1B[1\x1A", sub));
-    holds(&rt, "by CAN", ends(b"\x1B[1\x18", None));
-}
-
-#[test]
-fn strings_end(rt: HostRuntime) {
-    let letter = Some(Event::Print(b'A'));
-    let sub = Some(Event::Control(0x1A));
-    holds(&rt, "by SUB", ends(b"\x9D1\x1A", sub));
-    holds(&rt, "by BEL", ends(b"\x1B]0;t\x07", None));
-    holds(
-        &rt,
-        "nothing of it is shown",
-        ends(b"\x1B]0;t\x07A", letter),
-    );
-}
-
-#[test]
-fn values_stop_at_9999(rt: HostRuntime) {
-    let greatest = sequence(&[9999, 0], None, b'H');
-    holds(&rt, "10001", ends(b"\x1B[10001;0H", greatest));
-    let greatest = sequence(&[9999, 0], None, b'H');
-    holds(&rt, "65537", ends(b"\x1B[65537;0H", greatest));
-}
-
-#[test]
-fn values_stop_at_sixteen(rt: HostRuntime) {
-    let mut kept = [0u16; 16];
-    let dropped = sequence(&kept, None, b'm');
-    kept[15] = 7;
-    let last = sequence(&kept, None, b'm');
-    holds(
-        &rt,
-        "the 17th is dropped",
-        ends(b"\x1B[0;0;0;0;0;0;0;0;0;0;0;0;0;0;0;0;7m", dropped),
-    );
-    holds(
-        &rt,
-        "the 16th is kept",
-        ends(b"\x1B[0;0;0;0;0;0;0;0;0;0;0;0;0;0;0;7m", last),
-    );
 }
 
 /// Returns whether a new parser, after `before`, takes this many bytes at the front of `piece`. It must leave this
@@ -284,8 +157,8 @@ fn ended_after(count: u32, b: u8, last: u8) -> Option<Event> {
 
 #[test]
 fn long_inputs(rt: HostRuntime) {
-    let greatest = sequence(&[9999], None, b'H');
-    let zeros = sequence(&[0; 16], None, b'm');
+    let greatest = sequence(&[9999], b'H');
+    let zeros = sequence(&[0; 16], b'm');
     holds(&rt, "string", long_string_is_held());
     holds(
         &rt,

@@ -3,7 +3,7 @@ ghost use Rattle.std.specs.Prelude.{◌≤◌};
 
 use std::alloc::{AllocError, Global};
 use vt_replay::{Fault, Watched, What, run};
-use vt_term::{Brush, Cursor, Rendition, Terminal};
+use vt_term::Terminal;
 
 /// A failure of something that a test needs.
 #[derive(Drop)]
@@ -23,29 +23,6 @@ impl From<Fault> for Failed {
 
 /// The greatest input of the program, unless it is told another.
 pub(super) const LIMIT: u64 = 268435456;
-
-/// No attribute.
-pub(super) const NONE: Rendition = Rendition {
-    bold: false,
-    underline: false,
-    blink: false,
-    reverse: false,
-};
-
-/// No attribute, unprotected.
-pub(super) const PLAIN: Brush = Brush {
-    rendition: NONE,
-    protected: false,
-};
-
-/// Returns the cursor at a position, with the wrap flag reset.
-pub(super) fn at(row: usize, col: usize) -> Cursor {
-    Cursor {
-        row,
-        col,
-        wrap: false,
-    }
-}
 
 /// How many bytes a replay reads at a time.
 #[derive(Clone, Copy)]
@@ -97,12 +74,6 @@ impl Played {
 
     pub(super) fn feed(&mut self, piece: &[u8]) -> Result<(), AllocError> {
         self.terminal.feed(piece, &mut self.reports)
-    }
-
-    /// Returns whether another terminal is in the same state, and has reported the same.
-    pub(super) fn is_same(&self, other: &Played) -> bool {
-        self.terminal.same_state(&other.terminal)
-            && self.reports.as_slice() == other.reports.as_slice()
     }
 }
 

@@ -1,7 +1,8 @@
-//! Tests what a terminal holds after each of the inputs that end inside a sequence.
+//! Tests what a terminal and a parser hold after each of the inputs that end inside a sequence.
 use super::common::{Failed, Played};
 use crate::rows::holds;
-use std::alloc::Global;
+use std::alloc::{AllocError, Global};
+use vt_syntax::Parser;
 use vt_vectors::{held_sample, held_sample_count};
 
 const HELD: [&str; 14] = [
@@ -33,11 +34,23 @@ fn is_held(alloc: Global, input: &[u8], expected: &str) -> Result<bool, Failed> 
     )
 }
 
+/// Returns whether a new parser holds this after an input.
+fn is_held_by_a_parser(alloc: Global, input: &[u8], expected: &str) -> Result<bool, AllocError> {
+    let mut parser = Parser::new();
+    for b in input {
+        let _ = parser.push(*b);
+    }
+    let held = format!(in alloc; "{:?}", parser.held())?;
+    Ok(held.as_str() == expected)
+}
+
 #[test]
 fn samples_leave_their_held_parts(rt: HostRuntime) {
     assert!(rt; held_sample_count() == HELD.len());
     for i in 0..held_sample_count() {
-        holds(&rt, i, is_held(rt.alloc(), held_sample(i), HELD[i]));
+        let sample = held_sample(i);
+        holds(&rt, i, is_held(rt.alloc(), sample, HELD[i]));
+        holds(&rt, i, is_held_by_a_parser(rt.alloc(), sample, HELD[i]));
     }
     holds(&rt, "nothing", is_held(rt.alloc(), b"", "Nothing"));
 }

@@ -294,11 +294,6 @@ fn request_is_refused(alloc: Global, input: &[u8], word: Word, what: What) -> Re
             timing: None,
             from: None,
             until: None,
-            title: None,
-            pattern: None,
-            every: 262144,
-            index: None,
-            log: false,
             full: false,
             partial: false,
             quiet: false,
@@ -315,7 +310,7 @@ fn request_is_refused(alloc: Global, input: &[u8], word: Word, what: What) -> Re
     )
 }
 
-/// A word, and what is written for it. No line scrolls off and no screen is blanked, so that a log is the text, with pages or without.
+/// A word, and what is written for it. No line scrolls off, so a log is the text.
 const REQUESTED: &[(Word, What)] = &[
     (Word::Replay(What::Text), What::Text),
     (Word::Replay(What::Reports), What::Reports),
@@ -323,7 +318,6 @@ const REQUESTED: &[(Word, What)] = &[
     (Word::Replay(What::Status), What::Status),
     (Word::Replay(What::Show), What::Show),
     (Word::Log, What::Text),
-    (Word::Pages, What::Text),
 ];
 
 /// Returns whether that is so of each of these words.

@@ -17,6 +17,8 @@ pub const VT220_NO_KEY: u32 = 8;
 pub const VT220_NO_CHARACTER: u32 = 9;
 pub const VT220_LANGUAGE: u32 = 10;
 pub const VT220_SIZE: u32 = 11;
+pub const VT220_NO_LANGUAGE: u32 = 12;
+pub const VT220_NO_SIZE: u32 = 13;
 
 pub const VT220_HELD_NOTHING: u32 = 0;
 pub const VT220_HELD_ESCAPE: u32 = 1;

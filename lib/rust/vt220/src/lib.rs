@@ -124,8 +124,10 @@ pub enum Error {
     NoCharacter,
     /// A terminal has another language than the call needs.
     OtherLanguage,
-    /// There is no such size, or two terminals have different sizes.
+    /// Two terminals have different sizes.
     OtherSize,
+    /// There is no such size.
+    NoSize,
 }
 
 impl Error {
@@ -139,6 +141,7 @@ impl Error {
             Error::NoCharacter => sys::VT220_NO_CHARACTER,
             Error::OtherLanguage => sys::VT220_LANGUAGE,
             Error::OtherSize => sys::VT220_SIZE,
+            Error::NoSize => sys::VT220_NO_SIZE,
         }
     }
 }
@@ -164,6 +167,7 @@ fn result(status: u32) -> Result<(), Error> {
         sys::VT220_NO_CHARACTER => Err(Error::NoCharacter),
         sys::VT220_LANGUAGE => Err(Error::OtherLanguage),
         sys::VT220_SIZE => Err(Error::OtherSize),
+        sys::VT220_NO_SIZE => Err(Error::NoSize),
         other => unreachable!("status {other} of an open terminal with enough capacity"),
     }
 }
@@ -329,7 +333,7 @@ impl Terminal {
     ///
     /// # Errors
     ///
-    /// `OtherSize` if there is no such size; `Memory` if the allocation fails; `Unsupported` on an old processor.
+    /// `NoSize` if there is no such size; `Memory` if the allocation fails; `Unsupported` on an old processor.
     pub fn open_size(language: Language, rows: usize, columns: usize) -> Result<Terminal, Error> {
         let mut handle = sys::vt220::INIT;
         result(unsafe { sys::vt220_open_as(&mut handle, language.number(), rows, columns) })?;
@@ -342,7 +346,7 @@ impl Terminal {
     ///
     /// # Errors
     ///
-    /// `OtherSize` if there is no such size; `Memory` if the allocation fails, and then nothing has changed.
+    /// `NoSize` if there is no such size; `Memory` if the allocation fails, and then nothing has changed.
     pub fn resize(&mut self, rows: usize, columns: usize) -> Result<(), Error> {
         result(unsafe { sys::vt220_resize(&mut self.0, rows, columns) })
     }

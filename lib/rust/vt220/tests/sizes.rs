@@ -76,7 +76,7 @@ fn two_sizes_are_refused() {
     assert_eq!(terminal.row_changes(&other, 1), Err(Error::OtherSize));
     assert!(!other.draw(Some(&terminal), &mut scratch).is_empty());
     for (rows, columns) in [(1, 80), (256, 80), (24, 1), (24, 256)] {
-        assert_eq!(terminal.resize(rows, columns), Err(Error::OtherSize));
-        assert_eq!(Terminal::open_size(Language::Utf8, rows, columns).err(), Some(Error::OtherSize));
+        assert_eq!(terminal.resize(rows, columns), Err(Error::NoSize));
+        assert_eq!(Terminal::open_size(Language::Utf8, rows, columns).err(), Some(Error::NoSize));
     }
 }

@@ -1,11 +1,8 @@
-use Rattle.std.proofs.Common.{ℕ, List, Bor, ◌≡◌, ◌∙◌, ap, codes, Option, is_some, refl}
+use Rattle.std.proofs.Common.{ℕ, List, Bor, ◌≡◌, ◌∙◌, ap, codes, Option, is_some}
 use Rattle.clap.specs.Words.{found_of, rows_of, first_of}
 use Rattle.clap.proofs.WalkLemmas.{first_value-rows}
 use Rattle.vt_cli.proofs.Words.{some_taken}
 use Rattle.vt_cli.proofs.source.source_in.Goals as goal
-
-pub returns-in-Err-clause-value : goal.returns-in-Err-clause-value
-returns-in-Err-clause-value c = rw (← c.looks_in.ensures, c.in-Err.is) refl
 
 pub returns-clause-value : goal.returns-clause-value
 returns-clause-value c =
@@ -21,4 +18,4 @@ returns-clause-value c =
     let timed : c.is_some.result ≡ is_some (first_of (codes "timing") rows) =
     c.is_some.ensures ∙ some_taken (λ (s : Bor (List ℕ)). s.now) c.get_str-2.result
     ∙ ap (λ (o : Option (List ℕ)). is_some o) timing in
-    rw (← c.looks_in.ensures, c.in-Ok.is, ← format, ← timed, ← from, ← until, ← encoding, ← terminal, ← columns, ← size) c.source_of.ensures.value
+    rw (← format, ← timed, ← from, ← until, ← encoding, ← terminal, ← columns, ← size) c.source_of.ensures.value

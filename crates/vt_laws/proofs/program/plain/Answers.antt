@@ -7,8 +7,8 @@ use Rattle.vt_laws.proofs.program.plain.Goals as goal
 
 pub returns : goal.returns
 returns c = record {
-  text = plain-table (Replay what.Text) refl text-asks refl;
-  repaint = plain-table (Replay what.Repaint) refl repaint-asks refl;
-  show = plain-table (Replay what.Show) refl show-asks refl;
-  log = plain-table Log refl log-asks refl;
+  text = plain-table (Replay what.Text) text-asks refl;
+  repaint = plain-table (Replay what.Repaint) repaint-asks refl;
+  show = plain-table (Replay what.Show) show-asks refl;
+  log = plain-table Log log-asks refl;
 }

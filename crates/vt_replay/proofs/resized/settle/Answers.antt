@@ -1,6 +1,5 @@
 use Rattle.std.proofs.Common.{◌∙◌, Bool, not, sym, ap}
 use Rattle.vt_replay.proofs.Resizing.{carried_out, carried_out_kept, sizes_then, fewer}
-use Rattle.vt_replay.proofs.Seeing.{carried_out_seen}
 use Rattle.vt_replay.proofs.resized.settle.Goals as goal
 
 pub loop-player-preserved : goal.loop-player-preserved
@@ -13,10 +12,6 @@ loop-player-preserved g c =
       kept = λ bytes. c.loop-player.invariant.kept bytes
           ∙ carried_out_kept c.loop-player.later.items (λ l. l.after) (λ l. g.P.Player.screen l.target) g.P.Player.session _ _ c.loop-player.left _ _
           bytes comes c.sized.ensures.kept c.change.ensures.kept c.change.ensures.rest c.bytes_before.ensures;
-      seen = λ bytes some. c.loop-player.invariant.seen bytes some
-          ∙ carried_out_seen c.loop-player.later.items (λ l. l.after) (λ l. g.P.Player.screen l.target) g.P.Player.session _ _ _
-          c.loop-player.left _ _ bytes some comes c.sized.ensures.state c.sized.ensures.kept c.change.ensures.kept c.change.ensures.rest
-          c.bytes_before.ensures;
       sizes = λ holds all.
           sizes_then c.loop-player.later.items (λ l. l.after) (λ l. g.P.Player.screen l.target) holds _ _ c.loop-player.left _ comes
           c.change.ensures.screen c.change.ensures.rest (c.loop-player.invariant.sizes holds all);

@@ -1,11 +1,13 @@
 use Rattle.std.proofs.lemmas.Result.{err_from_is_err_and}
 use Rattle.vt_device.proofs.Steps.{without_memory}
+use Rattle.vt_replay.proofs.Unchanged.{of_trace}
 use Rattle.vt_replay.proofs.tracing.write_trace_by.Goals as goal
 
 pub returns-clause-answer : goal.returns-clause-answer
 returns-clause-answer g c =
     let start = c.in_ok-output.ensures in
-    rw (start.kept, start.tracer, start.changes) at c.write_output_from.ensures.answer
+    of_trace g.P.Player.session _ _ c.args.resizes.now _ _ _ _ _ _ _ _ _ (λ ι. record { kept = start.kept ι; tracer = start.tracer ι })
+    start.changes c.write_output_from.ensures.answer
 
 pub returns-in_err-output-clause-answer : goal.returns-in_err-output-clause-answer
 returns-in_err-output-clause-answer g c =

@@ -3,4 +3,4 @@ use Rattle.std.proofs.lemmas.List.Elements.{All-from_recursion}
 use Rattle.vt_utf8.proofs.feeding.cut_front.Goals as goal
 
 pub returns-clause-ascii : goal.returns-clause-ascii
-returns-clause-ascii g c = All-from_recursion (λ (b : ℕ). b < 0x80) [] tt
+returns-clause-ascii c = All-from_recursion (λ (b : ℕ). b < 0x80) [] tt

@@ -10,13 +10,13 @@ use Rattle.vt_xterm.proofs.sink.feed_unbounded.Goals as goal
 pub returns-then-is_alternate-clause-leaves : goal.returns-then-is_alternate-clause-leaves
 returns-then-is_alternate-clause-leaves g c =
     leaves-beyond c.args.terminal.now c.feed_beyond_ascii.new.terminal c.args.pages.now c.args.c c.args.out.now.items
-    c.feed_beyond_ascii.new.out.items c.requires.beyond c.requires.outside c.requires.unbounded c.feed_beyond_ascii.ensures.state
+    c.feed_beyond_ascii.new.out.items c.requires.beyond c.requires.unbounded c.feed_beyond_ascii.ensures.state
     c.feed_beyond_ascii.ensures.silent c.feed_beyond_ascii.ensures.out
 
 pub returns-then-is_alternate-clause-keeps : goal.returns-then-is_alternate-clause-keeps
 returns-then-is_alternate-clause-keeps g c =
     keeps-alternate g.L.Log.Keeps g.L.Log.HasRoom g.L.Log.IsFull g.met.L.Log.kept c.args.terminal.now c.args.pages.now c.args.c c.args.log.now
-    c.requires.beyond c.requires.outside c.requires.unbounded (sym c.is_alternate.ensures ∙ c.if-is_alternate.true)
+    c.requires.beyond c.requires.unbounded (sym c.is_alternate.ensures ∙ c.if-is_alternate.true)
 
 pub returns-then-is_alternate-clause-left : goal.returns-then-is_alternate-clause-left
 returns-then-is_alternate-clause-left g c = λ n room.
@@ -25,13 +25,13 @@ returns-then-is_alternate-clause-left g c = λ n room.
 pub returns-else-is_alternate-clause-leaves : goal.returns-else-is_alternate-clause-leaves
 returns-else-is_alternate-clause-leaves g c =
     leaves-beyond c.args.terminal.now c.character.new.terminal c.args.pages.now c.args.c c.args.out.now.items
-    c.character.new.out.items c.requires.beyond c.requires.outside c.requires.unbounded c.character.ensures.state c.character.ensures.silent
+    c.character.new.out.items c.requires.beyond c.requires.unbounded c.character.ensures.state c.character.ensures.silent
     c.character.ensures.out
 
 pub returns-else-is_alternate-clause-keeps : goal.returns-else-is_alternate-clause-keeps
 returns-else-is_alternate-clause-keeps g c =
     keeps-main g.L.Log.Keeps g.L.Log.HasRoom g.L.Log.IsFull g.met.L.Log.kept c.args.terminal.now c.args.pages.now c.args.c c.args.log.now
-    c.character.new.self c.requires.beyond c.requires.outside c.requires.unbounded (sym c.is_alternate.ensures ∙ c.if-is_alternate.false) c.character.ensures.keeps
+    c.character.new.self c.requires.beyond c.requires.unbounded (sym c.is_alternate.ensures ∙ c.if-is_alternate.false) c.character.ensures.keeps
 
 pub character-requires-clause-lines_room : goal.character-requires-clause-lines_room
 character-requires-clause-lines_room g c =

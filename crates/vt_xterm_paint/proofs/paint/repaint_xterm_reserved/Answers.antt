@@ -62,9 +62,9 @@ push_paste-requires c =
     )
 
 pub returns-clause-rebuilds : goal.returns-clause-rebuilds
-returns-clause-rebuilds c = λ fits none.
+returns-clause-rebuilds c = λ fits.
     c.sized_rebuilds.ensures c.args.t.now.display.grid.size (behind c.args.t.now c.args.front.now)
-    (c.push_hidden.ensures.sound fits none) c.requires.between
+    (c.push_hidden.ensures.sound fits) c.requires.between
 
 pub returns-clause-bounded : goal.returns-clause-bounded
 returns-clause-bounded c =

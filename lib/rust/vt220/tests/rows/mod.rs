@@ -103,7 +103,7 @@ impl Row {
                 ("reports", value) => row.reports = spelled(value),
                 ("lines", value) => row.lines = text(value),
                 ("repaint", value) => row.repaint = Some(spelled(value)),
-                ("differs", _) => {}
+                ("differs" | "left", _) => {}
                 other => panic!("{other:?}"),
             }
         }

@@ -3,7 +3,7 @@ use Rattle.vt_term.specs.Play.{Played}
 use Rattle.vt_term.specs.Scrolling.{log}
 use Rattle.vt_term.specs.Text.{row_text_limit}
 use Rattle.vt_replay.proofs.Players.{plain_on, plain_lines}
-use Rattle.vt_replay.proofs.PagesFed.{goes-on, no-lines}
+use Rattle.vt_replay.proofs.LogSteps.{goes-on, no-lines}
 use Rattle.vt_replay.proofs.LogResizing.{one_line}
 use Rattle.vt_replay.proofs.log_player.PlainPlayerLogPlayer.feed_log.Goals as goal
 

@@ -3,7 +3,7 @@ use Rattle.vt_term.specs.Scrolling.{log}
 use Rattle.vt_utf8.specs.Limits.{utf8_lines_limit}
 use Rattle.vt_utf8.specs.Play.{translated}
 use Rattle.vt_replay.proofs.Players.{utf8_on, utf8_kept, utf8_lines, utf8_log_none}
-use Rattle.vt_replay.proofs.PagesFed.{goes-on, no-lines}
+use Rattle.vt_replay.proofs.LogSteps.{goes-on, no-lines}
 use Rattle.vt_replay.proofs.log_player.Utf8PlayerLogPlayer.feed_log.Goals as goal
 
 pub returns-clause-some : goal.returns-clause-some

@@ -2,7 +2,7 @@ use Rattle.std.proofs.Common.{◌≡◌, ◌+◌, length, take, vec_len, vec_cap
 use Rattle.vt_xterm.specs.Limits.{xterm_lines_limit}
 use Rattle.vt_xterm.specs.Play.{behind, xterm_log}
 use Rattle.vt_replay.proofs.Players.{xterm_on, xterm_kept, xterm_lines}
-use Rattle.vt_replay.proofs.PagesFed.{goes-on, no-lines}
+use Rattle.vt_replay.proofs.LogSteps.{goes-on, no-lines}
 use Rattle.vt_replay.proofs.log_player.XtermPlayerLogPlayer.feed_log.Goals as goal
 
 pub returns-clause-some : goal.returns-clause-some

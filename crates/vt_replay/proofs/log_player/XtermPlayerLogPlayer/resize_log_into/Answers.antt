@@ -3,7 +3,7 @@ use Rattle.vt_screen.specs.declared.size.Size.{Size}
 use Rattle.vt_xterm.specs.Play.{behind}
 use Rattle.vt_xterm.specs.Resizing.{xterm_log_on}
 use Rattle.vt_replay.specs.Resizes.{XtermKept}
-use Rattle.vt_replay.proofs.LogResizing.{moved_then}
+use Rattle.vt_replay.proofs.MainRows.{main_then}
 use Rattle.vt_replay.proofs.log_player.XtermPlayerLogPlayer.resize_log_into.Goals as goal
 
 pub returns-clause-lines : goal.returns-clause-lines
@@ -13,5 +13,6 @@ returns-clause-lines c =
 
 pub returns-clause-bounded : goal.returns-clause-bounded
 returns-clause-bounded c =
-    moved_then c.args.self.now.terminal c.resize_into.new.target.terminal c.size.result _ _ _ c.size.ensures.size (ap (λ (k : XtermKept). k.whole.state) c.resize_into.ensures.kept)
+    main_then (behind c.args.self.now.terminal c.args.self.now.front) (behind c.resize_into.new.target.terminal c.resize_into.new.target.front)
+    c.size.result _ _ _ c.size.ensures.size (ap (λ (k : XtermKept). k.whole) c.resize_into.ensures.kept)
     c.push_moved_xterm.ensures.bounded

@@ -26,7 +26,7 @@ returns-then-lines-gt0-clause-traced c =
     let some : 1 ≤ c.lines_front-lines.result = omega (arith, c.if-lines-gt0.true) in
     traces-front c.one_split.ensures c.spelled.ensures c.args.terminal.now _ c.args.self.now _ c.args.tracer.now _ c.args.run.now
     c.lines_front-lines.result c.trace_as.result c.args.reports.now.items _ c.args.out.now.items _ c.soundness.ensures.held
-    (lines.between some) (lines.none some) (lines.outside some) c.requires.ascii lines.lines made.within made.fed
+    (lines.between some) (lines.none some) c.requires.ascii lines.lines made.within made.fed
     made.lines made.tracer
 
 pub returns-clause-size : goal.returns-clause-size
@@ -38,6 +38,6 @@ returns-clause-one_size c =
 
 pub returns-clause-traced : goal.returns-clause-traced
 returns-clause-traced c =
-    traces-first c.args.terminal.now _ c.args.self.now _ c.parser_before-parser.result c.args.tracer.now _ c.args.run.now
-    c.args.reports.now.items _ c.args.out.now.items _ c.parser_before-parser.ensures c.requires.some c.requires.ascii c.feed_xterm_character.ensures.whole
+    traces-first c.args.terminal.now _ c.args.self.now _ c.args.tracer.now _ c.args.run.now c.args.reports.now.items _
+    c.args.out.now.items _ c.requires.some c.requires.ascii c.feed_xterm_character.ensures.whole
     c.feed_xterm_character.ensures.reports c.trace_byte.ensures.lines c.trace_byte.ensures.tracer

@@ -18,11 +18,6 @@ def parser_of(page):
     return argparse.ArgumentParser(description=page, formatter_class=argparse.RawDescriptionHelpFormatter)
 
 
-def expect_no_arguments(page):
-    """Ends the program if it has arguments: with exit status 0 for --help, and otherwise with 2."""
-    parser_of(page).parse_args()
-
-
 def size_of(word):
     """Returns the columns and the rows that COLUMNSxROWS names."""
     if not re.fullmatch("[1-9][0-9]{0,2}x[1-9][0-9]{0,2}", word):

@@ -782,7 +782,7 @@ def marked_cells(picture):
 
 
 def test_the_picture_is_the_library_s_with_marks():
-    """A column is 10 units wide and a row 18 high, as the library's header and docs/PROMISES.md have it."""
+    """A column is 10 units wide and a row 18 high, as docs/SPECIFICATION.md has it."""
     terminal = vt220.Terminal()
     terminal.feed(b"<&>\033[7mrev\033[0;1;4;5mx\033[m\r\n\033(0lqk\033[?5h")
     screen = Screen(terminal.repaint())

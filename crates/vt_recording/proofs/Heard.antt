@@ -1,5 +1,5 @@
 -- The content of a recording as the output among its events.
-use Rattle.std.proofs.Common.{◌≡◌, ◌+◌, ◌-◌, ◌&&◌, ◌++◌, ◌∷◌, ◌∙◌, [], ℕ, List, length, take, drop, map, chars, Bool, true, false, Option, Some, None, cond, refl, sym, ap, subst, arith, append-nil}
+use Rattle.std.proofs.Common.{◌≡◌, ◌+◌, ◌&&◌, ◌++◌, ◌∷◌, ◌∙◌, [], ℕ, List, length, take, drop, map, chars, Bool, true, false, Option, Some, None, cond, refl, sym, ap, subst, arith, append-nil}
 use Rattle.std.proofs.lemmas.List.Elements.{filter-append}
 use Rattle.std.proofs.lemmas.Grind.{flat_map-append}
 use Rattle.std.proofs.lemmas.Bool.Decides.{nat_tests}
@@ -15,16 +15,12 @@ use Rattle.vt_recording.specs.Moment.{micros_of, cut}
 use Rattle.vt_recording.specs.Characters.{AreWritten}
 use Rattle.vt_recording.specs.Script.{first_line}
 use Rattle.vt_recording.specs.Timing as timing
-use Rattle.vt_recording.specs.Ttyrec.{Piece, time_of, is_due, due}
+use Rattle.vt_recording.specs.Ttyrec.{Frame, time_of, frames_after, due}
 use Rattle.vt_recording.specs.Asciicast as cast
 use Rattle.vt_recording.specs.Asciicast.{in_time}
 use Rattle.vt_recording.specs.Taken.{IsTaken, in_recording}
 use Rattle.vt_recording.specs.Timeline.{Event, Timeline, IsTimelineOf, IsContentOf, IsTimedBy, IsOfScriptBy, event_if, bytes_by, characters_by, told_in, and_then, cast_events, frame_events, events_by_frames, cast_by, cast_from, noted, unheard_in, told_by, unless, timed, timed_events, frame, at_once}
 use Rattle.vt_recording.proofs.Casts.{cut_nothing}
-
-in_time_by : (until : Option ℕ) (start time : ℕ) → is_due until start time ≡ in_time until (time - start)
-in_time_by None start time = refl
-in_time_by (Some until) start time = grind (arith, nat_tests)
 
 at_beginning : (until : Option ℕ) → in_time until 0 ≡ true
 at_beginning None = refl
@@ -104,15 +100,15 @@ module _ (until : Option ℕ) where
 
   -- ---- the frames of ttyrec
 
-  due_first : (start : ℕ) (p : Piece) (pieces : List Piece) (is : Bool) → in_time until (time_of p.header - start) ≡ is
-      → due until start pieces ≡ bytes_by until (map (λ p. frame start p) pieces)
-      → due until start (p ∷ pieces) ≡ bytes_by until (map (λ p. frame start p) (p ∷ pieces))
-  due_first start p pieces true is more = rw (in_time_by until start (time_of p.header), is, more) refl
-  due_first start p pieces false is more = rw (in_time_by until start (time_of p.header), is, more) refl
+  due_first : (f : Frame) (frames : List Frame) (is : Bool) → in_time until f.micros ≡ is
+      → due until frames ≡ bytes_by until (map (λ f. frame f) frames)
+      → due until (f ∷ frames) ≡ bytes_by until (map (λ f. frame f) (f ∷ frames))
+  due_first f frames true is more = rw (is, more) refl
+  due_first f frames false is more = rw (is, more) refl
 
-  due_heard : (start : ℕ) (pieces : List Piece) → due until start pieces ≡ bytes_by until (map (λ p. frame start p) pieces)
-  due_heard start [] = refl
-  due_heard start (p ∷ pieces) = due_first start p pieces _ refl (due_heard start pieces)
+  due_heard : (frames : List Frame) → due until frames ≡ bytes_by until (map (λ f. frame f) frames)
+  due_heard [] = refl
+  due_heard (f ∷ frames) = due_first f frames _ refl (due_heard frames)
 
   -- ---- the lines of asciinema
 
@@ -261,7 +257,7 @@ content_taken format.Ttyrec encoding until timing bytes content t replaced is (c
     whole = is.whole;
     ends = is.ends;
     wanted =
-        ap (bytes_by (micros_of until)) is.events_are ∙ sym (due_heard (micros_of until) (time_of bytes) is.pieces);
+        ap (bytes_by (micros_of until)) is.events_are ∙ sym (due_heard (micros_of until) (frames_after (time_of bytes) 0 is.pieces));
   };
   wanted = c;
   breaks = is.breaks;

@@ -10,16 +10,47 @@ use Rattle.vt_recording.specs.declared.timeline.Event as declared
 use Rattle.vt_recording.specs.declared.timeline.EventKind.TheVariants.{Output}
 use Rattle.vt_recording.specs.declared.timeline.Timeline as read
 use Rattle.vt_recording.specs.Timeline.{Event, AreFrames, frame}
+use Rattle.vt_recording.specs.Asciicast.{in_time}
+use Rattle.vt_recording.specs.Seconds.{risen}
 use Rattle.vt_recording.specs.Taken.{in_recording}
 use Rattle.vt_recording.specs.Gathered.{AreGathered, IsRead}
-use Rattle.vt_recording.specs.Ttyrec.{Piece, IsWhole, EndsBefore, number_at, spelled, time_of, size_of, is_due, due}
+use Rattle.vt_recording.specs.Ttyrec.{Piece, Frame, IsWhole, EndsBefore, number_at, spelled, time_of, size_of, frames_after, due}
 
--- up to this place there are whole pieces, and these bytes of them are wanted
-pub record Front (until : Option ℕ) (bytes : List ℕ) (at : ℕ) (content : List ℕ) : Type 0 where
+-- the time after frames
+unfoldable pub clock_after : (start clock : ℕ) → List Piece → ℕ
+clock_after start clock [] = clock
+clock_after start clock (p ∷ pieces) = clock_after start (risen clock (time_of p.header - start)) pieces
+
+-- up to this place there are whole pieces, and this is the time after them
+pub record Before (bytes : List ℕ) (at clock : ℕ) : Type 0 where
   pub pieces : List Piece
   pub taken : take at bytes ≡ flat_map (λ p. spelled p) pieces
   pub whole : All (λ p. IsWhole p) pieces
-  pub wanted : content ≡ due until (time_of bytes) pieces
+  pub clock_is : clock ≡ clock_after (time_of bytes) 0 pieces
+
+abbrev frames_of : (bytes : List ℕ) → List Piece → List Frame
+frames_of bytes pieces = frames_after (time_of bytes) 0 pieces
+
+-- these bytes of them are wanted
+pub record Front (until : Option ℕ) (bytes : List ℕ) (at clock : ℕ) (content : List ℕ) : Type 0 where
+  pub before : Before bytes at clock
+  pub wanted : content ≡ due until (frames_of bytes before.pieces)
+
+no_clock : (start : ℕ) → 0 ≡ clock_after start 0 []
+unfolding clock_after
+no_clock start = refl
+
+abbrev before_first : (bytes : List ℕ) → Before bytes 0 0
+before_first bytes = record {
+  pieces = [];
+  taken = refl;
+  whole = All-from_recursion (λ p. IsWhole p) [] tt;
+  clock_is = no_clock (time_of bytes);
+}
+
+pub front_first : (until : Option ℕ) (bytes content : List ℕ) → content ≡ [] → Front until bytes 0 0 content
+unfolding frames_after
+front_first until bytes content none = record { before = before_first bytes; wanted = none }
 
 -- a number within the front of some bytes
 number_in_front : (at n : ℕ) (xs : List ℕ) → at + 3 < n → number_at at (take n xs) ≡ number_at at xs
@@ -41,13 +72,29 @@ size_in_front xs = number_in_front 8 12 xs (omega arith)
 all_one : (p : Piece) → IsWhole p → All (λ q. IsWhole q) (p ∷ [])
 all_one p is = All-from_recursion (λ q. IsWhole q) (p ∷ []) (is, tt)
 
--- one piece more
-due_more : (until : Option ℕ) (start : ℕ) (pieces : List Piece) (p : Piece) (is : Bool)
-    → is_due until start (time_of p.header) ≡ is
-    → due until start (pieces ++ p ∷ []) ≡ due until start pieces ++ cond is p.bytes []
-due_more until start pieces p true is =
-    rw (filter-append, flat_map-append, is) (ap (λ (l : List ℕ). due until start pieces ++ l) (append-nil p.bytes))
-due_more until start pieces p false is = rw (filter-append, flat_map-append, is) refl
+-- one frame more
+due_more : (until : Option ℕ) (frames : List Frame) (f : Frame) (is : Bool) → in_time until f.micros ≡ is
+    → due until (frames ++ f ∷ []) ≡ due until frames ++ cond is f.bytes []
+due_more until frames f true is =
+    rw (filter-append, flat_map-append, is) (ap (λ (l : List ℕ). due until frames ++ l) (append-nil f.bytes))
+due_more until frames f false is = rw (filter-append, flat_map-append, is) refl
+
+module _ (start : ℕ) (p : Piece) where
+  clock_more : (clock : ℕ) (pieces : List Piece)
+      → clock_after start clock (pieces ++ p ∷ []) ≡ risen (clock_after start clock pieces) (time_of p.header - start)
+  unfolding clock_after
+  clock_more clock [] = refl
+  clock_more clock (q ∷ pieces) = clock_more (risen clock (time_of q.header - start)) pieces
+
+  frames_more : (clock : ℕ) (pieces : List Piece)
+      → frames_after start clock (pieces ++ p ∷ [])
+      ≡ frames_after start clock pieces
+      ++ record { micros = risen (clock_after start clock pieces) (time_of p.header - start); bytes = p.bytes } ∷ []
+  unfolding clock_after frames_after
+  frames_more clock [] = refl
+  frames_more clock (q ∷ pieces) =
+      ap (λ (l : List Frame). record { micros = risen clock (time_of q.header - start); bytes = q.bytes } ∷ l)
+      (frames_more (risen clock (time_of q.header - start)) pieces)
 
 -- the piece that begins at a place
 abbrev piece_at : (bytes : List ℕ) (at size : ℕ) → Piece
@@ -69,63 +116,76 @@ module _ (bytes : List ℕ) (at size : ℕ) (fits : 12 + size ≤ length (drop a
         bytes = rw (length-take, size_in_front (drop at bytes), ← says) (omega (arith, rest));
       }
 
-pub one_more : (until : Option ℕ) (bytes content : List ℕ) (at size : ℕ) (is : Bool)
-    → 12 + size ≤ length (drop at bytes) → size ≡ size_of (drop at bytes)
-    → is_due until (time_of bytes) (time_of (drop at bytes)) ≡ is → Front until bytes at content
-    → Front until bytes (at + 12 + size) (content ++ cond is (take size (drop (at + 12) bytes)) [])
-one_more until bytes content at size is fits says wanted front = record {
-  pieces = front.pieces ++ piece_at bytes at size ∷ [];
-  taken =
-      piece_stands bytes at size fits ∙ ap (λ (l : List ℕ). l ++ spelled (piece_at bytes at size)) front.taken
-      ∙ flat_map_more (λ p. spelled p) [] front.pieces (piece_at bytes at size);
-  whole = All-append (λ p. IsWhole p) front.pieces _ front.whole
-      (all_one (piece_at bytes at size) (piece_is_whole bytes at size fits says));
-  wanted =
-      ap (λ (l : List ℕ). l ++ cond is (take size (drop (at + 12) bytes)) []) front.wanted
-      ∙ sym (due_more until (time_of bytes) front.pieces (piece_at bytes at size) is
-      (ap (λ (t : ℕ). is_due until (time_of bytes) t) (time_in_front (drop at bytes)) ∙ wanted));
-}
+  -- one piece more
+  module _ (clock next : ℕ) (says : size ≡ size_of (drop at bytes))
+      (rises : next ≡ risen clock (time_of (drop at bytes) - time_of bytes)) (before : Before bytes at clock) where
+    later : next ≡ risen (clock_after (time_of bytes) 0 before.pieces) (time_of (take 12 (drop at bytes)) - time_of bytes)
+    later = rw (time_in_front (drop at bytes), ← before.clock_is) rises
 
--- up to this place there are whole pieces, and these are their events
-pub record Framed (bytes : List ℕ) (at : ℕ) (marks : List declared.Event) (text : List ℕ) : Type 0 where
-  pub pieces : List Piece
-  pub taken : take at bytes ≡ flat_map (λ p. spelled p) pieces
-  pub whole : All (λ p. IsWhole p) pieces
-  pub are : AreGathered (map (λ p. frame (time_of bytes) p) pieces) marks text
+    abbrev before_more : Before bytes (at + 12 + size) next
+    before_more = record {
+      pieces = before.pieces ++ piece_at bytes at size ∷ [];
+      taken =
+          piece_stands ∙ ap (λ (l : List ℕ). l ++ spelled (piece_at bytes at size)) before.taken
+          ∙ flat_map_more (λ p. spelled p) [] before.pieces (piece_at bytes at size);
+      whole = All-append (λ p. IsWhole p) before.pieces _ before.whole
+          (all_one (piece_at bytes at size) (piece_is_whole says));
+      clock_is = later ∙ sym (clock_more (time_of bytes) (piece_at bytes at size) 0 before.pieces);
+    }
 
-pub framed_more : (bytes : List ℕ) (at size micros : ℕ) (marks more_marks : List declared.Event) (text more : List ℕ)
+    frames_are : frames_of bytes before_more.pieces
+        ≡ frames_of bytes before.pieces ++ record { micros = next; bytes = take size (drop (at + 12) bytes) } ∷ []
+    frames_are =
+        frames_more (time_of bytes) (piece_at bytes at size) 0 before.pieces
+        ∙ ap (λ (t : ℕ). frames_of bytes before.pieces ++ record { micros = t; bytes = take size (drop (at + 12) bytes) } ∷ []) (sym later)
+
+  pub one_more : (until : Option ℕ) (content : List ℕ) (clock next : ℕ) (is : Bool) → size ≡ size_of (drop at bytes)
+      → next ≡ risen clock (time_of (drop at bytes) - time_of bytes) → in_time until next ≡ is
+      → Front until bytes at clock content
+      → Front until bytes (at + 12 + size) next (content ++ cond is (take size (drop (at + 12) bytes)) [])
+  one_more until content clock next is says rises wanted front = record {
+    before = before_more clock next says rises front.before;
+    wanted =
+        ap (λ (l : List ℕ). l ++ cond is (take size (drop (at + 12) bytes)) []) front.wanted
+        ∙ sym (due_more until (frames_of bytes front.before.pieces) (record { micros = next; bytes = take size (drop (at + 12) bytes) }) is wanted)
+        ∙ sym (ap (λ (l : List Frame). due until l) (frames_are clock next says rises front.before));
+  }
+
+-- these are the events of the pieces up to this place
+pub record Framed (bytes : List ℕ) (at clock : ℕ) (marks : List declared.Event) (text : List ℕ) : Type 0 where
+  pub before : Before bytes at clock
+  pub are : AreGathered (map (λ f. frame f) (frames_of bytes before.pieces)) marks text
+
+pub framed_first : (bytes : List ℕ) (marks : List declared.Event) (text : List ℕ) → AreGathered [] marks text
+    → Framed bytes 0 0 marks text
+unfolding frames_after
+framed_first bytes marks text none = record { before = before_first bytes; are = none }
+
+pub framed_more : (bytes : List ℕ) (at size clock next : ℕ) (marks more_marks : List declared.Event) (text more : List ℕ)
     → 12 + size ≤ length (drop at bytes) → size ≡ size_of (drop at bytes)
-    → micros ≡ time_of (drop at bytes) - time_of bytes → Framed bytes at marks text
+    → next ≡ risen clock (time_of (drop at bytes) - time_of bytes) → Framed bytes at clock marks text
     → ((front : List Event) → AreGathered front marks text
-    → AreGathered (front ++ record { micros = micros; kind = Output; text = take size (drop (at + 12) bytes) } ∷ []) more_marks more)
-    → Framed bytes (at + 12 + size) more_marks more
-framed_more bytes at size micros marks more_marks text more fits says time front add = record {
-  pieces = front.pieces ++ piece_at bytes at size ∷ [];
-  taken =
-      piece_stands bytes at size fits ∙ ap (λ (l : List ℕ). l ++ spelled (piece_at bytes at size)) front.taken
-      ∙ flat_map_more (λ p. spelled p) [] front.pieces (piece_at bytes at size);
-  whole = All-append (λ p. IsWhole p) front.pieces _ front.whole
-      (all_one (piece_at bytes at size) (piece_is_whole bytes at size fits says));
-  are =
-      let same : time_of (take 12 (drop at bytes)) - time_of bytes ≡ micros =
-      ap (λ n. n - time_of bytes) (time_in_front (drop at bytes)) ∙ sym time in
-      rw (map-append, same) (add _ front.are);
+    → AreGathered (front ++ record { micros = next; kind = Output; text = take size (drop (at + 12) bytes) } ∷ []) more_marks more)
+    → Framed bytes (at + 12 + size) next more_marks more
+framed_more bytes at size clock next marks more_marks text more fits says rises front add = record {
+  before = before_more bytes at size fits clock next says rises front.before;
+  are = rw (frames_are bytes at size fits clock next says rises front.before, map-append) (add _ front.are);
 }
 
-pub framed_all : (bytes : List ℕ) (at : ℕ) (broken : Option ℕ) (t : read.Timeline) → at ≤ length bytes
+pub framed_all : (bytes : List ℕ) (at clock : ℕ) (broken : Option ℕ) (t : read.Timeline) → at ≤ length bytes
     → EndsBefore at (drop at bytes) broken → t.broken ≡ in_recording broken
-    → Framed bytes at t.events.items t.text.items → IsRead (λ x. AreFrames bytes x) t
-framed_all bytes at broken t within ends breaks front =
-    let place : length (flat_map (λ p. spelled p) front.pieces) ≡ at =
-    ap (λ (l : List ℕ). length l) (sym front.taken) ∙ length-take-le at bytes within in
+    → Framed bytes at clock t.events.items t.text.items → IsRead (λ x. AreFrames bytes x) t
+framed_all bytes at clock broken t within ends breaks front =
+    let place : length (flat_map (λ p. spelled p) front.before.pieces) ≡ at =
+    ap (λ (l : List ℕ). length l) (sym front.before.taken) ∙ length-take-le at bytes within in
     record {
-      events = map (λ p. frame (time_of bytes) p) front.pieces;
+      events = map (λ f. frame f) (frames_of bytes front.before.pieces);
       is = record {
-        pieces = front.pieces;
+        pieces = front.before.pieces;
         rest = drop at bytes;
         at = broken;
-        joined = sym (take-append-drop at bytes) ∙ ap (λ (l : List ℕ). l ++ drop at bytes) front.taken;
-        whole = front.whole;
+        joined = sym (take-append-drop at bytes) ∙ ap (λ (l : List ℕ). l ++ drop at bytes) front.before.taken;
+        whole = front.before.whole;
         ends = rw place ends;
         events_are = refl;
         breaks = breaks;

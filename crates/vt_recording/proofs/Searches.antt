@@ -1,5 +1,5 @@
 -- What a search for a byte finds.
-use Rattle.std.proofs.Common.{◌≡◌, ◌<◌, ℕ, List, length, get_or, Bool, true, false, Option, Some, None, refl, sym, arith, nat_lt, position, le-ltb, lt-ltb, le_refl}
+use Rattle.std.proofs.Common.{◌≡◌, ℕ, List, length, get_or, Bool, true, false, Option, Some, None, refl, arith, nat_lt, position, le-ltb, lt-ltb, le_refl}
 use Rattle.std.specs.List.{position_or_len}
 use Rattle.std.proofs.lemmas.List.Sums.{position_or_len_is}
 use Rattle.memchr.specs.Find.{IsFirstByte}

@@ -12,7 +12,7 @@ use Rattle.json.specs.Json.{Json, array, Items, no_items, item, document}
 use Rattle.json.specs.Find.{get, at as nth, as_number, as_str}
 use Rattle.vt_recording.specs.Lines.{lines_of}
 use Rattle.vt_recording.specs.Script.{begins_with}
-use Rattle.vt_recording.specs.Seconds.{micros_of_number}
+use Rattle.vt_recording.specs.Seconds.{micros_of_number, risen}
 
 -- ---- the beginning
 
@@ -95,10 +95,10 @@ is_silent version line = nat_eq (length line) 0 || (nat_eq version 3 && starts_w
 
 -- ---- the lines after the first
 
--- the time of an event: in versions 1 and 3 its number counts from the event before. It stops at 2^64 - 1
--- (this profile)
+-- the time of an event: in version 2 its number counts from the beginning, in versions 1 and 3 from the event before. It
+-- stops at 2^64 - 1 (this profile)
 abbrev pub clock_after : (version clock micros : ℕ) → ℕ
-clock_after version clock micros = cond (nat_eq version 2) micros (min (clock + micros) (2 ^ 64 - 1))
+clock_after version clock micros = cond (nat_eq version 2) (risen clock micros) (min (clock + micros) (2 ^ 64 - 1))
 
 abbrev pub in_time : (until : Option ℕ) → (time : ℕ) → Bool
 in_time None time = true

@@ -1,7 +1,9 @@
 -- The format that the beginning of a file shows. (asciicast 1, 2 and 3 of asciinema; script(1); ttyrec; gzip: RFC 1952;
--- Zstandard: RFC 8878; the .xz file format; bzip2)
-use Rattle.std.specs.Prelude.{ℕ, ◌+◌, ◌&&◌, ◌||◌, List, [], ◌∷◌, length, drop, codes, Bool, false, cond, nat_le, nat_lt}
-use Rattle.std.specs.Prelude.{Option, Some, None, option_and_then}
+-- Zstandard: RFC 8878; the .xz file format; bzip2), and the encoding that content shows (RFC 3629)
+use Rattle.std.specs.Prelude.{ℕ, ◌+◌, ◌&&◌, ◌||◌, List, [], ◌∷◌, length, take, drop, codes, Bool, false, not, cond, nat_le, nat_lt}
+use Rattle.std.specs.Prelude.{Option, Some, None, is_some, option_and_then}
+use Rattle.std.specs.List.{list_all}
+use Rattle.std.specs.Str.Lossy.{utf8_valid_len, utf8_error_len}
 use Rattle.vt_recording.specs.declared.detection.Detected.{Detected}
 use Rattle.vt_recording.specs.declared.detection.Detected.TheVariants.{Recording, Compressed}
 use Rattle.vt_recording.specs.declared.detection.Compression.TheVariants.{Gzip, Zstd, Xz, Bzip2}
@@ -64,3 +66,11 @@ detected bytes =
     (cond (begins_with (0x28 ∷ 0xB5 ∷ 0x2F ∷ 0xFD ∷ []) bytes) (Compressed Zstd)
     (cond (begins_with (0xFD ∷ 0x37 ∷ 0x7A ∷ 0x58 ∷ 0x5A ∷ 0x00 ∷ []) bytes) (Compressed Xz)
     (cond (is_bzip2 bytes) (Compressed Bzip2) (cond (is_ttyrec bytes) (Recording Ttyrec) (Recording Raw)))))))
+
+-- ---- the encoding that content shows
+
+-- it is UTF-8 with a character beyond ASCII. The last character may be cut
+abbrev pub shows_utf8 : List ℕ → Bool
+shows_utf8 content =
+    not (is_some (utf8_error_len (drop (utf8_valid_len content) content)))
+    && not (list_all (λ b. nat_lt b 0x80) (take (utf8_valid_len content) content))

@@ -36,6 +36,11 @@ terminal_named name = cond (nat_eq (length name) 0) None (cond (is_vt name) (Som
 abbrev pub terminal_of : Option (List ℕ) → Option TerminalType
 terminal_of name = option_and_then terminal_named name
 
+-- the terminal of a recording by asciinema: without a TERM it is an xterm, since such a recording is made on one (this
+-- profile)
+abbrev pub cast_terminal : Option (List ℕ) → Option TerminalType
+cast_terminal name = option_or (terminal_of name) (Some Xterm)
+
 -- a number of at most nine digits
 abbrev pub count_of : Option (List ℕ) → Option ℕ
 count_of digits = option_and_then (number 9) digits
@@ -55,14 +60,14 @@ number_of value = count_of (option_and_then as_number value)
 -- the header of version 3 (asciicast 3), and that of version 2 (asciicast 2)
 abbrev pub by_term : Json → Heading
 by_term header = record {
-  terminal = terminal_of (text_of (inner (codes "term") (codes "type") header));
+  terminal = cast_terminal (text_of (inner (codes "term") (codes "type") header));
   columns = number_of (inner (codes "term") (codes "cols") header);
   rows = number_of (inner (codes "term") (codes "rows") header);
 }
 
 abbrev pub by_env : Json → Heading
 by_env header = record {
-  terminal = terminal_of (text_of (inner (codes "env") (codes "TERM") header));
+  terminal = cast_terminal (text_of (inner (codes "env") (codes "TERM") header));
   columns = number_of (get (codes "width") header);
   rows = number_of (get (codes "height") header);
 }

@@ -10,7 +10,6 @@ use Rattle.vt_recording.specs.declared.format.Moment.TheVariants as moment
 use Rattle.vt_device.specs.declared.fault.Break.{Break}
 use Rattle.vt_recording.specs.declared.timeline.EventKind.{EventKind}
 use Rattle.vt_recording.specs.declared.timeline.EventKind.TheVariants as kind
-use Rattle.vt_recording.specs.declared.timeline.Event as declared
 use Rattle.vt_recording.specs.declared.reached.Passed.{Passed}
 use Rattle.vt_recording.specs.Taken.{IsTaken}
 use Rattle.vt_recording.specs.Timeline.{Event, Timeline, IsTimelineOf, is_output}

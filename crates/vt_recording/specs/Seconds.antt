@@ -52,3 +52,8 @@ micros_of_number_at (Some at) text =
 
 abbrev pub micros_of_number : List ℕ → Option ℕ
 micros_of_number text = micros_of_number_at (position (λ b. nat_eq b 0x65 || nat_eq b 0x45) text) text
+
+-- the time of an event after one of this time: the clock of a recording never falls. A lower number counts as the time
+-- before (this profile)
+abbrev pub risen : (clock micros : ℕ) → ℕ
+risen clock micros = cond (nat_lt micros clock) clock micros

@@ -1,7 +1,7 @@
 -- A recording as its events in turn, and the place at which it breaks its format. (asciicast 2 and 3 of asciinema: a line
 -- of a time, a code and a text; asciicast 1: a frame; ttyrec: the frame after a header; script(1) and scriptreplay(1) of util-linux: a line of the
 -- timing file)
-use Rattle.std.specs.Prelude.{◌≡◌, ℕ, ◌+◌, ◌-◌, ◌&&◌, List, [], ◌∷◌, ◌++◌, length, take, drop, map, chars, codes, bytes_eq, Bool, true, false, cond}
+use Rattle.std.specs.Prelude.{◌≡◌, ℕ, ◌+◌, ◌&&◌, List, [], ◌∷◌, ◌++◌, length, take, drop, map, chars, codes, bytes_eq, Bool, true, false, cond}
 use Rattle.std.specs.Prelude.{Option, Some, None}
 use Rattle.std.specs.List.{All, filter, flat_map}
 use Rattle.vt_recording.specs.declared.format.Format.{Format}
@@ -17,7 +17,7 @@ use Rattle.vt_recording.specs.Characters.{AreWritten}
 use Rattle.vt_recording.specs.Script.{begins_with, first_line, EndsAt, IsOfScript}
 use Rattle.vt_recording.specs.Timing as timing
 use Rattle.vt_recording.specs.Timing.{Step, Spot}
-use Rattle.vt_recording.specs.Ttyrec.{Piece, IsWhole, EndsBefore, spelled, time_of}
+use Rattle.vt_recording.specs.Ttyrec.{Piece, Frame, IsWhole, EndsBefore, spelled, time_of, frames_after}
 use Rattle.json.specs.Json.{Items, no_items, item}
 use Rattle.vt_recording.specs.Asciicast as cast
 use Rattle.vt_recording.specs.Asciicast.{in_time}
@@ -186,9 +186,8 @@ IsTimedBy (Some line) bytes text timeline = IsTimed (drop (line + 1) bytes) text
 
 -- ---- ttyrec
 
--- a frame, whose time counts from that of the first one
-abbrev pub frame : (start : ℕ) → Piece → Event
-frame start p = record { micros = time_of p.header - start; kind = Output; text = p.bytes }
+abbrev pub frame : Frame → Event
+frame f = record { micros = f.micros; kind = Output; text = f.bytes }
 
 pub record AreFrames (bytes : List ℕ) (timeline : Timeline) : Type 0 where
   pub pieces : List Piece
@@ -197,7 +196,7 @@ pub record AreFrames (bytes : List ℕ) (timeline : Timeline) : Type 0 where
   pub joined : bytes ≡ flat_map (λ p. spelled p) pieces ++ rest
   pub whole : All (λ p. IsWhole p) pieces
   pub ends : EndsBefore (length (flat_map (λ p. spelled p) pieces)) rest at
-  pub events_are : timeline.events ≡ map (λ p. frame (time_of bytes) p) pieces
+  pub events_are : timeline.events ≡ map (λ f. frame f) (frames_after (time_of bytes) 0 pieces)
   pub breaks : timeline.broken ≡ in_recording at
 
 -- ---- a recording without times: all of its content comes at once

@@ -1,7 +1,8 @@
 -- A recording by ttyrec: frames, each after a header of 12 bytes. (the format of ttyrec)
-use Rattle.std.specs.Prelude.{◌≡◌, ℕ, ◌+◌, ◌*◌, ◌<◌, ◌⊎◌, List, [], ◌++◌, length, slice_index, Bool, true, Option, Some}
-use Rattle.std.specs.Prelude.{None, nat_le}
+use Rattle.std.specs.Prelude.{◌≡◌, ℕ, ◌+◌, ◌-◌, ◌*◌, ◌<◌, ◌⊎◌, List, [], ◌∷◌, ◌++◌, length, slice_index, Option, Some, None}
 use Rattle.std.specs.List.{All, filter, flat_map}
+use Rattle.vt_recording.specs.Asciicast.{in_time}
+use Rattle.vt_recording.specs.Seconds.{risen}
 
 -- the number of 32 bits at a place, its lowest byte first
 abbrev pub number_at : ℕ → List ℕ → ℕ
@@ -33,15 +34,21 @@ spelled p = p.header ++ p.bytes
 abbrev pub IsCut : List ℕ → Type 0
 IsCut rest = (length rest < 12) ⊎ (length rest < 12 + size_of rest)
 
--- whether a frame of this time is wanted: all are, or those that came at most this many microseconds after the first
--- one
-abbrev pub is_due : (until : Option ℕ) → (start time : ℕ) → Bool
-is_due None start time = true
-is_due (Some until) start time = nat_le time (start + until)
+-- a frame: its time, in microseconds after the beginning, and its bytes
+pub record Frame : Type 0 where
+  pub micros : ℕ
+  pub bytes : List ℕ
+
+-- the frames after one of this time. The number of a frame counts from the time of the first one
+unfoldable pub frames_after : (start clock : ℕ) → List Piece → List Frame
+frames_after start clock [] = []
+frames_after start clock (p ∷ pieces) =
+    record { micros = risen clock (time_of p.header - start); bytes = p.bytes }
+    ∷ frames_after start (risen clock (time_of p.header - start)) pieces
 
 -- the content: the frames that are wanted, one after another
-abbrev pub due : (until : Option ℕ) → (start : ℕ) → List Piece → List ℕ
-due until start pieces = flat_map (λ p. p.bytes) (filter (λ p. is_due until start (time_of p.header)) pieces)
+abbrev pub due : (until : Option ℕ) → List Frame → List ℕ
+due until frames = flat_map (λ f. f.bytes) (filter (λ f. in_time until f.micros) frames)
 
 -- the end of the whole frames: the end of the bytes, or the beginning of a cut frame
 abbrev pub EndsBefore : (at : ℕ) → (rest : List ℕ) → (broken : Option ℕ) → Type 0
@@ -55,4 +62,4 @@ pub record IsOfTtyrec (until : Option ℕ) (bytes content : List ℕ) (broken : 
   pub joined : bytes ≡ flat_map (λ p. spelled p) pieces ++ rest
   pub whole : All (λ p. IsWhole p) pieces
   pub ends : EndsBefore (length (flat_map (λ p. spelled p) pieces)) rest broken
-  pub wanted : content ≡ due until (time_of bytes) pieces
+  pub wanted : content ≡ due until (frames_after (time_of bytes) 0 pieces)

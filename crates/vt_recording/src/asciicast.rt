@@ -8,7 +8,7 @@ ghost use Rattle.vt_recording.specs.Asciicast.{trimmed, without_mark, json_text,
 ghost use Rattle.vt_recording.specs.Asciicast.{begins_array, ends_array, number_in, string_in, event_from, is_text, frame_of, names_one, items_in, frames_of};
 ghost use Rattle.vt_recording.specs.Events.{event_view};
 
-use crate::seconds::micros_of_number;
+use crate::seconds::{micros_of_number, risen};
 use json::{Error, Reader, Scratch, Token, Value};
 use std::alloc::{AllocError, Global};
 
@@ -226,12 +226,12 @@ pub(crate) fn is_silent(version: u64, line: &[u8]) -> bool
     line.is_empty() || (version == 3 && line.starts_with(b"#"))
 }
 
-/// Returns the time of an event, whose number counts from the event before in versions 1 and 3.
+/// Returns the time of an event after one of the time `clock`. Its number counts from that in versions 1 and 3.
 pub(crate) fn clock_after(version: u64, clock: u64, micros: u64) -> u64
     ensures { result ≡ clock_after version clock micros }
 {
     if version == 2 {
-        micros
+        risen(clock, micros)
     } else {
         clock.saturating_add(micros)
     }

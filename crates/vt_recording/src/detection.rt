@@ -1,7 +1,8 @@
-//! The format that the beginning of a file shows.
-ghost use Rattle.std.specs.Prelude.{◌≡◌, ◌≤◌, length, option_map, true};
+//! The format that the beginning of a file shows, and the encoding that content shows.
+ghost use Rattle.std.specs.Prelude.{◌≡◌, ◌≤◌, length, nat_lt, option_map, true};
+ghost use Rattle.std.specs.List.{list_all};
 ghost use Rattle.vt_recording.specs.Detection.{after, is_version, begins_version, has_version};
-ghost use Rattle.vt_recording.specs.Detection.{is_asciicast, is_header, goes_on, is_ttyrec, is_bzip2, detected};
+ghost use Rattle.vt_recording.specs.Detection.{is_asciicast, is_header, goes_on, is_ttyrec, is_bzip2, detected, shows_utf8};
 
 use crate::asciicast::{json_text, trimmed};
 use crate::format::Format;
@@ -163,4 +164,21 @@ pub fn detect(beginning: &[u8]) -> Detected
         return Detected::Recording(Format::Ttyrec);
     }
     Detected::Recording(Format::Raw)
+}
+
+/// Returns whether no byte is beyond ASCII.
+fn is_ascii(bytes: &[u8]) -> bool
+    ensures { result ≡ list_all (λ b. nat_lt b 0x80) bytes.now }
+{
+    bytes.iter().all(|b| *b < 0x80)
+}
+
+/// Returns whether content is UTF-8 with a character beyond ASCII. The last character may be cut.
+pub fn shows_utf8(content: &[u8]) -> bool
+    ensures { result ≡ shows_utf8 content.now }
+{
+    match std::str::from_utf8(content) {
+        Ok(_) => !is_ascii(content),
+        Err(error) => { error.error_len().is_none() && !is_ascii(&content[..error.valid_up_to()]) }
+    }
 }

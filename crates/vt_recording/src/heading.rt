@@ -98,7 +98,7 @@ fn by_term(header: &Value<'_>) -> Heading
     ensures { result ≡ by_term (value_view header.now) }
 {
     Heading {
-        terminal: terminal_of(text_of(inner(header, "term", "type"))),
+        terminal: terminal_of(text_of(inner(header, "term", "type"))).or(Some(TerminalType::Xterm)),
         columns: number_of(inner(header, "term", "cols")),
         rows: number_of(inner(header, "term", "rows")),
     }
@@ -109,7 +109,7 @@ fn by_env(header: &Value<'_>) -> Heading
     ensures { result ≡ by_env (value_view header.now) }
 {
     Heading {
-        terminal: terminal_of(text_of(inner(header, "env", "TERM"))),
+        terminal: terminal_of(text_of(inner(header, "env", "TERM"))).or(Some(TerminalType::Xterm)),
         columns: number_of(header.get("width")),
         rows: number_of(header.get("height")),
     }

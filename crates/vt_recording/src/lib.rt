@@ -26,7 +26,7 @@ mod ttyrec;
 pub use asciicast::json_text;
 pub use changes::{Change, TakenWithChanges, Window, changes_of, take_with_changes};
 pub use content::Content;
-pub use detection::{Compression, DETECTION_LENGTH, Detected, detect};
+pub use detection::{Compression, DETECTION_LENGTH, Detected, detect, shows_utf8};
 pub use format::{Encoding, Format, Moment, Taken, TerminalType};
 pub use heading::{Heading, heading_of};
 pub use reached::{Passed, passed_before, take_between};

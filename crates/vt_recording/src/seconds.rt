@@ -3,7 +3,7 @@ ghost use Rattle.std.specs.Prelude.{◌≡◌, ◌≤◌, ◌<◌, ◌^◌, ◌|
 ghost use Rattle.std.specs.Char.{is_ascii_digit};
 ghost use Rattle.std.specs.List.{list_all, position};
 ghost use Rattle.vt_recording.specs.Seconds.{number, value, micros, scale, micros_of_decimals, without_digits};
-ghost use Rattle.vt_recording.specs.Seconds.{negative_exponent, micros_of_number};
+ghost use Rattle.vt_recording.specs.Seconds.{negative_exponent, micros_of_number, risen};
 
 /// Returns the number that the digits write, if there are at least one and at most `most`.
 pub fn number(most: usize, digits: &[u8]) -> Option<u64>
@@ -134,4 +134,11 @@ pub(crate) fn micros_of_number(text: &[u8]) -> Option<u64>
         }
         None => micros(text),
     }
+}
+
+/// Returns the time of an event after one of the time `clock`, which never falls.
+pub(crate) fn risen(clock: u64, micros: u64) -> u64
+    ensures { result ≡ risen clock micros }
+{
+    if micros < clock { clock } else { micros }
 }

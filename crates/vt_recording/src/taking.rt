@@ -7,13 +7,15 @@ ghost use Rattle.vt_recording.specs.Moment.{cut};
 ghost use Rattle.vt_recording.specs.Timeline.{IsTimelineOf, IsOfScriptBy, AreFrames};
 ghost use Rattle.vt_recording.specs.Gathered.{IsRead, timeline_view};
 
+use crate::asciicast::in_time;
 use crate::casting::{asciicast_played, asciicast_timeline};
 use crate::format::{Encoding, Format, Moment, Taken};
 use crate::moment::{cut, micros_of};
 use crate::script::session_in;
+use crate::seconds::risen;
 use crate::timeline::{EventKind, Gathered, Timeline, at_once};
 use crate::timing::{timed_content, timed_timeline};
-use crate::ttyrec::{HEADER, header_of, is_due, time_of};
+use crate::ttyrec::{HEADER, header_of, time_of};
 use std::alloc::{AllocError, Global};
 use vt_device::{Break, Part};
 
@@ -120,6 +122,7 @@ fn ttyrec_content(alloc: Global, bytes: &[u8], until: Option<u64>) -> Result<Who
     ensures { IfOk result (λ t. IsOfTtyrec until bytes.now t.content.items t.broken) }
 {
     let mut content = Vec::with_capacity(alloc, bytes.len())?;
+    let mut clock = 0;
     let mut at = 0;
     while at < bytes.len() {
         let Some(piece) = header_of(&bytes[at..]) else {
@@ -130,7 +133,8 @@ fn ttyrec_content(alloc: Global, bytes: &[u8], until: Option<u64>) -> Result<Who
         };
         let from = at + HEADER;
         at = from + piece.size;
-        if is_due(until, time_of(bytes), piece.time) {
+        clock = risen(clock, piece.time.saturating_sub(time_of(bytes)));
+        if in_time(until, clock) {
             content.extend_from_slice(&bytes[from..at])?;
         }
     }
@@ -141,7 +145,7 @@ fn ttyrec_content(alloc: Global, bytes: &[u8], until: Option<u64>) -> Result<Who
 }
 
 /// Returns the events of a recording, with the place at which it breaks its format, as `take_apart` does. Their times count from the
-/// beginning. If the format has no times, all of the content comes at once. Returns `Err` if allocation fails.
+/// beginning, and never fall: a time that is lower than one before it is that one. If the format has no times, all of the content comes at once. Returns `Err` if allocation fails.
 pub fn timeline_of(
     alloc: Global,
     bytes: &[u8],
@@ -171,11 +175,12 @@ fn script_timeline(alloc: Global, bytes: &[u8]) -> Result<Timeline, AllocError>
     }
 }
 
-/// Returns the frames as events, whose times count from the first one.
+/// Returns the frames as events.
 fn ttyrec_timeline(alloc: Global, bytes: &[u8]) -> Result<Timeline, AllocError>
     ensures { IfOk result (λ t. IsRead (AreFrames bytes.now) t) }
 {
     let mut gathered = Gathered::with_capacity(alloc, bytes.len())?;
+    let mut clock = 0;
     let mut at = 0;
     while at < bytes.len() {
         let Some(piece) = header_of(&bytes[at..]) else {
@@ -183,8 +188,8 @@ fn ttyrec_timeline(alloc: Global, bytes: &[u8]) -> Result<Timeline, AllocError>
         };
         let from = at + HEADER;
         at = from + piece.size;
-        let micros = piece.time.saturating_sub(time_of(bytes));
-        gathered.push(micros, EventKind::Output, &bytes[from..at])?;
+        clock = risen(clock, piece.time.saturating_sub(time_of(bytes)));
+        gathered.push(clock, EventKind::Output, &bytes[from..at])?;
     }
     Ok(gathered.timeline(None))
 }

@@ -1,6 +1,6 @@
 //! A recording by ttyrec.
 ghost use Rattle.std.specs.Prelude.{◌≡◌, ◌+◌, ◌*◌, ◌≤◌, ◌<◌, ◌^◌, length, drop, IfSome, IfNone};
-ghost use Rattle.vt_recording.specs.Ttyrec.{number_at, time_of, size_of, is_due, IsCut};
+ghost use Rattle.vt_recording.specs.Ttyrec.{number_at, time_of, size_of, IsCut};
 
 /// The number of bytes of a frame's header.
 pub(crate) const HEADER: usize = 12;
@@ -52,14 +52,4 @@ pub(crate) fn header_of(bytes: &[u8]) -> Option<Header>
         time: time_of(bytes),
         size,
     })
-}
-
-/// Returns whether a frame of this time is wanted.
-pub(crate) fn is_due(until: Option<u64>, start: u64, time: u64) -> bool
-    ensures { result ≡ is_due until start time }
-{
-    match until {
-        None => true,
-        Some(until) => time.saturating_sub(start) <= until,
-    }
 }

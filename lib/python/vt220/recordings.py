@@ -119,7 +119,7 @@ def _sized(rows: object, columns: object) -> Optional[Tuple[int, int]]:
 
 
 def _asciicast(data: bytes) -> Recording:
-    """Reads a recording by asciinema. Without TERM it is of an xterm: all programs that make such recordings run on one."""
+    """Reads a recording by asciinema. Without TERM it is of an xterm: all programs that make such recordings run on one. Its times never fall."""
     text = data.decode("utf-8-sig", "surrogateescape").lstrip()
     first, *lines = text.split("\n")
     head = _object_in(first)
@@ -139,7 +139,7 @@ def _asciicast(data: bytes) -> Recording:
         if event is None:
             broken = f"line {number} is no event"
             break
-        at = at + event.at if version == 3 else event.at
+        at = at + event.at if version == 3 else max(at, event.at)
         events.append(event._replace(at=at))
     return Recording("asciicast", terminal_of(term) or "xterm", size, [event for event in events if event.kind], broken)
 
@@ -173,16 +173,17 @@ def _first_version(head: Dict[str, Any]) -> Recording:
 
 
 def _ttyrec(data: bytes) -> Recording:
-    """Reads a recording by ttyrec. A time is that since the first frame."""
+    """Reads a recording by ttyrec. A time is that since the first frame, and never falls."""
     events: List[Event] = []
-    at, begun = 0, None
+    at, begun, clock = 0, None, 0.0
     while at + _FRAME.size <= len(data):
         seconds, micros, length = _FRAME.unpack_from(data, at)
         if at + _FRAME.size + length > len(data):
             break
         time = seconds + micros / 1e6
         begun = time if begun is None else begun
-        events.append(Event(max(0.0, time - begun), "output", data[at + _FRAME.size : at + _FRAME.size + length]))
+        clock = max(clock, time - begun)
+        events.append(Event(clock, "output", data[at + _FRAME.size : at + _FRAME.size + length]))
         at += _FRAME.size + length
     return Recording("ttyrec", None, None, events, None if at == len(data) else f"the frame at byte {at} is cut")
 

@@ -1,4 +1,4 @@
-use Rattle.std.proofs.Common.{◌∙◌, sym, arith}
+use Rattle.std.proofs.Common.{◌∙◌, sym}
 use Rattle.vt_recording.proofs.Frames.{item_at, frame_gathered, gathering_breaks, gathering_ends}
 use Rattle.vt_recording.proofs.casting.gather_frames.Goals as goal
 

@@ -5,7 +5,7 @@ use Rattle.vt_recording.proofs.taking.ttyrec_content.Given as goal
 abbrev pub invariant-loop-at : goal.invariant-loop-at
 invariant-loop-at l = record {
   within : l.at ≤ length l.bytes;
-  front : Front l.until l.bytes l.at l.content.items;
+  front : Front l.until l.bytes l.at l.clock l.content.items;
 }
 
 abbrev pub decreases-loop-at : goal.decreases-loop-at

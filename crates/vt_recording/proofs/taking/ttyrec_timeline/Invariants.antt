@@ -5,7 +5,7 @@ use Rattle.vt_recording.proofs.taking.ttyrec_timeline.Given as goal
 abbrev pub invariant-loop-at : goal.invariant-loop-at
 invariant-loop-at l = record {
   within : l.at ≤ length l.bytes;
-  front : Framed l.bytes l.at l.gathered.events.items l.gathered.text.items;
+  front : Framed l.bytes l.at l.clock l.gathered.events.items l.gathered.text.items;
 }
 
 abbrev pub decreases-loop-at : goal.decreases-loop-at

@@ -5,7 +5,7 @@ use Rattle.vt_glyph.specs.Designation.{final_of}
 use Rattle.vt_glyph.specs.Invocation.{set_at}
 use Rattle.vt_screen.specs.declared.cell.Brush.{Brush}
 use Rattle.vt_term.specs.State.{saved_sets}
-use Rattle.vt_term.specs.declared.state.Saved.{Saved}
+use Rattle.vt_term.specs.State.{Saved}
 use Rattle.vt220_c.specs.declared.parts.Vt220Brush.{Vt220Brush}
 use Rattle.vt220_c.specs.declared.parts.Vt220Sets.{Vt220Sets}
 use Rattle.vt220_c.specs.declared.parts.Vt220Saved.{Vt220Saved}

@@ -15,8 +15,6 @@ use Rattle.vt_term.specs.State.{Display, State}
 use Rattle.vt_term.specs.Sound.{IsSound}
 use Rattle.vt_term.specs.Moving.{next_line}
 use Rattle.vt_term.specs.Writing.{write_glyph}
-use Rattle.vt_term.specs.Functions.{control}
-use Rattle.vt_term.specs.Reports.{control_report}
 use Rattle.vt_term.specs.Play.{Played, play, both}
 use Rattle.vt_term.proofs.Bytes.{nothing-held}
 use Rattle.vt_utf8.specs.Similar.{shown}
@@ -26,6 +24,8 @@ use Rattle.vt_utf8.proofs.Wide.{silently, PlaysTwo, is-beyond}
 use Rattle.vt_laws.specs.Wide.{left_wide}
 use Rattle.vt_xterm.proofs.Stays.{Fits, next_line-fits, write_glyph-fits, chosen-fits}
 use Rattle.vt_xterm.specs.Bounded.{held_beyond}
+use Rattle.vt_term.specs.Reports.{control_report_any}
+use Rattle.vt_term.specs.Functions.{control_any}
 
 -- a play that leaves the width, and this held part
 pub record Leaves (p : Played) (s : State) (h : Held) : Type 0 where
@@ -77,7 +77,7 @@ module _ (spelled : SpellingLaw) (two : PlaysTwo)
   -- ST after anything but a string
   ends : (s : State) → IsSound s
       → play s (0x1B ∷ 0x5C ∷ []) ≡ record { state = record s { held = held.Nothing }; reports = [] }
-  unfolding play control control_report opens_string
+  unfolding play control_any control_report_any opens_string
   ends s sound =
       let is : All IsEvent (Control 0x9C ∷ []) =
       All-from_recursion IsEvent (Control 0x9C ∷ []) (inr (omega arith, omega arith, refl), tt) in

@@ -34,8 +34,8 @@ use Rattle.vt_term.specs.Sound.{IsSound}
 use Rattle.vt_term.specs.Moving.{cursor_position}
 use Rattle.vt_term.specs.Writing.{write_glyph}
 use Rattle.vt_term.specs.Runs.{with_run, advanced_by}
-use Rattle.vt_term.specs.Functions.{effect, sequence_in, sequences_of}
-use Rattle.vt_term.specs.Reports.{report, sequence_report}
+use Rattle.vt_term.specs.Functions.{effect, sequence_in}
+use Rattle.vt_term.specs.Reports.{report}
 use Rattle.vt_term.specs.Text.{before_trimmed, trimmed, glyphs_of, line_text, lines_text, text}
 use Rattle.vt_term.specs.Play.{Played, play, both}
 use Rattle.vt_utf8.specs.Cells.{cells}
@@ -51,6 +51,8 @@ use Rattle.vt_utf8.proofs.Widths.{looked_up, cells-looked_up}
 use Rattle.vt_utf8.proofs.Written.{none-is}
 use Rattle.vt_utf8.proofs.Wide.{silently, plays-glyph}
 use Rattle.vt_laws.proofs.Encoded.{reads-both, reads-ascii, reads-one, reads-all}
+use Rattle.vt_term.specs.Reports.{sequence_report_any}
+use Rattle.vt_term.specs.Functions.{sequences_any}
 
 -- ---- the 204 glyphs as characters
 
@@ -231,11 +233,11 @@ row-event row last = record {
 }
 
 row-silent : (row : ℕ) (d : Display) → report (to_row row) d ≡ []
-unfolding sequence_report sequences_of
+unfolding sequence_report_any sequences_any
 row-silent row d = refl
 
 row-effect : (row : ℕ) (d : Display) → effect (to_row row) d ≡ cursor_position row 1 d
-unfolding sequence_in sequences_of
+unfolding sequence_in sequences_any
 row-effect row d = refl
 
 -- the first column of a row that is there

@@ -27,18 +27,22 @@ use Rattle.vt_term.specs.Rendition.{select_graphic_rendition, select_character_a
 use Rattle.vt_term.specs.Resets.{asked_form, is_level, soft_reset_to, set_conformance_level}
 use Rattle.vt_term.specs.Tabs.{clear_tabs, no_stops}
 use Rattle.vt_term.specs.Writing.{print, write_if_read}
-use Rattle.vt_term.specs.Answers.{Reports, silent, primary_reports, secondary_reports, status_reports, private_reports}
+use Rattle.vt_screen.specs.declared.cell.Cell.{Cell}
+use Rattle.vt_screen.specs.declared.cell.Brush.{Brush}
+use Rattle.vt_term.specs.Answers.{ReportsOf, silent, primary_reports, secondary_reports, status_reports, private_reports}
 use Rattle.vt_term.specs.Functions.{Function, FunctionTable, no_function, function_in, numbers_of, changing, selected, paired}
 use Rattle.vt_term.specs.Functions.{of_first, of_any, of_pair, of_margins, erasing, reporting, modal, designate_to, designation}
-use Rattle.vt_term.specs.Functions.{controls, control, plain_escapes, plain_escape, space_escapes, number_sign_escapes}
-use Rattle.vt_term.specs.Functions.{escape_tables, escape_function, escape_with, marker_tables, intermediate_tables}
+use Rattle.vt_term.specs.Functions.{controls, control, plain_escapes, space_escapes, number_sign_escapes}
+use Rattle.vt_term.specs.Functions.{escape_tables, escape_function, marker_tables, intermediate_tables}
 use Rattle.vt_term.specs.Functions.{sequences_of, sequence_in, effect}
-use Rattle.vt_term.specs.Reports.{report, control_report, sequence_report}
+use Rattle.vt_term.specs.Reports.{report}
 use Rattle.vt_term.specs.Names.{name_with, name_of, print_name, control_name, plain_escape_name, escape_with_name, sequence_name_on}
 use Rattle.vt_term.proofs.Tables.{AllRows, looked_up-holds}
 use Rattle.vt_trace.specs.Ignored.{LeavesAlone, DoesSomething}
 use Rattle.vt_trace.proofs.Tables.{no_some, all_rows, absent, among, looked_true, none_known, one_known}
 use Rattle.vt_laws.proofs.Witnesses.{Acts, at_end, all_off, all_on, acts_at_end, acts_all_on, acts_all_off, resets_wrap, reports}
+use Rattle.vt_term.specs.Reports.{control_report_any, sequence_report_any}
+use Rattle.vt_term.specs.Functions.{control_any, escape_with_any, plain_escape_any, sequences_any}
 
 -- `taken` are the values that the function takes or doesn't, and `given` those of its effect
 record Fits (taken given : List ℕ) (says : Function → Display → List ℕ) (key : ℕ) (f : Function) : Type 0 where
@@ -86,7 +90,7 @@ module _ (base : IsSoundDisplay display_at_power_up) {taken given : List ℕ} {s
   all_off_fits test takes before after = always takes (acts_all_off base (f.effect given) (says f) test before after)
 
 -- a request, each of whose reports begins with ESC
-request : IsSoundDisplay display_at_power_up → (taken given : List ℕ) (key : ℕ) (name : List ℕ) (texts : Reports)
+request : IsSoundDisplay display_at_power_up → (taken given : List ℕ) (key : ℕ) (name : List ℕ) (texts : ReportsOf Cell Brush)
     → AllRows (λ n text. slice_index (text at_end) 0 ≡ 0x1B) texts
     → Fits taken given (by_first taken) key (reporting name texts)
 request base taken given key name texts all = record {
@@ -413,12 +417,12 @@ module _ (base : IsSoundDisplay display_at_power_up) (values : List ℕ) where
       go (inr f) rest = zero_or_two (rest f.1)
 
   plain_sequences-fit : AllRows Fit (sequences_of None None)
-  unfolding AllRows sequences_of
+  unfolding AllRows sequences_any
   plain_sequences-fit =
       (wraps base refl refl, (wraps base refl refl, (wraps base refl refl, (wraps base refl refl, (wraps base refl refl, (wraps base refl refl, (display_area _ _ false, (line_area _ _ false, (wraps base refl refl, (wraps base refl refl, (wraps base refl refl, (wraps base refl refl, (request base values values _ _ primary_reports (refl, tt), (wraps base refl refl, (tabs _ _, (sets (flags_in ansi_values) ansi_modes ansi_mode_rows _ _ refl, (resets (flags_in ansi_values) ansi_modes ansi_mode_rows _ _ refl, (rendition _ _, (request base values values _ _ status_reports (refl, (refl, tt)), (margins _ _, tt))))))))))))))))))))
 
   sequences-fit : (marker inter : Option ℕ) → AllRows Fit (sequences_of marker inter)
-  unfolding AllRows sequences_of
+  unfolding AllRows sequences_any
   sequences-fit None None = plain_sequences-fit
   sequences-fit (Some marker) None =
       looked_up-holds (λ key table. AllRows Fit table) marker_tables marker [] tt
@@ -493,7 +497,7 @@ module _ (base : IsSoundDisplay display_at_power_up) where
   does event acts = record { display = acts.display; sound = acts.sound; acts = acts.acts }
 
   pub nameless_alone : (event : Event) → name_of event ≡ None → (s : Display) → s.grid.size ≡ vt220_size → LeavesAlone event s
-  unfolding control_name plain_escape_name escape_with_name sequence_name_on control plain_escape escape_with sequence_in control_report sequence_report
+  unfolding control_name plain_escape_name escape_with_name sequence_name_on control_any plain_escape_any escape_with_any sequence_in control_report_any sequence_report_any
   nameless_alone (Print b) h s sized = left (Print b) s (print_alone b (print_test b h) s, refl)
   nameless_alone (Control b) h s sized = left (Control b) s ((control_fits b).alone (untaken (0 ∷ []) (function_in controls b) h) s sized)
   nameless_alone (Escape None last) h s sized =
@@ -506,7 +510,7 @@ module _ (base : IsSoundDisplay display_at_power_up) where
       (untaken params.items (function_in (sequences_of marker inter) last) h) s sized)
 
   pub named_acts : (event : Event) (name : List ℕ) → name_of event ≡ Some name → DoesSomething event
-  unfolding control_name plain_escape_name escape_with_name sequence_name_on control plain_escape escape_with sequence_in control_report sequence_report
+  unfolding control_name plain_escape_name escape_with_name sequence_name_on control_any plain_escape_any escape_with_any sequence_in control_report_any sequence_report_any
   named_acts (Print b) name h = does (Print b) (print_acts base b (printed b name h))
   named_acts (Control b) name h =
       does (Control b) ((control_fits b).acts (taken_as (0 ∷ []) (function_in controls b) name h))

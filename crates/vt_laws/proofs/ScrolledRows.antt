@@ -27,10 +27,10 @@ use Rattle.vt_laws.specs.Scrolls.{scroll_up_event, is_scrolling}
 above-stays : (g : Grid) (top bottom n : ℕ) → 2 ≤ g.size.rows → 2 ≤ top → row_of (scroll_up g top bottom n) 1 ≡ row_of g 1
 above-stays g top bottom n some low =
     let outside : is_within top bottom 1 ≡ false = grind (arith, nat_tests) in
-    sym (row_of-same g.size g.width (λ r c. if is_within top bottom r then (
+    sym (row_of-same blank g.size g.width (λ r c. if is_within top bottom r then (
     if nat_le (r + n) bottom then cell_at g (r + n) c else blank) else cell_at g r c) 1 (row_of g 1) (omega arith) (omega (arith, some))
-    (length-row_of g 1)
-    (λ c left right. get_or-row_of g 1 c blank left right
+    (length-row_of blank g 1)
+    (λ c left right. get_or-row_of blank g 1 c blank left right
     ∙ ap (λ (b : Bool). if b then (if nat_le (1 + n) bottom then cell_at g (1 + n) c else blank) else cell_at g 1 c) (sym outside)))
 
 not-one : (top : ℕ) → 1 ≤ top → (top == 1) ≡ false → 2 ≤ top

@@ -4,7 +4,7 @@ use Rattle.std.specs.Prelude.{slice_index, fold, ◌⊎◌, ◌≢◌}
 use Rattle.vt_glyph.specs.declared.set.Set.TheVariants.{German}
 use Rattle.vt_screen.specs.Grid.{blank_grid}
 use Rattle.vt_screen.specs.Sizes.{vt220_size}
-use Rattle.vt_screen.proofs.SoundGrids.{blank_grid-sound}
+use Rattle.vt_screen.proofs.Vt220Grids.{blank_grid-sound}
 use Rattle.vt_term.specs.declared.state.Modes.{Modes}
 use Rattle.vt_term.specs.State.{Display, display_at_power_up, at_place, full_margins, saved_at_power_up, stops_where}
 use Rattle.vt_term.specs.Tabs.{no_stops}

@@ -16,7 +16,7 @@ use Rattle.vt_screen.specs.Sizes.{vt220_size}
 use Rattle.vt_term.specs.Parameters.{first, second, count}
 use Rattle.vt_term.specs.Moving.{are_margins}
 use Rattle.vt_term.specs.Editing.{names_area}
-use Rattle.vt_term.specs.Functions.{sequences_of, effect}
+use Rattle.vt_term.specs.Functions.{effect}
 use Rattle.vt_term.specs.Names.{control_name, sequence_name_on}
 use Rattle.vt_term.proofs.Tables.{AllRows, looked_up-holds}
 use Rattle.vt_trace.proofs.Tables.{no_some}
@@ -28,6 +28,7 @@ use Rattle.vt_xterm.specs.Bounded.{is_unbounded, erases, resetting, leaving, wri
 use Rattle.vt_xterm.specs.Front.{screen_effect}
 use Rattle.vt_xterm_trace.specs.Names.{xterm_sequence_name, xterm_names}
 use Rattle.vt_laws.proofs.Rows.{print_test}
+use Rattle.vt_term.specs.Functions.{sequences_any}
 
 pub by_none : {X : Type 0} (name : List ℕ) → Some name ≡ None → X
 by_none name h = absurd (no_some name (sym h))
@@ -72,7 +73,7 @@ abbrev plain_name : List ℕ → ℕ → Option (List ℕ)
 plain_name values last = xterm_sequence_name last_row None None last values
 
 plain-named : (values : List ℕ) (last : ℕ) → has_row bounded_plain last ≡ true → plain_name values last ≡ None → ⊥
-unfolding has_row xterm_sequence_name sequence_name_on sequences_of AllRows
+unfolding has_row xterm_sequence_name sequence_name_on sequences_any AllRows
 plain-named values last =
     found-named bounded_plain (plain_name values) (
       λ h. by_none _ h,
@@ -117,7 +118,7 @@ at-byte : (values : List ℕ) (last b : ℕ) → (last == b) ≡ true → plain_
 at-byte values last b is h = subst (λ k. plain_name values k ≡ None) (eqb-true last b is) h
 
 unbounded-named : (values : List ℕ) (last : ℕ) → is_unbounded last ≡ true → plain_name values last ≡ None → ⊥
-unfolding xterm_sequence_name sequence_name_on sequences_of
+unfolding xterm_sequence_name sequence_name_on sequences_any
 unbounded-named values last is h = go (last == 0x41) refl (last == 0x42) refl (last == 0x58) refl is
   where
     go : (a : Bool) → (last == 0x41) ≡ a → (b : Bool) → (last == 0x42) ≡ b → (c : Bool) → (last == 0x58) ≡ c → (a || (b || c)) ≡ true → ⊥
@@ -135,7 +136,7 @@ both-of true b h = (refl, h)
 both-of false b h = absurd cc
 
 area-named : (values : List ℕ) (last : ℕ) → erases last values ≡ true → plain_name values last ≡ None → ⊥
-unfolding xterm_sequence_name sequence_name_on sequences_of
+unfolding xterm_sequence_name sequence_name_on sequences_any
 area-named values last is h =
     let parts = both-of (last == 0x4A || last == 0x4B) (names_area (first values)) is in
     go (last == 0x4A) refl (last == 0x4B) refl parts.0 parts.1
@@ -189,7 +190,7 @@ one-down (v ∷ (w ∷ values)) m s h =
 -- DECSTBM
 no-margins : (values : List ℕ) (m : Sides) (s : Screens) → s.display.grid.size ≡ vt220_size → plain_name values 0x72 ≡ None
     → margins_set (first values) (second values) m s ≡ s
-unfolding xterm_sequence_name sequence_name_on sequences_of
+unfolding xterm_sequence_name sequence_name_on sequences_any
 no-margins values m s sized h = go (are_margins last_row (first values) (second values)) refl
   where
     set : Screens
@@ -235,7 +236,7 @@ abbrev private_name : List ℕ → ℕ → Option (List ℕ)
 private_name values last = xterm_sequence_name last_row (Some 0x3F) None last values
 
 selective-named : (values : List ℕ) (last : ℕ) → erases last values ≡ true → private_name values last ≡ None → ⊥
-unfolding xterm_sequence_name sequence_name_on sequences_of
+unfolding xterm_sequence_name sequence_name_on sequences_any
 selective-named values last is h =
     let parts = both-of (last == 0x4A || last == 0x4B) (names_area (first values)) is in
     go (last == 0x4A) refl (last == 0x4B) refl parts.0 parts.1

@@ -16,8 +16,8 @@ use Rattle.vt_term.specs.Parameters.{first, second}
 use Rattle.vt_term.specs.Modes.{with_mode, private_modes}
 use Rattle.vt_term.specs.Rendition.{rendition_changes, with_attribute, with_rendition}
 use Rattle.vt_term.specs.Resets.{is_level}
-use Rattle.vt_term.specs.Functions.{numbers_of, sequences_of, effect}
-use Rattle.vt_term.specs.Reports.{report, sequence_report}
+use Rattle.vt_term.specs.Functions.{numbers_of, effect}
+use Rattle.vt_term.specs.Reports.{report}
 use Rattle.vt_term.specs.Names.{name_of, plain_escape_name, escape_with_name, sequence_name_on}
 use Rattle.vt_trace.proofs.Tables.{absent, none_known}
 use Rattle.vt_xterm.specs.Attributes.{without_colours}
@@ -31,6 +31,8 @@ use Rattle.vt_xterm_trace.specs.Names.{Named, NameTable, taking, is_one, has_att
 use Rattle.vt_xterm_trace.specs.Names.{name_with, name_in, xterm_sequence_name, xterm_names}
 use Rattle.vt_laws.proofs.Rows.{nameless_alone}
 use Rattle.vt_laws.proofs.XtermBounded.{by_none, bounded-same}
+use Rattle.vt_term.specs.Reports.{sequence_report_any}
+use Rattle.vt_term.specs.Functions.{sequences_any}
 
 -- without left and right margins an event leaves the screens as they are, and reports nothing
 abbrev Alone : Event → Screens → Type 0
@@ -135,14 +137,14 @@ mode-idle on name values h s = go (has_mode values) refl
     go false is = modes-idle on values is s
 
 private-idle : AllIdle (Some 0x3F) private_functions private_names
-unfolding sequence_report sequences_of
+unfolding sequence_report_any sequences_any
 private-idle = (
   (refl, (λ values h s. mode-idle true _ values h s, λ params d. refl)),
   ((refl, (λ values h s. mode-idle false _ values h s, λ params d. refl)), tt),
 )
 
 plain-idle : AllIdle None plain_functions plain_names
-unfolding sequence_report sequences_of
+unfolding sequence_report_any sequences_any
 plain-idle =
     ((refl, (λ values h s. by_none _ h, λ params d. refl)), ((refl, (λ values h s. by_none _ h, λ params d. refl)), ((refl, (λ values h s. by_none _ h, λ params d. refl)), ((refl, (λ values h s. by_none _ h, λ params d. refl)), ((refl, (λ values h s. by_none _ h, λ params d. refl)), ((refl, (λ values h s. one-idle rows_down_by _ values (λ values many d. rw many refl) h s, λ params d. refl)), ((refl, (λ values h s. by_none _ h, λ params d. refl)), ((refl, (λ values h s. by_none _ h, λ params d. refl)), ((refl, (λ values h s. by_none _ h, λ params d. refl)), ((refl, (λ values h s. by_none _ h, λ params d. refl)), ((refl, (λ values h s. by_none _ h, λ params d. refl)), ((refl, (λ values h s. by_none _ h, λ params d. refl)), ((refl, (λ values h s. by_none _ h, λ params d. refl)), ((refl, (λ values h s. rendition-idle _ values h s, λ params d. refl)), ((refl, (λ values h s. by_none _ h, λ params d. refl)), ((refl, (λ values h s. bare-idle restore_screens _ values h s, λ params d. refl)), tt))))))))))))))))
 
@@ -217,7 +219,7 @@ module _ (base : IsSoundDisplay display_at_power_up) where
   inter-alone : (inter : ℕ) (params : ArrayVec ℕ) (last : ℕ) (s : Screens)
       → xterm_names last_row (Sequence None params (Some inter) last) ≡ None → s.display.grid.size ≡ vt220_size
       → Alone (Sequence None params (Some inter) last) s
-  unfolding functions_of xterm_sequence_name function_in sequence_name_on sequences_of
+  unfolding functions_of xterm_sequence_name function_in sequence_name_on sequences_any
   inter-alone inter params last s h sized =
       let left = terminals-alone (Sequence None params (Some inter) last) s h sized in
       (go (inter == 0x22) (inter == 0x21) (last == 0x70) refl refl refl left.0, left.1)

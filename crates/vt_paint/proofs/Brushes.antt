@@ -12,13 +12,14 @@ use Rattle.vt_screen.specs.declared.cell.Rendition.{Rendition}
 use Rattle.vt_screen.specs.declared.cell.Brush.{Brush}
 use Rattle.vt_term.specs.State.{Display}
 use Rattle.vt_term.specs.Rendition.{with_attribute, with_attributes}
-use Rattle.vt_term.specs.Functions.{control, plain_escape, escape_with, sequence_in, sequences_of, effect}
+use Rattle.vt_term.specs.Functions.{sequence_in, effect}
 use Rattle.vt_paint.specs.Controls.{spelling_sets_events, rendition_values, brush_events, left_event, right_event}
 use Rattle.vt_paint.specs.Controls.{sets_events}
 use Rattle.vt_paint.proofs.AfterEvents.{display_after, Makes}
 use Rattle.vt_screen.specs.Same.{same_rendition}
 use Rattle.vt_paint.proofs.Equality.{same_rendition-is}
 use Rattle.vt_paint.proofs.Tests.{both_pass, all_brushes, at_brush}
+use Rattle.vt_term.specs.Functions.{control_any, escape_with_any, plain_escape_any, sequences_any}
 
 -- ---- the brush
 
@@ -30,7 +31,7 @@ attributes_made brush old =
     (at_brush (λ brush. same_rendition (with_attributes (rendition_values brush.rendition) old) brush.rendition) refl brush)
 
 pub brush_leaves : (x : Display) (brush : Brush) → Makes (brush_events brush) x (record x { brush = brush })
-unfolding display_after brush_events sequence_in sequences_of
+unfolding display_after brush_events sequence_in sequences_any
 brush_leaves x brush = record { is = go brush.protected refl }
   where
     made : Rendition → Bool → Display
@@ -66,7 +67,7 @@ with_sets x g left right = record x { sets = record x.sets { g = g; left = left;
 
 left_leaves : (x : Display) (slot : ℕ) → slot < 4
     → effect (left_event slot) x ≡ record x { sets = record x.sets { left = slot } }
-unfolding control plain_escape
+unfolding control_any plain_escape_any
 left_leaves x zero h = refl
 left_leaves x (suc zero) h = refl
 left_leaves x (suc (suc zero)) h = refl
@@ -75,7 +76,7 @@ left_leaves x (suc (suc (suc (suc n)))) h = absurd (omega arith)
 
 right_leaves : (x : Display) (slot : ℕ) → 1 ≤ slot → slot < 4
     → effect (right_event slot) x ≡ record x { sets = record x.sets { right = slot } }
-unfolding plain_escape
+unfolding plain_escape_any
 right_leaves x zero l h = absurd (omega arith)
 right_leaves x (suc zero) l h = refl
 right_leaves x (suc (suc zero)) l h = refl
@@ -93,7 +94,7 @@ four_designated g t four_g four_t =
 
 pub sets_leaves : (x : Display) (t : GraphicSets) → length x.sets.g ≡ 4 → AreSoundSets t
     → Makes (sets_events t) x (with_sets x t.g t.left t.right)
-unfolding display_after sets_events escape_with
+unfolding display_after sets_events escape_with_any
 sets_leaves x t four sound =
     let put : ℕ → GraphicSets → Display = λ slot y. record x { sets = designated slot (set_at t slot) y } in
     let y1 = designated 0 (set_at t 0) x.sets in
@@ -113,7 +114,7 @@ pub spelling_sets : GraphicSets → GraphicSets
 spelling_sets t = record t { g = slice_set (slice_set (slice_set t.g 0 Ascii) 2 Supplemental) 3 Special; left = 0 }
 
 pub spelling_sets_leaves : (x : Display) → Makes spelling_sets_events x (record x { sets = spelling_sets x.sets })
-unfolding display_after spelling_sets escape_with control
+unfolding display_after spelling_sets escape_with_any control_any
 spelling_sets_leaves x = record { is = refl }
 
 pub spelling_sets_are : (t : GraphicSets) → length t.g ≡ 4 → t.pending ≡ None → AreSpellingSets (spelling_sets t)

@@ -18,7 +18,7 @@ use Rattle.vt_term.specs.State.{Display, bottom_row, at_place, margins_of, modes
 use Rattle.vt_term.specs.State.{saved_at_power_up}
 use Rattle.vt_term.specs.Sound.{AreSoundMargins, IsSoundSizedDisplay, IsPlace}
 use Rattle.vt_term.specs.Modes.{with_mode}
-use Rattle.vt_term.specs.Functions.{sequence_in, sequences_of, plain_escape, effect}
+use Rattle.vt_term.specs.Functions.{sequence_in, effect}
 use Rattle.vt_term.specs.Answers.{line_of_cursor}
 use Rattle.vt_paint.specs.Same.{same_saved}
 use Rattle.vt_paint.specs.Controls.{margins_to, brush_events, sets_events, spelling_sets_events, private_mode}
@@ -41,9 +41,10 @@ use Rattle.vt_syntax.specs.declared.event.Event.TheVariants.{Print}
 use Rattle.vt_glyph.specs.Tables.{space}
 use Rattle.vt_glyph.specs.Invocation.{glyph_read, after_read, sets_at_power_up}
 use Rattle.vt_screen.specs.Same.{when}
-use Rattle.vt_term.specs.declared.state.Saved.{Saved}
+use Rattle.vt_term.specs.State.{Saved}
 use Rattle.vt_paint.specs.Private.ChangeEvents.{saved_cursor}
 use Rattle.vt_paint.proofs.ModeItems.{modes_leave, shift_leaves}
+use Rattle.vt_term.specs.Functions.{plain_escape_any, sequences_any}
 
 -- s with these parts, and with some modes but for the origin
 abbrev pub part : Display → Modes → Cursor → Brush → GraphicSets → Margins → Bool → Display
@@ -61,7 +62,7 @@ pub margins_leaves : (s : Display) (modes : Modes) (cursor : Cursor) (brush : Br
     (origin : Bool) → AreSoundMargins s.grid.size.rows m
     → MakesSome (margins_item (bottom_row s) m) (part s modes cursor brush sets (margins_of s.grid.size) origin)
     (λ cursor. part s modes cursor brush sets m origin)
-unfolding display_after margins_item sequence_in sequences_of
+unfolding display_after margins_item sequence_in sequences_any
 margins_leaves s modes cursor brush sets m origin sound = go (eqb m.top 1 && eqb m.bottom s.grid.size.rows) refl
   where
     made : ℕ → ℕ → Margins
@@ -93,7 +94,7 @@ origin_leaves : (known : Bool) (s : Display) (modes : Modes) (cursor : Cursor) (
     (m : Margins) (now on : Bool) → (known ≡ true → now ≡ false)
     → MakesSome (origin_item known on) (part s modes cursor brush sets m now)
     (λ cursor. part s modes cursor brush sets m on)
-unfolding display_after origin_item sequence_in sequences_of with_mode
+unfolding display_after origin_item sequence_in sequences_any with_mode
 origin_leaves true s modes cursor brush sets m now true h = record { some = at_place m.top 1; makes = record { is = refl } }
 origin_leaves false s modes cursor brush sets m now true h = record { some = at_place m.top 1; makes = record { is = refl } }
 origin_leaves true s modes cursor brush sets m now false h = record {
@@ -180,7 +181,7 @@ save_leaves : (s : Display) (modes : Modes) (sets : GraphicSets)
     (margins_of s.grid.size) s.saved.origin) s.saved.g s.saved.gl s.saved.gr)
     ≡ part s modes (saved_cursor s.saved) s.saved.brush
     (record sets { g = s.saved.g; left = s.saved.gl; right = s.saved.gr }) (margins_of s.grid.size) s.saved.origin
-unfolding plain_escape
+unfolding plain_escape_any
 save_leaves s modes sets = refl
 
 -- by the events of its wrap flag, and then some others
@@ -237,7 +238,7 @@ space_leaves size wide s sized place on_blank = go s.saved.wrap refl
     go false e = none_makes (ap shape (sym e))
     go true e =
         let here : blank ≡ cell_at s.grid s.saved.row s.saved.col =
-        rw on_blank (sym (cell_at-grid_of size (width_of size wide) (λ r c. blank) s.saved.row s.saved.col place.row_1
+        rw on_blank (sym (cell_at-grid_of blank size (width_of size wide) (λ r c. blank) s.saved.row s.saved.col place.row_1
         place.row_last place.col_1 place.col_last)) in
         let last : s.saved.col ≡ s.grid.width = rw on_blank (place.wrap_last e) in
         let is : IsGrid s.grid = rw on_blank (IsGrid-grid_of size (width_of size wide) _ sized (wide, refl)) in
@@ -252,7 +253,7 @@ off_leaves : (size : Size) (wide : Bool) (s : Display) (origin : Bool)
       modes = record modes_at_power_up { decom = origin };
     })
     (with_saved size wide s.stops s.saved)
-unfolding display_after sequence_in sequences_of with_mode
+unfolding display_after sequence_in sequences_any with_mode
 off_leaves size wide s true = record { some = at_place 1 1; makes = record { is = refl } }
 off_leaves size wide s false = record { some = saved_cursor s.saved; makes = record { is = refl } }
 
@@ -304,7 +305,7 @@ blank_grid-is wide g w is h =
     ap (λ n. grid_of g.size n (λ r c. blank)) (sym w)
     ∙ grid_of-same g.size g.width (λ r c. blank) (cell_at g)
     (λ r c r1 rn c1 cw. sym (is_blank-is (cell_at g r c) (blank_at g g.size.rows r c h r1 (omega arith) c1 cw)))
-    ∙ grid_of-cell_at g is.cells
+    ∙ grid_of-cell_at blank g is.cells
 
 pub cells_leaves : (wide : Bool) (s : Display) (wrap : Bool) (cursor : Cursor) → s.grid.width ≡ width_of s.grid.size wide → IsGrid s.grid
     → AreGlyphs s.grid → AreSoundSets (saved_sets s.saved)

@@ -46,8 +46,8 @@ marks_more g h marks row new a b same row1 inside is_a is_b long made before r c
         made (c - 1) (omega (arith, long)),
         is_a,
         is_b,
-        get_or-row_of g row c blank c1 (omega (arith, same)),
-        get_or-row_of h row c blank c1 cw,
+        get_or-row_of blank g row c blank c1 (omega (arith, same)),
+        get_or-row_of blank h row c blank c1 cw,
       ) refl
       | inr e ↦ rw (get_or-set_other marks (row - 1) (r - 1) new [] (λ k. e.1 (omega (arith, k))))
           (before r c r1 (omega (arith, e)) c1 cw)
@@ -87,11 +87,11 @@ none_before g h r same zero inside = refl
 none_before g h r same (suc n) inside =
     let more : n + 1 ≡ suc n = omega arith in
     let x = cell_at h r (n + 1) in
-    let wide : g.width ≡ h.width = rw (← length-row_of g r, ← length-row_of h r, same) refl in
+    let wide : g.width ≡ h.width = rw (← length-row_of blank g r, ← length-row_of blank h r, same) refl in
     let is : x ≡ cell_at g r (n + 1) =
-    sym (get_or-row_of h r (n + 1) blank (omega arith) (omega arith))
+    sym (get_or-row_of blank h r (n + 1) blank (omega arith) (omega arith))
     ∙ sym (ap (λ (xs : List Cell). get_or xs (n + 1 - 1) blank) same)
-    ∙ get_or-row_of g r (n + 1) blank (omega arith) (omega (arith, wide)) in
+    ∙ get_or-row_of blank g r (n + 1) blank (omega arith) (omega (arith, wide)) in
     place_more g h r n 0 x x false is refl (sym (ap (λ t. not t) (same_cell-same x)))
     (none_before g h r same n (omega arith))
     ∙ ap (λ k. differing_from g h r 1 k) more
@@ -99,7 +99,7 @@ none_before g h r same (suc n) inside =
 pub none_differ : (g h : Grid) (r : ℕ) (a b : List Cell) → a ≡ b → a ≡ row_of g r → b ≡ row_of h r
     → 0 ≡ differing_from g h r 1 (length b)
 none_differ g h r a b same e f =
-    let len : length b ≡ h.width = rw f (length-row_of h r) in
+    let len : length b ≡ h.width = rw f (length-row_of blank h r) in
     none_before g h r (sym e ∙ same ∙ f) (length b) (omega (arith, len))
 
 -- the count of one row more

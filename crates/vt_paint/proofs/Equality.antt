@@ -9,7 +9,7 @@ use Rattle.vt_screen.specs.declared.cell.Rendition.{Rendition}
 use Rattle.vt_screen.specs.declared.cell.Brush.{Brush}
 use Rattle.vt_screen.specs.declared.cell.Cell.{Cell}
 use Rattle.vt_screen.specs.Cells.{blank, brush_of, cell_of}
-use Rattle.vt_term.specs.declared.state.Saved.{Saved}
+use Rattle.vt_term.specs.State.{Saved}
 use Rattle.vt_screen.specs.Same.{same_bool, same_rendition, same_brush}
 use Rattle.vt_paint.specs.Same.{is_blank, same_set, same_saved}
 use Rattle.vt_paint.specs.Changes.{same_cell}

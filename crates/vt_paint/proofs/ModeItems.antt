@@ -9,10 +9,11 @@ use Rattle.vt_term.specs.declared.state.Modes.{Modes}
 use Rattle.vt_term.specs.Parameters.{first}
 use Rattle.vt_term.specs.State.{Display, modes_at_power_up}
 use Rattle.vt_term.specs.Modes.{with_mode, ansi_modes, private_modes, keypad_mode, report_form}
-use Rattle.vt_term.specs.Functions.{control, plain_escape, escape_with, sequence_in, sequences_of}
+use Rattle.vt_term.specs.Functions.{sequence_in}
 use Rattle.vt_paint.specs.Controls.{ModeRow, mode_rows}
 use Rattle.vt_paint.specs.Items.{mode_item, row_item, modes_item, shift_item}
 use Rattle.vt_paint.proofs.AfterEvents.{display_after, Makes, then_makes, none_makes}
+use Rattle.vt_term.specs.Functions.{control_any, escape_with_any, plain_escape_any, sequences_any}
 
 -- the function that a mode's event asks for, by what it sets or resets
 set_by : Event → Bool → Display → Display
@@ -49,13 +50,13 @@ with x m wrap = record x { modes = m; cursor = record x.cursor { wrap = wrap } }
 
 known_leave : (wrap : Bool) (x : Display) (m : Modes)
     → Leave true m (with x (record modes_at_power_up { decom = m.decom }) wrap) (with x m (wrap && m.decawm)) mode_rows
-unfolding set_by display_after sequence_in sequences_of with_mode plain_escape escape_with
+unfolding set_by display_after sequence_in sequences_any with_mode plain_escape_any escape_with_any
 known_leave true x m = search rules
 known_leave false x m = search rules
 
 any_leave : (wrap : Bool) (x : Display) (k m : Modes)
     → Leave false m (with x (record k { decom = m.decom }) wrap) (with x m (wrap && m.decawm)) mode_rows
-unfolding set_by display_after sequence_in sequences_of with_mode plain_escape escape_with
+unfolding set_by display_after sequence_in sequences_any with_mode plain_escape_any escape_with_any
 any_leave true x k m = search rules
 any_leave false x k m = search rules
 
@@ -78,7 +79,7 @@ modes_leave known x k m h wrap =
 
 pub shift_leaves : (x : Display) (pending : Option ℕ) → ForSome pending (λ slot. (2 ≤ slot) × (slot < 4))
     → x.sets.pending ≡ None → Makes (shift_item pending) x (record x { sets = record x.sets { pending = pending } })
-unfolding display_after shift_item control
+unfolding display_after shift_item control_any
 shift_leaves x None sound e = none_makes (ap (λ p. record x { sets = record x.sets { pending = p } }) e)
 shift_leaves x (Some zero) sound e = absurd (omega (arith, sound zero refl))
 shift_leaves x (Some (suc zero)) sound e = absurd (omega (arith, sound (suc zero) refl))

@@ -19,7 +19,7 @@ use Rattle.vt_glyph.specs.Tables.{IsGlyph}
 use Rattle.vt_glyph.specs.Invocation.{glyph_read, after_read}
 use Rattle.vt_glyph.specs.Spell.{spelling_of, code_of, shifted_for, AreSpellingSets}
 use Rattle.vt_term.specs.Writing.{write_glyph}
-use Rattle.vt_term.specs.Functions.{control, sequence_in, sequences_of, effect}
+use Rattle.vt_term.specs.Functions.{sequence_in, effect}
 use Rattle.vt_paint.specs.Controls.{spelling_events, cursor_position, brush_events, protection_to, rendition_to}
 use Rattle.vt_paint.specs.Pieces.{glyph_events, left_of, needs_header, header, piece_of, piece, pieces}
 use Rattle.std.proofs.lemmas.Bool.{lt-ltb, le-ltb, ne_eqb}
@@ -33,6 +33,7 @@ use Rattle.vt_paint.specs.Changes.{same_cell, differs_at, is_marked, AreMarkedAt
 use Rattle.vt_paint.specs.Controls.{all_attributes}
 use Rattle.vt_paint.specs.Private.ChangeEvents.{has_all, short_brush_events, change_of, change}
 use Rattle.vt_paint.specs.Private.ChangeEvents.{changed_cells}
+use Rattle.vt_term.specs.Functions.{control_any, sequences_any}
 
 -- the place comes before row r, column c
 abbrev is_before : ℕ → ℕ → ℕ → ℕ → Bool
@@ -59,7 +60,7 @@ unfolding painted_cell
 painted_all under g is =
     grid_of-same g.size g.width (painted_cell under g (g.size.rows + 1) 1) (cell_at g)
     (λ i j i1 i24 j1 jw. grind (arith, nat_tests))
-    ∙ grid_of-cell_at g is.cells
+    ∙ grid_of-cell_at blank g is.cells
 
 -- a row is done
 painted_row : (under : ℕ → ℕ → Cell) (g : Grid) (r : ℕ)
@@ -86,7 +87,7 @@ painted_put under g r c =
     (λ i j. cond (eqb i r) (cond (eqb j c) (cell_at g r c) (cell_at (painted under g r c) r j))
     (cell_at (painted under g r c) i j)) (painted_cell under g r (c + 1))
     (λ i j i1 i24 j1 jw.
-    let was = cell_at-grid_of g.size g.width (painted_cell under g r c) i j i1 i24 j1 jw in
+    let was = cell_at-grid_of blank g.size g.width (painted_cell under g r c) i j i1 i24 j1 jw in
     grind (arith, nat_tests, was))
 
 -- a cell that is put again
@@ -95,7 +96,7 @@ put_same g r c is =
     grid_of-same g.size g.width
     (λ i j. cond (eqb i r) (cond (eqb j c) (cell_at g r c) (cell_at g r j)) (cell_at g i j)) (cell_at g)
     (λ i j i1 i24 j1 jw. grind (arith, nat_tests))
-    ∙ grid_of-cell_at g is.cells
+    ∙ grid_of-cell_at blank g is.cells
 
 abbrev pub shown : Display → Grid → Cursor → Brush → Display
 shown base g cursor brush = record base { grid = g; cursor = cursor; brush = brush }
@@ -159,7 +160,7 @@ spelled_leaves : (x : Display) (spelling : Spelling) (n : ℕ)
     → glyph_read (shifted_for spelling x.sets) (code_of spelling) ≡ Some n
     → after_read (shifted_for spelling x.sets) (code_of spelling) ≡ x.sets
     → display_after x (spelling_events spelling) ≡ write_glyph n x
-unfolding display_after control
+unfolding display_after control_any
 spelled_leaves x (Plain code) n reads leaves = rw (reads, leaves) refl
 spelled_leaves x (Second code) n reads leaves = rw (reads, leaves) refl
 spelled_leaves x (Third code) n reads leaves = rw (reads, leaves) refl
@@ -195,7 +196,7 @@ IsPainted base g r c x = IsWritten (AreAt g) base all_blank g r c x
 pub cursor_leaves : (x : Display) (line r c : ℕ) → 1 ≤ c → c ≤ x.grid.width
     → cond x.modes.decom (min (x.margins.top + max line 1 - 1) x.margins.bottom) (min (max line 1) x.grid.size.rows) ≡ r
     → effect (cursor_position line c) x ≡ record x { cursor = at_place r c }
-unfolding sequence_in sequences_of
+unfolding sequence_in sequences_any
 cursor_leaves x line r c c1 cw row =
     let col : min (max c 1) x.grid.width ≡ c = omega arith in
     rw (row, col) refl
@@ -331,12 +332,12 @@ pieces_leaves base g x cursor brush ready is are start =
 with_protection_leaves : (x : Display) (r : Rendition) (p : Bool)
     → display_after (record x { brush = record x.brush { rendition = r } }) (protection_to p ∷ [])
     ≡ record x { brush = record { rendition = r; protected = p } }
-unfolding display_after sequence_in sequences_of
+unfolding display_after sequence_in sequences_any
 with_protection_leaves x r true = refl
 with_protection_leaves x r false = refl
 
 short_brush_leaves : (x : Display) (brush : Brush) → Makes (short_brush_events brush) x (record x { brush = brush })
-unfolding display_after short_brush_events brush_events sequence_in sequences_of with_attribute
+unfolding display_after short_brush_events brush_events sequence_in sequences_any with_attribute
 short_brush_leaves x brush = go (has_all brush.rendition) refl
   where
     full : Rendition
@@ -402,6 +403,6 @@ changed_cells_leaves marks base b g cursor brush ready is_b is_g size same are m
     grid_leaves anywhere base (cell_at b) g (λ r c. change marks g r c)
     (λ r c x r1 r24 c1 cw w. change_leaves marks base b g r c x ready are marked r1 r24 c1 cw w)
     (λ r cursor brush. tt) (shown base b cursor brush) cursor brush is_g
-    (ap (λ y. shown base y cursor brush) (sym (grid_of-cell_at b is_b.cells)
+    (ap (λ y. shown base y cursor brush) (sym (grid_of-cell_at blank b is_b.cells)
     ∙ ap (λ z. grid_of z b.width (cell_at b)) size
     ∙ ap (λ n. grid_of g.size n (cell_at b)) same ∙ painted_none (cell_at b) g))

@@ -50,7 +50,7 @@ pub cell-is : (g : Grid) (r i : ℕ) (cells : List Cell) (x : Cell) → cells �
 cell-is g r i cells x h l is =
     let back : i ≡ i + 1 - 1 = omega arith in
     is ∙ ap (λ xs. get_or xs i x) h ∙ ap (λ n. get_or (row_of g r) n x) back
-    ∙ get_or-row_of g r (i + 1) x (omega arith) (omega (arith, length-row_of g r, ap length h))
+    ∙ get_or-row_of blank g r (i + 1) x (omega arith) (omega (arith, length-row_of blank g r, ap length h))
 
 -- ---- one item after another
 
@@ -174,8 +174,8 @@ shown-more g w before after n r k e next h l =
 row_passes : (p : Cell → Bool) (g : Grid) (r c : ℕ) → list_all p (row_of g r) ≡ true → 1 ≤ c → c ≤ g.width
     → p (cell_at g r c) ≡ true
 row_passes p g r c h c1 cw =
-    rw (← get_or-row_of g r c blank c1 cw)
-    (AllPass-from_list_all p (row_of g r) h (c - 1) blank (omega (arith, length-row_of g r)))
+    rw (← get_or-row_of blank g r c blank c1 cw)
+    (AllPass-from_list_all p (row_of g r) h (c - 1) blank (omega (arith, length-row_of blank g r)))
 
 pub blank_at : (g : Grid) (n i j : ℕ) → are_blank g n ≡ true → 1 ≤ i → i < 1 + n → 1 ≤ j → j ≤ g.width
     → is_blank (cell_at g i j) ≡ true

@@ -20,13 +20,14 @@ use Rattle.vt_term.specs.declared.state.Cursor.{Cursor}
 use Rattle.vt_term.specs.State.{Display, at_place, stops_of, is_stop_at_power_up, display_of}
 use Rattle.vt_term.specs.Tabs.{no_stops}
 use Rattle.vt_term.specs.Modes.{with_mode}
-use Rattle.vt_term.specs.Functions.{control, plain_escape, sequence_in, sequences_of}
+use Rattle.vt_term.specs.Functions.{sequence_in}
 use Rattle.vt_screen.specs.Same.{same_bool, when}
 use Rattle.vt_paint.specs.Controls.{private_mode, reset_to_initial_state, cursor_position, clear_all_tabs, set_tab}
 use Rattle.vt_paint.specs.Items.{stop_events, is_wide, width_events, made_stops, stops_item}
 use Rattle.vt_paint.specs.Private.Parts.{stops_from}
 use Rattle.vt_paint.proofs.AfterEvents.{display_after, Makes, MakesSome, then_makes, none_makes, range_leaves}
 use Rattle.vt_paint.proofs.Equality.{same_bool-decides}
+use Rattle.vt_term.specs.Functions.{control_any, plain_escape_any, sequences_any}
 
 -- power-up of a size with this width, these stops and this cursor
 abbrev pub with_stops : Size → Bool → List Bool → Cursor → Display
@@ -85,7 +86,7 @@ record IsMade (size : Size) (stops : List Bool) (c : ℕ) (x : Display) : Type 0
 set_tab_leaves : (size : Size) (made : List Bool) (cursor : Cursor) (c : ℕ) → 1 ≤ size.rows → 1 ≤ c → c ≤ size.wide
     → display_after (with_stops size true made cursor) (cursor_position 1 c ∷ set_tab ∷ [])
     ≡ with_stops size true (set made (c - 1) true) (at_place 1 c)
-unfolding display_after sequence_in sequences_of control
+unfolding display_after sequence_in sequences_any control_any
 set_tab_leaves size made cursor c r1 c1 cw =
     let row : min 1 size.rows ≡ 1 = omega arith in
     let col : min (max c 1) size.wide ≡ c = omega arith in
@@ -119,7 +120,7 @@ one_width size a b same = ap (λ w. grid_of size w (λ r c. blank)) (go a ∙ sy
 -- DECCOLM, if it changes the width, selects a width
 width_leaves : (size : Size) (from to : Bool) (stops : List Bool) (cursor : Cursor) → IsSize size
     → MakesSome (width_events size to) (with_stops size from stops cursor) (with_stops size to stops)
-unfolding display_after sequence_in sequences_of with_mode
+unfolding display_after sequence_in sequences_any with_mode
 width_leaves size from to stops cursor sized = go (eqb size.narrow size.wide) refl to
   where
     go : (same : Bool) → eqb size.narrow size.wide ≡ same → (to : Bool)
@@ -175,13 +176,13 @@ wide_leaves size false sized = go (eqb size.narrow size.wide) refl
     go false e = record { some = at_place 1 1; makes = none_makes refl }
 
 pub reset_leaves : (t : Display) → Makes (reset_to_initial_state ∷ []) t (display_of t.grid.size)
-unfolding display_after plain_escape
+unfolding display_after plain_escape_any
 reset_leaves t = record { is = refl }
 
 -- the wide screen, without stops
 start : (size : Size) (stops : List Bool) (cursor : Cursor)
     → IsMade size stops 1 (display_after (with_stops size true (stops_of size.wide) cursor) (clear_all_tabs ∷ []))
-unfolding display_after sequence_in sequences_of with_mode stops_of
+unfolding display_after sequence_in sequences_any with_mode stops_of
 start size stops cursor = record {
   made = no_stops size.wide;
   cursor = cursor;

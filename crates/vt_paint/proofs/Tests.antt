@@ -16,6 +16,7 @@ use Rattle.vt_screen.specs.declared.cell.Brush.{Brush}
 use Rattle.vt_term.specs.State.{Display}
 use Rattle.vt_term.specs.Parameters.{first}
 use Rattle.vt_term.specs.Reports.{report}
+use Rattle.vt_term.specs.Rendition.{vt220_kind}
 use Rattle.vt_term.proofs.Silent.{silent-control, silent-sequence}
 use Rattle.vt_paint.specs.Spoken.{Element, is_spoken}
 use Rattle.vt_paint.specs.Spoken as spoken
@@ -120,11 +121,11 @@ event_is (Sequence marker params inter last) h =
 
 is_silent : (e : Event) → is_event e ≡ true → (s : Display) → report e s ≡ []
 is_silent (Print b) h s = refl
-is_silent (Control b) h s = silent-control b s (not_true (eqb b 0x9A) (and_parts (not (eqb b 0x9A)) _ h).0)
+is_silent (Control b) h s = silent-control vt220_kind b s (not_true (eqb b 0x9A) (and_parts (not (eqb b 0x9A)) _ h).0)
 is_silent (Escape i last) h s = refl
 is_silent (Sequence marker params inter last) h s =
     let part = AllPass-from_list_all (λ t. t) (parts marker params.items inter last) h in
-    silent-sequence marker inter last (first params.items) s (not_true _ (part 3 true (omega arith)))
+    silent-sequence vt220_kind marker inter last (first params.items) s (not_true _ (part 3 true (omega arith)))
     (not_true _ (part 4 true (omega arith)))
 
 -- an event, spelled, as an element

@@ -14,7 +14,7 @@ use Rattle.vt_term.specs.Sound.{IsSoundDisplayAt, IsSoundSizedDisplay, IsPlace, 
 use Rattle.vt_term.proofs.SizeKept.{own-display}
 use Rattle.vt_term.specs.Resets.{soft_reset}
 use Rattle.vt_term.specs.Modes.{with_mode}
-use Rattle.vt_term.specs.Functions.{sequence_in, sequences_of}
+use Rattle.vt_term.specs.Functions.{sequence_in}
 use Rattle.vt_paint.specs.Changes.{AreChangesAt, differing_at}
 use Rattle.vt_paint.specs.Private.ChangeEvents.{changed_cells, start_item, saved_cursor, record_item, change_events}
 use Rattle.vt_paint.proofs.AfterEvents.{display_after, Makes, then_makes, none_makes, display_after-after_events}
@@ -43,6 +43,7 @@ use Rattle.vt_paint.specs.Spoken.{Speaks}
 use Rattle.vt_paint.proofs.Speech.{speaks-ascii}
 use Rattle.vt_paint.proofs.Within.{AreSpelledWithin, sound_glyphs, repaint_events, repaint_within, changes_within}
 use Rattle.vt_paint.proofs.Stops.{with_stops, reset_leaves, stops_leaves}
+use Rattle.vt_term.specs.Functions.{sequences_any}
 
 -- the modes after the first item: those that DECSTR leaves, with DECAWM set
 start_modes : Modes → Modes
@@ -59,7 +60,7 @@ started t = record t {
 }
 
 start_leaves : (t : Display) → Makes start_item t (started t)
-unfolding display_after start_item sequence_in sequences_of with_mode start_modes
+unfolding display_after start_item sequence_in sequences_any with_mode start_modes
 start_leaves t = record { is = refl }
 
 changes_leaves : (marks : List (List Bool)) (s t : Display) → IsSoundSizedDisplay s → IsSoundSizedDisplay t → AreGlyphs s.grid

@@ -57,12 +57,12 @@ use Rattle.vt_paint.specs.Items.{shift_item, first_items, placed_items, last_ite
 use Rattle.vt_glyph.specs.declared.glyph.Spelling.TheVariants.{Plain, Second, Third}
 use Rattle.vt_screen.specs.declared.cell.Brush.{Brush}
 use Rattle.vt_screen.specs.declared.cell.Cell.{Cell}
-use Rattle.vt_screen.specs.Cells.{brush_of}
+use Rattle.vt_screen.specs.Cells.{blank, brush_of}
 use Rattle.vt_screen.specs.Grid.{Grid, IsGrid, cell_at}
 use Rattle.vt_screen.specs.Same.{same_bool, when}
 use Rattle.vt_term.specs.declared.state.Cursor.{Cursor}
 use Rattle.vt_term.specs.declared.state.Modes.{Modes}
-use Rattle.vt_term.specs.declared.state.Saved.{Saved}
+use Rattle.vt_term.specs.State.{Saved}
 use Rattle.vt_term.specs.Functions.{effect}
 use Rattle.vt_term.specs.Sound.{IsSoundSizedDisplay}
 use Rattle.vt_term.specs.Answers.{line_of_cursor}
@@ -336,7 +336,7 @@ width_small g is = (width-bounds g.size g.width is.size is.width).1
 -- each place of a sound grid has a glyph
 pub sound_glyphs : (s : Display) → IsSoundSizedDisplay s → AreGlyphs s.grid
 sound_glyphs s i r c =
-    test-at (λ cell. is_glyph cell.glyph) s.grid r c space_is_glyph i.grid.glyphs
+    test-at blank (λ cell. is_glyph cell.glyph) s.grid r c space_is_glyph i.grid.glyphs
 
 glyph_within : (cell : Cell) → IsGlyph cell.glyph → AreSpelledWithin 3 (glyph_events cell)
 unfolding glyph_events

@@ -12,7 +12,7 @@ use Rattle.vt_screen.specs.Grid.{Grid, cell_at}
 use Rattle.vt_term.specs.declared.state.Cursor.{Cursor}
 use Rattle.vt_term.specs.declared.state.Margins.{Margins}
 use Rattle.vt_term.specs.declared.state.Modes.{Modes}
-use Rattle.vt_term.specs.declared.state.Saved.{Saved}
+use Rattle.vt_term.specs.State.{Saved}
 use Rattle.vt_term.specs.State.{Display, bottom_row, last_column, has_stop_at, stops_of, saved_sets, saved_at_power_up}
 use Rattle.vt_term.specs.State.{modes_at_power_up}
 use Rattle.vt_term.specs.Answers.{line_of_cursor}

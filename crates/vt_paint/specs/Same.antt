@@ -6,7 +6,7 @@ use Rattle.vt_glyph.specs.Designation.{final_of}
 use Rattle.vt_screen.specs.declared.cell.Cell.{Cell}
 use Rattle.vt_screen.specs.Cells.{blank, brush_of}
 use Rattle.vt_screen.specs.Same.{same_bool, same_brush}
-use Rattle.vt_term.specs.declared.state.Saved.{Saved}
+use Rattle.vt_term.specs.State.{Saved}
 
 abbrev pub is_blank : Cell → Bool
 is_blank cell = cell.glyph == blank.glyph && same_brush (brush_of cell) (brush_of blank)

@@ -27,10 +27,10 @@ use Rattle.vt_picture.proofs.Window.{Leads, leads-then, leads-one, all_after-app
 shown-length : (s : State) (r : ℕ) → length ((shown s).cells r) ≡ s.display.grid.width
 shown-length s r =
     length-map (row_of s.display.grid r) (λ (c : Cell). shown_cell s.display.modes.decscnm c)
-    ∙ length-row_of s.display.grid r
+    ∙ length-row_of blank s.display.grid r
 
 erased-length : (s : State) (r : ℕ) → length ((erased s).cells r) ≡ s.display.grid.width
-erased-length s r = length-map (row_of s.display.grid r) (λ (c : Cell). blank) ∙ length-row_of s.display.grid r
+erased-length s r = length-map (row_of s.display.grid r) (λ (c : Cell). blank) ∙ length-row_of blank s.display.grid r
 
 -- ---- the erase
 

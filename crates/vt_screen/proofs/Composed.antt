@@ -1,5 +1,5 @@
--- Maps of maps: runs and areas; and tests that each cell passes.
-use Rattle.std.proofs.Common.{◌≡◌, ◌≢◌, inl, inr, Bool, true, false, ◌&&◌, ◌||◌, ◌==◌, if◌then◌else◌, ℕ, ◌+◌, ◌-◌, ◌*◌}
+-- Maps of maps: runs; and tests that each cell passes.
+use Rattle.std.proofs.Common.{◌≡◌, ◌≢◌, inl, inr, Bool, ◌&&◌, ◌==◌, if◌then◌else◌, ℕ, ◌+◌, ◌-◌, ◌*◌}
 use Rattle.std.proofs.Common.{◌/◌, ◌%◌, ◌≤◌, ◌<◌, ◌++◌, List, [], ◌∷◌, length, get_or, IsTrue, arith, refl, sym, ap}
 use Rattle.std.proofs.Common.{◌∙◌, length-append}
 use Rattle.std.proofs.lemmas.Bool.Decides.{eqb_tells}
@@ -10,12 +10,12 @@ use Rattle.std.proofs.lemmas.List.FromFn.{get_or-map-range_with_len, length-map-
 use Rattle.std.proofs.Math.ListN.{get_or-append}
 use Rattle.std.proofs.Math.Nat.{mod-lt, div-lt_iff_lt-mul}
 use Rattle.std.proofs.Math.Dec.{leb, ltb}
+use Rattle.vt_screen.specs.Grid.{GridOf, at_or}
 use Rattle.vt_screen.proofs.Places.{grid_of-same, grid_of-cell_at, cell_at-grid_of, columns-any}
 use Rattle.vt_screen.proofs.Maps.{among-before}
 use Rattle.vt_screen.specs.declared.cell.Cell.{Cell}
-use Rattle.vt_screen.specs.Cells.{blank, erased, selectively_erased, cell_like}
+use Rattle.vt_screen.specs.Cells.{cell_like}
 use Rattle.vt_screen.specs.Grid.{Grid, IsGrid, AllCells, grid_of, cells_of, cell_at, with_row, put, put_run}
-use Rattle.vt_screen.specs.Grid.{erase_area}
 use Rattle.vt_screen.specs.declared.size.Size.{Size}
 
 -- ---- grids
@@ -23,23 +23,23 @@ use Rattle.vt_screen.specs.declared.size.Size.{Size}
 pub grids-same : (g h : Grid) → IsGrid g → IsGrid h → g.size ≡ h.size → g.width ≡ h.width
     → ((r c : ℕ) → 1 ≤ r → r ≤ g.size.rows → 1 ≤ c → c ≤ g.width → cell_at g r c ≡ cell_at h r c) → g ≡ h
 grids-same g h is_g is_h sizes wide same =
-    sym (grid_of-cell_at g is_g.cells)
+    sym (grid_of-cell_at _ g is_g.cells)
     ∙ grid_of-same g.size g.width (cell_at g) (cell_at h) same
     ∙ ap (λ w. grid_of g.size w (cell_at h)) wide
     ∙ ap (λ s. grid_of s h.width (cell_at h)) sizes
-    ∙ grid_of-cell_at h is_h.cells
+    ∙ grid_of-cell_at _ h is_h.cells
 
 -- the row that a formula gives, and the others
 cell_at-with_row : (g : Grid) (row : ℕ) (f : ℕ → Cell) (c : ℕ) → 1 ≤ row → row ≤ g.size.rows → 1 ≤ c → c ≤ g.width
     → cell_at (with_row g row f) row c ≡ f c
 cell_at-with_row g row f c row1 row24 c1 cw =
-    cell_at-grid_of g.size g.width (λ r c. if r == row then f c else cell_at g r c) row c row1 row24 c1 cw
+    cell_at-grid_of _ g.size g.width (λ r c. if r == row then f c else cell_at g r c) row c row1 row24 c1 cw
     ∙ elim (eqb_tells row row) [ inl e ↦ rw e.0 refl | inr e ↦ absurd (e.1 refl) ]
 
 cell_at-other_row : (g : Grid) (row : ℕ) (f : ℕ → Cell) (r c : ℕ) → 1 ≤ r → r ≤ g.size.rows → 1 ≤ c → c ≤ g.width
     → r ≢ row → cell_at (with_row g row f) r c ≡ cell_at g r c
 cell_at-other_row g row f r c r1 r24 c1 cw other =
-    cell_at-grid_of g.size g.width (λ r c. if r == row then f c else cell_at g r c) r c r1 r24 c1 cw
+    cell_at-grid_of _ g.size g.width (λ r c. if r == row then f c else cell_at g r c) r c r1 r24 c1 cw
     ∙ elim (eqb_tells r row) [ inl e ↦ absurd (other e.1) | inr e ↦ rw e.0 refl ]
 
 -- ---- runs
@@ -53,7 +53,7 @@ run-none g row col like is_grid =
       ]
       | inr e ↦ rw e.0 refl
     ])
-    ∙ grid_of-cell_at g is_grid.cells
+    ∙ grid_of-cell_at _ g is_grid.cells
 
 pub run-one : (g : Grid) (row col code : ℕ) (like : Cell)
     → put_run g row col (code ∷ []) like ≡ put g row col (cell_like like code)
@@ -122,56 +122,21 @@ run-append g row col a b like =
       | inr e ↦ rw e.0 (sym (cell_at-other_row g row first r c r1 r24 c1 cw e.1))
     ])
 
--- ---- areas
-
-pub area-none : (g : Grid) (selective : Bool) → IsGrid g → erase_area g (λ r c. false) selective ≡ g
-area-none g selective is_grid = grid_of-cell_at g is_grid.cells
-
-pub area-same : (g : Grid) (a b : ℕ → ℕ → Bool) (selective : Bool)
-    → ((r c : ℕ) → 1 ≤ r → r ≤ g.size.rows → 1 ≤ c → c ≤ g.width → a r c ≡ b r c)
-    → erase_area g a selective ≡ erase_area g b selective
-area-same g a b selective same = grid_of-same g.size g.width _ _ (λ r c r1 r24 c1 cw. rw (same r c r1 r24 c1 cw) refl)
-
--- what is erased stays so when it is erased again
-erased-erased : (selective : Bool) (cell : Cell) → erased selective (erased selective cell) ≡ erased selective cell
-erased-erased false cell = refl
-erased-erased true cell = go cell.protected refl
-  where
-    go : (p : Bool) → cell.protected ≡ p → selectively_erased (selectively_erased cell) ≡ selectively_erased cell
-    go true h = rw h refl
-    go false h = rw h refl
-
-erased-both : (x y selective : Bool) (cell : Cell)
-    → (if y then erased selective (if x then erased selective cell else cell) else
-    (if x then erased selective cell else cell))
-    ≡ (if x || y then erased selective cell else cell)
-erased-both true true selective cell = erased-erased selective cell
-erased-both true false selective cell = refl
-erased-both false true selective cell = refl
-erased-both false false selective cell = refl
-
-pub area-both : (g : Grid) (a b : ℕ → ℕ → Bool) (selective : Bool)
-    → erase_area (erase_area g a selective) b selective ≡ erase_area g (λ r c. a r c || b r c) selective
-area-both g a b selective = grid_of-same g.size g.width _ _ (λ r c r1 r24 c1 cw.
-    let here = cell_at-grid_of g.size g.width (λ r c. if a r c then erased selective (cell_at g r c) else cell_at g r c) r c
-    r1 r24 c1 cw in
-    ap (λ x. if b r c then erased selective x else x) here ∙ erased-both (a r c) (b r c) selective (cell_at g r c))
-
 -- ---- tests
 
-pub test-at : (test : Cell → Bool) (g : Grid) (r c : ℕ) → IsTrue (test blank) → AllCells test g
-    → IsTrue (test (cell_at g r c))
-unfolding cell_at
-test-at test g r c on_blank all = elim (cases_lt ((r - 1) * g.width + (c - 1)) (length g.cells)) [
-  | inl l ↦ All-get_or (λ cell. IsTrue (test cell)) g.cells ((r - 1) * g.width + (c - 1)) blank l all
-  | inr l ↦ rw (get_or_past g.cells ((r - 1) * g.width + (c - 1)) blank l) on_blank
+pub test-at : {C : Type 0} (z : C) (test : C → Bool) (g : GridOf C) (r c : ℕ) → IsTrue (test z) → AllCells test g
+    → IsTrue (test (at_or z g r c))
+unfolding at_or
+test-at {C = C} z test g r c on_blank all = elim (cases_lt ((r - 1) * g.width + (c - 1)) (length g.cells)) [
+  | inl l ↦ All-get_or (λ cell. IsTrue (test cell)) g.cells ((r - 1) * g.width + (c - 1)) z l all
+  | inr l ↦ rw (get_or_past g.cells ((r - 1) * g.width + (c - 1)) z l) on_blank
 ]
 
-pub test-formula : (test : Cell → Bool) (s : Size) (w : ℕ) (f : ℕ → ℕ → Cell)
+pub test-formula : {C : Type 0} (test : C → Bool) (s : Size) (w : ℕ) (f : ℕ → ℕ → C)
     → ((r c : ℕ) → 1 ≤ r → r ≤ s.rows → 1 ≤ c → c ≤ w → IsTrue (test (f r c))) → AllCells test (grid_of s w f)
 unfolding cells_of
-test-formula test s w f each = λ k d within.
-    let F : ℕ → Cell = λ k. f (k / w + 1) (k % w + 1) in
+test-formula {C = C} test s w f each = λ k d within.
+    let F : ℕ → C = λ k. f (k / w + 1) (k % w + 1) in
     let low : k < s.rows * w = omega (arith, length-map-range_with_len F 0 (s.rows * w)) in
     let wide : 0 < w = columns-any s.rows w k low in
     let row : k / w < s.rows = (div-lt_iff_lt-mul wide).1 low in

@@ -8,4 +8,6 @@ pub mod Composed
 pub mod Areas
 pub mod Steps
 pub mod SoundGrids
+pub mod Spans
 pub mod OtherSize
+pub mod Vt220Grids

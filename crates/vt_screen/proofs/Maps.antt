@@ -1,6 +1,6 @@
 -- The grid that each edit makes. `o` is the table of row numbers, `xs` the cells before, `ys` what is written
 -- over a part of them.
-use Rattle.std.proofs.Common.{◌≡◌, ◌≢◌, ◌⊎◌, inl, inr, Bool, true, false, ◌&&◌, if◌then◌else◌, ℕ, suc, ◌+◌, ◌-◌, ◌≤◌}
+use Rattle.std.proofs.Common.{◌≡◌, ◌≢◌, ◌⊎◌, inl, inr, true, false, ◌&&◌, if◌then◌else◌, ℕ, suc, ◌+◌, ◌-◌, ◌≤◌}
 use Rattle.std.proofs.Common.{◌<◌, List, length, get_or, min, set, arith, refl, sym, ap, ◌∙◌, get_or-set_same}
 use Rattle.std.proofs.Common.{get_or-set_other, replicate}
 use Rattle.std.proofs.lemmas.List.{with_items_is, get_or-replicate, get_or_past, length-replicate}
@@ -10,163 +10,164 @@ use Rattle.std.proofs.Math.Dec.{leb, ltb}
 use Rattle.std.specs.Vec.{with_items}
 use Rattle.std.specs.Global.{Vec}
 use borrow.Rule.Slice.PartMut.{put_mid, mid_of, same_len_mid}
+use Rattle.vt_screen.specs.Grid.{GridOf, at_or, row_any, put_any, put_inserting_any, insert_any, delete_any, changed_any, scroll_up_any, scroll_down_any, row_from_any, columns_of}
 use Rattle.vt_screen.proofs.Lists.{before-put_mid, within-put_mid, after-put_mid, get_or-mid_of, length-mid_of}
 use Rattle.vt_screen.proofs.Places.{grid_of-same, cell_at-grid_of}
 use Rattle.vt_screen.proofs.Orders.{start-below, start-apart}
 use Rattle.vt_screen.proofs.Rows.{row-written}
 use Rattle.vt_screen.specs.declared.cell.Cell.{Cell}
-use Rattle.vt_screen.specs.Cells.{blank, erased, cell_like}
-use Rattle.vt_screen.specs.Order.{Order, IsOrder, start_of, stored}
+use Rattle.vt_screen.specs.Cells.{blank, cell_like}
+use Rattle.vt_screen.specs.Order.{Order, IsOrder, start_of, stored, stored_or}
 use Rattle.vt_screen.specs.Sizes.{stride, room}
-use Rattle.vt_screen.specs.Grid.{Grid, grid_of, cell_at, with_row, put, put_inserting, put_run, erase, insert_cells}
-use Rattle.vt_screen.specs.Grid.{delete_cells, scroll_up, scroll_down, is_within, row_from}
+use Rattle.vt_screen.specs.Grid.{grid_of, put_run}
+use Rattle.vt_screen.specs.Grid.{is_within}
 
 -- a cell of the row before
-before : (o : Order) (xs : List Cell) (w row c : ℕ) → 1 ≤ row → row ≤ o.size.rows → 1 ≤ c → c ≤ w
-    → get_or xs (start_of o row + (c - 1)) blank ≡ cell_at (grid_of o.size w (stored o xs)) row c
-before o xs w row c row1 row24 c1 cw = sym (cell_at-grid_of o.size w (stored o xs) row c row1 row24 c1 cw)
+before : {C : Type 0} (z : C) (o : Order) (xs : List C) (w row c : ℕ) → 1 ≤ row → row ≤ o.size.rows → 1 ≤ c → c ≤ w
+    → get_or xs (start_of o row + (c - 1)) z ≡ at_or z (grid_of o.size w (stored_or z o xs)) row c
+before {C = C} z o xs w row c row1 row24 c1 cw = sym (cell_at-grid_of z o.size w (stored_or z o xs) row c row1 row24 c1 cw)
 
 -- the same, read in a part of the row
-mid-before : (o : Order) (xs : List Cell) (w row at a k i c : ℕ) → 1 ≤ row → row ≤ o.size.rows → at ≡ start_of o row + a
+mid-before : {C : Type 0} (z : C) (o : Order) (xs : List C) (w row at a k i c : ℕ) → 1 ≤ row → row ≤ o.size.rows → at ≡ start_of o row + a
     → c ≡ a + i + 1 → i < k → c ≤ w
-    → get_or (mid_of at k xs) i blank ≡ cell_at (grid_of o.size w (stored o xs)) row c
-mid-before o xs w row at a k i c row1 row24 here is low cw =
+    → get_or (mid_of at k xs) i z ≡ at_or z (grid_of o.size w (stored_or z o xs)) row c
+mid-before {C = C} z o xs w row at a k i c row1 row24 here is low cw =
     let place : at + i ≡ start_of o row + (c - 1) = omega arith in
-    get_or-mid_of at k xs i blank low ∙ ap (λ x. get_or xs x blank) place
-    ∙ before o xs w row c row1 row24 (omega arith) cw
+    get_or-mid_of at k xs i z low ∙ ap (λ x. get_or xs x z) place
+    ∙ before z o xs w row c row1 row24 (omega arith) cw
 
 -- a part of a row is written over, and the rest of the row stays
-part-written : (o : Order) (xs ys : List Cell) (w row at a k : ℕ) (f : ℕ → Cell) → IsOrder o → length xs ≡ room o.size
+part-written : {C : Type 0} (z : C) (o : Order) (xs ys : List C) (w row at a k : ℕ) (f : ℕ → C) → IsOrder o → length xs ≡ room o.size
     → 1 ≤ row → row ≤ o.size.rows → w ≤ stride o.size
     → at ≡ start_of o row + a → a + k ≤ w → length ys ≡ k
-    → ((i c : ℕ) → c ≡ a + i + 1 → i < k → get_or ys i blank ≡ f c)
-    → ((c : ℕ) → 1 ≤ c → c ≤ w → (c ≤ a) ⊎ (a + k < c) → cell_at (grid_of o.size w (stored o xs)) row c ≡ f c)
-    → grid_of o.size w (stored o (put_mid at k xs ys)) ≡ with_row (grid_of o.size w (stored o xs)) row f
-part-written o xs ys w row at a k f order long row1 row24 narrow here fits len inside outside =
+    → ((i c : ℕ) → c ≡ a + i + 1 → i < k → get_or ys i z ≡ f c)
+    → ((c : ℕ) → 1 ≤ c → c ≤ w → (c ≤ a) ⊎ (a + k < c) → at_or z (grid_of o.size w (stored_or z o xs)) row c ≡ f c)
+    → grid_of o.size w (stored_or z o (put_mid at k xs ys)) ≡ row_any z (grid_of o.size w (stored_or z o xs)) row f
+part-written {C = C} z o xs ys w row at a k f order long row1 row24 narrow here fits len inside outside =
     let below = start-below o order row row1 row24 in
     let within : at ≤ length xs = omega arith in
-    row-written o xs (put_mid at k xs ys) w row f order row1 row24 narrow
+    row-written z o xs (put_mid at k xs ys) w row f order row1 row24 narrow
     (λ c c1 cw. elim (leb_tells c a) [
       | inl t ↦
-          before-put_mid at k xs ys (start_of o row + (c - 1)) blank within (omega arith)
-          ∙ before o xs w row c row1 row24 c1 cw ∙ outside c c1 cw (inl t.1)
+          before-put_mid at k xs ys (start_of o row + (c - 1)) z within (omega arith)
+          ∙ before z o xs w row c row1 row24 c1 cw ∙ outside c c1 cw (inl t.1)
       | inr t ↦ elim (leb_tells c (a + k)) [
         | inl u ↦
-            within-put_mid at k xs ys (start_of o row + (c - 1)) blank within len (omega arith) (omega arith)
+            within-put_mid at k xs ys (start_of o row + (c - 1)) z within len (omega arith) (omega arith)
             ∙ inside (start_of o row + (c - 1) - at) c (omega arith) (omega arith)
         | inr u ↦
-            after-put_mid at k xs ys (start_of o row + (c - 1)) blank within len (omega arith)
-            ∙ before o xs w row c row1 row24 c1 cw ∙ outside c c1 cw (inr u.1)
+            after-put_mid at k xs ys (start_of o row + (c - 1)) z within len (omega arith)
+            ∙ before z o xs w row c row1 row24 c1 cw ∙ outside c c1 cw (inr u.1)
       ]
     ])
     (λ i h. elim h [
-      | inl l ↦ before-put_mid at k xs ys i blank within (omega arith)
-      | inr l ↦ after-put_mid at k xs ys i blank within len (omega arith)
+      | inl l ↦ before-put_mid at k xs ys i z within (omega arith)
+      | inr l ↦ after-put_mid at k xs ys i z within len (omega arith)
     ])
 
 -- a whole row is written over
-row-rewritten : (o : Order) (xs ys : List Cell) (w row at k : ℕ) (f : ℕ → Cell) → IsOrder o → length xs ≡ room o.size
+row-rewritten : {C : Type 0} (z : C) (o : Order) (xs ys : List C) (w row at k : ℕ) (f : ℕ → C) → IsOrder o → length xs ≡ room o.size
     → 1 ≤ row → row ≤ o.size.rows → w ≤ stride o.size
     → at ≡ start_of o row → k ≡ w → length ys ≡ k
-    → ((i c : ℕ) → c ≡ i + 1 → i < k → get_or ys i blank ≡ f c)
-    → grid_of o.size w (stored o (put_mid at k xs ys)) ≡ with_row (grid_of o.size w (stored o xs)) row f
-row-rewritten o xs ys w row at k f order long row1 row24 narrow here wide len inside =
-    part-written o xs ys w row at 0 k f order long row1 row24 narrow (omega arith) (omega arith) len
+    → ((i c : ℕ) → c ≡ i + 1 → i < k → get_or ys i z ≡ f c)
+    → grid_of o.size w (stored_or z o (put_mid at k xs ys)) ≡ row_any z (grid_of o.size w (stored_or z o xs)) row f
+row-rewritten {C = C} z o xs ys w row at k f order long row1 row24 narrow here wide len inside =
+    part-written z o xs ys w row at 0 k f order long row1 row24 narrow (omega arith) (omega arith) len
     (λ i c is low. inside i c (omega arith) low)
     (λ c c1 cw out. absurd (elim out [ inl l ↦ omega arith | inr l ↦ omega arith ]))
 
-pub put-row : (o : Order) (xs : List Cell) (w row col at : ℕ) (cell : Cell) → IsOrder o → length xs ≡ room o.size → 1 ≤ row
+pub put-row : {C : Type 0} (z : C) (o : Order) (xs : List C) (w row col at : ℕ) (cell : C) → IsOrder o → length xs ≡ room o.size → 1 ≤ row
     → row ≤ o.size.rows → w ≤ stride o.size
     → 1 ≤ col → col ≤ w → at ≡ start_of o row + col - 1
-    → grid_of o.size w (stored o (set xs at cell)) ≡ put (grid_of o.size w (stored o xs)) row col cell
-put-row o xs w row col at cell order long row1 row24 narrow col1 colw here =
+    → grid_of o.size w (stored_or z o (set xs at cell)) ≡ put_any z (grid_of o.size w (stored_or z o xs)) row col cell
+put-row {C = C} z o xs w row col at cell order long row1 row24 narrow col1 colw here =
     let below = start-below o order row row1 row24 in
-    row-written o xs (set xs at cell) w row _ order row1 row24 narrow
+    row-written z o xs (set xs at cell) w row _ order row1 row24 narrow
     (λ c c1 cw. elim (eqb_tells c col) [
       | inl e ↦
           let place : start_of o row + (c - 1) ≡ at = omega (arith, e.1) in
-          rw (e.0, place) (get_or-set_same xs at cell blank (omega arith))
+          rw (e.0, place) (get_or-set_same xs at cell z (omega arith))
       | inr e ↦
-          rw e.0 (get_or-set_other xs at (start_of o row + (c - 1)) cell blank (λ q. e.1 (omega arith))
-          ∙ before o xs w row c row1 row24 c1 cw)
+          rw e.0 (get_or-set_other xs at (start_of o row + (c - 1)) cell z (λ q. e.1 (omega arith))
+          ∙ before z o xs w row c row1 row24 c1 cw)
     ])
-    (λ i h. get_or-set_other xs at i cell blank (λ q. elim h [ inl l ↦ omega arith | inr l ↦ omega arith ]))
+    (λ i h. get_or-set_other xs at i cell z (λ q. elim h [ inl l ↦ omega arith | inr l ↦ omega arith ]))
 
-pub put_inserting-row : (o : Order) (xs ys : List Cell) (w row col at k : ℕ) (cell : Cell) → IsOrder o
+pub put_inserting-row : {C : Type 0} (z : C) (o : Order) (xs ys : List C) (w row col at k : ℕ) (cell : C) → IsOrder o
     → length xs ≡ room o.size → 1 ≤ row → row ≤ o.size.rows → w ≤ stride o.size
     → 1 ≤ col → col ≤ w → at ≡ start_of o row → k ≡ w → length ys ≡ length (mid_of at k xs)
-    → get_or ys (col - 1) blank ≡ cell
-    → ((i : ℕ) → col - 1 < i → i < length (mid_of at k xs) → get_or ys i blank ≡ get_or (mid_of at k xs) (i - 1) blank)
-    → ((i : ℕ) → i < col - 1 → get_or ys i blank ≡ get_or (mid_of at k xs) i blank)
-    → grid_of o.size w (stored o (put_mid at k xs ys)) ≡ put_inserting (grid_of o.size w (stored o xs)) row col cell
-put_inserting-row o xs ys w row col at k cell order long row1 row24 narrow col1 colw here wide len written moved front =
+    → get_or ys (col - 1) z ≡ cell
+    → ((i : ℕ) → col - 1 < i → i < length (mid_of at k xs) → get_or ys i z ≡ get_or (mid_of at k xs) (i - 1) z)
+    → ((i : ℕ) → i < col - 1 → get_or ys i z ≡ get_or (mid_of at k xs) i z)
+    → grid_of o.size w (stored_or z o (put_mid at k xs ys)) ≡ put_inserting_any z (grid_of o.size w (stored_or z o xs)) row col cell
+put_inserting-row {C = C} z o xs ys w row col at k cell order long row1 row24 narrow col1 colw here wide len written moved front =
     let below = start-below o order row row1 row24 in
     let mid : length (mid_of at k xs) ≡ k = length-mid_of at k xs (omega arith) in
     let long_part : length ys ≡ k = len ∙ mid in
-    row-rewritten o xs ys w row at k _ order long row1 row24 narrow here wide long_part
+    row-rewritten z o xs ys w row at k _ order long row1 row24 narrow here wide long_part
     (λ i c is low. elim (eqb_tells c col) [
       | inl e ↦
           let place : i ≡ col - 1 = omega (arith, e.1) in
           rw (e.0, place) written
       | inr e ↦ elim (leb_tells (suc col) c) [
         | inl t ↦ rw (e.0, t.0) (moved i (omega arith) (omega arith)
-            ∙ mid-before o xs w row at 0 k (i - 1) (c - 1) row1 row24 (omega arith) (omega arith) (omega arith)
+            ∙ mid-before z o xs w row at 0 k (i - 1) (c - 1) row1 row24 (omega arith) (omega arith) (omega arith)
             (omega arith))
         | inr t ↦ rw (e.0, t.0) (front i (omega arith)
-            ∙ mid-before o xs w row at 0 k i c row1 row24 (omega arith) (omega arith) (omega arith) (omega arith))
+            ∙ mid-before z o xs w row at 0 k i c row1 row24 (omega arith) (omega arith) (omega arith) (omega arith))
       ]
     ])
 
-pub insert_cells-row : (o : Order) (xs ys : List Cell) (w row col n m at k : ℕ) → IsOrder o → length xs ≡ room o.size
+pub insert_cells-row : {C : Type 0} (z : C) (o : Order) (xs ys : List C) (cell : C) (w row col n m at k : ℕ) → IsOrder o → length xs ≡ room o.size
     → 1 ≤ row → row ≤ o.size.rows → w ≤ stride o.size
     → 1 ≤ col → col ≤ w → m ≡ min n (w + 1 - col) → at ≡ start_of o row → k ≡ w → length ys ≡ length (mid_of at k xs)
-    → ((i : ℕ) → col - 1 ≤ i → i < col - 1 + m → get_or ys i blank ≡ blank)
+    → ((i : ℕ) → col - 1 ≤ i → i < col - 1 + m → get_or ys i z ≡ cell)
     → ((i : ℕ) → col - 1 + m ≤ i → i < length (mid_of at k xs)
-    → get_or ys i blank ≡ get_or (mid_of at k xs) (i - m) blank)
-    → ((i : ℕ) → i < col - 1 → get_or ys i blank ≡ get_or (mid_of at k xs) i blank)
-    → grid_of o.size w (stored o (put_mid at k xs ys)) ≡ insert_cells (grid_of o.size w (stored o xs)) row col n
-insert_cells-row o xs ys w row col n m at k order long row1 row24 narrow col1 colw is_min here wide len gap moved front
+    → get_or ys i z ≡ get_or (mid_of at k xs) (i - m) z)
+    → ((i : ℕ) → i < col - 1 → get_or ys i z ≡ get_or (mid_of at k xs) i z)
+    → grid_of o.size w (stored_or z o (put_mid at k xs ys)) ≡ insert_any z cell (grid_of o.size w (stored_or z o xs)) row col n
+insert_cells-row {C = C} z o xs ys cell w row col n m at k order long row1 row24 narrow col1 colw is_min here wide len gap moved front
     =
     let below = start-below o order row row1 row24 in
     let mid : length (mid_of at k xs) ≡ k = length-mid_of at k xs (omega arith) in
     let long_part : length ys ≡ k = len ∙ mid in
-    row-rewritten o xs ys w row at k _ order long row1 row24 narrow here wide long_part
+    row-rewritten z o xs ys w row at k _ order long row1 row24 narrow here wide long_part
     (λ i c is low. elim (leb_tells (col + n) c) [
       | inl t ↦
           let same : m ≡ n = omega arith in
-          rw t.0 (moved i (omega arith) (omega arith) ∙ mid-before o xs w row at 0 k (i - m) (c - n) row1 row24
+          rw t.0 (moved i (omega arith) (omega arith) ∙ mid-before z o xs w row at 0 k (i - m) (c - n) row1 row24
           (omega arith) (omega arith) (omega arith) (omega arith))
       | inr t ↦ elim (leb_tells col c) [
         | inl u ↦ rw (t.0, u.0) (gap i (omega arith) (omega arith))
         | inr u ↦ rw (t.0, u.0) (front i (omega arith)
-            ∙ mid-before o xs w row at 0 k i c row1 row24 (omega arith) (omega arith) (omega arith) (omega arith))
+            ∙ mid-before z o xs w row at 0 k i c row1 row24 (omega arith) (omega arith) (omega arith) (omega arith))
       ]
     ])
 
-pub delete_cells-row : (o : Order) (xs ys : List Cell) (w row col n m at k : ℕ) → IsOrder o → length xs ≡ room o.size
+pub delete_cells-row : {C : Type 0} (z : C) (o : Order) (xs ys : List C) (cell : C) (w row col n m at k : ℕ) → IsOrder o → length xs ≡ room o.size
     → 1 ≤ row → row ≤ o.size.rows → w ≤ stride o.size
     → 1 ≤ col → col ≤ w → m ≡ min n (w + 1 - col) → at ≡ start_of o row → k ≡ w → length ys ≡ length (mid_of at k xs)
     → ((i : ℕ) → col - 1 ≤ i → i + m < length (mid_of at k xs)
-    → get_or ys i blank ≡ get_or (mid_of at k xs) (i + m) blank)
-    → ((i : ℕ) → i < length (mid_of at k xs) → length (mid_of at k xs) ≤ i + m → get_or ys i blank ≡ blank)
-    → ((i : ℕ) → i < col - 1 → get_or ys i blank ≡ get_or (mid_of at k xs) i blank)
-    → grid_of o.size w (stored o (put_mid at k xs ys)) ≡ delete_cells (grid_of o.size w (stored o xs)) row col n
-delete_cells-row o xs ys w row col n m at k order long row1 row24 narrow col1 colw is_min here wide len moved end front
+    → get_or ys i z ≡ get_or (mid_of at k xs) (i + m) z)
+    → ((i : ℕ) → i < length (mid_of at k xs) → length (mid_of at k xs) ≤ i + m → get_or ys i z ≡ cell)
+    → ((i : ℕ) → i < col - 1 → get_or ys i z ≡ get_or (mid_of at k xs) i z)
+    → grid_of o.size w (stored_or z o (put_mid at k xs ys)) ≡ delete_any z cell (grid_of o.size w (stored_or z o xs)) row col n
+delete_cells-row {C = C} z o xs ys cell w row col n m at k order long row1 row24 narrow col1 colw is_min here wide len moved end front
     =
     let below = start-below o order row row1 row24 in
     let mid : length (mid_of at k xs) ≡ k = length-mid_of at k xs (omega arith) in
     let long_part : length ys ≡ k = len ∙ mid in
-    row-rewritten o xs ys w row at k _ order long row1 row24 narrow here wide long_part
+    row-rewritten z o xs ys w row at k _ order long row1 row24 narrow here wide long_part
     (λ i c is low. elim (leb_tells col c) [
       | inl t ↦ elim (leb_tells (c + n) w) [
         | inl u ↦
             let same : m ≡ n = omega arith in
             rw (t.0, u.0) (moved i (omega arith) (omega arith)
-            ∙ mid-before o xs w row at 0 k (i + m) (c + n) row1 row24 (omega arith) (omega arith) (omega arith)
+            ∙ mid-before z o xs w row at 0 k (i + m) (c + n) row1 row24 (omega arith) (omega arith) (omega arith)
             (omega arith))
         | inr u ↦ rw (t.0, u.0) (end i (omega arith) (omega arith))
       ]
-      | inr t ↦ rw t.0 (front i (omega arith) ∙ mid-before o xs w row at 0 k i c row1 row24 (omega arith) (omega arith)
+      | inr t ↦ rw t.0 (front i (omega arith) ∙ mid-before z o xs w row at 0 k i c row1 row24 (omega arith) (omega arith)
           (omega arith) (omega arith))
     ])
 
@@ -204,7 +205,7 @@ put_run-row o xs ys w row col at k codes like order long row1 row24 narrow col1 
     let below = start-below o order row row1 row24 in
     let mid : length (mid_of at k xs) ≡ k = length-mid_of at k xs (omega arith) in
     let long_part : length ys ≡ k = len ∙ mid in
-    part-written o xs ys w row at (col - 1) k _ order long row1 row24 narrow (omega arith) (omega arith) long_part
+    part-written _ o xs ys w row at (col - 1) k _ order long row1 row24 narrow (omega arith) (omega arith) long_part
     (λ i c is low. elim (among-before col (col + length codes) c) [
       | inl t ↦
           let place : c - col ≡ i = omega arith in
@@ -216,23 +217,23 @@ put_run-row o xs ys w row col at k codes like order long row1 row24 narrow col1 
       | inr t ↦ rw t.0 refl
     ])
 
-pub erase-row : (o : Order) (xs ys : List Cell) (w row from to at k : ℕ) (selective : Bool) → IsOrder o
+pub erase-row : {C : Type 0} (z : C) (o : Order) (xs ys : List C) (w row from to at k : ℕ) (change : C → C) → IsOrder o
     → length xs ≡ room o.size → 1 ≤ row → row ≤ o.size.rows → w ≤ stride o.size
     → 1 ≤ from → from ≤ to → to ≤ w → at ≡ start_of o row + from - 1 → k ≡ to + 1 - from
     → length ys ≡ length (mid_of at k xs)
-    → ((i : ℕ) → i < length (mid_of at k xs) → get_or ys i blank ≡ erased selective (get_or (mid_of at k xs) i blank))
-    → grid_of o.size w (stored o (put_mid at k xs ys)) ≡ erase (grid_of o.size w (stored o xs)) row from to selective
-erase-row o xs ys w row from to at k selective order long row1 row24 narrow from1 from_to tow here is_long len written =
+    → ((i : ℕ) → i < length (mid_of at k xs) → get_or ys i z ≡ change (get_or (mid_of at k xs) i z))
+    → grid_of o.size w (stored_or z o (put_mid at k xs ys)) ≡ changed_any z change (grid_of o.size w (stored_or z o xs)) (columns_of row from to)
+erase-row {C = C} z o xs ys w row from to at k change order long row1 row24 narrow from1 from_to tow here is_long len written =
     let below = start-below o order row row1 row24 in
     let mid : length (mid_of at k xs) ≡ k = length-mid_of at k xs (omega arith) in
     let long_part : length ys ≡ k = len ∙ mid in
-    part-written o xs ys w row at (from - 1) k
-    (λ c. if is_within from to c then erased selective (cell_at (grid_of o.size w (stored o xs)) row c) else cell_at
-    (grid_of o.size w (stored o xs)) row c)
+    part-written z o xs ys w row at (from - 1) k
+    (λ c. if is_within from to c then change (at_or z (grid_of o.size w (stored_or z o xs)) row c) else at_or z
+    (grid_of o.size w (stored_or z o xs)) row c)
     order long row1 row24 narrow (omega arith) (omega arith) long_part
     (λ i c is low. elim (among from to c) [
-      | inl t ↦ rw t.0 (written i (omega arith) ∙ ap (erased selective)
-          (mid-before o xs w row at (from - 1) k i c row1 row24 (omega arith) (omega arith) low (omega (arith, t))))
+      | inl t ↦ rw t.0 (written i (omega arith) ∙ ap (change)
+          (mid-before z o xs w row at (from - 1) k i c row1 row24 (omega arith) (omega arith) low (omega (arith, t))))
       | inr t ↦ absurd (elim t.1 [ inl l ↦ omega arith | inr l ↦ omega arith ])
     ])
     (λ c c1 cw out. elim (among from to c) [
@@ -245,41 +246,41 @@ erase-row o xs ys w row from to at k selective order long row1 row24 narrow from
     ])
 
 -- rows that moved up, and blank ones where nothing came up
-pub scroll_up-rows : (o o' : Order) (xs zs : List Cell) (w t b n m : ℕ) → 1 ≤ t → t ≤ b → b ≤ o.size.rows
+pub scroll_up-rows : {C : Type 0} (z : C) (o o' : Order) (xs zs : List C) (cell : C) (w t b n m : ℕ) → 1 ≤ t → t ≤ b → b ≤ o.size.rows
     → m ≡ min n (b + 1 - t)
     → ((r : ℕ) → t ≤ r → r + m ≤ b → start_of o' r ≡ start_of o (r + m))
     → ((r : ℕ) → 1 ≤ r → (r < t) ⊎ (b < r) → start_of o' r ≡ start_of o r)
-    → ((r c : ℕ) → b + 1 - m ≤ r → r < b + 1 → 1 ≤ c → c ≤ w → stored o' zs r c ≡ blank)
+    → ((r c : ℕ) → b + 1 - m ≤ r → r < b + 1 → 1 ≤ c → c ≤ w → stored_or z o' zs r c ≡ cell)
     → ((r c : ℕ) → 1 ≤ r → r ≤ o.size.rows → (r < b + 1 - m) ⊎ (b + 1 ≤ r) → 1 ≤ c → c ≤ w
-    → stored o' zs r c ≡ stored o' xs r c)
-    → grid_of o.size w (stored o' zs) ≡ scroll_up (grid_of o.size w (stored o xs)) t b n
-scroll_up-rows o o' xs zs w t b n m t1 tb b24 is_min moved rest blanked kept =
+    → stored_or z o' zs r c ≡ stored_or z o' xs r c)
+    → grid_of o.size w (stored_or z o' zs) ≡ scroll_up_any z cell (grid_of o.size w (stored_or z o xs)) t b n
+scroll_up-rows {C = C} z o o' xs zs cell w t b n m t1 tb b24 is_min moved rest blanked kept =
     grid_of-same o.size w _ _ (λ r c r1 r24 c1 cw. elim (among t b r) [
       | inl k ↦ elim (leb_tells (r + n) b) [
         | inl j ↦
             let same : m ≡ n = omega (arith, k) in
             let from : start_of o' r ≡ start_of o (r + n) = rw (← same) (moved r (omega (arith, k)) (omega arith)) in
             rw (k.0, j.0) (kept r c r1 r24 (inl (omega (arith, k))) c1 cw
-            ∙ ap (λ x. get_or xs (x + (c - 1)) blank) from
-            ∙ before o xs w (r + n) c (omega arith) (omega arith) c1 cw)
+            ∙ ap (λ x. get_or xs (x + (c - 1)) z) from
+            ∙ before z o xs w (r + n) c (omega arith) (omega arith) c1 cw)
         | inr j ↦ rw (k.0, j.0) (blanked r c (omega (arith, k)) (omega (arith, k)) c1 cw)
       ]
       | inr k ↦
           let out : (r < b + 1 - m) ⊎ (b + 1 ≤ r) = elim k.1
           [ inl l ↦ inl (omega arith) | inr l ↦ inr (omega arith) ] in
-          rw k.0 (kept r c r1 r24 out c1 cw ∙ ap (λ x. get_or xs (x + (c - 1)) blank) (rest r r1 k.1)
-          ∙ before o xs w r c r1 r24 c1 cw)
+          rw k.0 (kept r c r1 r24 out c1 cw ∙ ap (λ x. get_or xs (x + (c - 1)) z) (rest r r1 k.1)
+          ∙ before z o xs w r c r1 r24 c1 cw)
     ])
 
 -- rows that moved down, and blank ones where nothing came down
-pub scroll_down-rows : (o o' : Order) (xs zs : List Cell) (w t b n m : ℕ) → 1 ≤ t → t ≤ b → b ≤ o.size.rows
+pub scroll_down-rows : {C : Type 0} (z : C) (o o' : Order) (xs zs : List C) (cell : C) (w t b n m : ℕ) → 1 ≤ t → t ≤ b → b ≤ o.size.rows
     → m ≡ min n (b + 1 - t)
     → ((r : ℕ) → t + m ≤ r → r ≤ b → start_of o' r ≡ start_of o (r - m))
     → ((r : ℕ) → 1 ≤ r → (r < t) ⊎ (b < r) → start_of o' r ≡ start_of o r)
-    → ((r c : ℕ) → t ≤ r → r < t + m → 1 ≤ c → c ≤ w → stored o' zs r c ≡ blank)
-    → ((r c : ℕ) → 1 ≤ r → r ≤ o.size.rows → (r < t) ⊎ (t + m ≤ r) → 1 ≤ c → c ≤ w → stored o' zs r c ≡ stored o' xs r c)
-    → grid_of o.size w (stored o' zs) ≡ scroll_down (grid_of o.size w (stored o xs)) t b n
-scroll_down-rows o o' xs zs w t b n m t1 tb b24 is_min moved rest blanked kept =
+    → ((r c : ℕ) → t ≤ r → r < t + m → 1 ≤ c → c ≤ w → stored_or z o' zs r c ≡ cell)
+    → ((r c : ℕ) → 1 ≤ r → r ≤ o.size.rows → (r < t) ⊎ (t + m ≤ r) → 1 ≤ c → c ≤ w → stored_or z o' zs r c ≡ stored_or z o' xs r c)
+    → grid_of o.size w (stored_or z o' zs) ≡ scroll_down_any z cell (grid_of o.size w (stored_or z o xs)) t b n
+scroll_down-rows {C = C} z o o' xs zs cell w t b n m t1 tb b24 is_min moved rest blanked kept =
     grid_of-same o.size w _ _ (λ r c r1 r24 c1 cw. elim (among t b r) [
       | inl k ↦ elim (leb_tells (t + n) r) [
         | inl j ↦
@@ -287,30 +288,30 @@ scroll_down-rows o o' xs zs w t b n m t1 tb b24 is_min moved rest blanked kept =
             let from : start_of o' r ≡ start_of o (r - n) =
             rw (← same) (moved r (omega (arith, k)) (omega (arith, k))) in
             rw (k.0, j.0) (kept r c r1 r24 (inr (omega (arith, k))) c1 cw
-            ∙ ap (λ x. get_or xs (x + (c - 1)) blank) from
-            ∙ before o xs w (r - n) c (omega arith) (omega arith) c1 cw)
+            ∙ ap (λ x. get_or xs (x + (c - 1)) z) from
+            ∙ before z o xs w (r - n) c (omega arith) (omega arith) c1 cw)
         | inr j ↦ rw (k.0, j.0) (blanked r c (omega (arith, k)) (omega (arith, k)) c1 cw)
       ]
       | inr k ↦
           let out : (r < t) ⊎ (t + m ≤ r) = elim k.1 [ inl l ↦ inl (omega arith) | inr l ↦ inr (omega arith) ] in
-          rw k.0 (kept r c r1 r24 out c1 cw ∙ ap (λ x. get_or xs (x + (c - 1)) blank) (rest r r1 k.1)
-          ∙ before o xs w r c r1 r24 c1 cw)
+          rw k.0 (kept r c r1 r24 out c1 cw ∙ ap (λ x. get_or xs (x + (c - 1)) z) (rest r r1 k.1)
+          ∙ before z o xs w r c r1 r24 c1 cw)
     ])
 
 -- the front of a row is written over with cells of a row of another grid
-pub row_from-row : (o : Order) (xs ys : List Cell) (w row from at k : ℕ) (other : Grid) → IsOrder o → length xs ≡ room o.size
+pub row_from-row : {C : Type 0} (z : C) (o : Order) (xs ys : List C) (w row from at k : ℕ) (other : GridOf C) → IsOrder o → length xs ≡ room o.size
     → 1 ≤ row → row ≤ o.size.rows → w ≤ stride o.size
     → at ≡ start_of o row → k ≡ min w other.width → length ys ≡ length (mid_of at k xs)
-    → ((i : ℕ) → i < k → get_or ys i blank ≡ cell_at other from (i + 1))
-    → grid_of o.size w (stored o (put_mid at k xs ys)) ≡ row_from (grid_of o.size w (stored o xs)) row other from
-row_from-row o xs ys w row from at k other order long row1 row24 narrow here is len written =
+    → ((i : ℕ) → i < k → get_or ys i z ≡ at_or z other from (i + 1))
+    → grid_of o.size w (stored_or z o (put_mid at k xs ys)) ≡ row_from_any z (grid_of o.size w (stored_or z o xs)) row other from
+row_from-row {C = C} z o xs ys w row from at k other order long row1 row24 narrow here is len written =
     let below = start-below o order row row1 row24 in
     let mid : length (mid_of at k xs) ≡ k = length-mid_of at k xs (omega arith) in
-    part-written o xs ys w row at 0 k _ order long row1 row24 narrow (omega arith) (omega arith) (len ∙ mid)
+    part-written z o xs ys w row at 0 k _ order long row1 row24 narrow (omega arith) (omega arith) (len ∙ mid)
     (λ i c place low. elim (leb_tells c other.width) [
       | inl t ↦
           let next : i + 1 ≡ c = omega arith in
-          rw t.0 (written i low ∙ ap (cell_at other from) next)
+          rw t.0 (written i low ∙ ap (at_or z other from) next)
       | inr t ↦ absurd (omega (arith, t))
     ])
     (λ c c1 cw out. elim (leb_tells c other.width) [
@@ -319,39 +320,39 @@ row_from-row o xs ys w row from at k other order long row1 row24 narrow here is 
     ])
 
 -- one row is written over with one cell
-pub row-filled : (o : Order) (xs ys : List Cell) (w row at k : ℕ) (cell : Cell) → IsOrder o → length xs ≡ room o.size
+pub row-filled : {C : Type 0} (z : C) (o : Order) (xs ys : List C) (w row at k : ℕ) (cell : C) → IsOrder o → length xs ≡ room o.size
     → 1 ≤ row → row ≤ o.size.rows → w ≤ stride o.size
     → at ≡ start_of o row → k ≡ w → length ys ≡ length (mid_of at k xs)
-    → ((i : ℕ) → i < length (mid_of at k xs) → get_or ys i blank ≡ cell)
-    → ((c : ℕ) → 1 ≤ c → c ≤ w → stored o (put_mid at k xs ys) row c ≡ cell)
-    × ((r c : ℕ) → 1 ≤ r → r ≤ o.size.rows → r ≢ row → 1 ≤ c → c ≤ w → stored o (put_mid at k xs ys) r c ≡ stored o xs r c)
-row-filled o xs ys w row at k cell order long row1 row24 narrow here wide len written =
+    → ((i : ℕ) → i < length (mid_of at k xs) → get_or ys i z ≡ cell)
+    → ((c : ℕ) → 1 ≤ c → c ≤ w → stored_or z o (put_mid at k xs ys) row c ≡ cell)
+    × ((r c : ℕ) → 1 ≤ r → r ≤ o.size.rows → r ≢ row → 1 ≤ c → c ≤ w → stored_or z o (put_mid at k xs ys) r c ≡ stored_or z o xs r c)
+row-filled {C = C} z o xs ys w row at k cell order long row1 row24 narrow here wide len written =
     let below = start-below o order row row1 row24 in
     let within : at ≤ length xs = omega arith in
     let mid : length (mid_of at k xs) ≡ k = length-mid_of at k xs (omega arith) in
     let long_part : length ys ≡ k = len ∙ mid in (
-      λ c c1 cw. within-put_mid at k xs ys (start_of o row + (c - 1)) blank within long_part (omega arith) (omega arith)
+      λ c c1 cw. within-put_mid at k xs ys (start_of o row + (c - 1)) z within long_part (omega arith) (omega arith)
           ∙ written (start_of o row + (c - 1) - at) (omega arith),
       λ r c r1 r24 other c1 cw. elim (start-apart o order r row r1 r24 row1 row24 other) [
-        | inl l ↦ before-put_mid at k xs ys (start_of o r + (c - 1)) blank within (omega arith)
-        | inr l ↦ after-put_mid at k xs ys (start_of o r + (c - 1)) blank within long_part (omega arith)
+        | inl l ↦ before-put_mid at k xs ys (start_of o r + (c - 1)) z within (omega arith)
+        | inr l ↦ after-put_mid at k xs ys (start_of o r + (c - 1)) z within long_part (omega arith)
       ],
     )
 
 -- blank cells show at every place, wherever the rows are kept
-pub stored-replicate : (o : Order) (n r c : ℕ) → stored o (replicate n blank) r c ≡ blank
-stored-replicate o n r c = elim (cases_lt (start_of o r + (c - 1)) n) [
-  | inl l ↦ get_or-replicate n (start_of o r + (c - 1)) blank blank l
-  | inr l ↦ get_or_past (replicate n blank) (start_of o r + (c - 1)) blank (rw length-replicate l)
+pub stored-replicate : {C : Type 0} (z : C) (o : Order) (n r c : ℕ) → stored_or z o (replicate n z) r c ≡ z
+stored-replicate {C = C} z o n r c = elim (cases_lt (start_of o r + (c - 1)) n) [
+  | inl l ↦ get_or-replicate n (start_of o r + (c - 1)) z z l
+  | inr l ↦ get_or_past (replicate n z) (start_of o r + (c - 1)) z (rw length-replicate l)
 ]
 
 -- a part of the kept cells was lent and written over: a fact of the lent cells is one of the kept ones
-pub edited : (cells : Vec Cell) (o : Order) (w : ℕ) (xs : List Cell) (at k : ℕ) (ys : List Cell) (map : Grid → Grid)
+pub edited : {C : Type 0} (z : C) (cells : Vec C) (o : Order) (w : ℕ) (xs : List C) (at k : ℕ) (ys : List C) (map : (GridOf C) → (GridOf C))
     → xs ≡ cells.items → length ys ≡ length (mid_of at k xs)
-    → grid_of o.size w (stored o (put_mid at k xs ys)) ≡ map (grid_of o.size w (stored o xs))
-    → grid_of o.size w (stored o (with_items cells (put_mid at k xs ys)).items) ≡ map (grid_of o.size w (stored o cells.items))
-edited cells o w xs at k ys map same len fact =
-    ap (λ (x : List Cell). grid_of o.size w (stored o x))
+    → grid_of o.size w (stored_or z o (put_mid at k xs ys)) ≡ map (grid_of o.size w (stored_or z o xs))
+    → grid_of o.size w (stored_or z o (with_items cells (put_mid at k xs ys)).items) ≡ map (grid_of o.size w (stored_or z o cells.items))
+edited {C = C} z cells o w xs at k ys map same len fact =
+    ap (λ (x : List C). grid_of o.size w (stored_or z o x))
     (with_items_is cells (put_mid at k xs ys) (same_len_mid at k xs ys len ∙ ap length same ∙ sym cells.ok.0))
     ∙ fact
-    ∙ ap (λ (x : List Cell). map (grid_of o.size w (stored o x))) same
+    ∙ ap (λ (x : List C). map (grid_of o.size w (stored_or z o x))) same

@@ -1,12 +1,12 @@
 -- The laws of the grid, each a record that the proofs of the crates above can pass on.
-use Rattle.std.specs.Prelude.{◌≡◌, ℕ, ◌+◌, ◌*◌, ◌-◌, ◌≤◌, List, [], ◌∷◌, ◌++◌, length, slice_index_or, Bool, true}
-use Rattle.std.specs.Prelude.{false, ◌||◌, IsTrue}
+use Rattle.std.specs.Prelude.{◌≡◌, ℕ, ◌+◌, ◌*◌, ◌-◌, ◌≤◌, List, [], ◌∷◌, ◌++◌, length, slice_index_or, Bool}
+use Rattle.std.specs.Prelude.{IsTrue}
 use Rattle.vt_screen.specs.declared.cell.Cell.{Cell}
 use Rattle.vt_screen.specs.Cells.{blank, cell_like}
 use Rattle.vt_screen.specs.declared.size.Size.{Size}
 use Rattle.vt_screen.specs.Sizes.{IsSize}
 use Rattle.vt_screen.specs.Grid.{Grid, IsGrid, AllCells, grid_of, cell_at, row_of, blank_grid}
-use Rattle.vt_screen.specs.Grid.{put, put_run, erase_area, fill, grid_on, IsSoundGrid}
+use Rattle.vt_screen.specs.Grid.{put, put_run, grid_on, IsSoundGrid}
 
 -- what a formula's grid has at a place, and when two grids are equal
 pub record PlaceLaws : Type 0 where
@@ -39,17 +39,6 @@ pub record RunLaws : Type 0 where
       → put_run g row col (glyph ∷ []) like ≡ put g row col (cell_like like glyph)
   pub append : (g : Grid) (row col : ℕ) (a b : List ℕ) (like : Cell)
       → put_run g row col (a ++ b) like ≡ put_run (put_run g row col a like) row (col + length a) b like
-
--- areas that are erased in turn are erased at once
-pub record AreaLaws : Type 0 where
-  pub none : (g : Grid) (selective : Bool) → IsGrid g → erase_area g (λ r c. false) selective ≡ g
-  pub all : (g : Grid) → erase_area g (λ r c. true) false ≡ fill g blank
-  pub both : (g : Grid) (a b : ℕ → ℕ → Bool) (selective : Bool)
-      → erase_area (erase_area g a selective) b selective ≡ erase_area g (λ r c. a r c || b r c) selective
-  -- areas of the same places are one area
-  pub same : (g : Grid) (a b : ℕ → ℕ → Bool) (selective : Bool)
-      → ((r c : ℕ) → 1 ≤ r → r ≤ g.size.rows → 1 ≤ c → c ≤ g.width → a r c ≡ b r c)
-      → erase_area g a selective ≡ erase_area g b selective
 
 -- a test that a blank cell and each cell of a grid pass is passed at every place; a formula's grid passes a test that
 -- the formula passes at every place

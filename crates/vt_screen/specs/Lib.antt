@@ -1,6 +1,8 @@
 pub mod Cells
 pub mod Same
 pub mod Sizes
+pub mod Kinds
+pub mod Shown
 pub mod Grid
 pub mod Between
 pub mod Order

@@ -3,9 +3,9 @@ use Rattle.std.specs.Prelude.{ℕ, ◌+◌, ◌-◌, ◌*◌, List, map, slice_i
 use Rattle.std.specs.List.{range_with_len}
 use Rattle.std.specs.List.Sorted.{IsPermutation}
 use Rattle.vt_screen.specs.declared.cell.Cell.{Cell}
+use Rattle.vt_screen.specs.Cells.{blank}
 use Rattle.vt_screen.specs.declared.size.Size.{Size}
 use Rattle.vt_screen.specs.Sizes.{stride, IsSize}
-use Rattle.vt_screen.specs.Cells.{blank}
 
 -- the indices at which rows may begin
 abbrev pub starts : Size → List ℕ
@@ -26,5 +26,8 @@ abbrev pub start_of : Order → ℕ → ℕ
 start_of order row = slice_index order.rows (row - 1)
 
 -- the cell that is kept for a place
+abbrev pub stored_or : {C : Type 0} → C → Order → List C → ℕ → ℕ → C
+stored_or z order cells r c = slice_index_or cells (start_of order r + (c - 1)) z
+
 abbrev pub stored : Order → List Cell → ℕ → ℕ → Cell
-stored order cells r c = slice_index_or cells (start_of order r + (c - 1)) blank
+stored = stored_or blank

@@ -1,5 +1,7 @@
 -- The sizes that a screen may have.
 use Rattle.std.specs.Prelude.{ℕ, ◌*◌, ◌≤◌, Bool, if◌then◌else◌}
+use Rattle.std.specs.Prelude.{refl}
+use Rattle.std.specs.Coded.{Coded, code_by, coded×, coded_ℕ}
 use Rattle.vt_screen.specs.declared.size.Size.{Size}
 
 -- 24 rows of 80 or 132 columns (EK-VT220-RM, chapter 4: DECCOLM)
@@ -25,3 +27,8 @@ pub record IsSize (size : Size) : Type 0 where
   pub narrow : 2 ≤ size.narrow
   pub wide : size.narrow ≤ size.wide
   pub columns : size.wide ≤ 255
+
+-- a code of sizes, for the models of screens
+abbrev pub size_code : Coded Size
+size_code = code_by (ℕ × (ℕ × ℕ)) (coded× coded_ℕ (coded× coded_ℕ coded_ℕ)) (λ s. (s.rows, (s.narrow, s.wide)))
+    (λ p. record { rows = p.0; narrow = p.1.0; wide = p.1.1 }) (λ _. refl)

@@ -1,6 +1,6 @@
 //! Laws of the definitions that contracts cite. A law is a function with an empty body, which a proof
 //! cites by calling it.
-ghost use Rattle.vt_screen.specs.Laws.{PlaceLaws, RowLaws, RunLaws, AreaLaws, TestLaws, SizeLaws};
+ghost use Rattle.vt_screen.specs.Laws.{PlaceLaws, RowLaws, RunLaws, TestLaws, SizeLaws};
 
 /// States what a formula's grid has at a position, and when two grids are equal.
 pub fn places()
@@ -15,11 +15,6 @@ pub fn rows()
 /// States that writing a run of glyphs is writing its glyphs one after another.
 pub fn runs()
     ensures { RunLaws }
-{}
-
-/// States that erasing areas in turn is erasing them at once.
-pub fn areas()
-    ensures { AreaLaws }
 {}
 
 /// States that a grid passes a test at every position if a blank cell and each of its cells pass it. A formula's grid

@@ -4,6 +4,7 @@
 
 pub mod between;
 mod cell;
+mod kind;
 pub mod laws;
 mod line;
 mod order;
@@ -11,6 +12,7 @@ mod screen;
 mod size;
 
 pub use cell::{Brush, Cell, Rendition};
+pub use kind::Cells;
 pub use line::same_cells;
 pub use screen::Screen;
 pub use size::{COLUMNS, MOST, ROWS, Size};

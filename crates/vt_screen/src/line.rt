@@ -1,11 +1,13 @@
 //! Edits of the cells of one row. A line counts its cells from 0.
 ghost use Rattle.std.specs.Prelude.{◌≡◌, ℕ, ◌+◌, ◌-◌, ◌<◌, ◌≤◌, ◌↔◌, IsTrue, length, slice_index, slice_index_or, All};
 ghost use Rattle.std.specs.Bool.{OnTrue};
-ghost use Rattle.vt_screen.specs.Cells.{blank, brush_of, plain_brush, erased, selectively_erased, cell_like};
+ghost use Rattle.vt_screen.specs.Cells.{blank, brush_of, plain_brush, cell_like};
+ghost use Rattle.vt_screen.specs.Kinds.{erased_any};
 ghost use Rattle.vt_glyph.specs.Encoding.{encoded_glyph, encoding_of, IsEncoding};
 ghost use Rattle.vt_glyph.specs.Invocation.{HasGlyph, glyph_in_use};
 
 use crate::cell::Cell;
+use crate::kind::Cells;
 use vt_glyph::{Glyph, InUse};
 
 /// The number of cells that are filled at a time. A block of a fixed size is filled without a loop.
@@ -13,8 +15,8 @@ const BLOCK: usize = 16;
 
 /// Writes one cell at every position.
 #[inline(always)]
-pub fn fill_cells(cells: &mut [Cell], cell: &Cell)
-    ensures { (k : ℕ) → k < length cells.old → slice_index_or cells.new k blank ≡ cell.now }
+pub fn fill_cells<C: Cells>(cells: &mut [C], cell: &C)
+    ensures { (k : ℕ) → k < length cells.old → slice_index_or cells.new k C.cells.blank ≡ cell.now }
 {
     let mut at = 0;
     while cells.len() - at >= BLOCK {
@@ -27,8 +29,8 @@ pub fn fill_cells(cells: &mut [Cell], cell: &Cell)
 /// Writes one cell at every position of a line. Speed: of a line of at least 80 cells, the first 80 are filled by a loop of a
 /// fixed length.
 #[inline(always)]
-pub fn fill_line(line: &mut [Cell], cell: &Cell)
-    ensures { (k : ℕ) → k < length line.old → slice_index_or line.new k blank ≡ cell.now }
+pub fn fill_line<C: Cells>(line: &mut [C], cell: &C)
+    ensures { (k : ℕ) → k < length line.old → slice_index_or line.new k C.cells.blank ≡ cell.now }
 {
     if line.len() < 80 {
         fill_short_line(line, cell);
@@ -42,16 +44,16 @@ pub fn fill_line(line: &mut [Cell], cell: &Cell)
 
 /// Writes one cell at every position of a line of fewer than 80 cells. (Out of line: inlined, it makes longer lines slower.)
 #[inline(never)]
-fn fill_short_line(line: &mut [Cell], cell: &Cell)
-    ensures { (k : ℕ) → k < length line.old → slice_index_or line.new k blank ≡ cell.now }
+fn fill_short_line<C: Cells>(line: &mut [C], cell: &C)
+    ensures { (k : ℕ) → k < length line.old → slice_index_or line.new k C.cells.blank ≡ cell.now }
 {
     fill_cells(line, cell);
 }
 
 /// Writes one cell at every position, one by one.
 #[inline(always)]
-fn fill_each(cells: &mut [Cell], cell: &Cell)
-    ensures { (k : ℕ) → k < length cells.old → slice_index_or cells.new k blank ≡ cell.now }
+fn fill_each<C: Cells>(cells: &mut [C], cell: &C)
+    ensures { (k : ℕ) → k < length cells.old → slice_index_or cells.new k C.cells.blank ≡ cell.now }
 {
     for place in cells.iter_mut() {
         *place = *cell;
@@ -59,75 +61,73 @@ fn fill_each(cells: &mut [Cell], cell: &Cell)
 }
 
 /// Clears the glyph of each cell that isn't protected. Its attributes stay.
-fn erase_selectively(cells: &mut [Cell])
+fn erase_selectively<C: Cells>(cells: &mut [C])
     ensures { (k : ℕ) → k < length cells.old
-        → slice_index_or cells.new k blank ≡ selectively_erased (slice_index_or cells.old k blank) }
+        → slice_index_or cells.new k C.cells.blank ≡ C.cells.selectively_erased (slice_index_or cells.old k C.cells.blank) }
 {
     for cell in cells.iter_mut() {
-        if !cell.protected {
-            cell.glyph = Glyph::blank();
-        }
+        *cell = cell.selectively_erased();
     }
 }
 
 /// Erases each cell. A selective erase leaves protected cells, and clears only the glyph of the others.
-pub fn erase_cells(cells: &mut [Cell], selective: bool)
-    ensures { (k : ℕ) → k < length cells.old
-        → slice_index_or cells.new k blank ≡ erased selective (slice_index_or cells.old k blank) }
+pub fn erase_cells<C: Cells>(cells: &mut [C], selective: bool, empty: C)
+    ensures { (k : ℕ) → k < length cells.old → slice_index_or cells.new k C.cells.blank
+        ≡ erased_any C.cells selective empty (slice_index_or cells.old k C.cells.blank) }
 {
     if selective {
         erase_selectively(cells);
     } else {
-        fill_cells(cells, &Cell::blank());
+        fill_cells(cells, &empty);
     }
 }
 
 /// Moves the cells starting at `at` right by `n`, and leaves the gap unspecified.
-fn shift_right(line: &mut [Cell], at: usize, n: usize)
+fn shift_right<C: Cells>(line: &mut [C], at: usize, n: usize)
     requires { at + n ≤ length line.old }
     ensures moved { (k : ℕ) → at + n ≤ k → k < length line.old
-        → slice_index_or line.new k blank ≡ slice_index_or line.old (k - n) blank }
-    ensures front { (k : ℕ) → k < at → slice_index_or line.new k blank ≡ slice_index_or line.old k blank }
+        → slice_index_or line.new k C.cells.blank ≡ slice_index_or line.old (k - n) C.cells.blank }
+    ensures front { (k : ℕ) → k < at → slice_index_or line.new k C.cells.blank ≡ slice_index_or line.old k C.cells.blank }
 {
     let kept = line.len() - n;
     line.copy_within(at..kept, at + n);
 }
 
 /// Inserts a cell at `at`. The last cell is lost.
-pub fn insert_cell(line: &mut [Cell], at: usize, cell: Cell)
+pub fn insert_cell<C: Cells>(line: &mut [C], at: usize, cell: C)
     requires { at < length line.old }
-    ensures here { slice_index_or line.new at blank ≡ cell }
+    ensures here { slice_index_or line.new at C.cells.blank ≡ cell }
     ensures moved { (k : ℕ) → at < k → k < length line.old
-        → slice_index_or line.new k blank ≡ slice_index_or line.old (k - 1) blank }
-    ensures front { (k : ℕ) → k < at → slice_index_or line.new k blank ≡ slice_index_or line.old k blank }
+        → slice_index_or line.new k C.cells.blank ≡ slice_index_or line.old (k - 1) C.cells.blank }
+    ensures front { (k : ℕ) → k < at → slice_index_or line.new k C.cells.blank ≡ slice_index_or line.old k C.cells.blank }
 {
     shift_right(line, at, 1);
     line[at] = cell;
 }
 
 /// Inserts `n` blank cells at `at`. The last `n` are lost.
-pub fn insert_blanks(line: &mut [Cell], at: usize, n: usize)
+pub fn insert_blanks<C: Cells>(line: &mut [C], at: usize, n: usize, empty: C)
     requires { at + n ≤ length line.old }
-    ensures gap { (k : ℕ) → at ≤ k → k < at + n → slice_index_or line.new k blank ≡ blank }
+    ensures gap { (k : ℕ) → at ≤ k → k < at + n → slice_index_or line.new k C.cells.blank ≡ empty }
     ensures moved { (k : ℕ) → at + n ≤ k → k < length line.old
-        → slice_index_or line.new k blank ≡ slice_index_or line.old (k - n) blank }
-    ensures front { (k : ℕ) → k < at → slice_index_or line.new k blank ≡ slice_index_or line.old k blank }
+        → slice_index_or line.new k C.cells.blank ≡ slice_index_or line.old (k - n) C.cells.blank }
+    ensures front { (k : ℕ) → k < at → slice_index_or line.new k C.cells.blank ≡ slice_index_or line.old k C.cells.blank }
 {
     shift_right(line, at, n);
-    fill_cells(&mut line[at..at + n], &Cell::blank());
+    fill_cells(&mut line[at..at + n], &empty);
 }
 
 /// Removes `n` cells starting at `at`. `n` blank cells are added at the end.
-pub fn remove_cells(line: &mut [Cell], at: usize, n: usize)
+pub fn remove_cells<C: Cells>(line: &mut [C], at: usize, n: usize, empty: C)
     requires { at + n ≤ length line.old }
     ensures moved { (k : ℕ) → at ≤ k → k + n < length line.old
-        → slice_index_or line.new k blank ≡ slice_index_or line.old (k + n) blank }
-    ensures end { (k : ℕ) → k < length line.old → length line.old ≤ k + n → slice_index_or line.new k blank ≡ blank }
-    ensures front { (k : ℕ) → k < at → slice_index_or line.new k blank ≡ slice_index_or line.old k blank }
+        → slice_index_or line.new k C.cells.blank ≡ slice_index_or line.old (k + n) C.cells.blank }
+    ensures end { (k : ℕ) → k < length line.old → length line.old ≤ k + n → slice_index_or line.new k C.cells.blank ≡ empty }
+    ensures front { (k : ℕ) → k < at → slice_index_or line.new k C.cells.blank ≡ slice_index_or line.old k C.cells.blank }
 {
     let len = line.len();
     line.copy_within(at + n..len, at);
-    fill_cells(&mut line[len - n..], &Cell::blank());
+    fill_cells(&mut line[len - n..], &empty);
 }
 
 /// Writes a glyph with the attributes and the protection of `like`.

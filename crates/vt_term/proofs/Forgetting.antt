@@ -7,7 +7,7 @@ use Rattle.vt_glyph.specs.Invocation.{glyph_read, after_read, has_no_glyph}
 use Rattle.vt_glyph.specs.GraphicSets.{GraphicSets}
 use Rattle.vt_screen.specs.declared.cell.Cell.{Cell}
 use Rattle.vt_screen.specs.Cells.{blank, cell_of}
-use Rattle.vt_screen.specs.Grid.{Grid, IsGrid, cells_of, cell_at, is_within}
+use Rattle.vt_screen.specs.Grid.{at_or, Grid, IsGrid, cells_of, cell_at, is_within}
 use Rattle.vt_screen.specs.Laws.{PlaceLaws}
 use Rattle.vt_term.specs.declared.state.Cursor.{Cursor}
 use Rattle.vt_term.specs.State.{Display, at_place}
@@ -55,7 +55,7 @@ below-top d k r low (inr h) = h
 
 -- the column before the first one is the first one
 zeroth : (g : Grid) (r : ℕ) → cell_at g r 0 ≡ cell_at g r 1
-unfolding cell_at
+unfolding at_or
 zeroth g r = refl
 
 -- if no single shift is pending, reading a byte leaves the sets as they are

@@ -21,3 +21,4 @@ mod Playing
 mod Forgetting
 pub mod Passing
 pub mod Scrolled
+pub mod LineEnds

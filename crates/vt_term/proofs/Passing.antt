@@ -24,14 +24,14 @@ use Rattle.vt_term.specs.State.{Display, State, at_place}
 use Rattle.vt_term.specs.Sound.{IsSoundSized, IsSoundSizedDisplay}
 use Rattle.vt_term.specs.Moving.{backspace, carriage_return}
 use Rattle.vt_term.specs.Tabs.{horizontal_tab}
-use Rattle.vt_term.specs.Functions.{control}
-use Rattle.vt_term.specs.Reports.{control_report}
 use Rattle.vt_term.specs.Play.{Played, play, after_events, reports_of, both}
 use Rattle.vt_term.specs.Unseen.{fed, feeds}
 use Rattle.vt_term.proofs.Bytes.{nothing-held, rest-of}
 use Rattle.vt_term.proofs.Cuts.{play-append, play-nothing, after_events-append, reports_of-append}
 use Rattle.vt_term.proofs.Forgetting.{Acts, here, grid_with, acts-move, acts-fewer, acts-like, acts-then, acts-return}
 use Rattle.vt_term.proofs.Forgetting.{acts-feed, acts-print}
+use Rattle.vt_term.specs.Reports.{control_report_any}
+use Rattle.vt_term.specs.Functions.{control_any}
 
 -- ---- the events of bytes of lines
 
@@ -92,7 +92,7 @@ by-kind P bs ht lf vt ff cr del print b (inr (inr h)) = print b (grind (arith, n
 
 -- no byte of lines makes a report
 silent : (b : ℕ) → IsOfLines b → (s : Display) → reports_of (single_function b) s ≡ []
-unfolding control_report
+unfolding control_report_any
 silent =
     by-kind (λ b. (s : Display) → reports_of (single_function b) s ≡ []) (λ s. refl) (λ s. refl) (λ s. refl) (λ s. refl)
     (λ s. refl) (λ s. refl) (λ s. refl) (λ b other is s. rw is refl)
@@ -112,7 +112,7 @@ module _ (places : PlaceLaws) (d : Display) (top : d.margins.top ≤ d.margins.b
     (none : d.sets.pending ≡ None) where
   acts-byte : (from : Cursor) → from.row ≡ d.margins.bottom → (b : ℕ) → IsOfLines b
       → Acts d (fed b) (after_events (single_function b)) from
-  unfolding control
+  unfolding control_any
   acts-byte from row =
       let feed = acts-feed d places top bottom from row in
       let less = acts-fewer d 1 0 _ from (omega arith) feed in
@@ -178,7 +178,7 @@ module _ (places : PlaceLaws) (split : SplitLaw) (spelling : SpellingLaw) where
 
   ends-line : (d : Display) (a : List ℕ)
       → after_events (line_events (a ++ 0x0D ∷ [])) d ≡ carriage_return (after_events (line_events a) d)
-  unfolding control
+  unfolding control_any
   ends-line d a =
       ap (λ (es : List Event). after_events es d) (flat_map-append single_function a (0x0D ∷ []))
       ∙ after_events-append (line_events a) (Control 0x0D ∷ []) d

@@ -11,11 +11,12 @@ use Rattle.vt_screen.specs.Sizes.{IsSize}
 use Rattle.vt_screen.specs.Cells.{blank}
 use Rattle.vt_screen.specs.Grid.{Grid, width_on, grid_on, row_of}
 use Rattle.vt_screen.proofs.Places.{width-bounds, length-row_of, get_or-row_of, row_of-same}
-use Rattle.vt_screen.proofs.SoundGrids.{grid_on-sound}
-use Rattle.vt_screen.proofs.OtherSize.{own-size, own-width}
+use Rattle.vt_screen.proofs.Vt220Grids.{grid_on-sound}
+use Rattle.vt_screen.proofs.Vt220Grids.{own-size}
+use Rattle.vt_screen.proofs.OtherSize.{own-width}
 use Rattle.vt_term.specs.declared.state.Cursor.{Cursor}
 use Rattle.vt_term.specs.declared.state.Margins.{Margins}
-use Rattle.vt_term.specs.declared.state.Saved.{Saved}
+use Rattle.vt_term.specs.State.{Saved}
 use Rattle.vt_term.specs.State.{Display, State, margins_of}
 use Rattle.vt_term.specs.Sound.{IsPlace, AreSoundMargins, IsSoundDisplayAt, IsSoundSizedDisplay, IsSoundAt, IsSoundSized}
 use Rattle.vt_term.specs.Pages.{PageState, IsSoundPageAt, IsSoundSizedPage}
@@ -257,8 +258,8 @@ lines-moved f g off a b (suc n) is same =
 row-stays : (s : Size) (off : ℕ) (g : Grid) (r : ℕ) → width_on s g ≡ g.width → 1 ≤ r → r ≤ s.rows → r + off ≤ g.size.rows
     → row_of (grid_on s off g) r ≡ row_of g (r + off)
 row-stays s off g r wide r1 last there =
-    sym (row_of-same s (width_on s g) _ r (row_of g (r + off)) r1 last (length-row_of g (r + off) ∙ sym wide) (λ c c1 cw.
-    get_or-row_of g (r + off) c blank c1 (omega (arith, cw, wide))
+    sym (row_of-same blank s (width_on s g) _ r (row_of g (r + off)) r1 last (length-row_of blank g (r + off) ∙ sym wide) (λ c c1 cw.
+    get_or-row_of blank g (r + off) c blank c1 (omega (arith, cw, wide))
     ∙ elim (leb_tells (r + off) g.size.rows) [
       | inl t ↦ elim (leb_tells c g.width) [
         | inl u ↦ rw (t.0, u.0) refl

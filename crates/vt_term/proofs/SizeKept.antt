@@ -26,6 +26,7 @@ use Rattle.vt_term.specs.Functions.{escape_tables, escape_with, designate, desig
 use Rattle.vt_term.specs.Functions.{marker_tables, intermediate_tables, sequence_in, sequences_of, effect}
 use Rattle.vt_term.specs.Play.{play, after_events}
 use Rattle.vt_term.proofs.Tables.{AllRows, looked_up-holds}
+use Rattle.vt_term.specs.Functions.{control_any, escape_with_any, plain_escape_any, sequences_any}
 
 abbrev pub KeepsSize : (Display → Display) → Type 0
 KeepsSize f = (s : Display) → (f s).grid.size ≡ s.grid.size
@@ -170,15 +171,15 @@ ruleset sizes = (
 )
 
 control-size : (b : ℕ) → KeepsSize (control b)
-unfolding control AllRows
+unfolding control_any AllRows
 control-size b = function-size [] controls b (search sizes)
 
 plain_escape-size : (last : ℕ) → KeepsSize (plain_escape last)
-unfolding plain_escape AllRows
+unfolding plain_escape_any AllRows
 plain_escape-size last = function-size [] plain_escapes last (search sizes)
 
 escape_with-size : (inter last : ℕ) → KeepsSize (escape_with inter last)
-unfolding escape_with AllRows
+unfolding escape_with_any AllRows
 escape_with-size inter last =
     let space = function-size [] space_escapes last (search sizes) in
     let number = function-size [] number_sign_escapes last (search sizes) in
@@ -187,7 +188,7 @@ escape_with-size inter last =
 
 sequences_of-size : (params : List ℕ) (marker inter : Option ℕ)
     → AllRows (FunctionKeepsSize params) (sequences_of marker inter)
-unfolding sequences_of AllRows
+unfolding sequences_any AllRows
 sequences_of-size params None None =
     let set : KeepsSize (change_modes ansi_modes true params) = change_modes-size ansi_modes ansi_modes-size true params in
     let reset : KeepsSize (change_modes ansi_modes false params) = change_modes-size ansi_modes ansi_modes-size false params in

@@ -14,13 +14,25 @@ use Rattle.vt_term.specs.Parameters.{from_one}
 use Rattle.vt_term.specs.Tabs.{horizontal_tab, set_tab, clear_tabs, next_stop_of, no_stops}
 use Rattle.vt_term.specs.Writing.{after_wrap, put_glyph, write_glyph}
 use Rattle.vt_term.specs.Editing.{insert_line, delete_line, insert_character, delete_character, erase_character}
-use Rattle.vt_term.specs.Editing.{erase_in_display, erase_in_line}
+use Rattle.vt_term.specs.Editing.{erase_in_display, erase_in_line, erase_in_display_any, erase_in_line_any, erased_area, display_area, line_area}
 use Rattle.vt_term.specs.Rendition.{select_graphic_rendition, select_character_attribute}
 use Rattle.vt_term.specs.Modes.{origin_mode, autowrap_mode, column_mode, keypad_mode, report_form}
 use Rattle.vt_term.specs.Saving.{save_cursor, restore_cursor}
 use Rattle.vt_term.specs.Resets.{screen_alignment, reset_to_initial_state, soft_reset, set_conformance_level}
+use Rattle.std.specs.Prelude.{min}
+use Rattle.vt_screen.specs.Grid.{columns_of, IsSoundGridOf}
+use Rattle.vt_screen.specs.Kinds.{erased_any}
+use Rattle.vt_screen.specs.Shown.{blank_is_shown, erased_is_shown}
 use Rattle.vt_screen.proofs.SoundGrids.{scroll_up-sound, scroll_down-sound, insert_cells-sound, delete_cells-sound}
-use Rattle.vt_screen.proofs.SoundGrids.{erase_area-sound, blank_grid-sound, fill-sound, put-sound, put_inserting-sound}
+use Rattle.vt_screen.proofs.SoundGrids.{changed-sound, erased-keeps, put-sound, put_inserting-sound}
+use Rattle.vt_screen.proofs.Vt220Grids.{blank_grid-sound, fill-sound}
+use Rattle.vt_term.specs.Kinds.{KindOf, AreShown}
+use Rattle.vt_term.specs.Rendition.{vt220_kind}
+use Rattle.vt_term.specs.State.{DisplayOf}
+use Rattle.vt_term.specs.Sound.{IsSoundDisplayOf}
+use Rattle.vt_term.specs.Moving.{index_any, reverse_index_any}
+use Rattle.vt_term.specs.Writing.{put_glyph_any}
+use Rattle.vt_term.specs.Editing.{insert_line_any, delete_line_any, insert_character_any, delete_character_any, erase_character_any}
 use Rattle.std.proofs.lemmas.Bool.Decides.{nat_tests}
 use Rattle.vt_term.proofs.PowerUp.{display_of-sound}
 use Rattle.vt_term.proofs.Stops.{length-stops_where}
@@ -78,11 +90,34 @@ cursor_backward-keeps n s i = search rules
 pub cursor_position-keeps : (line : ℕ) → (col : ℕ) → Keeps (cursor_position line col)
 cursor_position-keeps line col s i = search rules
 
+-- a function of a kind keeps the display sound
+abbrev pub KeepsAny : {C B : Type 0} → KindOf C B → (DisplayOf C B → DisplayOf C B) → Type 0
+KeepsAny {C = C} {B = B} k f = (s : DisplayOf C B) → IsSoundDisplayOf k.cells.shown s.grid.size s
+    → IsSoundDisplayOf k.cells.shown (f s).grid.size (f s)
+
+vt220_shown : AreShown vt220_kind
+vt220_shown = record {
+  blank = blank_is_shown;
+  erased = erased_is_shown;
+  written = λ b glyph h. h;
+  emptied = λ b. blank_is_shown;
+}
+
+index_any-keeps : {C B : Type 0} (k : KindOf C B) → AreShown k → KeepsAny k (index_any k)
+index_any-keeps k shows s i =
+    let up = scroll_up-sound k.cells.blank s.grid (k.own.emptied s.brush) s.margins.top s.margins.bottom 1 shows.blank (shows.emptied s.brush) i.grid in
+    search (rules, up)
+
 pub index-keeps : Keeps index
-index-keeps s i = search (rules, scroll_up-sound)
+index-keeps = index_any-keeps vt220_kind vt220_shown
+
+reverse_index_any-keeps : {C B : Type 0} (k : KindOf C B) → AreShown k → KeepsAny k (reverse_index_any k)
+reverse_index_any-keeps k shows s i =
+    let down = scroll_down-sound k.cells.blank s.grid (k.own.emptied s.brush) s.margins.top s.margins.bottom 1 shows.blank (shows.emptied s.brush) i.grid in
+    search (rules, down)
 
 pub reverse_index-keeps : Keeps reverse_index
-reverse_index-keeps s i = search (rules, scroll_down-sound)
+reverse_index-keeps = reverse_index_any-keeps vt220_kind vt220_shown
 
 pub next_line-keeps : Keeps next_line
 next_line-keeps s i = search (rules, index-keeps, carriage_return-keeps)
@@ -120,8 +155,14 @@ set_tab-keeps s i = search rules
 pub clear_tabs-keeps : (p : ℕ) → Keeps (clear_tabs p)
 clear_tabs-keeps p s i = search (rules, length_no_stops)
 
+put_glyph_any-keeps : {C B : Type 0} (k : KindOf C B) → AreShown k → (g : ℕ) → IsGlyph g → KeepsAny k (put_glyph_any k g)
+put_glyph_any-keeps k shows g glyph s i =
+    let over = put-sound k.cells.blank s.grid s.cursor.row s.cursor.col (k.own.written s.brush g) shows.blank i.grid (shows.written s.brush g glyph) in
+    let moved = put_inserting-sound k.cells.blank s.grid s.cursor.row s.cursor.col (k.own.written s.brush g) shows.blank i.grid (shows.written s.brush g glyph) in
+    search (rules, over, moved)
+
 put_glyph-keeps : (g : ℕ) → IsGlyph g → Keeps (put_glyph g)
-put_glyph-keeps g shown s i = search (rules, put-sound, put_inserting-sound)
+put_glyph-keeps g glyph = put_glyph_any-keeps vt220_kind vt220_shown g glyph
 
 after_wrap-keeps : Keeps after_wrap
 after_wrap-keeps s i = go s.cursor.wrap
@@ -133,26 +174,70 @@ after_wrap-keeps s i = go s.cursor.wrap
 pub write_glyph-keeps : (g : ℕ) → IsGlyph g → Keeps (write_glyph g)
 write_glyph-keeps g shown s i = put_glyph-keeps g shown (after_wrap s) (after_wrap-keeps s i)
 
+insert_line_any-keeps : {C B : Type 0} (k : KindOf C B) → AreShown k → (n : ℕ) → KeepsAny k (insert_line_any k n)
+insert_line_any-keeps k shows n s i =
+    let grid = scroll_down-sound k.cells.blank s.grid (k.own.emptied s.brush) s.cursor.row s.margins.bottom n shows.blank (shows.emptied s.brush) i.grid in
+    search (rules, grid)
+
 pub insert_line-keeps : (n : ℕ) → Keeps (insert_line n)
-insert_line-keeps n s i = search (rules, scroll_down-sound)
+insert_line-keeps n = insert_line_any-keeps vt220_kind vt220_shown n
+
+delete_line_any-keeps : {C B : Type 0} (k : KindOf C B) → AreShown k → (n : ℕ) → KeepsAny k (delete_line_any k n)
+delete_line_any-keeps k shows n s i =
+    let grid = scroll_up-sound k.cells.blank s.grid (k.own.emptied s.brush) s.cursor.row s.margins.bottom n shows.blank (shows.emptied s.brush) i.grid in
+    search (rules, grid)
 
 pub delete_line-keeps : (n : ℕ) → Keeps (delete_line n)
-delete_line-keeps n s i = search (rules, scroll_up-sound)
+delete_line-keeps n = delete_line_any-keeps vt220_kind vt220_shown n
+
+insert_character_any-keeps : {C B : Type 0} (k : KindOf C B) → AreShown k → (n : ℕ) → KeepsAny k (insert_character_any k n)
+insert_character_any-keeps k shows n s i =
+    let grid = insert_cells-sound k.cells.blank s.grid (k.own.emptied s.brush) s.cursor.row s.cursor.col n shows.blank (shows.emptied s.brush) i.grid in
+    search (rules, grid)
 
 pub insert_character-keeps : (n : ℕ) → Keeps (insert_character n)
-insert_character-keeps n s i = search (rules, insert_cells-sound)
+insert_character-keeps n = insert_character_any-keeps vt220_kind vt220_shown n
+
+delete_character_any-keeps : {C B : Type 0} (k : KindOf C B) → AreShown k → (n : ℕ) → KeepsAny k (delete_character_any k n)
+delete_character_any-keeps k shows n s i =
+    let grid = delete_cells-sound k.cells.blank s.grid (k.own.emptied s.brush) s.cursor.row s.cursor.col n shows.blank (shows.emptied s.brush) i.grid in
+    search (rules, grid)
 
 pub delete_character-keeps : (n : ℕ) → Keeps (delete_character n)
-delete_character-keeps n s i = search (rules, delete_cells-sound)
+delete_character-keeps n = delete_character_any-keeps vt220_kind vt220_shown n
+
+erased_area-sound : {C B : Type 0} (k : KindOf C B) → AreShown k → (s : DisplayOf C B) (area : ℕ → ℕ → Bool) (selective : Bool)
+    → IsSoundGridOf k.cells.shown s.grid → IsSoundGridOf k.cells.shown (erased_area k s area selective)
+erased_area-sound k shows s area selective sound =
+    changed-sound k.cells.blank s.grid (erased_any k.cells selective (k.own.emptied s.brush)) area shows.blank
+    (erased-keeps k.cells selective (k.own.emptied s.brush) (shows.emptied s.brush) shows.erased) sound
+
+erase_character_any-keeps : {C B : Type 0} (k : KindOf C B) → AreShown k → (n : ℕ) → KeepsAny k (erase_character_any k n)
+erase_character_any-keeps k shows n s i =
+    let grid = erased_area-sound k shows s (columns_of s.cursor.row s.cursor.col (min (s.cursor.col + n - 1) (last_column s))) false
+    i.grid in
+    search (rules, grid)
 
 pub erase_character-keeps : (n : ℕ) → Keeps (erase_character n)
-erase_character-keeps n s i = search (rules, erase_area-sound)
+erase_character-keeps n = erase_character_any-keeps vt220_kind vt220_shown n
+
+erase_in_display_any-keeps : {C B : Type 0} (k : KindOf C B) → AreShown k → (selective : Bool) (p : ℕ)
+    → KeepsAny k (erase_in_display_any k selective p)
+erase_in_display_any-keeps k shows selective p s i =
+    let grid = erased_area-sound k shows s (display_area p s.cursor) selective i.grid in
+    search (rules, grid)
 
 pub erase_in_display-keeps : (selective : Bool) → (p : ℕ) → Keeps (erase_in_display selective p)
-erase_in_display-keeps selective p s i = search (rules, erase_area-sound)
+erase_in_display-keeps selective p = erase_in_display_any-keeps vt220_kind vt220_shown selective p
+
+erase_in_line_any-keeps : {C B : Type 0} (k : KindOf C B) → AreShown k → (selective : Bool) (p : ℕ)
+    → KeepsAny k (erase_in_line_any k selective p)
+erase_in_line_any-keeps k shows selective p s i =
+    let grid = erased_area-sound k shows s (line_area p s.cursor) selective i.grid in
+    search (rules, grid)
 
 pub erase_in_line-keeps : (selective : Bool) → (p : ℕ) → Keeps (erase_in_line selective p)
-erase_in_line-keeps selective p s i = search (rules, erase_area-sound)
+erase_in_line-keeps selective p = erase_in_line_any-keeps vt220_kind vt220_shown selective p
 
 pub select_graphic_rendition-keeps : (params : List ℕ) → Keeps (select_graphic_rendition params)
 select_graphic_rendition-keeps params s i = search rules

@@ -22,6 +22,7 @@ use Rattle.vt_term.specs.Play.{play, after_events}
 use Rattle.vt_term.proofs.Tables.{AllRows, looked_up-holds}
 use Rattle.vt_term.proofs.SoundEffects.{Keeps, keeping, write_glyph-keeps, save_cursor-keeps, restore_cursor-keeps}
 use Rattle.vt_term.proofs.SoundEffects.{keypad_mode-keeps, reset_to_initial_state-keeps}
+use Rattle.vt_term.specs.Functions.{control_any, escape_with_any, plain_escape_any, sequences_any}
 
 -- ---- tables
 
@@ -92,7 +93,7 @@ module _ (glyphs : GlyphLaws) (sets : SetsLaws) where
       go (Some set) = with-sets s _ i (sets.designated s.sets slot set i.sets)
 
   control-keeps : (b : ℕ) → Keeps (control b)
-  unfolding control AllRows
+  unfolding control_any AllRows
   control-keeps b =
       let left0 : Keeps (with_sets (locked_left 0)) = lock_left-keeps 0 (omega arith) in
       let left1 : Keeps (with_sets (locked_left 1)) = lock_left-keeps 1 (omega arith) in
@@ -102,7 +103,7 @@ module _ (glyphs : GlyphLaws) (sets : SetsLaws) where
       function-keeps [] controls b (search (keeping, left0, left1, once2, once3, substitute, unchanged-keeps))
 
   plain_escape-keeps : (last : ℕ) → Keeps (plain_escape last)
-  unfolding plain_escape AllRows
+  unfolding plain_escape_any AllRows
   plain_escape-keeps last =
       function-keeps [] plain_escapes last (
         save_cursor-keeps,
@@ -123,7 +124,7 @@ module _ (glyphs : GlyphLaws) (sets : SetsLaws) where
 
   -- by an intermediate, and then by a final byte
   escape_with-keeps : (inter last : ℕ) → Keeps (escape_with inter last)
-  unfolding escape_with AllRows
+  unfolding escape_with_any AllRows
   escape_with-keeps inter last =
       let space = function-keeps [] space_escapes last (search keeping) in
       let number = function-keeps [] number_sign_escapes last (search keeping) in
@@ -134,7 +135,7 @@ module _ (glyphs : GlyphLaws) (sets : SetsLaws) where
 -- by a marker and an intermediate, and then by a final byte
 sequences_of-keep : (params : List ℕ) (marker inter : Option ℕ)
     → AllRows (FunctionKeeps params) (sequences_of marker inter)
-unfolding sequences_of AllRows
+unfolding sequences_any AllRows
 sequences_of-keep params None None =
     let set : Keeps (change_modes ansi_modes true params) = change_modes-keeps ansi_modes ansi_modes-keep true params in
     let reset : Keeps (change_modes ansi_modes false params) = change_modes-keeps ansi_modes ansi_modes-keep false params in

@@ -6,7 +6,7 @@ use Rattle.vt_glyph.specs.GraphicSets.{AreSoundSets}
 use Rattle.vt_screen.specs.Grid.{Grid, IsSoundGrid, blank_grid}
 use Rattle.vt_screen.specs.Sizes.{width_of, vt220_size}
 use Rattle.vt_screen.specs.declared.size.Size.{Size}
-use Rattle.vt_term.specs.declared.state.Saved.{Saved}
+use Rattle.vt_term.specs.State.{Saved}
 use Rattle.vt_term.specs.State.{Display, saved_sets, saved_at_power_up}
 use Rattle.vt_term.specs.Sound.{IsPlace}
 

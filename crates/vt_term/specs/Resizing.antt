@@ -7,7 +7,7 @@ use Rattle.vt_screen.specs.declared.size.Size.{Size}
 use Rattle.vt_term.specs.declared.state.Cursor.{Cursor}
 use Rattle.vt_term.specs.declared.state.Margins.{Margins}
 use Rattle.vt_term.specs.declared.state.Modes.{Modes}
-use Rattle.vt_term.specs.declared.state.Saved.{Saved}
+use Rattle.vt_term.specs.State.{Saved}
 use Rattle.vt_term.specs.State.{Display, State, bottom_row, last_column, margins_of, stops_where, has_stop_at, is_stop_at_power_up}
 use Rattle.vt_term.specs.Pages.{PageState, page_of, with_page}
 use Rattle.vt_term.specs.Text.{lines_text}

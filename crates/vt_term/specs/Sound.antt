@@ -6,7 +6,9 @@ use Rattle.vt_screen.specs.declared.size.Size.{Size}
 use Rattle.vt_screen.specs.Sizes.{vt220_size}
 use Rattle.vt_screen.specs.Grid.{IsSoundGrid}
 use Rattle.vt_term.specs.declared.state.Margins.{Margins}
-use Rattle.vt_term.specs.State.{Display, State, last_column, saved_sets}
+use Rattle.vt_screen.specs.Grid.{IsSoundGridOf}
+use Rattle.vt_screen.specs.Kinds.{vt220_cells}
+use Rattle.vt_term.specs.State.{DisplayOf, Display, State, last_column, saved_sets}
 
 -- margins of at least two rows, on a screen of so many
 pub record AreSoundMargins (rows : ℕ) (m : Margins) : Type 0 where
@@ -23,9 +25,9 @@ pub record IsPlace (rows width row col : ℕ) (wrap : Bool) : Type 0 where
   pub wrap_last : wrap ≡ true → col ≡ width
 
 -- all but the held part is sound, on a screen of this size
-pub record IsSoundDisplayAt (size : Size) (s : Display) : Type 0 where
+pub record IsSoundDisplayOf {C B : Type 0} (shown : C → Bool) (size : Size) (s : DisplayOf C B) : Type 0 where
   pub of_size : s.grid.size ≡ size
-  pub grid : IsSoundGrid s.grid
+  pub grid : IsSoundGridOf shown s.grid
   pub cursor : IsPlace size.rows (last_column s) s.cursor.row s.cursor.col s.cursor.wrap
   -- the wrap flag is set under DECAWM only
   pub wrap : s.cursor.wrap ≡ true → s.modes.decawm ≡ true
@@ -37,6 +39,10 @@ pub record IsSoundDisplayAt (size : Size) (s : Display) : Type 0 where
   -- the saved row may lie outside the margins
   pub saved : IsPlace size.rows (last_column s) s.saved.row s.saved.col s.saved.wrap
   pub saved_sets : AreSoundSets (saved_sets s.saved)
+
+-- on a VT220
+abbrev pub IsSoundDisplayAt : Size → Display → Type 0
+IsSoundDisplayAt size s = IsSoundDisplayOf vt220_cells.shown size s
 
 pub record IsSoundAt (size : Size) (s : State) : Type 0 where
   pub display : IsSoundDisplayAt size s.display

@@ -7,24 +7,33 @@ use Rattle.vt_glyph.specs.GraphicSets.{GraphicSets}
 use Rattle.vt_glyph.specs.Invocation.{sets_at_power_up}
 use Rattle.vt_screen.specs.declared.cell.Brush.{Brush}
 use Rattle.vt_screen.specs.Cells.{plain_brush}
-use Rattle.vt_screen.specs.Grid.{Grid, blank_grid}
+use Rattle.vt_screen.specs.Grid.{GridOf, blank_grid, blank_any}
 use Rattle.vt_screen.specs.Sizes.{vt220_size}
 use Rattle.vt_screen.specs.declared.size.Size.{Size}
 use Rattle.vt_term.specs.declared.state.Cursor.{Cursor}
 use Rattle.vt_term.specs.declared.state.Margins.{Margins}
 use Rattle.vt_term.specs.declared.state.Modes.{Modes}
-use Rattle.vt_term.specs.declared.state.Saved.{Saved}
+use Rattle.vt_term.specs.declared.state.SavedOf.{SavedOf}
+use Rattle.vt_term.specs.Kinds.{KindOf}
+use Rattle.vt_screen.specs.declared.cell.Cell.{Cell}
 
 -- all but the held part: what events change
-pub record Display : Type 0 where
-  pub grid : Grid
+pub record DisplayOf (C B : Type 0) : Type 0 where
+  pub grid : GridOf C
   pub cursor : Cursor
-  pub brush : Brush
+  pub brush : B
   pub sets : GraphicSets
   pub margins : Margins
   pub stops : List Bool
   pub modes : Modes
-  pub saved : Saved
+  pub saved : SavedOf B
+
+-- those of a VT220
+abbrev pub Saved : Type 0
+Saved = SavedOf Brush
+
+abbrev pub Display : Type 0
+Display = DisplayOf Cell Brush
 
 -- the whole state: the display, and what of an unfinished sequence is held
 pub record State : Type 0 where
@@ -32,11 +41,11 @@ pub record State : Type 0 where
   pub held : Held
 
 -- the number of rows of the screen
-abbrev pub bottom_row : Display → ℕ
+abbrev pub bottom_row : {C B : Type 0} → DisplayOf C B → ℕ
 bottom_row s = s.grid.size.rows
 
 -- the width of the screen, that of a narrow or of a wide one
-abbrev pub last_column : Display → ℕ
+abbrev pub last_column : {C B : Type 0} → DisplayOf C B → ℕ
 last_column s = s.grid.width
 
 -- ---- the values at power-up
@@ -82,7 +91,7 @@ modes_at_power_up = record {
 }
 
 -- what DECSC saves (EK-VT220-RM, chapter 4; the wrap flag is this profile's)
-abbrev pub saved_of : Cursor → Brush → GraphicSets → Bool → Saved
+abbrev pub saved_of : {B : Type 0} → Cursor → B → GraphicSets → Bool → SavedOf B
 saved_of cursor brush sets origin = record {
   row = cursor.row;
   col = cursor.col;
@@ -97,9 +106,26 @@ saved_of cursor brush sets origin = record {
 abbrev pub saved_at_power_up : Saved
 saved_at_power_up = saved_of (at_place 1 1) plain_brush sets_at_power_up false
 
+-- what a kind has saved at power-up
+abbrev pub saved_any : {C B : Type 0} → KindOf C B → SavedOf B
+saved_any k = saved_of (at_place 1 1) k.own.plain sets_at_power_up false
+
 -- the saved sets; a single shift isn't saved
-abbrev pub saved_sets : Saved → GraphicSets
+abbrev pub saved_sets : {B : Type 0} → SavedOf B → GraphicSets
 saved_sets saved = record { g = saved.g; left = saved.gl; right = saved.gr; pending = None }
+
+-- the display of a kind at power-up
+abbrev pub display_any : {C B : Type 0} → KindOf C B → Size → DisplayOf C B
+display_any k size = record {
+  grid = blank_any k.cells.blank size false;
+  cursor = at_place 1 1;
+  brush = k.own.plain;
+  sets = sets_at_power_up;
+  margins = margins_of size;
+  stops = stops_of size.wide;
+  modes = modes_at_power_up;
+  saved = saved_any k;
+}
 
 abbrev pub display_of : Size → Display
 display_of size = record {

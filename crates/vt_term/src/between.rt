@@ -96,7 +96,7 @@ impl SizedTerminal {
         if inserts {
             between::put_between(&mut self.display.screen, row, col, last, cell);
         } else {
-            self.display.screen.put(row, col, cell);
+            self.display.screen.put_vt220(row, col, cell);
         }
         if col < last {
             self.display.cursor = Cursor::at(row, col + 1);

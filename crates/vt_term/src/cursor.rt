@@ -4,12 +4,103 @@ ghost use Rattle.vt_term.specs.Moving.{home, backspace, carriage_return, cursor_
 ghost use Rattle.vt_term.specs.Moving.{cursor_backward, cursor_position, index, reverse_index, next_line, line_feed};
 ghost use Rattle.vt_term.specs.Moving.{set_margins};
 ghost use Rattle.vt_screen.specs.Grid.{scroll_up};
+ghost use Rattle.vt_term.specs.Kinds.{kind_of};
+ghost use Rattle.vt_term.specs.Moving.{index_any, reverse_index_any, next_line_any, line_feed_any};
+ghost use Rattle.vt_screen.specs.Grid.{scroll_up_any};
 
 use crate::display::Display;
+use crate::kind::Kind;
 use crate::state::{Cursor, Margins};
 use vt_screen::ROWS;
 
-impl Display {
+impl<K: Kind> Display<K> {
+    /// Carries out CR: moves the cursor to column 1.
+    pub(crate) fn carriage_return(&mut self)
+        ensures { self.new ≡ carriage_return self.old }
+    {
+        self.cursor = Cursor::at(self.cursor.row, 1);
+    }
+
+    /// Carries out IND: moves the cursor down by one, not past the last row. At the bottom margin the scroll region moves up
+    /// instead.
+    #[inline(never)]
+    pub(crate) fn index(&mut self)
+        ensures { self.new ≡ index_any (kind_of K.cells K.own) self.old }
+    {
+        let Cursor { row, col, .. } = self.cursor;
+        if row == self.margins.bottom {
+            self.cursor = Cursor::at(row, col);
+            self.scroll_up_once();
+        } else {
+            self.cursor = Cursor::at((row + 1).min(self.screen.size().rows), col);
+        }
+    }
+
+    /// Moves the scroll region up by one row. Speed: the whole screen of a VT220 has a separate call, which moves its rows by a
+    /// copy of a fixed size.
+    #[inline(always)]
+    fn scroll_up_once(&mut self)
+        ensures { self.new ≡ record self.old {
+          grid = scroll_up_any K.cells.blank (K.own.emptied self.old.brush) self.old.grid self.old.margins.top self.old.margins.bottom 1;
+        } }
+    {
+        if self.margins.top == 1 && self.margins.bottom == ROWS {
+            self.screen.scroll_up_with(1, ROWS, 1, self.pen.emptied());
+        } else {
+            self.scroll_region_up();
+        }
+    }
+
+    /// Moves the scroll region up by one row, at any margins.
+    #[inline(never)]
+    fn scroll_region_up(&mut self)
+        ensures { self.new ≡ record self.old {
+          grid = scroll_up_any K.cells.blank (K.own.emptied self.old.brush) self.old.grid self.old.margins.top self.old.margins.bottom 1;
+        } }
+    {
+        self.screen.scroll_up_with(self.margins.top, self.margins.bottom, 1, self.pen.emptied());
+    }
+
+    /// Carries out RI: moves the cursor up by one, not past row 1. At the top margin the scroll region moves down
+    /// instead.
+    #[inline(never)]
+    pub(crate) fn reverse_index(&mut self)
+        ensures { self.new ≡ reverse_index_any (kind_of K.cells K.own) self.old }
+    {
+        let mut row = self.cursor.row;
+        if row == self.margins.top {
+            self.screen.scroll_down_with(
+                self.margins.top,
+                self.margins.bottom,
+                1,
+                self.pen.emptied(),
+            );
+        } else {
+            row = (row - 1).max(1);
+        }
+        self.cursor = Cursor::at(row, self.cursor.col);
+    }
+
+    /// Carries out NEL: CR, and then IND.
+    #[inline(never)]
+    pub(crate) fn next_line(&mut self)
+        ensures { self.new ≡ next_line_any (kind_of K.cells K.own) self.old }
+    {
+        self.carriage_return();
+        self.index();
+    }
+
+    /// Carries out LF, VT and FF: IND, and under LNM also CR.
+    pub(crate) fn line_feed(&mut self)
+        ensures { self.new ≡ line_feed_any (kind_of K.cells K.own) self.old }
+    {
+        if self.modes.lnm {
+            self.next_line();
+        } else {
+            self.index();
+        }
+    }
+
     /// Moves the cursor home: to column 1 of row 1, or under DECOM of the top margin's row.
     pub(crate) fn home(&mut self)
         ensures { self.new ≡ home self.old }
@@ -27,13 +118,6 @@ impl Display {
         ensures { self.new ≡ backspace self.old }
     {
         self.cursor = Cursor::at(self.cursor.row, (self.cursor.col - 1).max(1));
-    }
-
-    /// Carries out CR: moves the cursor to column 1.
-    pub(crate) fn carriage_return(&mut self)
-        ensures { self.new ≡ carriage_return self.old }
-    {
-        self.cursor = Cursor::at(self.cursor.row, 1);
     }
 
     /// Carries out CUU: moves the cursor up by `n`, not past the top margin. If it starts above the margin, it stops at
@@ -111,83 +195,6 @@ impl Display {
         };
         let col = (col as usize).max(1).min(self.screen.width());
         self.cursor = Cursor::at(row, col);
-    }
-
-    /// Carries out IND: moves the cursor down by one, not past the last row. At the bottom margin the scroll region moves up
-    /// instead.
-    #[inline(never)]
-    pub(crate) fn index(&mut self)
-        ensures { self.new ≡ index self.old }
-    {
-        let Cursor { row, col, .. } = self.cursor;
-        if row == self.margins.bottom {
-            self.cursor = Cursor::at(row, col);
-            self.scroll_up_once();
-        } else {
-            self.cursor = Cursor::at((row + 1).min(self.screen.size().rows), col);
-        }
-    }
-
-    /// Moves the scroll region up by one row. Speed: the whole screen of a VT220 has a separate call, which moves its rows by a
-    /// copy of a fixed size.
-    #[inline(always)]
-    fn scroll_up_once(&mut self)
-        ensures { self.new ≡ record self.old {
-          grid = scroll_up self.old.grid self.old.margins.top self.old.margins.bottom 1;
-        } }
-    {
-        if self.margins.top == 1 && self.margins.bottom == ROWS {
-            self.screen.scroll_up(1, ROWS, 1);
-        } else {
-            self.scroll_region_up();
-        }
-    }
-
-    /// Moves the scroll region up by one row, at any margins.
-    #[inline(never)]
-    fn scroll_region_up(&mut self)
-        ensures { self.new ≡ record self.old {
-          grid = scroll_up self.old.grid self.old.margins.top self.old.margins.bottom 1;
-        } }
-    {
-        self.screen
-            .scroll_up(self.margins.top, self.margins.bottom, 1);
-    }
-
-    /// Carries out RI: moves the cursor up by one, not past row 1. At the top margin the scroll region moves down
-    /// instead.
-    #[inline(never)]
-    pub(crate) fn reverse_index(&mut self)
-        ensures { self.new ≡ reverse_index self.old }
-    {
-        let mut row = self.cursor.row;
-        if row == self.margins.top {
-            self.screen
-                .scroll_down(self.margins.top, self.margins.bottom, 1);
-        } else {
-            row = (row - 1).max(1);
-        }
-        self.cursor = Cursor::at(row, self.cursor.col);
-    }
-
-    /// Carries out NEL: CR, and then IND.
-    #[inline(never)]
-    pub(crate) fn next_line(&mut self)
-        ensures { self.new ≡ next_line self.old }
-    {
-        self.carriage_return();
-        self.index();
-    }
-
-    /// Carries out LF, VT and FF: IND, and under LNM also CR.
-    pub(crate) fn line_feed(&mut self)
-        ensures { self.new ≡ line_feed self.old }
-    {
-        if self.modes.lnm {
-            self.next_line();
-        } else {
-            self.index();
-        }
     }
 
     /// Carries out DECSTBM: sets margins of at least two rows, and moves the cursor home. Other margins have no effect.

@@ -1,11 +1,12 @@
 //! The display: all of a terminal except its parser. Events change it.
 ghost use Rattle.std.specs.Prelude.{◌≡◌, ◌↔◌, IsTrue, IfOk};
-ghost use Rattle.vt_term.specs.Sound.{IsSoundSizedDisplay};
+ghost use Rattle.vt_term.specs.Sound.{IsSoundDisplayOf};
 ghost use Rattle.vt_term.specs.State.{display_of};
 ghost use Rattle.vt_screen.specs.Sizes.{IsSize};
 
+use crate::kind::Kind;
 use crate::same::{same_brush, same_modes, same_saved};
-use crate::state::{Cursor, Margins, Modes, Saved};
+use crate::state::{Cursor, Margins, Modes, Saved, SavedOf};
 use crate::tabs::TabStops;
 use std::alloc::{AllocError, Global};
 use std::marker::Model;
@@ -14,29 +15,28 @@ use vt_screen::{Cell, Screen, Size};
 
 /// A terminal without its parser.
 #[derive(Drop)]
-pub(crate) struct Display {
-    pub(crate) screen: Screen,
+pub(crate) struct Display<K: Kind = Cell> {
+    pub(crate) screen: Screen<K>,
     pub(crate) cursor: Cursor,
     /// The brush, as the cell that a space becomes. (Speed: a run copies it as one word.)
-    pub(crate) pen: Cell,
+    pub(crate) pen: K,
     pub(crate) sets: Sets,
     pub(crate) margins: Margins,
     pub(crate) stops: TabStops,
     pub(crate) modes: Modes,
-    pub(crate) saved: Saved,
+    pub(crate) saved: SavedOf<K::Brush>,
 }
 
-impl Model for Display {
-    ghost use Rattle.vt_term.specs.State.{Display as TheDisplay};
-    ghost use Rattle.vt_term.specs.Sound.{IsSoundSizedDisplay};
-    ghost use Rattle.vt_screen.specs.Cells.{brush_of};
+impl<K: Kind> Model for Display<K> {
+    ghost use Rattle.vt_term.specs.State.{DisplayOf};
+    ghost use Rattle.vt_term.specs.Sound.{IsSoundDisplayOf};
 
-    ghost Value = { TheDisplay };
+    ghost Value = { DisplayOf K K.Brush };
 
     ghost view = { λ d. record {
       grid = d.screen;
       cursor = d.cursor;
-      brush = brush_of d.pen;
+      brush = K.own.brush_of d.pen;
       sets = d.sets;
       margins = d.margins;
       stops = d.stops;
@@ -44,10 +44,10 @@ impl Model for Display {
       saved = d.saved;
     } };
 
-    ghost invariant = { λ d. IsSoundSizedDisplay (record {
+    ghost invariant = { λ d. IsSoundDisplayOf K.cells.shown d.screen.size (record {
       grid = d.screen;
       cursor = d.cursor;
-      brush = brush_of d.pen;
+      brush = K.own.brush_of d.pen;
       sets = d.sets;
       margins =
           d.margins;
@@ -55,6 +55,16 @@ impl Model for Display {
       modes = d.modes;
       saved = d.saved;
     }) };
+}
+
+impl<K: Kind> Display<K> {
+    /// States that the display is sound, for proofs. It does nothing when it runs.
+    #[inline(always)]
+    pub(crate) fn soundness(&self)
+        ensures { IsSoundDisplayOf K.cells.shown self.now.grid.size self.now }
+    {
+        let _ = &self.cursor;
+    }
 }
 
 impl Display {
@@ -73,14 +83,6 @@ impl Display {
             modes: Modes::power_up(),
             saved: Saved::power_up(),
         })
-    }
-
-    /// States that the display is sound, for proofs. It does nothing when it runs.
-    #[inline(always)]
-    pub(crate) fn soundness(&self)
-        ensures { IsSoundSizedDisplay self.now }
-    {
-        let _ = &self.cursor;
     }
 
     /// Returns whether two displays are equal in every part.

@@ -1,24 +1,25 @@
 //! Inserting, deleting and erasing. Each function resets the wrap flag, unless its parameter isn't listed.
-ghost use Rattle.std.specs.Prelude.{◌+◌, ◌≡◌, ◌≤◌};
-ghost use Rattle.vt_term.specs.Editing.{insert_line, delete_line, insert_character, delete_character, erase_character};
-ghost use Rattle.vt_term.specs.Editing.{erase_in_display, erase_in_line, rows_between};
-ghost use Rattle.vt_screen.specs.Grid.{IsSoundGrid, erase_area};
+ghost use Rattle.std.specs.Prelude.{◌≡◌, ◌≤◌};
+ghost use Rattle.vt_screen.specs.Grid.{columns_of, span_of};
+ghost use Rattle.vt_term.specs.Editing.{erase_in_display_any, erase_in_line_any, erased_area, with_grid};
+ghost use Rattle.vt_term.specs.Kinds.{kind_of};
+ghost use Rattle.vt_term.specs.Editing.{insert_line_any, delete_line_any, insert_character_any, delete_character_any, erase_character_any};
 
 use crate::display::Display;
+use crate::kind::Kind;
 use crate::state::Cursor;
-use vt_screen::Screen;
-use vt_screen::laws::areas;
 
-impl Display {
+impl<K: Kind> Display<K> {
     /// Carries out IL: inserts `n` blank rows at the cursor's row, and moves the cursor to column 1. The rows down to
     /// the bottom margin move down. Outside the margins it only resets the wrap flag.
     #[inline(never)]
     pub(crate) fn insert_line(&mut self, n: u16)
-        ensures { self.new ≡ insert_line n self.old }
+        ensures { self.new ≡ insert_line_any (kind_of K.cells K.own) n self.old }
     {
         let row = self.cursor.row;
         if self.margins.top <= row && row <= self.margins.bottom {
-            self.screen.scroll_down(row, self.margins.bottom, n);
+            self.screen
+                .scroll_down_with(row, self.margins.bottom, n, self.pen.emptied());
             self.cursor = Cursor::at(row, 1);
         } else {
             self.cursor.wrap = false;
@@ -29,11 +30,12 @@ impl Display {
     /// to the bottom margin move up. Outside the margins it only resets the wrap flag.
     #[inline(never)]
     pub(crate) fn delete_line(&mut self, n: u16)
-        ensures { self.new ≡ delete_line n self.old }
+        ensures { self.new ≡ delete_line_any (kind_of K.cells K.own) n self.old }
     {
         let row = self.cursor.row;
         if self.margins.top <= row && row <= self.margins.bottom {
-            self.screen.scroll_up(row, self.margins.bottom, n);
+            self.screen
+                .scroll_up_with(row, self.margins.bottom, n, self.pen.emptied());
             self.cursor = Cursor::at(row, 1);
         } else {
             self.cursor.wrap = false;
@@ -43,20 +45,20 @@ impl Display {
     /// Carries out ICH: inserts `n` blank cells at the cursor.
     #[inline(never)]
     pub(crate) fn insert_character(&mut self, n: u16)
-        ensures { self.new ≡ insert_character n self.old }
+        ensures { self.new ≡ insert_character_any (kind_of K.cells K.own) n self.old }
     {
         self.screen
-            .insert_cells(self.cursor.row, self.cursor.col, n);
+            .insert_with(self.cursor.row, self.cursor.col, n, self.pen.emptied());
         self.cursor.wrap = false;
     }
 
     /// Carries out DCH: deletes `n` cells starting at the cursor.
     #[inline(never)]
     pub(crate) fn delete_character(&mut self, n: u16)
-        ensures { self.new ≡ delete_character n self.old }
+        ensures { self.new ≡ delete_character_any (kind_of K.cells K.own) n self.old }
     {
         self.screen
-            .delete_cells(self.cursor.row, self.cursor.col, n);
+            .delete_with(self.cursor.row, self.cursor.col, n, self.pen.emptied());
         self.cursor.wrap = false;
     }
 
@@ -64,11 +66,37 @@ impl Display {
     #[inline(never)]
     pub(crate) fn erase_character(&mut self, n: u16)
         requires { 1 ≤ n }
-        ensures { self.new ≡ erase_character n self.old }
+        ensures { self.new ≡ erase_character_any (kind_of K.cells K.own) n self.old }
     {
-        let Cursor { row, col, .. } = self.cursor;
+        let Cursor { col, .. } = self.cursor;
         let to = (col + n as usize - 1).min(self.screen.width());
-        self.screen.erase(row, col, to, false);
+        self.erase_columns(col, to, false);
+    }
+
+    /// Carries out EL, and DECSEL, which is selective: 0 erases starting at the cursor, 1 up to the cursor, 2 the whole
+    /// line.
+    #[inline(never)]
+    pub(crate) fn erase_in_line(&mut self, selective: bool, p: u16)
+        ensures { self.new ≡ erase_in_line_any (kind_of K.cells K.own) selective p self.old }
+    {
+        let Cursor { col, .. } = self.cursor;
+        let width = self.screen.width();
+        match p {
+            0 => self.erase_columns(col, width, selective),
+            1 => self.erase_columns(1, col, selective),
+            2 => self.erase_columns(1, width, selective),
+            _ => {}
+        }
+    }
+
+    /// Erases columns of the cursor's row.
+    #[inline(always)]
+    fn erase_columns(&mut self, from: usize, to: usize, selective: bool)
+        requires { (1 ≤ from) × (from ≤ to) × (to ≤ self.old.grid.width) }
+        ensures { self.new ≡ with_grid (erased_area (kind_of K.cells K.own) self.old (columns_of self.old.cursor.row from to) selective) self.old }
+    {
+        self.screen
+            .erase_with(self.cursor.row, from, to, selective, self.pen.emptied());
         self.cursor.wrap = false;
     }
 
@@ -76,70 +104,27 @@ impl Display {
     /// screen.
     #[inline(never)]
     pub(crate) fn erase_in_display(&mut self, selective: bool, p: u16)
-        ensures { self.new ≡ erase_in_display selective p self.old }
+        ensures { self.new ≡ erase_in_display_any (kind_of K.cells K.own) selective p self.old }
     {
-        areas();
-        let row = self.cursor.row;
-        let end = self.screen.size().rows + 1;
+        let Cursor { row, col, .. } = self.cursor;
+        let (rows, width) = (self.screen.size().rows, self.screen.width());
         match p {
-            0 => {
-                self.erase_part_of_line(selective, 0);
-                self.erase_rows(row + 1, end, selective);
-            }
-            1 => {
-                self.erase_part_of_line(selective, 1);
-                self.erase_rows(1, row, selective);
-            }
-            2 => {
-                self.erase_rows(1, end, selective);
-                self.cursor.wrap = false;
-            }
+            0 => self.erase_span(row, col, rows, width, selective),
+            1 => self.erase_span(1, 1, row, col, selective),
+            2 => self.erase_span(1, 1, rows, width, selective),
             _ => {}
         }
     }
 
-    /// Carries out EL, and DECSEL, which is selective: 0 erases starting at the cursor, 1 up to the cursor, 2 the whole
-    /// line.
-    #[inline(never)]
-    pub(crate) fn erase_in_line(&mut self, selective: bool, p: u16)
-        ensures { self.new ≡ erase_in_line selective p self.old }
+    /// Erases the cells from one place to another, both included, in the order of reading.
+    fn erase_span(&mut self, row: usize, col: usize, to_row: usize, to_col: usize, selective: bool)
+        requires from { (1 ≤ row) × (1 ≤ col) × (col ≤ self.old.grid.width) }
+        requires to { (row ≤ to_row) × (to_row ≤ self.old.grid.size.rows) × (1 ≤ to_col) × (to_col ≤ self.old.grid.width) }
+        requires order { row ≡ to_row → col ≤ to_col }
+        ensures { self.new ≡ with_grid (erased_area (kind_of K.cells K.own) self.old (span_of row col to_row to_col) selective) self.old }
     {
-        if p <= 2 {
-            self.erase_part_of_line(selective, p);
-        }
-    }
-
-    /// Erases the part of the line that EL erases.
-    fn erase_part_of_line(&mut self, selective: bool, p: u16)
-        requires { p ≤ 2 }
-        ensures { self.new ≡ erase_in_line selective p self.old }
-    {
-        areas();
-        let Cursor { row, col, .. } = self.cursor;
-        let from = if p == 0 { col } else { 1 };
-        let to = if p == 1 { col } else { self.screen.width() };
-        self.screen.erase(row, from, to, selective);
+        self.screen
+            .erase_span(row, col, to_row, to_col, selective, self.pen.emptied());
         self.cursor.wrap = false;
-    }
-
-    /// Erases the rows from `first` to `end`, `end` excluded.
-    fn erase_rows(&mut self, first: usize, end: usize, selective: bool)
-        requires { (1 ≤ first) × (first ≤ end) × (end ≤ self.old.grid.size.rows + 1) }
-        ensures { self.new ≡ record self.old { grid = erase_area self.old.grid (rows_between first end) selective } }
-    {
-        erase_rows(&mut self.screen, first, end, selective);
-    }
-}
-
-/// Erases the rows from `first` to `end`, `end` excluded.
-fn erase_rows(screen: &mut Screen, first: usize, end: usize, selective: bool)
-    requires { (1 ≤ first) × (first ≤ end) × (end ≤ screen.old.size.rows + 1) }
-    ensures grid { screen.new ≡ erase_area screen.old (rows_between first end) selective }
-    ensures sound { IsSoundGrid screen.new }
-{
-    areas();
-    let width = screen.width();
-    for row in first..end {
-        screen.erase(row, 1, width, selective);
     }
 }

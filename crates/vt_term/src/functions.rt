@@ -5,16 +5,18 @@ ghost use Rattle.vt_syntax.specs.declared.event.Event.TheVariants.{Sequence};
 ghost use Rattle.vt_syntax.specs.Event.{event_of};
 ghost use Rattle.vt_syntax.specs.Front.{AreFirst, front_list};
 ghost use Rattle.vt_glyph.specs.Tables.{substitute_glyph};
-ghost use Rattle.vt_term.specs.Writing.{write_glyph};
+ghost use Rattle.vt_term.specs.Writing.{write_glyph_any};
+ghost use Rattle.vt_term.specs.Kinds.{kind_of};
 ghost use Rattle.vt_term.specs.Parameters.{first, second, count};
 ghost use Rattle.vt_glyph.specs.Invocation.{locked_left, locked_right, shifted_once};
-ghost use Rattle.vt_term.specs.Functions.{effect, control, plain_escape, escape_with, designate, with_sets};
-ghost use Rattle.vt_term.specs.Functions.{sequences_of, sequence_in, plain_sequences, private_sequences};
-ghost use Rattle.vt_term.specs.Functions.{quote_sequences, exclamation_sequences};
-ghost use Rattle.vt_term.specs.Reports.{report};
+ghost use Rattle.vt_term.specs.Functions.{effect_any, control_any, plain_escape_any, escape_with_any, designate, with_sets};
+ghost use Rattle.vt_term.specs.Functions.{sequences_any, sequence_in, plain_sequences_any, private_sequences_any};
+ghost use Rattle.vt_term.specs.Functions.{quote_sequences_any, exclamation_sequences_any};
+ghost use Rattle.vt_term.specs.Reports.{report_any};
 
 use crate::codes::{BS, CR, FF, HT, HTS, IND, LF, NEL, RI, SI, SO, SS2, SS3, SUB, VT};
 use crate::display::Display;
+use crate::kind::Kind;
 use vt_glyph::{Glyph, Set};
 use vt_syntax::{EventKind, FrontValues};
 
@@ -39,15 +41,15 @@ pub fn count(params: &[u16]) -> u16
     first(params).max(1)
 }
 
-impl Display {
+impl<K: Kind> Display<K> {
     /// Carries out an event: its kind, and the values of a control sequence. It appends the report in the state before
     /// the event to `out`: at most ten bytes, for which `out` has capacity.
     #[inline(always)]
     pub(crate) fn carry_out(&mut self, kind: EventKind, values: &[u16], out: &mut Vec<u8>)
         requires event { IsEvent (event_of kind values.now) }
         requires room { vec_len out.old + 10 ≤ vec_capacity out.old }
-        ensures state { self.new ≡ effect (event_of kind values.now) self.old }
-        ensures items { out.new.items ≡ out.old.items ++ report (event_of kind values.now) self.old }
+        ensures state { self.new ≡ effect_any (kind_of K.cells K.own) (event_of kind values.now) self.old }
+        ensures items { out.new.items ≡ out.old.items ++ report_any (kind_of K.cells K.own) (event_of kind values.now) self.old }
         ensures bounded { vec_len out.new ≤ vec_len out.old + 10 }
         ensures capacity { vec_capacity out.old ≤ vec_capacity out.new }
     {
@@ -72,14 +74,14 @@ impl Display {
     ///
     /// Speed: CUP and SGR are tested before the table, and all others out of line.
     #[inline(always)]
-    #[tactic(auto, unfolding(crate::specs::Functions::sequences_of, crate::specs::Functions::sequence_in, crate::specs::Reports::sequence_report))]
+    #[tactic(auto, unfolding(crate::specs::Functions::sequences_any, crate::specs::Functions::sequence_in, crate::specs::Reports::sequence_report_any))]
     pub(crate) fn carry_out_values(&mut self, front: &FrontValues, out: &mut Vec<u8>)
         requires few { (1 ≤ front.now.count) × (front.now.count ≤ 3) }
         requires values { AreFirst front.now }
         requires room { vec_len out.old + 10 ≤ vec_capacity out.old }
-        ensures state { self.new ≡ effect (Sequence None (record { items = front_list front.now }) None front.now.last) self.old }
+        ensures state { self.new ≡ effect_any (kind_of K.cells K.own) (Sequence None (record { items = front_list front.now }) None front.now.last) self.old }
         ensures items { out.new.items ≡ out.old.items
-            ++ report (Sequence None (record { items = front_list front.now }) None front.now.last) self.old }
+            ++ report_any (kind_of K.cells K.own) (Sequence None (record { items = front_list front.now }) None front.now.last) self.old }
         ensures bounded { vec_len out.new ≤ vec_len out.old + 10 }
         ensures capacity { vec_capacity out.old ≤ vec_capacity out.new }
     {
@@ -96,9 +98,9 @@ impl Display {
 
     /// Carries out a C0 or C1 control. (It is inlined in each caller, so CR and LF cost no dispatch.)
     #[inline(always)]
-    #[tactic(auto, unfolding(crate::specs::Functions::control))]
+    #[tactic(auto, unfolding(crate::specs::Functions::control_any))]
     pub(crate) fn control(&mut self, b: u8)
-        ensures { self.new ≡ control b self.old }
+        ensures { self.new ≡ control_any (kind_of K.cells K.own) b self.old }
     {
         match b {
             BS => self.backspace(),
@@ -123,15 +125,15 @@ impl Display {
     /// Carries out SUB: writes U+2426.
     #[inline(never)]
     fn write_substitute(&mut self)
-        ensures { self.new ≡ write_glyph substitute_glyph self.old }
+        ensures { self.new ≡ write_glyph_any (kind_of K.cells K.own) substitute_glyph self.old }
     {
         self.write_glyph(Glyph::substitute());
     }
 
     /// Carries out an escape sequence without an intermediate.
-    #[tactic(auto, unfolding(crate::specs::Functions::plain_escape))]
+    #[tactic(auto, unfolding(crate::specs::Functions::plain_escape_any))]
     fn plain_escape(&mut self, last: u8)
-        ensures { self.new ≡ plain_escape last self.old }
+        ensures { self.new ≡ plain_escape_any (kind_of K.cells K.own) last self.old }
     {
         match last {
             b'7' => self.save_cursor(),
@@ -150,9 +152,9 @@ impl Display {
 
     /// Carries out an escape sequence with an intermediate.
     #[inline(always)]
-    #[tactic(auto, unfolding(crate::specs::Functions::escape_with))]
+    #[tactic(auto, unfolding(crate::specs::Functions::escape_with_any))]
     fn escape_with(&mut self, inter: u8, last: u8)
-        ensures { self.new ≡ escape_with inter last self.old }
+        ensures { self.new ≡ escape_with_any (kind_of K.cells K.own) inter last self.old }
     {
         if inter == b'(' {
             return self.designate(0, last);
@@ -162,9 +164,9 @@ impl Display {
 
     /// Carries out an escape sequence with an intermediate. Speed: `escape_with` tests for G0 first, which is frequent.
     #[inline(never)]
-    #[tactic(auto, unfolding(crate::specs::Functions::escape_with))]
+    #[tactic(auto, unfolding(crate::specs::Functions::escape_with_any))]
     fn rare_escape(&mut self, inter: u8, last: u8)
-        ensures { self.new ≡ escape_with inter last self.old }
+        ensures { self.new ≡ escape_with_any (kind_of K.cells K.own) inter last self.old }
     {
         match (inter, last) {
             (b' ', b'F') => self.report_form(false),
@@ -215,9 +217,9 @@ impl Display {
 
     /// Carries out a control sequence.
     #[inline(always)]
-    #[tactic(auto, unfolding(crate::specs::Functions::sequences_of, crate::specs::Functions::sequence_in))]
+    #[tactic(auto, unfolding(crate::specs::Functions::sequences_any, crate::specs::Functions::sequence_in))]
     fn sequence(&mut self, marker: Option<u8>, params: &[u16], inter: Option<u8>, last: u8)
-        ensures { self.new ≡ sequence_in (sequences_of marker inter) last params.now self.old }
+        ensures { self.new ≡ sequence_in (sequences_any (kind_of K.cells K.own) marker inter) last params.now self.old }
     {
         match (marker, inter) {
             (None, None) => self.plain_sequence(last, params),
@@ -232,7 +234,7 @@ impl Display {
     #[inline(never)]
     #[tactic(auto, unfolding(crate::specs::Functions::sequence_in))]
     fn plain_sequence(&mut self, last: u8, params: &[u16])
-        ensures { self.new ≡ sequence_in plain_sequences last params.now self.old }
+        ensures { self.new ≡ sequence_in (plain_sequences_any (kind_of K.cells K.own)) last params.now self.old }
     {
         match last {
             b'@' => self.insert_character(count(params)),
@@ -262,7 +264,7 @@ impl Display {
     /// Carries out a private control sequence, with the marker `?`. DSR only reports.
     #[tactic(auto, unfolding(crate::specs::Functions::sequence_in))]
     fn private_sequence(&mut self, last: u8, params: &[u16])
-        ensures { self.new ≡ sequence_in private_sequences last params.now self.old }
+        ensures { self.new ≡ sequence_in (private_sequences_any (kind_of K.cells K.own)) last params.now self.old }
     {
         match last {
             b'J' => self.erase_in_display(true, first(params)),
@@ -277,7 +279,7 @@ impl Display {
     /// Carries out a control sequence with the intermediate `"`.
     #[tactic(auto, unfolding(crate::specs::Functions::sequence_in))]
     fn quote_sequence(&mut self, last: u8, params: &[u16])
-        ensures { self.new ≡ sequence_in quote_sequences last params.now self.old }
+        ensures { self.new ≡ sequence_in (quote_sequences_any (kind_of K.cells K.own)) last params.now self.old }
     {
         match last {
             b'p' => self.set_conformance_level(first(params), second(params)),
@@ -289,7 +291,7 @@ impl Display {
     /// Carries out a control sequence with the intermediate `!`.
     #[tactic(auto, unfolding(crate::specs::Functions::sequence_in))]
     fn exclamation_sequence(&mut self, last: u8, params: &[u16])
-        ensures { self.new ≡ sequence_in exclamation_sequences last params.now self.old }
+        ensures { self.new ≡ sequence_in (exclamation_sequences_any (kind_of K.cells K.own)) last params.now self.old }
     {
         if last == b'p' {
             self.soft_reset();

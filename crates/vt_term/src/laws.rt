@@ -96,7 +96,7 @@ pub fn sized_log_cuts()
 /// States what the events do that scroll line 1 off: the rows up to the bottom margin move up by one. A line feed does nothing
 /// else to the cells, and below or above the bottom margin it leaves them. A character with the wrap flag set is written in
 /// column 1 of the rows that moved.
-#[tactic(auto, unfolding(crate::specs::Functions::control, vt_glyph::specs::Invocation::glyph_read))]
+#[tactic(auto, using(crate::proofs::LineEnds::index_end, crate::proofs::LineEnds::next_line_end, crate::proofs::LineEnds::line_feed_end, crate::proofs::LineEnds::next_line_is), unfolding(crate::specs::Functions::control_any, vt_glyph::specs::Invocation::glyph_read))]
 pub fn scrolls()
     ensures feed { (b : ℕ) (s : Display) → is_line_feed b ≡ true → is_at_end s ≡ true
         → (effect (Control b) s).grid ≡ scroll_up s.grid 1 s.margins.bottom 1 }

@@ -1,16 +1,18 @@
 //! The control functions that change modes.
 ghost use Rattle.std.specs.Prelude.{◌≡◌};
-ghost use Rattle.vt_term.specs.Modes.{origin_mode, autowrap_mode, column_mode, keypad_mode, report_form, with_mode};
-ghost use Rattle.vt_term.specs.Modes.{change_modes, ansi_modes, private_modes};
+ghost use Rattle.vt_term.specs.Modes.{origin_mode, autowrap_mode, column_mode_any, keypad_mode, report_form, with_mode};
+ghost use Rattle.vt_term.specs.Modes.{change_modes, ansi_modes_any, private_modes_any};
+ghost use Rattle.vt_term.specs.Kinds.{kind_of};
 
 use crate::display::Display;
+use crate::kind::Kind;
 use crate::state::{Cursor, Margins};
 
-impl Display {
+impl<K: Kind> Display<K> {
     /// Carries out SM and RM of ANSI modes: each parameter in order.
     #[inline(never)]
     pub(crate) fn change_ansi_modes(&mut self, params: &[u16], on: bool)
-        ensures { self.new ≡ change_modes ansi_modes on params.now self.old }
+        ensures { self.new ≡ change_modes ansi_modes_any on params.now self.old }
     {
         for p in params {
             self.change_ansi_mode(*p, on);
@@ -19,7 +21,7 @@ impl Display {
 
     /// Carries out SM and RM of private modes: each parameter in order.
     pub(crate) fn change_private_modes(&mut self, params: &[u16], on: bool)
-        ensures { self.new ≡ change_modes private_modes on params.now self.old }
+        ensures { self.new ≡ change_modes (private_modes_any (kind_of K.cells K.own)) on params.now self.old }
     {
         for p in params {
             self.change_private_mode(*p, on);
@@ -29,7 +31,7 @@ impl Display {
     /// Sets or resets one ANSI mode.
     #[tactic(auto, unfolding(crate::specs::Modes::with_mode))]
     fn change_ansi_mode(&mut self, p: u16, on: bool)
-        ensures { self.new ≡ with_mode ansi_modes on p self.old }
+        ensures { self.new ≡ with_mode ansi_modes_any on p self.old }
     {
         match p {
             2 => self.modes.kam = on,
@@ -43,7 +45,7 @@ impl Display {
     /// Sets or resets one private mode.
     #[tactic(auto, unfolding(crate::specs::Modes::with_mode))]
     fn change_private_mode(&mut self, p: u16, on: bool)
-        ensures { self.new ≡ with_mode private_modes on p self.old }
+        ensures { self.new ≡ with_mode (private_modes_any (kind_of K.cells K.own)) on p self.old }
     {
         match p {
             1 => self.modes.decckm = on,
@@ -78,7 +80,7 @@ impl Display {
     /// Carries out DECCOLM: 132 or 80 columns, all blank, full margins, and the cursor home. The saved column is
     /// brought inside the width, and the saved wrap flag is reset.
     fn column_mode(&mut self, wide: bool)
-        ensures { self.new ≡ column_mode wide self.old }
+        ensures { self.new ≡ column_mode_any (kind_of K.cells K.own) wide self.old }
     {
         self.screen.set_width(wide);
         self.margins = Margins::full(self.screen.size().rows);

@@ -2,11 +2,13 @@
 ghost use Rattle.std.specs.Prelude.{◌≡◌, ◌+◌, ◌≤◌, ◌<◌, ◌++◌, Some, None, length, decimal, vec_len, vec_capacity};
 ghost use Rattle.vt_syntax.specs.Event.{event_of};
 ghost use Rattle.vt_term.specs.Answers.{answer, cursor_report};
-ghost use Rattle.vt_term.specs.Reports.{report, control_report, sequence_report};
+ghost use Rattle.vt_term.specs.Reports.{report, report_any, control_report_any, sequence_report_any};
+ghost use Rattle.vt_term.specs.Kinds.{kind_of};
 
 use crate::codes::{CSI, DECID};
 use crate::display::Display;
 use crate::functions::first;
+use crate::kind::Kind;
 use crate::sized::SizedTerminal;
 use itoa::Buffer;
 use vt_syntax::EventKind;
@@ -25,12 +27,12 @@ impl SizedTerminal {
     }
 }
 
-impl Display {
+impl<K: Kind> Display<K> {
     /// Appends the report of an event in this display.
     #[inline(always)]
     pub(crate) fn report(&self, kind: EventKind, values: &[u16], out: &mut Vec<u8>)
         requires { vec_len out.old + 10 ≤ vec_capacity out.old }
-        ensures items { out.new.items ≡ out.old.items ++ report (event_of kind values.now) self.now }
+        ensures items { out.new.items ≡ out.old.items ++ report_any (kind_of K.cells K.own) (event_of kind values.now) self.now }
         ensures bounded { vec_len out.new ≤ vec_len out.old + 10 }
         ensures capacity { vec_capacity out.old ≤ vec_capacity out.new }
     {
@@ -48,10 +50,10 @@ impl Display {
 
     /// Appends the report to DECID.
     #[inline(always)]
-    #[tactic(auto, unfolding(crate::specs::Reports::control_report))]
+    #[tactic(auto, unfolding(crate::specs::Reports::control_report_any))]
     fn report_control(&self, b: u8, out: &mut Vec<u8>)
         requires { vec_len out.old + 10 ≤ vec_capacity out.old }
-        ensures items { out.new.items ≡ out.old.items ++ control_report b self.now }
+        ensures items { out.new.items ≡ out.old.items ++ control_report_any (kind_of K.cells K.own) b self.now }
         ensures bounded { vec_len out.new ≤ vec_len out.old + 10 }
         ensures capacity { vec_capacity out.old ≤ vec_capacity out.new }
     {
@@ -71,7 +73,7 @@ impl Display {
         out: &mut Vec<u8>,
     )
         requires { vec_len out.old + 10 ≤ vec_capacity out.old }
-        ensures items { out.new.items ≡ out.old.items ++ sequence_report marker inter last p self.now }
+        ensures items { out.new.items ≡ out.old.items ++ sequence_report_any (kind_of K.cells K.own) marker inter last p self.now }
         ensures bounded { vec_len out.new ≤ vec_len out.old + 10 }
         ensures capacity { vec_capacity out.old ≤ vec_capacity out.new }
     {
@@ -85,10 +87,10 @@ impl Display {
 
     /// Appends the report to DA, primary or secondary.
     #[inline(never)]
-    #[tactic(auto, unfolding(crate::specs::Functions::sequences_of, crate::specs::Reports::sequence_report))]
+    #[tactic(auto, unfolding(crate::specs::Functions::sequences_any, crate::specs::Reports::sequence_report_any))]
     fn report_attributes(&self, marker: Option<u8>, inter: Option<u8>, p: u16, out: &mut Vec<u8>)
         requires { vec_len out.old + 10 ≤ vec_capacity out.old }
-        ensures items { out.new.items ≡ out.old.items ++ sequence_report marker inter 0x63 p self.now }
+        ensures items { out.new.items ≡ out.old.items ++ sequence_report_any (kind_of K.cells K.own) marker inter 0x63 p self.now }
         ensures bounded { vec_len out.new ≤ vec_len out.old + 10 }
         ensures capacity { vec_capacity out.old ≤ vec_capacity out.new }
     {
@@ -102,10 +104,10 @@ impl Display {
     /// Appends the report to DSR: the operating status, the cursor's position, and with the marker `?` the printer or the
     /// keyboard's language.
     #[inline(never)]
-    #[tactic(auto, unfolding(crate::specs::Functions::sequences_of, crate::specs::Reports::sequence_report))]
+    #[tactic(auto, unfolding(crate::specs::Functions::sequences_any, crate::specs::Reports::sequence_report_any))]
     fn report_status(&self, marker: Option<u8>, inter: Option<u8>, p: u16, out: &mut Vec<u8>)
         requires { vec_len out.old + 10 ≤ vec_capacity out.old }
-        ensures items { out.new.items ≡ out.old.items ++ sequence_report marker inter 0x6E p self.now }
+        ensures items { out.new.items ≡ out.old.items ++ sequence_report_any (kind_of K.cells K.own) marker inter 0x6E p self.now }
         ensures bounded { vec_len out.new ≤ vec_len out.old + 10 }
         ensures capacity { vec_capacity out.old ≤ vec_capacity out.new }
     {

@@ -1,46 +1,46 @@
 //! Resets, and the screen alignment pattern.
 ghost use Rattle.std.specs.Prelude.{◌≡◌};
-ghost use Rattle.vt_term.specs.Resets.{screen_alignment, reset_to_initial_state, soft_reset, set_conformance_level};
+ghost use Rattle.vt_term.specs.Resets.{screen_alignment_any, reset_any, soft_reset_any, conformance_level_any};
+ghost use Rattle.vt_term.specs.Kinds.{kind_of};
 
 use crate::display::Display;
-use crate::state::{Cursor, Margins, Modes, Saved};
+use crate::kind::Kind;
+use crate::state::{Cursor, Margins, Modes, SavedOf};
 use crate::tabs::TabStops;
 use vt_glyph::{Glyph, Sets};
-use vt_screen::{Brush, Cell};
 
-impl Display {
+impl<K: Kind> Display<K> {
     /// Carries out DECALN: writes `E` at every position, without attributes and unprotected. Sets full margins, and
     /// moves the cursor home.
     pub(crate) fn screen_alignment(&mut self)
-        ensures { self.new ≡ screen_alignment self.old }
+        ensures { self.new ≡ screen_alignment_any (kind_of K.cells K.own) self.old }
     {
-        let cell = Cell::new(Glyph::ascii(b'E'), Brush::plain());
-        self.screen.fill(cell);
+        self.screen.fill(K::plain().written(Glyph::ascii(b'E')));
         self.margins = Margins::full(self.screen.size().rows);
         self.cursor = Cursor::at(1, 1);
     }
 
     /// Carries out RIS: resets the display to its power-up state.
     pub(crate) fn reset_to_initial_state(&mut self)
-        ensures { self.new ≡ reset_to_initial_state self.old }
+        ensures { self.new ≡ reset_any (kind_of K.cells K.own) self.old }
     {
         self.screen.set_width(false);
         self.cursor = Cursor::at(1, 1);
-        self.pen = Cell::blank();
+        self.pen = K::plain();
         self.sets = Sets::power_up();
         self.margins = Margins::full(self.screen.size().rows);
         self.stops = TabStops::power_up(self.screen.size().wide);
         self.modes = Modes::power_up();
-        self.saved = Saved::power_up();
+        self.saved = SavedOf::of_brush(K::plain().brush());
     }
 
     /// Carries out DECSTR. It leaves the cursor's position, the cells, the stops, and the modes that the definition
     /// doesn't name.
     pub(crate) fn soft_reset(&mut self)
-        ensures { self.new ≡ soft_reset self.old }
+        ensures { self.new ≡ soft_reset_any (kind_of K.cells K.own) self.old }
     {
         self.cursor.wrap = false;
-        self.pen = Cell::blank();
+        self.pen = K::plain();
         self.sets = Sets::power_up();
         self.margins = Margins::full(self.screen.size().rows);
         self.modes.dectcem = true;
@@ -50,12 +50,12 @@ impl Display {
         self.modes.kam = false;
         self.modes.decckm = false;
         self.modes.keypad_application = false;
-        self.saved = Saved::power_up();
+        self.saved = SavedOf::of_brush(K::plain().brush());
     }
 
     /// Carries out DECSCL: a soft reset, and then the form of reports. Other values have no effect.
     pub(crate) fn set_conformance_level(&mut self, p1: u16, p2: u16)
-        ensures { self.new ≡ set_conformance_level p1 p2 self.old }
+        ensures { self.new ≡ conformance_level_any (kind_of K.cells K.own) p1 p2 self.old }
     {
         let eight = match (p1, p2) {
             (61, _) | (62, 1) => false,

@@ -89,7 +89,7 @@ impl Display {
         let size = target.screen.size();
         let width = self.screen.width_on(size);
         let off = self.count_off(size);
-        target.screen.copy_on(&self.screen, off);
+        target.screen.copy_vt220(&self.screen, off);
         target.cursor = cursor_on(self.cursor, size.rows, width);
         target.pen = self.pen;
         target.sets = self.sets;

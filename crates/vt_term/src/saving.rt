@@ -3,16 +3,15 @@ ghost use Rattle.std.specs.Prelude.{◌≡◌};
 ghost use Rattle.vt_term.specs.Saving.{save_cursor, restore_cursor};
 
 use crate::display::Display;
-use crate::state::{Cursor, Saved};
-use vt_glyph::Glyph;
-use vt_screen::Cell;
+use crate::kind::Kind;
+use crate::state::{Cursor, SavedOf};
 
-impl Display {
+impl<K: Kind> Display<K> {
     /// Carries out DECSC: saves the cursor.
     pub(crate) fn save_cursor(&mut self)
         ensures { self.new ≡ save_cursor self.old }
     {
-        self.saved = Saved {
+        self.saved = SavedOf {
             row: self.cursor.row,
             col: self.cursor.col,
             wrap: self.cursor.wrap,
@@ -40,7 +39,7 @@ impl Display {
             col: saved.col,
             wrap: saved.wrap && self.modes.decawm,
         };
-        self.pen = Cell::new(Glyph::blank(), saved.brush);
+        self.pen = K::of_brush(saved.brush);
         self.sets.restore(saved.g, saved.gl, saved.gr);
         self.modes.decom = saved.origin;
     }

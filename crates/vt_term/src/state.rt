@@ -1,6 +1,8 @@
 //! The small parts of a terminal's state.
 ghost use Rattle.std.specs.Prelude.{◌≡◌};
-ghost use Rattle.vt_term.specs.State.{at_place, modes_at_power_up, saved_at_power_up};
+ghost use Rattle.std.specs.Prelude.{false};
+ghost use Rattle.vt_glyph.specs.Invocation.{sets_at_power_up};
+ghost use Rattle.vt_term.specs.State.{at_place, modes_at_power_up, saved_at_power_up, saved_of};
 
 use vt_glyph::{Set, Sets};
 use vt_screen::Brush;
@@ -107,7 +109,7 @@ impl Modes {
 
 /// The state that DECSC saves. Rows and columns count from 1. The row may be outside the margins.
 #[derive(Clone, Copy, Debug, PartialEq, Eq)]
-pub struct Saved {
+pub struct SavedOf<B> {
     /// The row, 1 to the last one.
     pub row: usize,
     /// The column, 1 to the width.
@@ -115,7 +117,7 @@ pub struct Saved {
     /// The wrap flag. It is set only in the last column.
     pub wrap: bool,
     /// The brush.
-    pub brush: Brush,
+    pub brush: B,
     /// The sets designated as G0 to G3.
     pub g: [Set; 4],
     /// The number of the set in GL, 0 to 3.
@@ -126,22 +128,34 @@ pub struct Saved {
     pub origin: bool,
 }
 
-impl Saved {
-    /// Returns the saved state at power-up: the cursor in row 1 and column 1 without the wrap flag, and the plain
-    /// brush. The sets are those of power-up, and DECOM is reset. (This profile)
-    pub fn power_up() -> Saved
-        ensures { result ≡ saved_at_power_up }
+/// What DECSC saves on a VT220.
+pub type Saved = SavedOf<Brush>;
+
+impl<B: Copy> SavedOf<B> {
+    /// Returns the saved state at power-up with a brush: the cursor in row 1 and column 1 without the wrap flag. The sets
+    /// are those of power-up, and DECOM is reset. (This profile)
+    pub(crate) fn of_brush(brush: B) -> SavedOf<B>
+        ensures { result ≡ saved_of (at_place 1 1) brush sets_at_power_up false }
     {
         let sets = Sets::power_up();
-        Saved {
+        SavedOf {
             row: 1,
             col: 1,
             wrap: false,
-            brush: Brush::plain(),
+            brush,
             g: sets.designations(),
             gl: sets.left(),
             gr: sets.right(),
             origin: false,
         }
+    }
+}
+
+impl SavedOf<Brush> {
+    /// Returns the saved state at power-up, with the plain brush. (This profile)
+    pub fn power_up() -> Saved
+        ensures { result ≡ saved_at_power_up }
+    {
+        SavedOf::of_brush(Brush::plain())
     }
 }

@@ -5,6 +5,7 @@ ghost use Rattle.vt_term.specs.Resizing.{is_stop_on, stops_on};
 ghost use Rattle.vt_term.specs.State.{stops_of, is_stop_at_power_up};
 
 use crate::display::Display;
+use crate::kind::Kind;
 use crate::same::same_stops;
 use crate::state::Cursor;
 use std::marker::Model;
@@ -129,7 +130,7 @@ impl TabStops {
     }
 }
 
-impl Display {
+impl<K: Kind> Display<K> {
     /// Carries out HT: moves the cursor to the next tab stop, or to the last column if there is none.
     pub(crate) fn horizontal_tab(&mut self)
         ensures { self.new ≡ horizontal_tab self.old }

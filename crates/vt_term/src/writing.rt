@@ -5,22 +5,25 @@ ghost use Rattle.vt_syntax.specs.Class.{IsPlain};
 ghost use Rattle.vt_syntax.specs.declared.event.Event.TheVariants.{Print};
 ghost use Rattle.vt_term.specs.Play.{after_events};
 ghost use Rattle.vt_glyph.specs.Invocation.{HasGlyph, in_use, glyph_in_use};
-ghost use Rattle.vt_term.specs.Writing.{after_wrap, put_glyph, write_glyph, write_glyphs, print};
+ghost use Rattle.vt_term.specs.Writing.{after_wrap, put_glyph, write_glyph, write_glyphs};
 ghost use Rattle.vt_glyph.specs.Encoding.{IsEncoding, encoded_glyph};
 ghost use Rattle.vt_term.specs.Runs.{WritesAscii, WritesInUse, with_run, advanced_by};
+ghost use Rattle.vt_term.specs.Kinds.{kind_of};
+ghost use Rattle.vt_term.specs.Writing.{after_wrap_any, put_glyph_any, write_glyph_any, print_any};
 
 use crate::display::Display;
+use crate::kind::Kind;
 use crate::state::Cursor;
 use vt_glyph::{Glyph, InUse};
+use vt_screen::MOST;
 use vt_screen::laws::runs;
-use vt_screen::{Cell, MOST};
 
-impl Display {
+impl<K: Kind> Display<K> {
     /// Reads a graphic byte, 20..7E or A0..FF, through the sets, and writes its glyph.
     #[inline(always)]
     pub(crate) fn print(&mut self, b: u8)
         requires { ((0x20 ≤ b) × (b ≤ 0x7E)) ⊎ (0xA0 ≤ b) }
-        ensures { self.new ≡ print b self.old }
+        ensures { self.new ≡ print_any (kind_of K.cells K.own) b self.old }
     {
         if let Some(glyph) = self.sets.read(b) {
             self.write_glyph(glyph);
@@ -30,7 +33,7 @@ impl Display {
     /// Writes a glyph at the cursor, after a pending wrap.
     #[inline(always)]
     pub(crate) fn write_glyph(&mut self, glyph: Glyph)
-        ensures { self.new ≡ write_glyph glyph self.old }
+        ensures { self.new ≡ write_glyph_any (kind_of K.cells K.own) glyph self.old }
     {
         self.carry_out_wrap();
         self.put_glyph(glyph);
@@ -39,7 +42,7 @@ impl Display {
     /// Carries out a pending wrap.
     #[inline(always)]
     pub(crate) fn carry_out_wrap(&mut self)
-        ensures { self.new ≡ after_wrap self.old }
+        ensures { self.new ≡ after_wrap_any (kind_of K.cells K.own) self.old }
     {
         if self.cursor.wrap {
             self.next_line();
@@ -49,10 +52,10 @@ impl Display {
     /// Writes a glyph if no wrap is pending. Under IRM the cells starting at the cursor first move right.
     #[inline(always)]
     fn put_glyph(&mut self, glyph: Glyph)
-        ensures { self.new ≡ put_glyph glyph self.old }
+        ensures { self.new ≡ put_glyph_any (kind_of K.cells K.own) glyph self.old }
     {
         let Cursor { row, col, .. } = self.cursor;
-        let cell = Cell::new(glyph, self.pen.brush());
+        let cell = self.pen.written(glyph);
         if self.modes.irm {
             self.screen.put_inserting(row, col, cell);
         } else {
@@ -64,7 +67,9 @@ impl Display {
             self.cursor.wrap = self.modes.decawm;
         }
     }
+}
 
+impl Display {
     /// Returns whether a graphic byte is read through the sets in GL and GR and replaces the cell at the cursor. That
     /// is so if no single shift is pending and IRM is reset.
     pub(crate) fn writes_over(&self) -> bool

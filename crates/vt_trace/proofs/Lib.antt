@@ -9,3 +9,4 @@ mod Digits
 pub mod Beyond
 pub mod ItemKinds
 pub mod Words
+pub mod SequenceNames

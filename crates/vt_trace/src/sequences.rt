@@ -7,6 +7,8 @@ ghost use Rattle.vt_term.specs.Moving.{are_margins};
 ghost use Rattle.vt_term.specs.Modes.{ansi_modes, private_modes};
 ghost use Rattle.vt_term.specs.Rendition.{rendition_changes};
 ghost use Rattle.vt_term.specs.Resets.{is_level};
+ghost use Rattle.vt_screen.specs.declared.cell.Cell.{Cell};
+ghost use Rattle.vt_screen.specs.declared.cell.Brush.{Brush};
 ghost use Rattle.vt_term.specs.Answers.{status_reports, private_reports};
 ghost use Rattle.vt_term.specs.Functions.{numbers_of, function_in, plain_sequences, private_sequences, greater_sequences};
 ghost use Rattle.vt_term.specs.Functions.{quote_sequences, exclamation_sequences};
@@ -16,7 +18,7 @@ ghost use Rattle.vt_trace.specs.Names.{sequence_word};
 use crate::functions::Sequence::{self, *};
 
 /// Returns the name of a control sequence, if it has a function on a screen of so many rows.
-#[tactic(auto, unfolding(vt_term::specs::Functions::sequences_of, vt_term::specs::Names::sequence_name_on))]
+#[tactic(auto, unfolding(vt_term::specs::Functions::sequences_any, vt_term::specs::Names::sequence_name_on))]
 pub(crate) fn sequence(
     rows: usize,
     marker: Option<u8>,
@@ -140,14 +142,14 @@ fn clears_tabs(p: u16) -> bool
 
 /// Returns whether DSR asks for the operating status, or for the cursor's position.
 fn asks_for_status(p: u16) -> bool
-    ensures { result ≡ contains (numbers_of status_reports) p }
+    ensures { result ≡ contains (numbers_of (status_reports {C = Cell} {B = Brush})) p }
 {
     p == 5 || p == 6
 }
 
 /// Returns whether DSR asks for the printer's status, or for the keyboard's language.
 fn asks_for_private_status(p: u16) -> bool
-    ensures { result ≡ contains (numbers_of private_reports) p }
+    ensures { result ≡ contains (numbers_of (private_reports {C = Cell} {B = Brush})) p }
 {
     p == 15 || p == 26
 }

@@ -33,13 +33,14 @@ use Rattle.vt_term.specs.State.{Display, State}
 use Rattle.vt_screen.specs.declared.size.Size.{Size}
 use Rattle.vt_term.specs.Sound.{IsSoundAt}
 use Rattle.vt_term.specs.Functions.{effect}
-use Rattle.vt_term.specs.Reports.{report, control_report}
+use Rattle.vt_term.specs.Reports.{report}
 use Rattle.vt_term.specs.Play.{Played, play, both, reports_of}
 use Rattle.vt_utf8.specs.Similar.{latin, lines, letters, signs, shown, in_rows, ascii_of_fullwidth}
 use Rattle.vt_utf8.specs.Cells.{cells}
 use Rattle.vt_utf8.specs.Translation.{shifted, designation, while_designated, through_g2, through_g3, reads_ascii}
 use Rattle.vt_utf8.specs.Translation.{spelled_in, written, both_halves, is_at_end, written_wide, put}
 use Rattle.vt_utf8.specs.Translation.{beyond_ascii, translation}
+use Rattle.vt_term.specs.Reports.{control_report_any}
 
 -- ---- bytes that are events without a report
 
@@ -93,19 +94,19 @@ spell-control control last spelled is silent = record {
 }
 
 spell-st : SpellQuietly (Control 0x9C ∷ []) (0x1B ∷ 0x5C ∷ [])
-unfolding opens_string control_report
+unfolding opens_string control_report_any
 spell-st = spell-control 0x9C 0x5C refl (inr (omega arith, omega arith, refl)) (λ s. refl)
 
 spell-nel : SpellQuietly (Control 0x85 ∷ []) (0x1B ∷ 0x45 ∷ [])
-unfolding opens_string control_report
+unfolding opens_string control_report_any
 spell-nel = spell-control 0x85 0x45 refl (inr (omega arith, omega arith, refl)) (λ s. refl)
 
 pub spell-ss2 : SpellQuietly (Control 0x8E ∷ []) (0x1B ∷ 0x4E ∷ [])
-unfolding opens_string control_report
+unfolding opens_string control_report_any
 spell-ss2 = spell-control 0x8E 0x4E refl (inr (omega arith, omega arith, refl)) (λ s. refl)
 
 pub spell-ss3 : SpellQuietly (Control 0x8F ∷ []) (0x1B ∷ 0x4F ∷ [])
-unfolding opens_string control_report
+unfolding opens_string control_report_any
 spell-ss3 = spell-control 0x8F 0x4F refl (inr (omega arith, omega arith, refl)) (λ s. refl)
 
 pub final : (set : Set) → (0x30 ≤ final_of set) × (final_of set ≤ 0x7E)

@@ -24,14 +24,14 @@ use Rattle.vt_term.specs.Scrolling.{scrolled_off}
 use Rattle.vt_term.specs.Sound.{IsSoundAt, IsSoundDisplayAt}
 use Rattle.vt_term.specs.Moving.{next_line}
 use Rattle.vt_term.specs.Writing.{write_glyph, after_wrap}
-use Rattle.vt_term.specs.Functions.{control}
-use Rattle.vt_term.specs.Reports.{control_report}
 use Rattle.vt_term.specs.Play.{Played, play, both}
 use Rattle.vt_utf8.specs.Translation.{written, both_halves, is_at_end, translation, write_wide, glyph_off}
 use Rattle.vt_utf8.specs.Similar.{shown}
 use Rattle.vt_utf8.specs.Cells.{cells}
 use Rattle.vt_utf8.proofs.Silence.{shown-glyph}
 use Rattle.vt_utf8.proofs.Written.{writes, off-written, unshifted-same, leaves-sets}
+use Rattle.vt_term.specs.Reports.{control_report_any}
+use Rattle.vt_term.specs.Functions.{control_any}
 
 -- a state of another display, without a report
 abbrev pub silently : State → Display → Played
@@ -83,7 +83,7 @@ no-glyph_off d none = rw none refl
 
 module _ (spelled : SpellingLaw) where
   pub nel : (s : State) → s.held ≡ Nothing → play s (0x1B ∷ 0x45 ∷ []) ≡ silently s (next_line s.display)
-  unfolding play control control_report opens_string
+  unfolding play control_any control_report_any opens_string
   nel s between =
       let is : All IsEvent (Control 0x85 ∷ []) =
       All-from_recursion IsEvent (Control 0x85 ∷ []) (inr (omega arith, omega arith, refl), tt) in

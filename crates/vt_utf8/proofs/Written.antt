@@ -31,7 +31,7 @@ use Rattle.vt_screen.specs.declared.size.Size.{Size}
 use Rattle.vt_term.specs.Sound.{IsSoundAt}
 use Rattle.vt_term.specs.Moving.{next_line}
 use Rattle.vt_term.specs.Writing.{write_glyph, put_glyph, print}
-use Rattle.vt_term.specs.Functions.{effect, control, escape_with, with_sets}
+use Rattle.vt_term.specs.Functions.{effect, with_sets}
 use Rattle.vt_term.specs.Play.{Played, play, after_events}
 use Rattle.vt_utf8.specs.Translation.{shifted, designation, while_designated, through_g2, reads_ascii}
 use Rattle.vt_utf8.specs.Translation.{spelled_in, written, unshifted, translation, glyph_off, write_wide}
@@ -39,6 +39,7 @@ use Rattle.vt_utf8.specs.Translation.{is_at_end as is_full}
 use Rattle.vt_utf8.specs.Similar.{shown}
 use Rattle.vt_utf8.specs.Cells.{cells}
 use Rattle.vt_utf8.proofs.Silence.{silent-reports, SpellQuietly, spell-append, spell-printed, spell-ss2, spell-ss3, spell-designation, shown-glyph}
+use Rattle.vt_term.specs.Functions.{control_any, escape_with_any}
 
 -- ---- bytes that make one display of another, without a report, and the lines that they scroll off
 
@@ -96,12 +97,12 @@ record IsShift (slot last inter : ℕ) : Type 0 where
       ≡ record d { sets = designated slot set d.sets }
 
 effect-g2 : (set : Set) (d : Display) → effect (Escape (Some 0x2A) (final_of set)) d ≡ record d { sets = designated 2 set d.sets }
-unfolding escape_with
+unfolding escape_with_any
 effect-g2 set d =
     same_for (λ set. effect (Escape (Some 0x2A) (final_of set)) d) (λ set. record d { sets = designated 2 set d.sets }) refl set
 
 to-g2 : IsShift 2 0x4E 0x2A
-unfolding control
+unfolding control_any
 to-g2 = record {
   few = omega arith;
   low = omega arith;
@@ -111,12 +112,12 @@ to-g2 = record {
 }
 
 effect-g3 : (set : Set) (d : Display) → effect (Escape (Some 0x2B) (final_of set)) d ≡ record d { sets = designated 3 set d.sets }
-unfolding escape_with
+unfolding escape_with_any
 effect-g3 set d =
     same_for (λ set. effect (Escape (Some 0x2B) (final_of set)) d) (λ set. record d { sets = designated 3 set d.sets }) refl set
 
 to-g3 : IsShift 3 0x4F 0x2B
-unfolding control
+unfolding control_any
 to-g3 = record {
   few = omega arith;
   low = omega arith;

@@ -12,7 +12,7 @@ use Rattle.vt_screen.specs.Between.{changed, rectangle, from_below, from_above, 
 use Rattle.vt_screen.specs.Between.{columns_up, columns_down, insert_between, delete_between, put_between}
 use Rattle.vt_screen.proofs.Places.{IsGrid-grid_of}
 use Rattle.vt_screen.proofs.Composed.{test-at, test-formula}
-use Rattle.vt_screen.proofs.SoundGrids.{put-sound}
+use Rattle.vt_screen.proofs.Vt220Grids.{put-sound}
 use Rattle.vt_term.specs.State.{Display, State, last_column, has_stop_at, bottom_row, at_place}
 use Rattle.vt_term.specs.Parameters.{from_one}
 use Rattle.vt_term.specs.Moving.{are_margins, bottom_margin, cursor_up, cursor_down}
@@ -41,7 +41,7 @@ unfolding is_glyph
 blank-shown = refl
 
 at : (g : Grid) (r c : ℕ) → IsSoundGrid g → IsTrue (shown (cell_at g r c))
-at g r c sound = test-at shown g r c blank-shown sound.glyphs
+at g r c sound = test-at blank shown g r c blank-shown sound.glyphs
 
 changed-sound : (g : Grid) (area : ℕ → ℕ → Bool) (f : ℕ → ℕ → Cell) → IsSoundGrid g
     → ((r c : ℕ) → IsTrue (shown (f r c))) → IsSoundGrid (changed g area f)

@@ -18,6 +18,7 @@ use Rattle.vt_term.proofs.Tables.{AllRows, looked_up-holds, same-numbers}
 use Rattle.vt_xterm.specs.Pages.{page_modes}
 use Rattle.vt_xterm.specs.Bounded.{bounded_controls, other_plain, has_row, resets}
 use Rattle.vt_xterm.specs.Front.{plain_escapes, functions_of, exclamation_functions, quote_functions}
+use Rattle.vt_term.specs.Functions.{control_any, escape_with_any, plain_escape_any, sequences_any}
 
 -- ---- a table that may have no row
 
@@ -113,13 +114,13 @@ private_mode-place on p =
     (λ h. same-place) (search rules)
 
 pub plain_escape-place : (last : ℕ) → is_some (look_up plain_escapes last) ≡ false → Leaves (plain_escape last)
-unfolding plain_escape AllRows
+unfolding plain_escape_any AllRows
 plain_escape-place last =
     looked_up-holds (λ key f. is_some (look_up plain_escapes key) ≡ false → Leaves (f.effect [])) terminal.plain_escapes last
     no_function (λ h. same-place) (search rules)
 
 pub escape_with-place : (inter last : ℕ) → (inter == 0x23 && last == 0x38) ≡ false → Leaves (escape_with inter last)
-unfolding escape_with AllRows
+unfolding escape_with_any AllRows
 escape_with-place inter last =
     looked_up-holds
     (λ key (f : ℕ → Function). (key == 0x23 && last == 0x38) ≡ false → Leaves ((f last).effect [])) escape_tables inter
@@ -169,7 +170,7 @@ none-place last params s = same-place s
 -- a control sequence with a marker or an intermediate
 pub marked-place : (marker last : ℕ) (params : List ℕ) → is_some (look_up (functions_of (Some marker) None) last) ≡ false
     → Leaves (sequence_in (sequences_of (Some marker) None) last params)
-unfolding sequences_of AllRows
+unfolding sequences_any AllRows
 marked-place marker last params =
     looked_up-holds
     (λ key table. is_some (look_up (functions_of (Some key) None) last) ≡ false → Leaves (sequence_in table last params))
@@ -178,7 +179,7 @@ marked-place marker last params =
 
 pub with_inter-place : (inter last : ℕ) (params : List ℕ) → is_some (look_up (functions_of None (Some inter)) last) ≡ false
     → Leaves (sequence_in (sequences_of None (Some inter)) last params)
-unfolding sequences_of functions_of AllRows
+unfolding sequences_any functions_of AllRows
 with_inter-place inter last params =
     looked_up-holds
     (λ key table. is_some (look_up (functions_of None (Some key)) last) ≡ false → Leaves (sequence_in table last params))
@@ -186,13 +187,13 @@ with_inter-place inter last params =
     (quote_sequence-place last params, (exclamation_sequence-place last params, tt))
 
 pub both-place : (marker inter last : ℕ) (params : List ℕ) → Leaves (sequence_in (sequences_of (Some marker) (Some inter)) last params)
-unfolding sequences_of
+unfolding sequences_any
 both-place marker inter last params = none-place last params
 
 -- ---- what the margins don't bound, and has no row between them
 
 pub control-place : (b : ℕ) → (b == 0x1A) ≡ false → has_row bounded_controls b ≡ false → Leaves (control b)
-unfolding control has_row AllRows
+unfolding control_any has_row AllRows
 control-place b =
     looked_up-holds (λ key f. (key == 0x1A) ≡ false → has_row bounded_controls key ≡ false → Leaves (f.effect [])) controls b
     no_function (λ h k. same-place) (search rules)
@@ -200,7 +201,7 @@ control-place b =
 -- CUU, CUD, ECH, ED and EL
 pub unbounded-place : (last : ℕ) (params : List ℕ) → (last == 0x41 || (last == 0x42 || (last == 0x58 || (last == 0x4A || last == 0x4B)))) ≡ true
     → Leaves (sequence_in (sequences_of None None) last params)
-unfolding sequence_in sequences_of AllRows
+unfolding sequence_in sequences_any AllRows
 unbounded-place last params =
     looked_up-holds
     (λ key f. (key == 0x41 || (key == 0x42 || (key == 0x58 || (key == 0x4A || key == 0x4B)))) ≡ true → Leaves (f.effect params))
@@ -209,7 +210,7 @@ unbounded-place last params =
 -- the others
 pub other-place : (last : ℕ) (params : List ℕ) → resets last params ≡ false → is_some (look_up other_plain last) ≡ false
     → Leaves (sequence_in (sequences_of None None) last params)
-unfolding sequence_in sequences_of has_row AllRows
+unfolding sequence_in sequences_any has_row AllRows
 other-place last params =
     looked_up-holds
     (λ key f. resets key params ≡ false → is_some (look_up other_plain key) ≡ false → Leaves (f.effect params)) plain_sequences

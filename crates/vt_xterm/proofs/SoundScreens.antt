@@ -11,12 +11,12 @@ use Rattle.vt_glyph.specs.Tables.{IsGlyph, is_glyph, substitute_glyph}
 use Rattle.vt_glyph.specs.Laws.{GlyphLaws, SetsLaws}
 use Rattle.vt_screen.specs.declared.size.Size.{Size}
 use Rattle.vt_screen.specs.Sizes.{width_of, IsSize}
-use Rattle.vt_screen.proofs.SoundGrids.{blank_grid-sound, scroll_up-sound, scroll_down-sound}
+use Rattle.vt_screen.proofs.Vt220Grids.{blank_grid-sound, scroll_up-sound, scroll_down-sound}
 use Rattle.vt_term.specs.State.{Display, last_column, bottom_row}
 use Rattle.vt_term.specs.Sound.{IsPlace, IsSoundDisplayAt, IsSoundSizedDisplay}
 use Rattle.vt_term.specs.Pages.{PageState, IsSoundPageAt, blank_page, page_of, with_page, blanked, resized, fitted}
 use Rattle.vt_term.specs.Modes.{private_modes, with_mode, column_mode, autowrap_mode, origin_mode}
-use Rattle.vt_term.specs.Functions.{byte, effect, sequence_in, sequences_of}
+use Rattle.vt_term.specs.Functions.{byte, effect, sequence_in}
 use Rattle.vt_term.proofs.SoundEffects as terminals
 use Rattle.vt_term.proofs.SoundPlay.{effect-keeps}
 use Rattle.vt_term.proofs.PowerUp.{display_of-sound}
@@ -61,6 +61,7 @@ use Rattle.vt_xterm.specs.declared.sides.Sides.{Sides}
 use Rattle.vt_xterm.proofs.Bounds.{KeepsIn, of_bounds, other-wrap, set-fit, keeping-in, home-in, brought-in}
 use Rattle.vt_xterm.proofs.Bounds.{origin_mode-in, rows_up-in, rows_down-in, set_margins-in, write_glyph-in, write_glyph-part}
 use Rattle.vt_xterm.proofs.Bounds.{width-part, stop_before-bounds}
+use Rattle.vt_term.specs.Functions.{sequences_any}
 
 -- ---- pages
 
@@ -274,7 +275,7 @@ effect-fixed glyphs sets event = fixed (effect event) (effect-keeps glyphs sets 
 
 -- a VT220's mode, as SM or RM of this one alone
 private_mode-keeps : GlyphLaws → SetsLaws → (on : Bool) (p : ℕ) → KeepsDisplay (with_mode private_modes on p)
-unfolding sequence_in sequences_of
+unfolding sequence_in sequences_any
 private_mode-keeps glyphs sets true p =
     effect-fixed glyphs sets (Sequence (Some 0x3F) (record { items = p ∷ [] }) None 0x68)
 private_mode-keeps glyphs sets false p =

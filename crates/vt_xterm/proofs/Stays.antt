@@ -45,6 +45,7 @@ use Rattle.vt_xterm.specs.Front.{set_level_wrapping, quote_functions, intermedia
 use Rattle.vt_xterm.specs.Front.{functions_of, function_in, plain_escapes, xterm_effect}
 use Rattle.vt_xterm.specs.Front.{is_page_mode, is_paste_mode, sets_page_mode, sets_mode, is_page_function, is_paste_function}
 use Rattle.vt_term.proofs.Tables.{AllRows, looked_up-holds}
+use Rattle.vt_term.specs.Functions.{control_any, escape_with_any, plain_escape_any, sequences_any}
 
 -- a function leaves the width
 abbrev pub Fits : (Display → Display) → Type 0
@@ -184,17 +185,17 @@ private_modes-fit on (p ∷ params) none s =
     private_modes-fit on params h.1 (with_mode private_modes on p s) ∙ private_mode-fits on p h.0 s
 
 control-fits : (b : ℕ) → Fits (control b)
-unfolding control AllRows
+unfolding control_any AllRows
 control-fits b =
     looked_up-holds (λ key f. Fits (f.effect [])) controls b no_function (λ s. refl) (search (rules, fitting))
 
 plain_escape-fits : (last : ℕ) → (last == 0x63) ≡ false → Fits (plain_escape last)
-unfolding plain_escape AllRows
+unfolding plain_escape_any AllRows
 plain_escape-fits last =
     looked_up-holds (λ key f. (key == 0x63) ≡ false → Fits (f.effect [])) terminal.plain_escapes last no_function (λ h s. refl) (search (rules, fitting))
 
 escape_with-fits : (inter last : ℕ) → Fits (escape_with inter last)
-unfolding escape_with AllRows
+unfolding escape_with_any AllRows
 escape_with-fits inter last =
     looked_up-holds (λ key (f : ℕ → Function). Fits ((f last).effect [])) escape_tables inter (λ last. no_function) (λ s. refl) (
       looked_up-holds (λ key f. Fits (f.effect [])) space_escapes last no_function (λ s. refl) (search rules),
@@ -238,7 +239,7 @@ none-fits last params s = refl
 sequence-fits : (marker inter : Option ℕ) (last : ℕ) (params : List ℕ)
     → is_page_function (Sequence marker (record { items = params }) inter last) ≡ false
     → Fits (sequence_in (sequences_of marker inter) last params)
-unfolding sequences_of AllRows
+unfolding sequences_any AllRows
 sequence-fits None None last params h = plain_sequence-fits last params
 sequence-fits (Some marker) None last params h =
     looked_up-holds (λ key table. sets_page_mode key last params ≡ false → Fits (sequence_in table last params))

@@ -11,7 +11,7 @@ use Rattle.vt_syntax.specs.Held.{events_from}
 use Rattle.vt_syntax.specs.Laws.{SpellingLaw}
 use Rattle.vt_glyph.specs.Invocation.{HasGlyph}
 use Rattle.vt_term.specs.State.{State}
-use Rattle.vt_term.specs.Functions.{effect, sequence_in, sequences_of}
+use Rattle.vt_term.specs.Functions.{effect, sequence_in}
 use Rattle.vt_term.specs.Rendition.{select_graphic_rendition}
 use Rattle.vt_term.specs.Reports.{report}
 use Rattle.vt_term.specs.Play.{play, after_events, reports_of}
@@ -28,11 +28,12 @@ use Rattle.vt_xterm.specs.Private.Finding.{IsVt220}
 use Rattle.vt_xterm.specs.Terminals.{IsTerminals, AreTerminals, PlaysTerminals}
 use Rattle.vt_xterm.proofs.Colours.{without-colours}
 use Rattle.vt_xterm.proofs.NoSides.{effect-none, line-none}
+use Rattle.vt_term.specs.Functions.{sequences_any}
 
 -- SGR without a colour
 plain-rendition : (values : List ℕ) → list_any begins_colour values ≡ false
     → IsVt220 (Sequence None (record { items = values }) None 0x6D)
-unfolding functions_of function_in sequence_in sequences_of function_off
+unfolding functions_of function_in sequence_in sequences_any function_off
 plain-rendition values none = λ s. (
   ap (λ (params : List ℕ). on_display (select_graphic_rendition params) s) (without-colours values none),
   refl,

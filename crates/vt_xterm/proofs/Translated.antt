@@ -26,7 +26,7 @@ use Rattle.vt_screen.specs.declared.size.Size.{Size}
 use Rattle.vt_term.specs.State.{Display, State}
 use Rattle.vt_term.specs.Sound.{IsSoundAt}
 use Rattle.vt_term.specs.Functions.{effect}
-use Rattle.vt_term.specs.Reports.{report, control_report}
+use Rattle.vt_term.specs.Reports.{report}
 use Rattle.vt_term.specs.Play.{Played, play, after_events}
 use Rattle.vt_utf8.specs.Similar.{shown}
 use Rattle.vt_utf8.specs.Cells.{cells}
@@ -35,6 +35,7 @@ use Rattle.vt_utf8.specs.Translation.{spelled_in, written, both_halves, is_at_en
 use Rattle.vt_utf8.proofs.Silence.{SpellQuietly, spell-append, spell-printed, spell-ss2, spell-ss3, spell-designation, shown-glyph}
 use Rattle.vt_xterm.specs.Front.{is_page_function}
 use Rattle.vt_xterm.proofs.Stays.{effect-fits}
+use Rattle.vt_term.specs.Reports.{control_report_any}
 
 -- ---- bytes that are events without a function of the pages
 
@@ -88,11 +89,11 @@ control c last spelled is silent =
     }) refl
 
 st : SpellTame (0x1B ∷ 0x5C ∷ [])
-unfolding opens_string control_report
+unfolding opens_string control_report_any
 st = control 0x9C 0x5C refl (inr (omega arith, omega arith, refl)) (λ s. refl)
 
 nel : SpellTame (0x1B ∷ 0x45 ∷ [])
-unfolding opens_string control_report
+unfolding opens_string control_report_any
 nel = control 0x85 0x45 refl (inr (omega arith, omega arith, refl)) (λ s. refl)
 
 -- ---- the bytes of a character

@@ -110,7 +110,7 @@ fn is_bounded_control(b: u8) -> bool
 }
 
 /// Carries out a control.
-#[tactic(auto, unfolding(vt_term::specs::Reports::control_report))]
+#[tactic(auto, unfolding(vt_term::specs::Reports::control_report_any))]
 fn control(
     terminal: &mut SizedTerminal,
     pages: &mut SizedPages,
@@ -139,7 +139,7 @@ fn control(
 }
 
 /// Carries out a control that the margins bound, or one of a VT220.
-#[tactic(auto, unfolding(crate::specs::Bounded::bounded_in, vt_term::specs::Reports::control_report))]
+#[tactic(auto, unfolding(crate::specs::Bounded::bounded_in, vt_term::specs::Reports::control_report_any))]
 fn bounded_control(terminal: &mut SizedTerminal, sides: Sides, b: u8, out: &mut Vec<u8>)
     requires event { IsEvent (Control b) }
     requires fits { AreSides terminal.old.display.grid.width sides }
@@ -239,7 +239,7 @@ fn plain(
 }
 
 /// Carries out a control sequence that the margins bound, or one of a VT220.
-#[tactic(auto, unfolding(crate::specs::Bounded::bounded_in, vt_term::specs::Functions::sequences_of, vt_term::specs::Reports::sequence_report))]
+#[tactic(auto, unfolding(crate::specs::Bounded::bounded_in, vt_term::specs::Functions::sequences_any, vt_term::specs::Reports::sequence_report_any))]
 fn bounded_plain(
     terminal: &mut SizedTerminal,
     sides: Sides,
@@ -291,7 +291,7 @@ fn bounded_plain(
 
 /// Carries out a control sequence that leaves a pending wrap, or doesn't always reset it: SU, SD, REP, DECSTBM, or one that the margins
 /// don't bound.
-#[tactic(auto, unfolding(crate::specs::Bounded::other_between, vt_term::specs::Functions::sequences_of, vt_term::specs::Reports::sequence_report))]
+#[tactic(auto, unfolding(crate::specs::Bounded::other_between, vt_term::specs::Functions::sequences_any, vt_term::specs::Reports::sequence_report_any))]
 fn other_plain(
     terminal: &mut SizedTerminal,
     pages: &mut SizedPages,
@@ -374,7 +374,7 @@ fn marked(
 }
 
 /// Carries out DECSTBM, whose home is between the margins. It causes no report.
-#[tactic(auto, unfolding(vt_term::specs::Functions::sequence_in, vt_term::specs::Functions::sequences_of, vt_term::specs::Reports::sequence_report))]
+#[tactic(auto, unfolding(vt_term::specs::Functions::sequence_in, vt_term::specs::Functions::sequences_any, vt_term::specs::Reports::sequence_report_any))]
 fn set_margins(
     terminal: &mut SizedTerminal,
     pages: &mut SizedPages,

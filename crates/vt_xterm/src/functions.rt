@@ -94,7 +94,7 @@ pub(crate) fn carry_out_wide(
 }
 
 /// Carries out an escape sequence with an intermediate: DECALN makes the left and right margins full.
-#[tactic(auto, unfolding(crate::specs::Front::function_in, vt_term::specs::Functions::escape_with))]
+#[tactic(auto, unfolding(crate::specs::Front::function_in, vt_term::specs::Functions::escape_with_any))]
 fn escape_with(
     terminal: &mut SizedTerminal,
     pages: &mut SizedPages,
@@ -123,7 +123,7 @@ fn escape_with(
 }
 
 /// Carries out RIS, which keeps a wide screen wide if DECCOLM has no effect.
-#[tactic(auto, unfolding(vt_term::specs::Modes::with_mode, vt_term::specs::Functions::plain_escape))]
+#[tactic(auto, unfolding(vt_term::specs::Modes::with_mode, vt_term::specs::Functions::plain_escape_any))]
 fn reset(terminal: &mut SizedTerminal, pages: &mut SizedPages, out: &mut Vec<u8>)
     requires one_size { pages.old.other.grid.size ≡ terminal.old.display.grid.size }
     requires room { vec_len out.old + 10 ≤ vec_capacity out.old }
@@ -144,7 +144,7 @@ fn reset(terminal: &mut SizedTerminal, pages: &mut SizedPages, out: &mut Vec<u8>
 }
 
 /// Carries out an escape sequence without an intermediate.
-#[tactic(auto, unfolding(crate::specs::Front::function_in, vt_term::specs::Modes::with_mode, vt_term::specs::Functions::plain_escape))]
+#[tactic(auto, unfolding(crate::specs::Front::function_in, vt_term::specs::Modes::with_mode, vt_term::specs::Functions::plain_escape_any))]
 fn plain_escape(terminal: &mut SizedTerminal, pages: &mut SizedPages, last: u8, out: &mut Vec<u8>)
     requires event { IsEvent (Escape None last) }
     requires one_size { pages.old.other.grid.size ≡ terminal.old.display.grid.size }
@@ -204,7 +204,7 @@ fn sequence(
 }
 
 /// Carries out a control sequence without marker and intermediate.
-#[tactic(auto, unfolding(crate::specs::Front::function_in, vt_term::specs::Functions::sequences_of, vt_term::specs::Reports::sequence_report))]
+#[tactic(auto, unfolding(crate::specs::Front::function_in, vt_term::specs::Functions::sequences_any, vt_term::specs::Reports::sequence_report_any))]
 pub(crate) fn plain_sequence(
     terminal: &mut SizedTerminal,
     pages: &mut SizedPages,
@@ -305,7 +305,7 @@ fn scroll_down_by(terminal: &mut SizedTerminal, values: &[u16])
 }
 
 /// Carries out a control sequence with the marker `?`.
-#[tactic(auto, unfolding(crate::specs::Front::function_in, vt_term::specs::Functions::sequences_of, vt_term::specs::Reports::sequence_report))]
+#[tactic(auto, unfolding(crate::specs::Front::function_in, vt_term::specs::Functions::sequences_any, vt_term::specs::Reports::sequence_report_any))]
 fn private_sequence(
     terminal: &mut SizedTerminal,
     pages: &mut SizedPages,
@@ -342,7 +342,7 @@ fn private_sequence(
 }
 
 /// Carries out a control sequence with the intermediate `!`: DECSTR, which leaves DECAWM set.
-#[tactic(auto, unfolding(crate::specs::Front::function_in, vt_term::specs::Modes::with_mode, vt_term::specs::Functions::sequences_of, vt_term::specs::Reports::sequence_report))]
+#[tactic(auto, unfolding(crate::specs::Front::function_in, vt_term::specs::Modes::with_mode, vt_term::specs::Functions::sequences_any, vt_term::specs::Reports::sequence_report_any))]
 fn exclamation_sequence(
     terminal: &mut SizedTerminal,
     pages: &mut SizedPages,
@@ -378,7 +378,7 @@ fn exclamation_sequence(
 }
 
 /// Carries out a control sequence with the intermediate `"`: DECSCL, which leaves DECAWM set if there is such a level.
-#[tactic(auto, unfolding(crate::specs::Front::function_in, vt_term::specs::Modes::with_mode, vt_term::specs::Functions::sequence_in, vt_term::specs::Functions::sequences_of, vt_term::specs::Reports::sequence_report))]
+#[tactic(auto, unfolding(crate::specs::Front::function_in, vt_term::specs::Modes::with_mode, vt_term::specs::Functions::sequence_in, vt_term::specs::Functions::sequences_any, vt_term::specs::Reports::sequence_report_any))]
 fn quote_sequence(
     terminal: &mut SizedTerminal,
     pages: &mut SizedPages,

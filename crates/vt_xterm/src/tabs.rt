@@ -37,7 +37,7 @@ fn back_tab(terminal: &mut SizedTerminal)
 }
 
 /// Carries out HT, which causes no report.
-#[tactic(auto, unfolding(vt_term::specs::Functions::control, vt_term::specs::Reports::control_report))]
+#[tactic(auto, unfolding(vt_term::specs::Functions::control_any, vt_term::specs::Reports::control_report_any))]
 pub(crate) fn forward_tab(terminal: &mut SizedTerminal, out: &mut Vec<u8>)
     requires { vec_len out.old + 10 ≤ vec_capacity out.old }
     ensures terminal { terminal.new ≡ record terminal.old { display = horizontal_tab terminal.old.display } }

@@ -21,8 +21,8 @@ use Rattle.vt_term.specs.State.{Display, at_place, modes_at_power_up}
 use Rattle.vt_term.specs.Sound.{IsSoundSizedDisplay}
 use Rattle.vt_term.specs.Pages.{PageState}
 use Rattle.vt_term.specs.Writing.{write_glyph}
-use Rattle.vt_term.specs.Functions.{control, effect, sequences_of}
-use Rattle.vt_term.specs.Reports.{report, control_report, sequence_report}
+use Rattle.vt_term.specs.Functions.{effect}
+use Rattle.vt_term.specs.Reports.{report}
 use Rattle.vt_term.specs.Answers.{line_of_cursor}
 use Rattle.vt_paint.specs.Controls.{private_mode, cursor_position, brush_events, sets_events, spelling_events}
 use Rattle.vt_paint.specs.Pieces.{glyph_events}
@@ -41,6 +41,8 @@ use Rattle.vt_xterm.specs.Play.{after_events, reports_of}
 use Rattle.vt_xterm_paint.specs.Repaint.{sides_item, sides_to, column_named}
 use Rattle.vt_xterm_paint.proofs.Painted.{on_pages, on_sides, brush-quiet, single-quiet, quiet-effect, quiets-between, rest-between}
 use Rattle.vt_xterm_paint.proofs.Leading.{Leads, then-leads, one-leads, none-leads, on-leads}
+use Rattle.vt_term.specs.Reports.{control_report_any, sequence_report_any}
+use Rattle.vt_term.specs.Functions.{control_any, sequences_any}
 
 -- ---- margins that leave a column out, or none
 
@@ -84,7 +86,7 @@ module _ (other : PageState) (alternate : Bool) (s : Display) (m : Sides) (sets 
 
   sides-lead : (cursor : Cursor) (brush : Brush)
       → Leads (sides_item (Some m)) (plain cursor brush) (placed (at_place 1 1) brush false)
-  unfolding functions_of function_in with_page_mode bounds sequences_of sequence_report bounded_effect bounded_in has_row other_between
+  unfolding functions_of function_in with_page_mode bounds sequences_any sequence_report_any bounded_effect bounded_in has_row other_between
   sides-lead cursor brush =
       then-leads (private_mode 69 true ∷ []) (sides_to m.left m.right ∷ []) (plain cursor brush) full
       (placed (at_place 1 1) brush false) (one-leads (private_mode 69 true) (plain cursor brush) full refl refl)
@@ -109,7 +111,7 @@ module _ (other : PageState) (alternate : Bool) (s : Display) (m : Sides) (sets 
 
   origin-lead : (cursor : Cursor) (brush : Brush) (on : Bool)
       → LeadsTo (origin_item true on) (placed cursor brush false) (λ cursor. placed cursor brush on)
-  unfolding origin_item functions_of function_in with_page_mode bounded_effect sequences_of sequence_report
+  unfolding origin_item functions_of function_in with_page_mode bounded_effect sequences_any sequence_report_any
   origin-lead cursor brush false = record { some = cursor; leads = none-leads _ _ refl }
   origin-lead cursor brush true = record {
     some = home (bounds_of x);
@@ -173,7 +175,7 @@ module _ (other : PageState) (alternate : Bool) (s : Display) (m : Sides) (sets 
 
   place-lead : (cursor : Cursor) (brush : Brush)
       → Leads (cursor_position line named ∷ []) (placed cursor brush origin) (placed here brush origin)
-  unfolding functions_of function_in bounded_effect bounded_in has_row sequences_of sequence_report
+  unfolding functions_of function_in bounded_effect bounded_in has_row sequences_any sequence_report_any
   place-lead cursor brush = one-leads (cursor_position line named) x _ (go (are_narrow s.grid.width m) refl) refl
     where
       x : Screens
@@ -231,7 +233,7 @@ module _ (other : PageState) (alternate : Bool) (s : Display) (m : Sides) (sets 
       → after_events (spelling_events spelling) (on_sides other alternate (settled m) x)
       ≡ effect_between (Print (code_of spelling)) b
       (on_sides other alternate (settled m) (record x { sets = shifted_for spelling x.sets }))
-  unfolding control
+  unfolding control_any
   spelled-before x (Plain code) b is =
       ap (λ (b : Option Sides). effect_between (Print code) b (on_sides other alternate (settled m) x)) is
   spelled-before x (Second code) b is =
@@ -308,7 +310,7 @@ module _ (other : PageState) (alternate : Bool) (s : Display) (m : Sides) (sets 
 
   glyph-lead : IsGlyph cell.glyph → AreSpellingSets sets → m.wrap || s.cursor.wrap ≡ true
       → Leads (glyph_events cell) (placed here look origin) (on_sides other alternate m (shape s.cursor look origin))
-  unfolding glyph_events control_report
+  unfolding glyph_events control_report_any
   glyph-lead is spells some = record { is = go (are_narrow s.grid.width m) refl; silent = quiet spelling (placed here look origin) }
     where
       spelling : Spelling

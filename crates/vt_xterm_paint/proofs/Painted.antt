@@ -20,12 +20,12 @@ use Rattle.vt_screen.specs.Same.{same_bool, when}
 use Rattle.vt_term.specs.declared.state.Cursor.{Cursor}
 use Rattle.vt_term.specs.declared.state.Margins.{Margins}
 use Rattle.vt_term.specs.declared.state.Modes.{Modes}
-use Rattle.vt_term.specs.declared.state.Saved.{Saved}
+use Rattle.vt_term.specs.State.{Saved}
 use Rattle.vt_term.specs.State.{Display, has_stop_at, stops_of, saved_sets, saved_at_power_up, modes_at_power_up}
 use Rattle.vt_term.specs.Modes.{with_mode}
 use Rattle.vt_term.specs.Pages.{PageState}
 use Rattle.vt_term.specs.Rendition.{select_graphic_rendition}
-use Rattle.vt_term.specs.Functions.{effect, sequence_in, sequences_of}
+use Rattle.vt_term.specs.Functions.{effect, sequence_in}
 use Rattle.vt_term.specs.Answers.{line_of_cursor}
 use Rattle.vt_paint.specs.Controls.{private_mode, ansi_mode, cursor_position, rendition_to, rendition_values, protection_to}
 use Rattle.vt_paint.specs.Controls.{brush_events, sets_events, left_event, right_event, keypad, report_form}
@@ -43,6 +43,7 @@ use Rattle.vt_xterm.specs.Attributes.{begins_colour}
 use Rattle.vt_xterm.specs.Bounded.{bounded_effect, bounded_in, has_row, other_between}
 use Rattle.vt_xterm.specs.Front.{functions_of, function_in, screen_effect, effect_between, xterm_effect}
 use Rattle.vt_xterm.proofs.Colours.{without-colours}
+use Rattle.vt_term.specs.Functions.{sequences_any}
 
 -- ---- what holds of each event
 
@@ -112,7 +113,7 @@ no_colour r =
     (record { rendition = r; protected = false }))
 
 rendition-quiet : (r : Rendition) → IsQuiet (rendition_to r)
-unfolding functions_of function_in sequence_in sequences_of bounded_effect bounded_in has_row other_between
+unfolding functions_of function_in sequence_in sequences_any bounded_effect bounded_in has_row other_between
 rendition-quiet r =
     let values = rendition_values r in
     let same = without-colours values (no_colour r) in record {
@@ -185,7 +186,7 @@ ansi-quiet n false = record { plain = λ s. refl; bounded = λ m s. refl }
 -- those of the table of modes, but for ?7
 private-quiet : (on : Bool) → IsQuiet (private_mode 1 on) × IsQuiet (private_mode 4 on) × IsQuiet (private_mode 5 on)
     × IsQuiet (private_mode 8 on) × IsQuiet (private_mode 25 on)
-unfolding functions_of function_in with_page_mode sequence_in sequences_of bounded_effect
+unfolding functions_of function_in with_page_mode sequence_in sequences_any bounded_effect
 private-quiet true = (
   record { plain = λ s. refl; bounded = λ m s. refl },
   record { plain = λ s. refl; bounded = λ m s. refl },
@@ -202,7 +203,7 @@ private-quiet false = (
 )
 
 pub wrapping-quiet : IsQuiet (private_mode 7 true)
-unfolding functions_of function_in with_page_mode with_mode sequence_in sequences_of bounded_effect
+unfolding functions_of function_in with_page_mode with_mode sequence_in sequences_any bounded_effect
 wrapping-quiet = record { plain = λ s. refl; bounded = λ m s. refl }
 
 keypad-quiet : (on : Bool) → IsQuiet (keypad on)
@@ -292,17 +293,17 @@ module _ (other : PageState) (alternate : Bool) where
   position-painted line col s = refl
 
   column-painted : (wide : Bool) → IsPainted (private_mode 3 wide)
-  unfolding functions_of function_in with_page_mode with_mode sequence_in sequences_of bounds
+  unfolding functions_of function_in with_page_mode with_mode sequence_in sequences_any bounds
   column-painted true s = refl
   column-painted false s = refl
 
   origin-painted : (b : Bool) → IsPainted (private_mode 6 b)
-  unfolding functions_of function_in with_page_mode with_mode sequence_in sequences_of bounds
+  unfolding functions_of function_in with_page_mode with_mode sequence_in sequences_any bounds
   origin-painted true s = refl
   origin-painted false s = refl
 
   wrapping-painted : (b : Bool) → IsPainted (private_mode 7 b)
-  unfolding functions_of function_in with_page_mode with_mode sequence_in sequences_of bounds
+  unfolding functions_of function_in with_page_mode with_mode sequence_in sequences_any bounds
   wrapping-painted true s = refl
   wrapping-painted false s = refl
 
@@ -464,7 +465,7 @@ module _ (other : PageState) (alternate : Bool) (m : Sides) where
 
   -- ?7 resets a pending wrap
   wrapping-between : (b : Bool) → (m.wrap ≡ true → b ≡ true) → IsBetween (private_mode 7 b)
-  unfolding functions_of function_in with_page_mode with_mode sequence_in sequences_of bounded_effect
+  unfolding functions_of function_in with_page_mode with_mode sequence_in sequences_any bounded_effect
   wrapping-between true is = quiet-between (private_mode 7 true) wrapping-quiet
   wrapping-between false is = λ s. go s (bounds_of (between s))
     where

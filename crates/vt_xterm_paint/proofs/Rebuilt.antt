@@ -17,13 +17,12 @@ use Rattle.vt_syntax.proofs.Cutting.{read, escape}
 use Rattle.vt_screen.specs.declared.size.Size.{Size}
 use Rattle.vt_screen.specs.Sizes.{IsSize}
 use Rattle.vt_screen.specs.Grid.{Grid}
-use Rattle.vt_term.specs.declared.state.Saved.{Saved}
+use Rattle.vt_term.specs.State.{Saved}
 use Rattle.vt_screen.proofs.Places.{width-bounds}
 use Rattle.vt_term.specs.State.{Display, State, display_of, state_of, power_up, saved_at_power_up, modes_at_power_up}
 use Rattle.vt_term.specs.Sound.{IsSoundDisplayAt, IsSoundAt, IsSound}
 use Rattle.vt_term.specs.Pages.{PageState, IsSoundPageAt, blank_page, fitted, resized, with_page}
-use Rattle.vt_term.specs.Functions.{sequences_of}
-use Rattle.vt_term.specs.Reports.{report, sequence_report}
+use Rattle.vt_term.specs.Reports.{report}
 use Rattle.vt_term.specs.Play.{play}
 use Rattle.vt_paint.specs.Controls.{reset_to_initial_state, private_mode}
 use Rattle.vt_paint.specs.Items.{first_items}
@@ -55,6 +54,8 @@ use Rattle.vt_xterm_paint.proofs.Leading.{Leads, then-leads, one-leads, none-lea
 use Rattle.vt_xterm_paint.proofs.Between.{sides-placed-lead}
 use Rattle.vt_xterm_paint.proofs.Pending.{escape-characters, escape-pending, part-read}
 use Rattle.vt_xterm_paint.proofs.Spelled.{repaint-within}
+use Rattle.vt_term.specs.Reports.{sequence_report_any}
+use Rattle.vt_term.specs.Functions.{sequences_any}
 
 -- the items of a page while DECLRMM is reset
 items-lead : (size : Size) (s : Display) (other : PageState) (alternate : Bool) → IsSoundDisplayAt size s
@@ -135,7 +136,7 @@ private-leads n on x y is silent = one-leads (private_mode n on) x y (private-ef
 start-of : (alternate : Bool) (u : Screens) → min 1 u.display.grid.size.narrow ≡ 1
     → Leads (private_mode 40 true ∷ reset_to_initial_state ∷ private_mode 47 (not alternate) ∷ []) u
     (on_pages (blank_page u.display.grid.size) (not alternate) (display_of u.display.grid.size))
-unfolding with_page_mode sequences_of sequence_report
+unfolding with_page_mode sequences_any sequence_report_any
 start-of alternate u col =
     then-leads (private_mode 40 true ∷ []) _ u allowed _ (private-leads 40 true u allowed refl refl)
     (then-leads (reset_to_initial_state ∷ []) (private_mode 47 (not alternate) ∷ []) allowed reset _
@@ -190,7 +191,7 @@ exchange-leads : (size : Size) (alternate : Bool) (page : PageState)
     → Leads (private_mode 47 alternate ∷ [])
     (on_pages (blank_page size) (not alternate) (with_page page (display_of size)))
     (on_pages page alternate (with_page (fitted page.grid.width (blank_page size)) (display_of size)))
-unfolding with_page_mode sequences_of sequence_report
+unfolding with_page_mode sequences_any sequence_report_any
 exchange-leads size true page = private-leads 47 true _ _ refl refl
 exchange-leads size false page = private-leads 47 false _ _ refl refl
 
@@ -198,7 +199,7 @@ narrow-leads : (size : Size) (alternate : Bool) (page : PageState) (g : Grid) �
     → Leads (private_mode 3 false ∷ [])
     (on_pages page alternate (with_page (record { grid = g; saved = saved_at_power_up }) (display_of size)))
     (on_pages page alternate (display_of size))
-unfolding with_page_mode sequences_of sequence_report
+unfolding with_page_mode sequences_any sequence_report_any
 narrow-leads size alternate page g sized is =
     let col : min 1 size.narrow ≡ 1 = omega (arith, sized.narrow) in private-leads 3 false _ _ (rw (is, col) refl) refl
 
@@ -220,7 +221,7 @@ between-leads size alternate page sized =
 end-leads : (s : Display) (pages : PagesState)
     → Leads (private_mode 40 pages.resizes ∷ paste_item pages.brackets) (on_shown pages.other pages.alternate pages.sides s)
     (record { display = s; pages = pages })
-unfolding with_page_mode sequences_of sequence_report
+unfolding with_page_mode sequences_any sequence_report_any
 end-leads s pages =
     then-leads (private_mode 40 pages.resizes ∷ []) (paste_item pages.brackets)
     (on_shown pages.other pages.alternate pages.sides s) allowed _ (allow pages.resizes) (paste pages.brackets)

@@ -8,7 +8,7 @@ use Rattle.vt_screen.specs.declared.cell.Cell.{Cell}
 use Rattle.vt_screen.specs.Cells.{brush_of}
 use Rattle.vt_screen.specs.Grid.{Grid, cell_at}
 use Rattle.vt_term.specs.declared.state.Cursor.{Cursor}
-use Rattle.vt_term.specs.declared.state.Saved.{Saved}
+use Rattle.vt_term.specs.State.{Saved}
 use Rattle.vt_term.specs.State.{Display, saved_sets}
 use Rattle.vt_screen.specs.Same.{when}
 use Rattle.vt_paint.specs.Controls.{private_mode, cursor_position, rendition_to, all_attributes, protection_to, soft_reset}

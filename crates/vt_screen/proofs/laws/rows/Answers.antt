@@ -3,6 +3,6 @@ use Rattle.vt_screen.proofs.laws.rows.Goals as goal
 
 pub returns : goal.returns
 returns c = record {
-  len = length-row_of;
-  cell = get_or-row_of;
+  len = length-row_of _;
+  cell = get_or-row_of _;
 }

@@ -5,10 +5,10 @@ use Rattle.vt_screen.proofs.Maps.{row-filled}
 use Rattle.vt_screen.proofs.screen.fill_rows.Goals as goal
 
 pub loop-row-preserved : goal.loop-row-preserved
-loop-row-preserved c =
+loop-row-preserved g c =
     let bound = c.start-start.ensures.bound in
     let long : length c.loop-row.cells ≡ room c.args.order.now.size = omega arith in
-    let step = row-filled c.args.order.now c.loop-row.cells c.fill_line.new.line c.args.width c.loop-row.row
+    let step = row-filled g.C.Cells.cells.blank c.args.order.now c.loop-row.cells c.fill_line.new.line c.args.width c.loop-row.row
     c.start-start.result (c.start-start.result + c.args.width - c.start-start.result) c.args.cell.now
     c.start-start.ensures.order long (omega arith) (omega arith) c.requires.width c.start-start.ensures.place
     (omega arith) c.fill_line.auto.line c.fill_line.ensures in

@@ -1,5 +1,5 @@
 use Rattle.std.proofs.Common.{arith}
-use Rattle.vt_screen.proofs.OtherSize.{inside-stays}
+use Rattle.vt_screen.proofs.Vt220Grids.{inside-stays}
 use Rattle.vt_term.specs.Resizing.{count_off}
 use Rattle.vt_term.proofs.Resized.{own-state, own-log, own-page, own-hidden_log, state_on-sound, page_on-sound, hidden_line}
 use Rattle.vt_term.proofs.Resized as resized

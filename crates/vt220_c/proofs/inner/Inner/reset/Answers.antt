@@ -2,12 +2,12 @@
 use Rattle.std.proofs.Common.{◌∙◌, [], ◌∷◌, refl}
 use Rattle.vt_syntax.specs.Class.{class_of, opens_string}
 use Rattle.vt_syntax.specs.Split.{split_after}
-use Rattle.vt_term.specs.Functions.{plain_escape}
 use Rattle.vt_term.specs.Play.{play}
 use Rattle.vt220_c.proofs.inner.Inner.reset.Goals as goal
+use Rattle.vt_term.specs.Functions.{plain_escape_any}
 
 pub returns : goal.returns
-unfolding play plain_escape split_after class_of opens_string
+unfolding play plain_escape_any split_after class_of opens_string
 returns c =
     let held = c.self.inside.terminal.held in let is = c.held.ensures.held_part in
     c.feed_reserved.ensures.state

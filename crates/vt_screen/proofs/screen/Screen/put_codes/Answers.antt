@@ -24,7 +24,7 @@ returns-clause-grid c =
     let k = c.start.result + c.args.column - 1 + length c.args.codes.now - (c.start.result + c.args.column - 1) in
     let glyphs : List ℕ = map encoded_glyph c.args.codes.now in
     let count : length glyphs ≡ length c.args.codes.now = length-map c.args.codes.now encoded_glyph in
-    rw (← c.self.view_is) (edited c.self.inside.cells c.self.inside.order c.self.inside.width c.deref_mut.result.now at
+    rw (← c.self.view_is) (edited _ c.self.inside.cells c.self.inside.order c.self.inside.width c.deref_mut.result.now at
     k c.write_codes.new.cells (λ g. put_run g c.args.row c.args.column glyphs c.args.like) same
     c.write_codes.auto.cells
     (put_run-row c.self.inside.order c.deref_mut.result.now c.write_codes.new.cells c.self.inside.width c.args.row

@@ -24,7 +24,7 @@ returns-clause-grid c =
     let k = c.start.result + c.args.column - 1 + length c.args.bytes.now - (c.start.result + c.args.column - 1) in
     let glyphs : List ℕ = map (glyph_in_use c.args.table.now) c.args.bytes.now in
     let count : length glyphs ≡ length c.args.bytes.now = length-map c.args.bytes.now (glyph_in_use c.args.table.now) in
-    rw (← c.self.view_is) (edited c.self.inside.cells c.self.inside.order c.self.inside.width c.deref_mut.result.now at
+    rw (← c.self.view_is) (edited _ c.self.inside.cells c.self.inside.order c.self.inside.width c.deref_mut.result.now at
     k c.write_graphics.new.cells (λ g. put_run g c.args.row c.args.column glyphs c.args.like) same
     c.write_graphics.auto.cells
     (put_run-row c.self.inside.order c.deref_mut.result.now c.write_graphics.new.cells c.self.inside.width c.args.row

@@ -20,6 +20,6 @@ returns c =
     let size : c.args.self.now.size ≡ c.args.other.now.size =
     sym (c.size-size.ensures.size ∙ mine) ∙ c.same.ensures.0 c.if-not-same.false ∙ c.size.ensures.size ∙ its in
     let high : c.size-size.result.rows ≡ c.args.self.now.size.rows = ap (λ s. s.rows) (c.size-size.ensures.size ∙ mine) in (
-      λ _. rows-same c.args.self.now c.args.other.now here there size (λ r r1 low. c.loop-row.invariant r r1 (omega (arith, high, low, c.loop-row-test.false))),
+      λ _. rows-same _ c.args.self.now c.args.other.now here there size (λ r r1 low. c.loop-row.invariant r r1 (omega (arith, high, low, c.loop-row-test.false))),
       λ _. refl,
     )

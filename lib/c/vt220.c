@@ -548,12 +548,21 @@ uint32_t vt220_row_text(const vt220 *t, vt220_scratch *s, size_t row, uint8_t *o
     return status;
 }
 
+/* Returns whether a scratch buffer has the size of a terminal. Both are open. (core_row_text looks at the sizes before it looks for the row.) */
+static bool is_for(vt220_scratch *s, handle *h) {
+    handle room = own_scratch(s);
+    size_t written;
+    uint32_t status = core_row_text(h, &room, 0, &nothing, 0, &written);
+    keep_scratch(s, room);
+    return status != VT220_SIZE;
+}
+
 uint32_t vt220_update(vt220 *shown, const vt220 *to, vt220_scratch *s, uint8_t *out, size_t size, size_t *written) {
     handle h = own(shown), other = own(to), room = own_scratch(s);
     *written = 0;
     if (!h.is_open || !other.is_open || !room.is_open) return VT220_CLOSED;
     if (is_xterm(session_of(shown))) return VT220_LANGUAGE;
-    if (is_same(shown, to)) return core_is_between(&h) ? VT220_OK : VT220_PARTIAL;
+    if (is_same(shown, to)) return !is_for(s, &h) ? VT220_SIZE : core_is_between(&h) ? VT220_OK : VT220_PARTIAL;
     if (out == NULL) out = &nothing, size = 0;
     uint32_t status = core_update(&h, &other, &room, out, size, written);
     keep(shown, h);
@@ -566,7 +575,7 @@ uint32_t vt220_draw(const vt220 *shown, const vt220 *to, vt220_scratch *s, uint8
     handle h = own(shown), other = own(to), room = own_scratch(s);
     *written = 0;
     if (!h.is_open || !other.is_open || !room.is_open) return VT220_CLOSED;
-    if (is_same(shown, to)) return VT220_OK;
+    if (is_same(shown, to)) return is_for(s, &h) ? VT220_OK : VT220_SIZE;
     if (out == NULL) out = &nothing, size = 0;
     uint32_t status = core_draw_from(&h, &other, &room, out, size, written);
     keep_scratch(s, room);

@@ -46,7 +46,7 @@ static void add_piece(bytes *b) {
     append(b, (const uint8_t *)piece, (size_t)n);
 }
 
-/* Lines of one kind, long enough for a chunk of the program to leave out those that nobody sees. The library gets smaller chunks, and plays them all. */
+/* Lines of one kind, longer than a chunk of the program. The library gets smaller chunks. */
 static void add_lines(bytes *b) {
     static const char *const places[] = {"\033[24H", "\033[99B", "\033[9;15r\033[15H", "\033[3;24r\033[24H", "\033[5;10r\033[10;70H", "\033[23H", "\033[H", ""};
     static const char *const odd[] = {"\033[4h", "\033[20h", "\033[?7l", "\033[?3h", "\033[?6h", "\033[1;7m", "\033[1\"q", "\016", "\033N", "\033O", "\033[12;", "\033]x", "", ""};

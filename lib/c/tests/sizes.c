@@ -164,6 +164,10 @@ static void two_sizes(void) {
         size_t len = written;
         CHECK(vt220_draw(NULL, &b, &s, other, sizeof other, &written) == VT220_OK && written == len && memcmp(out, other, len) == 0);
         CHECK(vt220_draw(&b, &a, &s, out, sizeof out, &written) == VT220_SIZE && written == 0);
+        /* one terminal twice, also inside a sequence */
+        CHECK(vt220_draw(&c, &c, &s, NULL, 0, &written) == VT220_SIZE && vt220_update(&a, &a, &s, NULL, 0, &written) == VT220_SIZE && written == 0);
+        CHECK(vt220_feed(&a, BYTES("\033["), NULL, 0, NULL) == 2 && vt220_update(&a, &a, &s, NULL, 0, &written) == VT220_SIZE && written == 0);
+        CHECK(vt220_draw(&b, &b, &s, NULL, 0, &written) == VT220_OK && vt220_draw(NULL, &b, &s, NULL, 0, &written) == VT220_ROOM && written == len);
         vt220_close(&a);
         vt220_close(&b);
         vt220_close(&c);

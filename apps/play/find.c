@@ -80,28 +80,53 @@ static bool look(bool is_anew) {
     return reel_copy(&it.seen, VT220_BYTES, &it.reel);
 }
 
-/* Plays up to so many chunks. Returns whether the text is on the screen then. */
-static bool is_there_after(size_t count, bool is_anew) {
-    return reel_seek(&it.reel, count) && look(is_anew) && it.found != NULL;
+static void print_time(FILE *to, uint64_t micros) {
+    fprintf(to, "%llu.%06llu", (unsigned long long)micros / 1000000, (unsigned long long)micros % 1000000);
 }
 
-size_t find(const struct recording *recording, const char *text, size_t first, size_t end, bool is_last) {
-    size_t found = NOWHERE;
+/* Looks for the text in the lines that scrolled off in a chunk. Writes a line for each that has it, unless `to` is null. `count` counts the
+ * lines. Returns whether any has it. */
+static bool search_lines(uint64_t micros, size_t *count, FILE *to) {
+    bool is_found = false;
+    char *all = (char *)it.off.text;
+    if (it.off.len == 0 || it.wanted_len == 0) return false;
+    for (char *line = all, *end; line != all + it.off.len; line = end + 1) {
+        end = memchr(line, '\n', (size_t)(all + it.off.len - line));
+        if (it.language != VT220_BYTES) *end = ' '; /* which may be the second cell of a character */
+        ++*count;
+        char *at = memmem(line, (size_t)(end - line) + (it.language != VT220_BYTES), it.wanted, it.wanted_len);
+        if (at == NULL) continue;
+        is_found = true;
+        if (to == NULL) continue;
+        fputs("log\t", to);
+        print_time(to, micros);
+        fprintf(to, "\t%zu\t%zu\n", *count, characters(line, (size_t)(at - line)) + 1);
+    }
+    return is_found;
+}
+
+/* Plays up to so many chunks. Returns whether the text is on the screen then. */
+static bool is_there_after(size_t count, bool is_anew, struct scrolled *off) {
+    it.off.len = 0;
+    return reel_seek(&it.reel, count, off) && look(is_anew) && it.found != NULL;
+}
+
+size_t find(const struct recording *recording, const char *text, size_t first, size_t end, bool is_last, bool *has_passed) {
+    size_t found = NOWHERE, lines = 0;
     if (!begin(recording, text)) return NOWHERE;
-    bool was_there = is_there_after(first, true);
+    bool was_there = is_there_after(first, true, NULL);
     for (size_t i = first; i < end && (found == NOWHERE || is_last); i++) {
-        bool is_there = is_there_after(i + 1, false);
-        if (is_there && !was_there) found = i;
+        bool is_there = is_there_after(i + 1, false, &it.off), is_in_lines = !is_there && !was_there && search_lines(0, &lines, NULL);
+        if ((is_there && !was_there) || is_in_lines) {
+            found = i;
+            *has_passed = is_in_lines;
+        }
         was_there = is_there;
     }
     return found;
 }
 
 /* --- the list of all places --- */
-
-static void print_time(FILE *to, uint64_t micros) {
-    fprintf(to, "%llu.%06llu", (unsigned long long)micros / 1000000, (unsigned long long)micros % 1000000);
-}
 
 /* A span of time in which the text is on the screen, and its first place there. */
 struct span {
@@ -126,26 +151,6 @@ static void close_span(struct span *span, const uint64_t *ended) {
     span->is_open = false;
 }
 
-/* Looks for the text in the lines that scrolled off in a chunk. Writes a line for each that has it, unless `to` is null. `count` counts the
- * lines. Returns whether any has it. */
-static bool search_lines(uint64_t micros, size_t *count, FILE *to) {
-    bool is_found = false;
-    char *all = (char *)it.off.text;
-    if (it.off.len == 0) return false;
-    for (char *line = all, *end; line != all + it.off.len; line = end + 1) {
-        end = memchr(line, '\n', (size_t)(all + it.off.len - line));
-        if (it.language != VT220_BYTES) *end = ' '; /* which may be the second cell of a character */
-        ++*count;
-        char *at = memmem(line, (size_t)(end - line) + (it.language != VT220_BYTES), it.wanted, it.wanted_len);
-        if (at == NULL || to == NULL) continue;
-        is_found = true;
-        fputs("log\t", to);
-        print_time(to, micros);
-        fprintf(to, "\t%zu\t%zu\n", *count, characters(line, (size_t)(at - line)) + 1);
-    }
-    return is_found;
-}
-
 bool find_all(const struct recording *recording, const char *text, size_t first) {
     struct span span = {0};
     char *lines = NULL;
@@ -158,8 +163,9 @@ bool find_all(const struct recording *recording, const char *text, size_t first)
         uint64_t micros = recording->chunks[i].micros;
         it.off.len = 0;
         if (!reel_play(&it.reel, &it.off)) fail(1, "out of memory");
-        is_found |= search_lines(micros, &count, i < first ? NULL : log);
+        bool is_in_lines = search_lines(micros, &count, i < first ? NULL : log);
         if (i < first) continue;
+        is_found |= is_in_lines;
         if (!look(i == first)) fail(1, "out of memory");
         if (it.found != NULL && !span.is_open) open_span(&span, micros);
         if (it.found == NULL && span.is_open) close_span(&span, &micros);

@@ -106,7 +106,7 @@ static void give_up(void) {
 /* --- time --- */
 
 static void show_now(void) {
-    if (!reel_seek(&it.reel, chunks_at(&it.of, it.now))) give_up();
+    if (!reel_seek(&it.reel, chunks_at(&it.of, it.now), NULL)) give_up();
     it.is_behind = true;
 }
 
@@ -213,15 +213,16 @@ static void set_speed(bool is_faster) {
     }
 }
 
-/* Goes to a moment at which the text comes on the screen: the next one, and after the last one the first. */
+/* Goes to a moment at which the text comes on the screen, or scrolls past: the next one, and after the last one the first. */
 static void find_from(bool is_forward) {
-    size_t at = is_forward ? chunks_at(&it.of, it.now) : chunks_before(&it.of, it.now), found;
+    size_t at = is_forward ? chunks_at(&it.of, it.now) : chunks_before(&it.of, it.now), count = it.of.count, found;
+    bool has_passed = false;
     if (it.wanted_len == 0) return;
-    found = is_forward ? find(&it.of, it.wanted, at, it.of.count, false) : find(&it.of, it.wanted, 0, at, true);
-    if (found == NOWHERE) found = is_forward ? find(&it.of, it.wanted, 0, at, false) : find(&it.of, it.wanted, at, it.of.count, true);
+    found = is_forward ? find(&it.of, it.wanted, at, count, false, &has_passed) : find(&it.of, it.wanted, 0, at, true, &has_passed);
+    if (found == NOWHERE) found = is_forward ? find(&it.of, it.wanted, 0, at, false, &has_passed) : find(&it.of, it.wanted, at, count, true, &has_passed);
     it.clock = clock_now(); /* a search takes no time of the recording */
-    if (found == NOWHERE) snprintf(it.said, sizeof it.said, "not found: %.200s", it.wanted);
-    else go(it.of.chunks[found].micros);
+    if (found != NOWHERE) go(it.of.chunks[found].micros);
+    if (found == NOWHERE || has_passed) snprintf(it.said, sizeof it.said, "%s: %.200s", has_passed ? "scrolled past" : "not found", it.wanted);
 }
 
 static void ask(void) {

@@ -87,9 +87,9 @@ struct scrolled {
 
 void reel_begin(const struct recording *recording); /* ends the program if allocation fails */
 bool reel_open(struct reel *reel);                  /* at the beginning; false if allocation fails */
-bool reel_seek(struct reel *reel, size_t count);    /* after so many chunks; false if allocation fails */
-/* Plays the next chunk, and adds the lines that scroll off the top, unless `off` is null. Returns false if allocation fails. */
-bool reel_play(struct reel *reel, struct scrolled *off);
+/* Plays up to so many chunks. Adds the lines that scroll off the top meanwhile, unless `off` is null. Returns false if allocation fails. */
+bool reel_seek(struct reel *reel, size_t count, struct scrolled *off);
+bool reel_play(struct reel *reel, struct scrolled *off); /* plays the next chunk, in the same way */
 /* Brings a terminal, which may be closed, to the state and the size of a reel's. Returns false if allocation fails. */
 bool reel_copy(vt220 *to, uint32_t language, const struct reel *from);
 
@@ -98,9 +98,9 @@ bool reel_copy(vt220 *to, uint32_t language, const struct reel *from);
 #define NOWHERE SIZE_MAX
 enum { FIND_LIMIT = 4096 /* the bytes of a text that is searched for are fewer than half of these */ };
 
-/* Returns the first chunk with an index from `first` up to `end` that brings a text on the screen, or the last one; NOWHERE if none does. The
- * text is in UTF-8. A character is found by what is shown for it. */
-size_t find(const struct recording *recording, const char *text, size_t first, size_t end, bool is_last);
+/* Returns the first chunk with an index from `first` up to `end` that brings a text on the screen, or the last one; NOWHERE if none does. If the text
+ * came and scrolled off within that chunk, *has_passed is set. The text is in UTF-8. A character is found by what is shown for it. */
+size_t find(const struct recording *recording, const char *text, size_t first, size_t end, bool is_last, bool *has_passed);
 /* Prints a line for each span of time in which the text was on the screen, and for each line with it that scrolled off, from a chunk on. Returns
  * whether there are any. */
 bool find_all(const struct recording *recording, const char *text, size_t first);

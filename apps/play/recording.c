@@ -167,11 +167,36 @@ static void set_pace(struct recording *it) {
     }
 }
 
-/* The language that is asked for, otherwise that of the terminal that the first line names. A recording by asciinema is in UTF-8. */
-static uint32_t language_of(const recording_head *head, const struct asked *asked) {
+/* Returns how many bytes a character has that begins so, and the range of its second byte; 0 if none begins so. (RFC 3629, section 4) */
+static size_t utf8_length(uint8_t first, uint8_t *least, uint8_t *most) {
+    *least = first == 0xE0 ? 0xA0 : first == 0xF0 ? 0x90 : 0x80;
+    *most = first == 0xED ? 0x9F : first == 0xF4 ? 0x8F : 0xBF;
+    return first < 0x80 ? 1 : first < 0xC2 ? 0 : first < 0xE0 ? 2 : first < 0xF0 ? 3 : first < 0xF5 ? 4 : 0;
+}
+
+/* Returns whether content is UTF-8 with a character beyond ASCII. The last character may be cut. */
+static bool shows_utf8(const uint8_t *content, size_t len) {
+    bool is_beyond = false;
+    uint8_t least, most;
+    for (size_t at = 0, length; at < len; at += length) {
+        length = utf8_length(content[at], &least, &most);
+        if (length == 0) return false;
+        for (size_t i = 1; i < length && at + i < len; i++, least = 0x80, most = 0xBF) {
+            if (content[at + i] < least || content[at + i] > most) return false;
+        }
+        if (length > 1 && length <= len - at) is_beyond = true;
+    }
+    return is_beyond;
+}
+
+/* Returns the language that is asked for, otherwise the one that the recording shows. Its first line names the terminal. An xterm's host and a
+ * recording by asciinema are in UTF-8, and so is any other whose content is UTF-8 with a character beyond ASCII. */
+static uint32_t language_of(const struct recording *it, const recording_head *head, const struct asked *asked) {
     bool is_named = asked->terminal == TERMINAL_AUTO && asked->encoding != ENCODING_DEC && head->terminal == 2;
     if (asked->terminal == TERMINAL_XTERM || is_named) return VT220_XTERM;
-    return asked->encoding == ENCODING_UTF8 || head->format == RECORDING_ASCIICAST ? VT220_UTF8 : VT220_BYTES;
+    if (asked->encoding == ENCODING_UTF8 || head->format == RECORDING_ASCIICAST) return VT220_UTF8;
+    bool is_utf8 = asked->encoding == ENCODING_AUTO && it->count > 0 && shows_utf8(it->bytes, it->chunks[it->count - 1].end);
+    return is_utf8 ? VT220_UTF8 : VT220_BYTES;
 }
 
 /* Writes a note on the size at which it is played, if that isn't the one of its first line. */
@@ -211,10 +236,10 @@ void recording_read(struct recording *it, const struct asked *asked) {
     free(file.bytes);
     free(timing.bytes);
     it->is_timed = is_timed || head.format == RECORDING_TTYREC || head.format == RECORDING_ASCIICAST;
-    it->language = language_of(&head, asked);
+    size_t left = keep_output(it, it->is_timed && asked->size.rows == 0);
+    it->language = language_of(it, &head, asked);
     it->size = size_for(&head, asked);
     it->front = !is_wide(it, &head, asked) ? "" : it->language == VT220_XTERM ? "\033[?40h\033[?3h\033[?40l" : "\033[?3h";
-    size_t left = keep_output(it, it->is_timed && asked->size.rows == 0);
     if (it->count == it->changes_count) fail(1, "%s: it has no output to play", asked->file);
     if (!it->is_timed) set_pace(it);
     note(asked->file, it, &head, &extent, left);

@@ -122,12 +122,12 @@ bool reel_play(struct reel *reel, struct scrolled *off) {
     return true;
 }
 
-bool reel_seek(struct reel *reel, size_t count) {
+bool reel_seek(struct reel *reel, size_t count, struct scrolled *off) {
     const struct reel *from = &kept.points[kept.count - 1];
     while (from->count > count) from--;
-    bool is_fine = (count >= reel->count && from->count <= reel->count) || restore(reel, from);
+    bool goes_on = count >= reel->count && (off != NULL || from->count <= reel->count), is_fine = goes_on || restore(reel, from);
     while (is_fine && reel->count < count) {
-        is_fine = reel_play(reel, NULL);
+        is_fine = reel_play(reel, off);
         if (is_fine && bytes_of(reel->count) >= bytes_of(kept.points[kept.count - 1].count) + kept.every) keep(reel);
     }
     return is_fine;

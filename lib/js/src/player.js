@@ -4,7 +4,7 @@ import { Live, connected } from "./live.js";
 import { MARKUP, STYLE } from "./look.js";
 import { lacking } from "./notes.js";
 import { opened, source } from "./packed.js";
-import { noteOnBytes, played, readable } from "./reading.js";
+import { noteOnBytes, played, readable, showsUtf8 } from "./reading.js";
 import { Reader } from "./recordings.js";
 import { Searcher } from "./searcher.js";
 import { Timeline } from "./timeline.js";
@@ -228,11 +228,16 @@ export class Vt220Player extends Base {
     return rows === undefined ? {} : { rows, columns };
   }
 
+  /** Returns how bytes of a program with their times are played, of which nothing else is known. */
+  #plain({ bytes }) {
+    return { ...this.#size(), encoding: showsUtf8(bytes) ? "utf-8" : "dec" };
+  }
+
   async #load(wanted, core, because, isOver) {
     because("The recording can't be fetched.");
     const { packed, recording, file, timing } = await source(wanted, this.timing);
     because(file ? "The recording can't be read." : "The recording is damaged.");
-    const made = packed ? await opened(packed, this.#asked()) : file ? await this.#read(file, timing, core, because, isOver) : { recording, options: this.#size() };
+    const made = packed ? await opened(packed, this.#asked()) : file ? await this.#read(file, timing, core, because, isOver) : { recording, options: this.#plain(recording) };
     if (isOver()) return;
     const options = this.#options(made.options), notes = made.notes ?? [];
     const { encoding, terminal, rows, columns } = options, line = new Timeline(core, made.recording, { encoding, terminal, rows, columns });

@@ -5,6 +5,7 @@ import { LEAST_COLUMNS, LEAST_ROWS, MOST_COLUMNS, MOST_ROWS, isSize } from "./vt
 
 /** LF, which ends a line. */
 export const LF = 0x0a;
+const AT_ONCE = 1 << 20; // bytes of content that are decoded at once
 const CHUNK = 48, PACE = 0.05; // a line of 9600 baud carries 960 bytes a second: a chunk every 50 ms
 const WIDE = 132, WIDTHS = [80, WIDE], HEIGHT = 24; // of a VT220's screen
 const MOST_CHANGES = 1000; // of the size that are carried out
@@ -104,10 +105,13 @@ export function resized({ bytes, times, ends }, changes) {
   return made;
 }
 
-/** Returns the terminal and the encoding for which a recording is played: those that are asked for, otherwise those of its first line. */
-function language({ terminal: named, isCast }, { terminal: asked, encoding }) {
+/**
+ * Returns the terminal and the encoding for which a recording is played: those that are asked for, or those that it shows. Its first line names the
+ * terminal. An xterm's host and a recording by asciinema are in UTF-8, and so is any other whose content is UTF-8 with a character beyond ASCII.
+ */
+function language({ terminal: named, isCast, isUtf8 }, { terminal: asked, encoding }) {
   const terminal = asked ?? (encoding === "dec" ? "vt220" : named ?? "vt220");
-  return { terminal, encoding: terminal === "xterm" || isCast ? "utf-8" : encoding ?? "dec" };
+  return { terminal, encoding: terminal === "xterm" || isCast ? "utf-8" : encoding ?? (isUtf8 ? "utf-8" : "dec") };
 }
 
 /** Returns the size that is asked for, otherwise that of the first line, as [columns, rows]. It is null if that isn't one of a screen. */
@@ -132,20 +136,23 @@ export function preceded(front, { bytes, times, ends, sizes = [] }) {
   return made;
 }
 
-/** Returns whether bytes have characters beyond ASCII, and all are characters in UTF-8. */
-function looksUtf8(bytes) {
-  if (!bytes.some((byte) => byte > 0x7f)) return false;
+/** Returns whether content is UTF-8 with a character beyond ASCII. The last character may be cut. */
+export function showsUtf8(content) {
+  const decoder = new TextDecoder("utf-8", { fatal: true, ignoreBOM: true });
+  let isBeyond = false;
   try {
-    new TextDecoder("utf-8", { fatal: true }).decode(bytes);
-    return true;
+    for (let at = 0; at < content.length; at += AT_ONCE) {
+      if (/[^\0-\x7f]/.test(decoder.decode(content.subarray(at, at + AT_ONCE), { stream: true }))) isBeyond = true;
+    }
   } catch {
     return false;
   }
+  return isBeyond;
 }
 
 /** Returns a sentence on the bytes of a recording that is played in such an encoding, or "". */
 export function noteOnBytes(bytes, encoding) {
-  return encoding === "dec" && looksUtf8(bytes) ? "Its bytes look like UTF-8, which a VT220 doesn't read." : "";
+  return encoding === "dec" && showsUtf8(bytes) ? "Its bytes look like UTF-8, which a VT220 doesn't read." : "";
 }
 
 /** Returns what a VT220 can't show of a recording, a sentence each. */
@@ -162,9 +169,10 @@ function notesOn({ size, terminal: named, isTimed, broken }, terminal, isOfItsSi
 
 /**
  * Returns how a recording is played: options, the bytes before its own, the changes of its size, and notes. `read` has whether it is by asciinema
- * (`isCast`), whether it has times (`isTimed`), the terminal and the size that its first line names, the changes of its window's size (the time of
- * each, its text and its place in the bytes), the place at which it breaks its format, and the longest pause that it wants. `asked` has the
- * terminal, the encoding, the size and the longest pause that are asked for, if any. With a size that is asked for, no change is carried out.
+ * (`isCast`), whether it has times (`isTimed`), whether its content shows UTF-8 (`isUtf8`), the terminal and the size that its first line names, the
+ * changes of its window's size (the time of each, its text and its place in the bytes), the place at which it breaks its format, and the longest pause
+ * that it wants. `asked` has the terminal, the encoding, the size and the longest pause that are asked for, if any. With a size that is asked for, no
+ * change is carried out.
  */
 export function arranged(read, asked) {
   const chosen = language(read, asked), pause = asked.pause ?? read.pause, size = sizeOf(read, asked);
@@ -196,8 +204,8 @@ export async function played(reader, file, timing, asked) {
   if (read.format === "compressed") throw new TypeError("it is compressed: decompress it first");
   if (!isCast && Number.isInteger(header?.version)) throw new TypeError(`it is by asciinema, of version ${header.version}, which isn't known`);
   const isTimed = isCast || read.format === "ttyrec" || timing !== null, changes = isTimed ? eventsOf(read, SIZE_CHANGE) : [];
-  const how = arranged({ ...read, isCast, isTimed, changes, pause: header?.idle_time_limit }, asked);
   const markers = textsOf(read, MARKER), inputs = textsOf(read, INPUT), output = outputOf(read);
+  const how = arranged({ ...read, isCast, isTimed, isUtf8: showsUtf8(output.bytes), changes, pause: header?.idle_time_limit }, asked);
   const timed = isTimed ? output : { bytes: output.bytes, ...at9600Baud(output.bytes.length) };
   return { recording: preceded(how.front, resized(timed, how.changes)), options: { ...how.options, markers, inputs }, notes: how.notes };
 }

@@ -137,12 +137,16 @@ def test_the_other_formats(tmp_path):
     ttyrec = tmp_path / "a.tty"
     ttyrec.write_bytes(b"".join(struct.pack("<III", at, 0, text) + data for at, text, data in ((100, 1, b"a"), (105, 1, b"b"), (102, 1, b"c"), (106, 2, b"\xc3\xa9"))))
     back = [(0, [(0, "a")]), (5000000, [(0, "abc")])]
-    assert run("--encoding", "utf-8", ttyrec).frames == [*back, (6000000, [(0, "abc\u00e9")])]
-    assert run(ttyrec).frames == [*back, (6000000, [(0, "abc\u00c3\u00a9")])]
+    for words, end in ([], "\u00e9"), (["--encoding", "auto"], "\u00e9"), (["--encoding", "utf-8"], "\u00e9"), (["--encoding", "dec"], "\u00c3\u00a9"):
+        assert run(*words, ttyrec).frames == [*back, (6000000, [(0, f"abc{end}")])]
+    ttyrec.write_bytes(ttyrec.read_bytes() + struct.pack("<III", 107, 0, 2) + b"\xe9!")
+    assert run(ttyrec).frames == [*back, (6000000, [(0, "abc\u00c3\u00a9")]), (7000000, [(0, "abc\u00c3\u00a9\u00e9!")])]
     (tmp_path / "typescript").write_bytes(b"Script started on 2026-11-24 10:00:00+00:00\nabcde\nScript done on 2026-11-24 10:00:01+00:00\n")
     (tmp_path / "timing").write_bytes(b"O 0.5 3\nS 0.25 SIGWINCH ROWS=10 COLS=90\nO 1.5 2\n")
     timed = run("--timing", tmp_path / "timing", tmp_path / "typescript")
     assert timed.frames == [(500000, [(0, "abc")]), (750000, [(0, "abc")]), (2250000, [(0, "abcde")])] and timed.size == ("920", "452")
+    (tmp_path / "typescript").write_bytes(b"Script started on 2026-11-24 10:00:00+00:00\nab\xc3\xa9e\nScript done on 2026-11-24 10:00:01+00:00\n")
+    assert run("--timing", tmp_path / "timing", tmp_path / "typescript").frames[-1] == (2250000, [(0, "ab\u00e9e")])
 
 
 def test_what_is_refused(tmp_path):

@@ -115,9 +115,11 @@ def test_a_format_is_detected_as_the_program_does(tmp_path, data, format):
 
 
 def test_what_is_wrong_is_said(tmp_path):
-    (tmp_path / "it").write_bytes(b"\x1f\x8b\x08\0")
-    done = module(str(tmp_path / "it"))
-    assert done.returncode == 7 and "decompress it first" in done.stderr
+    for data, said in ((b"\x1f\x8b\x08\0", "decompress it first"), (b'{"version": 4, "width": 80}\n[0.5, "o", "x"]\n', "it is of version 4, which isn't known")):
+        (tmp_path / "it").write_bytes(data)
+        done = module(str(tmp_path / "it"))
+        assert done.returncode == 7 and said in done.stderr and done.stdout == "\n" * 24
+    assert module("--format", "raw", str(tmp_path / "it")).stdout.startswith('{"version": 4')
     for words in (["--format", "gif", "it"], ["--terminal", "xterm", "--encoding", "dec", "it"], ["it", "-1"], ["it", "1", "2"]):
         done = module(*words)
         assert (done.returncode, done.stdout) == (2, "") and "--format FORMAT" in done.stderr, words

@@ -594,6 +594,11 @@ def test_a_page_has_no_other_options(template, monkeypatch):
         page(b"", [], "")
 
 
+@pytest.mark.parametrize("content, options, encoding", [(b"caf\xc3\xa9", {}, "utf-8"), (b"caf\xe9 ", {}, "dec"), (b"cafe", {}, "dec"), (b"caf\xc3\xa9", {"encoding": "dec"}, "dec")])
+def test_the_content_of_a_page_decides_on_its_encoding(content, options, encoding):
+    assert json.loads(recording(content, None, "a title", **options))["options"]["encoding"] == encoding
+
+
 def test_the_rest_of_a_large_recording_is_after_the_script(tmp_path, monkeypatch):
     (tmp_path / "template").write_text("@TITLE@|@PLAYERS@|@REST@")
     monkeypatch.setenv("VT220_PAGE", str(tmp_path / "template"))

@@ -16,6 +16,7 @@ import zlib
 from typing import Dict, Iterator, List, NamedTuple, Optional, Sequence, Tuple
 
 from . import Cell, NoLibrary, Terminal
+from .page import is_utf_8
 
 __all__ = ["Animation", "Refused", "Step", "main"]
 
@@ -116,14 +117,19 @@ def steps_of(table: Sequence[Sequence[bytes]], keeps_size: bool) -> List[Step]:
     return steps
 
 
-def opened(words: argparse.Namespace, table: Sequence[Sequence[bytes]]) -> Terminal:
-    """Returns the terminal that plays a recording: the one that is asked for, otherwise the one that its first line names."""
+def opened(words: argparse.Namespace, table: Sequence[Sequence[bytes]], content: bytes) -> Terminal:
+    """Returns the terminal that plays a recording of such content: the one that is asked for, otherwise the one that it shows.
+
+    Its first line names the terminal. An xterm's host and a recording by asciinema are in UTF-8, and so is any other whose content is UTF-8 with
+    a character beyond ASCII.
+    """
     told = {line[0]: line[1:] for line in table if len(line) < 4}
-    named = told.get(b"terminal") == [b"xterm"] and words.encoding != "dec"
-    terminal = words.terminal or ("xterm" if named else "vt220")
+    named = "xterm" if told.get(b"terminal") == [b"xterm"] and words.encoding != "dec" else "vt220"
+    terminal = named if words.terminal == "auto" else words.terminal
     with open(words.file, "rb") as file:
         is_cast = words.timing is None and re.match(rb'(\xef\xbb\xbf)?\s*\{.*"version"', file.read(1024), re.S) is not None
-    encoding = "utf-8" if terminal == "xterm" or words.encoding == "utf-8" or is_cast else "dec"
+    is_text = is_utf_8(content) if words.encoding == "auto" else words.encoding == "utf-8"
+    encoding = "utf-8" if terminal == "xterm" or is_cast or is_text else "dec"
     rows, columns = words.size or size_of("x".join(number.decode() for number in told.get(b"window", ()))) or (24, 80)
     if (rows, columns) != (24, 132):
         return Terminal(encoding, terminal, rows, columns)
@@ -257,8 +263,8 @@ def _parser() -> argparse.ArgumentParser:
     parser.add_argument("file", metavar="FILE", help="the recording")
     parser.add_argument("--timing", metavar="FILE", help="the timing file of script; FILE is then its typescript")
     parser.add_argument("--until", metavar="MOMENT", help="the moment at which it ends, as for vt220: 12.5 or 12:31, 4096b, event:N or marker:N")
-    parser.add_argument("--encoding", choices=("dec", "utf-8"), help="how the program's bytes are read; otherwise the recording decides")
-    parser.add_argument("--terminal", choices=("vt220", "xterm"), help="what the program wrote for; otherwise the recording decides")
+    parser.add_argument("--encoding", choices=("auto", "dec", "utf-8"), default="auto", help="how the program's bytes are read; with auto the recording decides (auto)")
+    parser.add_argument("--terminal", choices=("auto", "vt220", "xterm"), default="auto", help="what the program wrote for; with auto the recording decides (auto)")
     parser.add_argument("--size", type=_size, metavar="120x40", help="the screen's columns and rows; otherwise the recording decides, and its changes are followed")
     parser.add_argument("--theme", choices=tuple(THEMES), default="dark", help="the colours (dark)")
     parser.add_argument("--cursor", choices=tuple(CURSORS), default="outline", help="the shape of the cursor (outline)")
@@ -276,7 +282,7 @@ def main(arguments: Sequence[str]) -> int:
     try:
         table = listed(words.file, words.timing, words.until)
         steps = steps_of(table, words.size is not None)
-        picture = Animation(opened(words, table), steps, words.theme, words.cursor, words.title, words.limit)
+        picture = Animation(opened(words, table, b"".join(step.data for step in steps)), steps, words.theme, words.cursor, words.title, words.limit)
         sys.stdout.buffer.write(str(picture).encode())
         sys.stdout.buffer.flush()
     except (Refused, NoLibrary, OSError) as fault:

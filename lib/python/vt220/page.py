@@ -14,7 +14,7 @@ import pathlib
 import re
 from typing import Any, Dict, Iterable, Mapping, Optional, Sequence, Tuple
 
-__all__ = ["FIELDS", "NoTemplate", "is_size", "live", "page", "recording", "side_by_side", "template"]
+__all__ = ["FIELDS", "NoTemplate", "is_size", "is_utf_8", "live", "page", "recording", "side_by_side", "template"]
 
 # The fields that a template leaves open. The script of the page is between the last two.
 FIELDS = ("TITLE", "PLAYERS", "REST")
@@ -23,7 +23,7 @@ BEGINNING = 1 << 18
 # The size that a template is for, as its style names it, and the limits of others: the fewest and the most columns, and rows.
 SIZED = "--columns: {}; --rows: {};"
 SIZE, COLUMNS, ROWS = (80, 24), (2, 255), (2, 255)
-# How a page plays, if its options don't name it. Times are in seconds; a marker is a time and a label, and an input a time and a text.
+# How a page plays, if neither its options nor its content say so. Times are in seconds; a marker is a time and a label, and an input a time and a text.
 OPTIONS: Mapping[str, object] = {"start": 0, "poster": None, "speed": 1, "pause": 1, "autoplay": False, "loop": False, "stops": False, "controls": True,
                                 "encoding": "dec", "terminal": "vt220", "rows": SIZE[1], "columns": SIZE[0], "markers": (), "inputs": (), "keystrokes": False}
 
@@ -54,6 +54,14 @@ def hashed(text: str) -> str:
     return f"'sha256-{base64.b64encode(hashlib.sha256(text.encode()).digest()).decode()}'"
 
 
+def is_utf_8(content: bytes) -> bool:
+    """Returns whether content is UTF-8 with a character beyond ASCII. The last character may be cut."""
+    try:
+        return not content.decode("utf-8").isascii()
+    except UnicodeDecodeError as fault:
+        return fault.reason == "unexpected end of data" and not content[: fault.start].isascii()
+
+
 def is_size(columns: int, rows: int) -> bool:
     """Returns whether a screen may have so many columns and rows."""
     return COLUMNS[0] <= columns <= COLUMNS[1] and ROWS[0] <= rows <= ROWS[1]
@@ -66,16 +74,21 @@ def recording(
     """Returns a recording as the element <vt220-player> takes it: JSON with its bytes, and for each chunk its microseconds and its number of bytes.
 
     Without chunks it is played as over a line of 9600 baud. `notes` are sentences on what can't be shown. The options are those of OPTIONS, as
-    apps/page/vt220-page describes them. `read` is what was read of the recording, and `asked` what is asked for: lib/js/src/reading.js describes them, and
-    decides by them how it is played. Without `read`, `changes` are those of the size: the seconds, "COLUMNSxROWS", and how many bytes come before.
+    apps/page/vt220-page describes them. Without `encoding`, content that is UTF-8 with a character beyond ASCII is read as UTF-8. `read` is what was
+    read of the recording, and `asked` what is asked for: lib/js/src/reading.js describes them, and decides by them how it is played. Without `read`,
+    `changes` are those of the size: the seconds, "COLUMNSxROWS", and how many bytes come before.
     """
     unknown = options.keys() - OPTIONS.keys()
     if unknown:
         raise TypeError(f"a page has no option {', '.join(sorted(unknown))}")
     listed = None if chunks is None else packed("\n".join(f"{micros} {size}" for micros, size in chunks).encode())
-    made = {"title": title, "notes": list(notes), "options": {**OPTIONS, **options}, "chunks": listed, "length": len(content)}
+    is_text = is_utf_8(content)
+    plays = {**dict(OPTIONS, encoding="utf-8" if is_text else "dec"), **options}
+    made = {"title": title, "notes": list(notes), "options": plays, "chunks": listed, "length": len(content)}
     # The bytes come last: what is before them is read while they come.
-    how: Dict[str, object] = {"read": read, "asked": asked} if read is not None else {"changes": list(changes)} if changes else {}
+    how: Dict[str, object] = {"changes": list(changes)} if changes else {}
+    if read is not None:
+        how = {"read": dict(read, isUtf8=is_text), "asked": asked}
     return json.dumps({**made, **how, "bytes": packed(content)})
 
 

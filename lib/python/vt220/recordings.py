@@ -9,6 +9,7 @@ import struct
 from typing import Any, Dict, Iterator, List, NamedTuple, Optional, Tuple
 
 from . import COLUMNS, MOST_COLUMNS, MOST_ROWS, ROWS, Modes, NoCharacter, Terminal, key
+from .page import is_utf_8
 
 __all__ = ["FORMATS", "Event", "Recording", "detect", "host_of", "is_utf_8", "play", "read", "terminal_of"]
 
@@ -51,14 +52,6 @@ class Recording(NamedTuple):
         return b"".join(event.data for event in self.events if event.kind == "output")
 
 
-def is_utf_8(data: bytes) -> bool:
-    """Returns whether bytes have characters of UTF-8 beyond ASCII, and nothing else beyond ASCII. The last character may be cut."""
-    try:
-        return not data.decode("utf-8").isascii()
-    except UnicodeDecodeError as fault:
-        return fault.reason == "unexpected end of data" and not data[: fault.start].isascii()
-
-
 def detect(data: bytes) -> str:
     """Returns the format that the first bytes of a file show: one of FORMATS but "auto", or "compressed"."""
     if data.startswith(_STARTED):
@@ -84,8 +77,11 @@ def _is_ttyrec(data: bytes) -> bool:
 
 
 def read(data: bytes, format: str = "auto") -> Recording:
-    """Reads a recording. What comes before it breaks its format is read."""
-    format = detect(data) if format == "auto" else format
+    """Reads a recording. What comes before it breaks its format is read. With "auto", one by asciinema of a version that isn't known breaks at once."""
+    if format == "auto":
+        format = detect(data)
+        if format == "raw" and type(version := _object_in(data.partition(b"\n")[0].decode("utf-8", "replace")).get("version")) is int:
+            return Recording("asciicast", None, None, [], f"it is of version {version}, which isn't known")
     if format == "asciicast":
         return _asciicast(data)
     if format == "ttyrec":
@@ -215,7 +211,8 @@ def _opened(recording: Recording, encoding: str, terminal: str) -> Terminal:
 def host_of(recording: Recording, encoding: Optional[str] = None, terminal: Optional[str] = None) -> Tuple[str, str]:
     """Returns the encoding and the terminal for which a recording is played: those that are asked for, or those that it shows.
 
-    Its first line names the terminal. An xterm's host and a recording by asciinema are in UTF-8, and so is any other whose content looks like it.
+    Its first line names the terminal. An xterm's host and a recording by asciinema are in UTF-8, and so is any other whose content is UTF-8 with
+    a character beyond ASCII.
     """
     terminal = terminal or ("vt220" if encoding == "dec" else recording.terminal or "vt220")
     if terminal == "xterm":

@@ -23,10 +23,10 @@ from . import COLUMNS, ROWS, Bytes, Modes, Terminal, _check_size
 from .cast import asciicast
 from .expected import NoGlyph, expression_as_shown, expression_of_text, text_as_shown
 from .keyboard import Chord, Key, alt, check_text, ctrl, shift, spelled
-from .page import NoTemplate, page, recording, side_by_side
+from .page import NoTemplate, is_utf_8, page, recording, side_by_side
 from .picture import svg
 from .process import TERMS, Process, environment
-from .recordings import is_utf_8, terminal_of
+from .recordings import terminal_of
 from .screen import MASK, Mask, Place, Screen, Stored, check_column, check_row, check_substitutes, difference, differing, renewed
 
 TIMEOUT = 10.0

@@ -1,7 +1,7 @@
 """Runs suites side by side and adds up what they count.
 
-The last line that a suite prints to standard output is 'N passed, M failed', perhaps with a name before it. A suite has no standard input
-and no terminal. If it fails, all that it printed is shown.
+The last line that a suite prints to standard output is 'N passed, M failed', perhaps with a name before it, or the one of pytest. A suite has
+no standard input and no terminal. If it fails, all that it printed is shown.
 """
 import concurrent.futures
 import dataclasses
@@ -15,7 +15,9 @@ import threading
 import time
 
 TOP = pathlib.Path(__file__).resolve().parents[1]
-COUNT = re.compile(r"(?:.*[ :])?(\d+) passed, (\d+) failed")
+COUNT = re.compile(r"(?:.*[ :])?(?P<passed>\d+) passed, (?P<failed>\d+) failed")
+# pytest's line about tests that passed or failed. If there were none, or anything else became of one, its line is another: that is a fault.
+PYTEST = re.compile(r"(?:(?P<failed>\d+) failed, )?(?P<passed>\d+) passed(?:, \d+ warnings?)? in \S+s(?: \(\S+\))?")
 printing = threading.Lock()
 
 
@@ -53,12 +55,12 @@ def say(*words):
 def counted(suite, status, printed):
     """Returns how many checks passed and failed, and lines about a fault that isn't in these counts."""
     last = (printed.rstrip().splitlines() or [""])[-1]
-    found = COUNT.fullmatch(last.strip())
+    found = COUNT.fullmatch(last.strip()) or PYTEST.fullmatch(last.strip())
     if not suite.counts:
         return (1, 0, "") if status == 0 else (0, 1, f"status {status}")
     if not found:
         return 0, 1, f"status {status}, and no line that counts"
-    passed, failed = int(found[1]), int(found[2])
+    passed, failed = int(found["passed"]), int(found["failed"] or 0)
     return (passed, failed, "") if failed or not status else (passed, 1, f"status {status}")
 
 

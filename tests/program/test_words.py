@@ -1,7 +1,4 @@
-#!/usr/bin/env python3
 """The words of the program for recorders, on each vector and recording, in chunks of 1, 7 and 4096 bytes.
-
-    tests/program/words PROGRAM RECORDING..
 
 The events of a trace, spelled, are those of its input: they have the same trace, screen, reports and repaint. In UTF-8 the trace is that of
 bytes in which one stands for each character beyond ASCII, at the places of the host's bytes. The log ends with the screen. Each name is that
@@ -9,23 +6,22 @@ of the tables of docs/SPECIFICATION.md. The content of raw bytes is these. The r
 """
 import itertools
 import json
-import pathlib
 import re
 import subprocess
-import sys
 
-TOP = pathlib.Path(__file__).resolve().parents[2]
-sys.dont_write_bytecode = True
-sys.path.insert(0, str(TOP / "lib/rows"))
-from vectors import sizes, vectors  # noqa: E402
+import pytest
+from samples import RAW, TOP
+from vectors import sizes, vectors
 
-WORDS = ("log", "trace", "content")
-SPECIFICATION = TOP / "docs/SPECIFICATION.md"
+SESSIONS = [before + page + b"alt" for page in (b"", b"\033[?1049h", b"\033[?40h\033[?3h\033[?1049h", b"\033[?2004h") for before in (b"main", b"niam")]
+inputs = pytest.mark.parametrize("data", [*(pytest.param(one.input, id=one.name) for one in vectors("dec", "vt220")), *SESSIONS,
+                                          *(pytest.param(path.read_bytes(), id=path.name) for path in RAW)])
+pieces = pytest.mark.parametrize("piece", ("1", "4096"))
 
 
 def rows_of(title):
     """Returns the cells of each row of the table of the specification that begins with this title."""
-    lines = SPECIFICATION.read_text().partition(f"\n| {title} |\n")[2].splitlines()
+    lines = (TOP / "docs/SPECIFICATION.md").read_text().partition(f"\n| {title} |\n")[2].splitlines()
     rows = itertools.takewhile(lambda line: line.startswith("|"), lines[1:])
     return [[cell.strip().replace("\\|", "|") for cell in re.split(r"(?<!\\)\|", row)[1:-1]] for row in rows]
 
@@ -57,20 +53,6 @@ def functions():
 CONTROLS, ESCAPES, SEQUENCES, INPUTS = functions()
 SETS = {name: final.strip("`") for name, final, _ in rows_of("Set | Final byte | Glyphs")}
 SLOTS = "()*+"
-passed = failed = 0
-
-
-def check(is_so, name, what):
-    global passed, failed
-    if is_so:
-        passed += 1
-    else:
-        failed += 1
-        print(f"failed: {name}: {what}", file=sys.stderr)
-
-
-def run(program, word, data, *options):
-    return subprocess.run([program, word, *options], input=data, capture_output=True)
 
 
 def bytes_of(column):
@@ -108,16 +90,15 @@ def events_of(lines):
     return events
 
 
-def look_at_trace(program, name, data, trace):
-    written = traced(trace)
-    events = events_of(written)
+@inputs
+def test_events_of_the_trace_spelled(run, data):
+    events = events_of(traced(run("trace --quiet", data=data).out))
     again = b"".join(spelled(*event) for event in events)
-    check(traced(run(program, "trace", again).stdout) == events, name, "the events of the trace, spelled, have the same trace")
+    assert traced(run("trace", data=again).out) == events
     for word in ("text", "reports"):
-        check(run(program, word, again).stdout == run(program, word, data).stdout, name, f"the events of the trace, spelled, have the same {word}")
-    repaint = run(program, "repaint", data)
-    if repaint.returncode == 0:
-        check(run(program, "repaint", again).stdout == repaint.stdout, name, "the events of the trace, spelled, have the same repaint")
+        assert run(word, data=again).out == run(word, data=data).out
+    repaint = run("repaint", data=data)
+    assert repaint.status or run("repaint", data=again).out == repaint.out
 
 
 def characters_of(data):
@@ -139,26 +120,27 @@ def shown(data):
     return "".join(chr(byte) if 0x20 <= byte < 0x7F and byte != 0x5C else f"\\x{byte:02X}" for byte in data)
 
 
-def look_at_utf8(program, name, data):
+@inputs
+def test_trace_of_utf8(run, data):
     """Compares the trace of UTF-8 with that of bytes in which 0xE9 stands for each character beyond ASCII, with the places and the bytes of the
     host. Its reports are left out, since a character may have two cells or none."""
-    utf8 = ("--encoding", "utf-8")
     data = data.rstrip(bytes(range(0x80, 0x100)))
     parts = characters_of(data)
     plain = b"".join(part if part < b"\x80" else b"\xe9" for part in parts)
     places = [*itertools.accumulate(map(len, parts), initial=0)]
     wanted = []
-    for place, event, column in (line.split("\t") for line in run(program, "trace", plain).stdout.decode().splitlines()):
+    for place, event, column in (line.split("\t") for line in run("trace", data=plain).out.decode().splitlines()):
         begin, string = int(place), event.endswith("string")
         if "\\xE9" in column:
             own = b"".join(parts[begin : begin + len(bytes_of(column))])
             column = shown(own[:32]) + ".." if string and len(own) > 32 else shown(own)
         if event != "report":
             wanted.append(f"{places[begin]}\t{event}\t{column}")
-    found = [line for line in run(program, "trace", data, *utf8).stdout.decode().splitlines() if line.split("\t")[1] != "report"]
-    check(found == wanted, name, "the trace of UTF-8 has the host's bytes and places")
+    found = run("trace --encoding utf-8", data=data).out.decode().splitlines()
+    assert [line for line in found if line.split("\t")[1] != "report"] == wanted
 
 
+# By hand. A comma stands for TAB.
 UTF8 = (
     (b"caf\xc3\xa9 \xe2\x94\x81\xe2\x94\x81 ok\r\n", ("0,text,caf\\xC3\\xA9 \\xE2\\x94\\x81\\xE2\\x94\\x81 ok", "15,CR,", "16,LF,")),
     (b"a\xffb\xc3\r\xe2\x94", ("0,text,a\\xFFb\\xC3", "4,CR,", "5,text,\\xE2\\x94")),
@@ -168,12 +150,11 @@ UTF8 = (
 )
 
 
-def look_at_traces_of_utf8(program):
-    """Compares traces of UTF-8 with rows by hand, which have a comma for TAB."""
-    for data, rows in UTF8:
-        for piece in ("1", "4096"):
-            found = run(program, "trace", data, "--encoding", "utf-8", "--piece", piece).stdout.decode().splitlines()
-            check(found == [row.replace(",", "\t") for row in rows], f"{data}", f"the trace of UTF-8 by hand in chunks of {piece}: {found}")
+@pieces
+@pytest.mark.parametrize("data, rows", UTF8)
+def test_trace_of_utf8_by_hand(run, data, rows, piece):
+    found = run(f"trace --encoding utf-8 --piece {piece}", data=data).out.decode().splitlines()
+    assert found == [row.replace(",", "\t") for row in rows]
 
 
 # By hand, from xterm's control sequences, ECMA-48 and the rules of a trace: each function of TERM=xterm, each mode, what is ignored, and the
@@ -197,85 +178,64 @@ XTERM = (
 )
 
 
-def look_at_traces_of_xterm(program):
-    """Compares traces under TERM=xterm with rows by hand. Without a function of xterm they are those of UTF-8."""
-    xterm = ("--terminal", "xterm")
-    for data, rows in XTERM:
-        for piece in ("1", "4096"):
-            found = run(program, "trace", data, *xterm, "--piece", piece).stdout.decode().splitlines()
-            check(found == [row.replace(",", "\t", 2) for row in rows], f"{data}", f"the trace under TERM=xterm by hand in chunks of {piece}: {found}")
-    for data, _ in UTF8:
-        check(run(program, "trace", data, *xterm).stdout == run(program, "trace", data, "--encoding", "utf-8").stdout, f"{data}", "the trace under TERM=xterm is that of UTF-8")
+@pieces
+@pytest.mark.parametrize("data, rows", XTERM)
+def test_trace_of_xterm_by_hand(run, data, rows, piece):
+    found = run(f"trace --terminal xterm --piece {piece}", data=data).out.decode().splitlines()
+    assert found == [row.replace(",", "\t", 2) for row in rows]
 
 
-def look_at_checkpoint(program, name, data):
-    """Looks at the repaint of a session under TERM=xterm: it rebuilds both pages in a session that was in any other state, and nothing else."""
-    xterm, other = ("--terminal", "xterm"), b"other\033[?1049h\033[7mstate\033[3;5r"
-    repaint = run(program, "repaint", data, *xterm)
-    if repaint.returncode == 3:
+@pytest.mark.parametrize("data", [data for data, _ in UTF8])
+def test_trace_without_functions_of_xterm(run, data):
+    assert run("trace --terminal xterm", data=data).out == run("trace --encoding utf-8", data=data).out
+
+
+@inputs
+def test_repaint_of_a_session(run, data):
+    """It rebuilds both pages in a session that was in any other state, and nothing else."""
+    repaint = run("repaint --terminal xterm", data=data)
+    if repaint.status == 3:
         return
-    check(repaint.returncode == 0, name, "the repaint of a session")
-    for front in (b"", other):
-        check(run(program, "repaint", front + repaint.stdout, *xterm).stdout == repaint.stdout, name, "the repaint of a repaint")
+    assert repaint.status == 0
+    for front in (b"", b"other\033[?1049h\033[7mstate\033[3;5r"):
+        assert run("repaint --terminal xterm", data=front + repaint.out).out == repaint.out
         for page in (b"", b"\033[?47h", b"\033[?47l", b"\033[?1049l"):
-            wanted = run(program, "show", data + page, *xterm).stdout
-            check(run(program, "show", front + repaint.stdout + page, *xterm).stdout == wanted, name, f"the pages after the repaint and {page}")
-    check(run(program, "reports", repaint.stdout, *xterm).stdout == b"", name, "the repaint of a session asks for no report")
+            wanted = run("show --terminal xterm", data=data + page).out
+            assert run("show --terminal xterm", data=front + repaint.out + page).out == wanted
+    assert run("reports --terminal xterm", data=repaint.out).out == b""
 
 
-def look_at(program, name, data):
-    written = {}
-    for word in WORDS:
-        whole = run(program, word, data, "--quiet")
-        check(whole.returncode == 0 and whole.stderr == b"", name, word)
-        for piece in ("1", "7"):
-            check(run(program, word, data, "--piece", piece).stdout == whole.stdout, name, f"{word} in chunks of {piece}")
-        written[word] = whole.stdout
-    check(written["content"] == data, name, "the content of raw bytes is these")
-    check(written["log"].endswith(run(program, "text", data).stdout) and written["log"].count(b"\n") >= 24, name, "the log ends with the screen")
-    look_at_trace(program, name, data, written["trace"])
-    look_at_utf8(program, name, data)
-    look_at_checkpoint(program, name, data)
+@inputs
+def test_chunks(run, told, data):
+    log, trace, content = (told(f"{word} --quiet", data=data) for word in ("log", "trace", "content"))
+    for piece in ("1", "7"):
+        for word, whole in (("log", log), ("trace", trace), ("content", content)):
+            assert run(f"{word} --piece {piece}", data=data).out == whole
+    assert content == data
+    assert log.endswith(run("text", data=data).out) and log.count(b"\n") >= 24
 
 
-def look_at_names(program):
-    """Compares the names of a trace with those of the specification: of all functions, and of each set in G0 to G3."""
-    sets = [(f"SCS G{slot} {name}", f"\033{inter}{final}") for slot, inter in enumerate(SLOTS) for name, final in SETS.items()]
-    for name, text in INPUTS + sets:
-        named = {name for name, _ in traced(run(program, "trace", text.encode("latin-1")).stdout)}
-        check(named - {"ignored"} == {name}, name, "the name of the specification")
+SETS_IN_SLOTS = [(f"SCS G{slot} {name}", f"\033{inter}{final}") for slot, inter in enumerate(SLOTS) for name, final in SETS.items()]
 
 
-def look_at_changes_of_size(program):
-    """Compares the log of a recording with the rows of lib/rows/sizes.txt that have the lines that leave at a change of the size."""
-    for one in sizes():
-        if one.left is None:
-            continue
-        header = {"version": 2, "width": one.first[1], "height": one.first[0]}
-        events = [(0, "o", one.input.decode()), (1, "r", f"{one.second[1]}x{one.second[0]}"), (2, "o", one.more.decode())]
-        recording = "".join(json.dumps(line) + "\n" for line in (header, *events)).encode()
-        found = run(program, "log", recording, "--format", "asciicast", "--encoding", one.encoding, "--terminal", one.terminal).stdout.decode()
-        screen = one.wanted["text"].split("\n")
-        wanted = one.left + "".join(line + "\n" for line in screen + [""] * (one.second[0] - len(screen)))
-        check(found == wanted, one.name, f"the log: {found!r}")
+@pytest.mark.parametrize("name, text", INPUTS + SETS_IN_SLOTS)
+def test_name_of_the_specification(run, name, text):
+    named = {name for name, _ in traced(run("trace", data=text.encode("latin-1")).out)}
+    assert named - {"ignored"} == {name}
 
 
-def main():
-    program, *recordings = sys.argv[1:]
-    look_at_changes_of_size(program)
-    look_at_names(program)
-    look_at_traces_of_utf8(program)
-    look_at_traces_of_xterm(program)
-    for one in vectors("dec", "vt220"):
-        look_at(program, one.name, one.input)
-    for page in (b"", b"\033[?1049h", b"\033[?40h\033[?3h\033[?1049h", b"\033[?2004h"):
-        for before in (b"main", b"niam"):
-            look_at(program, f"{before} {page}", before + page + b"alt")
-    for recording in recordings:
-        look_at(program, recording, pathlib.Path(recording).read_bytes())
-    print(f"words: {passed} passed, {failed} failed")
-    return 1 if failed else 0
+@pytest.mark.parametrize("one", [one for one in sizes() if one.left is not None])
+def test_log_at_a_change_of_the_size(run, one):
+    """The rows of lib/rows/sizes.txt that have the lines that leave."""
+    header = {"version": 2, "width": one.first[1], "height": one.first[0]}
+    events = [(0, "o", one.input.decode()), (1, "r", f"{one.second[1]}x{one.second[0]}"), (2, "o", one.more.decode())]
+    recording = "".join(json.dumps(line) + "\n" for line in (header, *events)).encode()
+    screen = one.wanted["text"].split("\n")
+    wanted = one.left + "".join(line + "\n" for line in screen + [""] * (one.second[0] - len(screen)))
+    assert run(f"log --format asciicast --encoding {one.encoding} --terminal {one.terminal}", data=recording).out.decode() == wanted
 
 
-if __name__ == "__main__":
-    sys.exit(main())
+@pytest.mark.parametrize("recording", RAW)
+def test_log_next_to_tmux(program, recording):
+    done = subprocess.run([TOP / "tests/peers/log-with", "tmux", f"{program} log", recording], capture_output=True, text=True)
+    assert done.returncode == 0, done.stdout + done.stderr

@@ -159,8 +159,11 @@ class Utf8Chance(Chance):
         return self.choice([self.letters, self.ill_formed, super().part, super().part, super().part, super().part])()
 
     def input(self):
+        return self.with_known_widths(super().input())
+
+    def with_known_widths(self, data):
         """Each character whose width Python doesn't know becomes an `a`. Ill-formed bytes stay."""
-        text = super().input().decode("utf-8", "surrogateescape")
+        text = data.decode("utf-8", "surrogateescape")
         known = (one if has_known_width(one) or "\udc80" <= one <= "\udcff" else "a" for one in text)
         return "".join(known).encode("utf-8", "surrogateescape")
 

@@ -3,10 +3,10 @@
 
 use crate::reasons::{hint_of, name_of};
 use std::alloc::Global;
-use vt_recording::{changes_of, timeline_of};
+use vt_recording::{changes_of, shows_utf8, timeline_of};
 use vt_replay::{
-    Encoding, Format, Heading, Host, Part, Request, TerminalType, Word, detect, heading_of,
-    host_for, keeps_size, size_of,
+    Format, Heading, Host, Part, Request, TerminalType, Word, detect, heading_of, host_for,
+    keeps_size, size_of,
 };
 
 /// The number of first bytes that are looked at for what a host sends. Looking at more would cost as much as playing
@@ -34,13 +34,13 @@ pub(crate) fn print_notes<R: Eprint + AllocGlobal>(
     let Ok(heading) = heading_of(rt.alloc(), beginning, format) else {
         return;
     };
-    let host = host_for(request, format, heading);
+    let host = host_for(request, format.usual_encoding(), heading);
     let hint = if request.format == Some(Format::Raw) {
         hint_of(detect(beginning))
     } else {
         None
     };
-    if let Some(hint) = hint.or(language_hint(request, heading, host, beginning)) {
+    if let Some(hint) = hint.or(language_hint(request, format, heading, host, beginning)) {
         let _ = eprintln!(rt; "vt220: {name}: {hint}");
     }
     let (width, height) = host.screen();
@@ -83,6 +83,7 @@ fn has_impossible(alloc: Global, beginning: &[u8], format: Format, host: Host) -
 /// Returns what the host seems to send for, if it isn't what was played, or none.
 fn language_hint(
     request: &Request,
+    format: Format,
     heading: Heading,
     host: Host,
     beginning: &[u8],
@@ -98,7 +99,7 @@ fn language_hint(
     if heading.terminal.is_none() && has_any(front, 0x1B, &XTERM_SEQUENCES) {
         return Some("it has sequences of an xterm: use --terminal xterm");
     }
-    if host.encoding == Encoding::Dec && is_utf8(front) {
+    if format == Format::Raw && shows_utf8(front) {
         return Some("it looks like UTF-8: use --encoding utf-8");
     }
     None
@@ -117,17 +118,4 @@ fn has_any(bytes: &[u8], first: u8, sequences: &[&[u8]]) -> bool {
         }
     }
     false
-}
-
-/// Returns whether bytes are UTF-8 and not all of them ASCII. A last character that isn't whole is left out.
-fn is_utf8(bytes: &[u8]) -> bool {
-    let whole = match std::str::from_utf8(bytes) {
-        Ok(_) => bytes.len(),
-        Err(error) if error.error_len().is_none() => error.valid_up_to(),
-        Err(_) => 0,
-    };
-    match bytes.get(..whole) {
-        Some(text) => !text.is_ascii(),
-        None => false,
-    }
 }

@@ -2,10 +2,22 @@
 
 use std::alloc::{AllocError, Global};
 use std::io::{self, Read};
-use vt_replay::DETECTION_LENGTH;
+use vt_recording::json_text;
+use vt_replay::{DETECTION_LENGTH, Detected, Format, detect};
 
 /// The most bytes of one read that looks ahead.
 const PIECE: usize = 4096;
+
+/// The number of first bytes after which only an asciicast can still be found: those of the first line by script(1).
+const SETTLED: usize = 18;
+
+/// Returns whether an input that begins so is raw, whatever follows. A JSON object may still become an asciicast, and so may
+/// white space.
+fn stays_raw(beginning: &[u8]) -> bool {
+    SETTLED <= beginning.len()
+        && !matches!(json_text(beginning).first(), None | Some(b'{'))
+        && detect(beginning) == Detected::Recording(Format::Raw)
+}
 
 /// The input, and its first bytes: [`DETECTION_LENGTH`], maybe some more.
 #[derive(Drop)]
@@ -41,8 +53,8 @@ impl<D: Read + Drop> Peeked<D> {
         beginning
     }
 
-    /// Looks at the first bytes: reads [`DETECTION_LENGTH`] of them ahead, maybe some more, and gives them again to the reads
-    /// that follow.
+    /// Looks at the first bytes: reads them ahead until they show the format, at most [`DETECTION_LENGTH`] of them, maybe some
+    /// more. Gives them again to the reads that follow.
     pub(crate) fn look(&mut self, alloc: Global) -> io::Result<()> {
         let mut buffer = vec![in alloc; 0u8; PIECE]?;
         for _ in 0..DETECTION_LENGTH {
@@ -63,7 +75,7 @@ impl<D: Read + Drop> Peeked<D> {
 
     /// Returns whether the first bytes suffice for the decision on the format.
     fn has_enough(&self) -> bool {
-        self.beginning.len() >= DETECTION_LENGTH
+        self.beginning.len() >= DETECTION_LENGTH || stays_raw(&self.beginning)
     }
 
     /// Keeps bytes that were read, if they are among the first. Those that there is no memory for are left out.

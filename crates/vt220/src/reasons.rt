@@ -128,7 +128,7 @@ fn words_of(alloc: Global, error: Error) -> Result<String, AllocError> {
 /// Returns why an input whose beginning showed the format has no times.
 fn without_times(format: Format) -> &'static str {
     match format {
-        Format::Script => "times are in a file by script: use --format script and --timing FILE",
+        Format::Script => "times are in a file by script: use --timing FILE",
         _ => "--format auto found raw bytes; a moment may be bytes, as 4096b",
     }
 }

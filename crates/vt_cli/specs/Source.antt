@@ -3,7 +3,7 @@ use Rattle.std.specs.Prelude.{List, [], ◌∷◌, ◌++◌, codes, Bool, true, 
 use Rattle.std.specs.Prelude.{bytes_eq, is_some, nat_eq, nat_lt, ℕ, ◌+◌, take, drop, option_map, option_and_then}
 use Rattle.clap.specs.Words.{Row, Text, first_of}
 use Rattle.vt_recording.specs.declared.format.Format.{Format}
-use Rattle.vt_recording.specs.declared.format.Format.TheVariants.{Raw}
+use Rattle.vt_recording.specs.declared.format.Format.TheVariants.{Raw, Script}
 use Rattle.vt_recording.specs.Format as format
 use Rattle.vt_recording.specs.declared.format.Encoding.{Encoding}
 use Rattle.vt_recording.specs.declared.format.Encoding.TheVariants.{Dec, Utf8}
@@ -28,10 +28,19 @@ format_or_auto name None = cond (bytes_eq name (codes "auto")) (Ok None) (Err No
 abbrev pub format_named : Text → Result (Option Format) Complaint
 format_named name = format_or_auto name (format.format_named name)
 
--- a timing file goes with the format
-abbrev pub takes_timing : Option Format → Bool
-takes_timing (Some f) = format.takes_timing f
-takes_timing None = false
+-- the four words of a terminal's own state and answers play the bytes as they are. For all others the program decides
+abbrev pub plays_as_it_is : (command : Text) → Bool
+plays_as_it_is command =
+    bytes_eq command (codes "text") || (bytes_eq command (codes "reports") || (bytes_eq command (codes "repaint") || bytes_eq command (codes "status")))
+
+-- the format without a name: script's, if there is a timing file
+abbrev pub usual_format : (command : Text) → (timed : Bool) → Option Format
+usual_format command timed = cond timed (Some Script) (cond (plays_as_it_is command) (Some Raw) None)
+
+-- the format that was named, next to a timing file if there is one: that is script's
+abbrev pub with_timing : (timed : Bool) → Option Format → Result (Option Format) Complaint
+with_timing timed (Some f) = cond (timed && not (format.takes_timing f)) (Err NoTimingFile) (Ok (Some f))
+with_timing timed None = Ok (cond timed (Some Script) None)
 
 -- the recording has times. If its beginning decides on the format, it may have some
 abbrev pub has_times : Option Format → (timed : Bool) → Bool
@@ -170,17 +179,16 @@ screen_of command columns size =
 
 -- ---- all of them
 
--- the format with a name; without a name it is raw
-abbrev pub named : Option Text → Result (Option Format) Complaint
-named None = Ok (Some Raw)
-named (Some name) = format_named name
+-- the format with a name, otherwise the usual one of the command
+abbrev pub format_for : (command : Text) → (timed : Bool) → Option Text → Result (Option Format) Complaint
+format_for command timed None = Ok (usual_format command timed)
+format_for command timed (Some name) = and_then (λ format. with_timing timed format) (format_named name)
 
 -- the source by the name of the command and the texts of the options. `timed` is whether there is a timing file
 abbrev pub source_of : (command : Text) → (format : Option Text) → (timed : Bool) → (from until encoding terminal columns size : Option Text)
     → Result Source Complaint
 source_of command format timed from until encoding terminal columns size =
-    and_then (λ format. cond (timed && not (takes_timing format)) (Err NoTimingFile)
-    (and_then (λ from. and_then (λ until. and_then (λ encoding. and_then (λ terminal. and_then (λ screen. Ok (record {
+    and_then (λ format. and_then (λ from. and_then (λ until. and_then (λ encoding. and_then (λ terminal. and_then (λ screen. Ok (record {
       format = format;
       from = from;
       until = until;
@@ -189,8 +197,8 @@ source_of command format timed from until encoding terminal columns size =
       wide = screen.wide;
       size = screen.size;
     })) (screen_of command columns size)) (terminal_of encoding terminal)) (encoding_of encoding)) (moment_of format timed until))
-    (from_of command format timed from)))
-    (named format)
+    (from_of command format timed from))
+    (format_for command timed format)
 
 -- the source by a subcommand's name and matches
 abbrev pub source_in : (command : Text) → List Row → Result Source Complaint

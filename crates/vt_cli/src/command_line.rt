@@ -116,12 +116,12 @@ const ARGUMENTS: &[(&str, Takes, &str)] = &[
     (
         "format",
         Takes::Text("FORMAT"),
-        "How FILE was recorded: raw, script, ttyrec, asciicast or auto [default: raw]",
+        "How FILE was recorded: raw, script, ttyrec, asciicast or auto [default: auto, but raw for text, reports, repaint and status]",
     ),
     (
         "timing",
         Takes::Text("FILE"),
-        "The times of a recording by script(1)",
+        "The times of a recording by script(1), which is then the format",
     ),
     (
         "from",
@@ -175,8 +175,9 @@ const AFTER_HELP: &str = "\
 Each command but help takes FILE, or standard input if no file is named, and these options.
   --piece N        the most bytes of one read, 1 to 65536 [default: 4096]
   --limit N        the most bytes of the input, 0 to 1099511627776 [default: 268435456]
-  --format FORMAT  how FILE was recorded: raw, script, ttyrec, asciicast or auto [default: raw]
-  --timing FILE    the times of a recording by script(1)
+  --format FORMAT  how FILE was recorded: raw, script, ttyrec, asciicast or auto [default: auto,
+                   but raw for text, reports, repaint and status]
+  --timing FILE    the times of a recording by script(1), which is then the format
   --from MOMENT    only what comes from there on, for events and content: as for --until
   --until MOMENT   only what came up to it: 12.5 or 12:31 seconds, 4096b bytes, event:N or marker:N
   --encoding NAME  how the host's bytes are read: dec, utf-8 or auto [default: auto]
@@ -189,7 +190,8 @@ Each command but help takes FILE, or standard input if no file is named, and the
 
 With auto the first line of a recording decides on the terminal and the columns. By asciinema
 and by script that line names TERM: vt.. is a VT220, any other name is an xterm. What names none
-is for a VT220 of 80 columns. An xterm's host and a recording by asciinema send UTF-8, any other dec.
+is for a VT220 of 80 columns. An xterm's host and a recording by asciinema send UTF-8. The content
+of a recording by script or ttyrec decides whether it is UTF-8. Raw bytes are dec.
 
 Example, with a recording made by script(1):
   script -q -c 'stty rows 24 cols 80; TERM=vt220 LC_ALL=C top -n 1' /dev/null > top.bin
@@ -198,7 +200,7 @@ Example, with a recording made by script(1):
   vt220 picture top.bin > top.svg
 
 Example, the screen as it stood twelve and a half seconds after the start:
-  vt220 text --format ttyrec --until 12.5 demo.tty
+  vt220 show --until 12.5 demo.tty
 
 Exit status:
   0  all was written, or the help or the version was asked for

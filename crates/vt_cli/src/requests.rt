@@ -94,8 +94,8 @@ fn request_among(alloc: Global, matches: &ArgMatches<'_>) -> Result<Request, Ref
 /// `log`, `trace`, `events` and `content`. Each takes at most one FILE, `--piece N`, `--limit N`, and the options of a
 /// recording:
 ///
-/// - `--format FORMAT`: raw, script, ttyrec, asciicast or auto, otherwise raw
-/// - `--timing FILE`
+/// - `--format FORMAT`: raw, script, ttyrec, asciicast or auto
+/// - `--timing FILE`: then the format is script
 /// - `--from MOMENT` and `--until MOMENT`
 /// - `--encoding NAME`: dec, utf-8 or auto
 /// - `--terminal NAME`: vt220, xterm or auto
@@ -103,15 +103,16 @@ fn request_among(alloc: Global, matches: &ArgMatches<'_>) -> Result<Request, Ref
 /// - `--size COLUMNSxROWS`: 2 to 255 columns and 2 to 255 rows, or auto
 /// - `--full`, `--partial` and `--quiet`
 ///
-/// With auto the beginning of the input decides on the format. Of encoding, terminal, columns and size auto is the
-/// default: then the request leaves the decision to the recording. A moment is seconds (`12.5`), minutes and seconds
+/// With auto the beginning of the input decides on the format. That is the default, but raw for `text`, `reports`,
+/// `repaint` and `status`. Of encoding, terminal, columns and size auto is the default: then the request leaves the
+/// decision to the recording. A moment is seconds (`12.5`), minutes and seconds
 /// (`12:31`), hours, minutes and seconds (`1:02:03`), a number of bytes (`4096b`), or the number of an event
 /// (`event:12`) or a marker (`marker:2`), counted from 1. Seconds have up to six decimals.
 ///
 /// If there is no request, `Err` has the exit status and the text to end with. The status is 0 for the help or the
 /// version, 1 for a failed allocation, and 2 if the arguments are wrong. (this profile) Wrong are also:
 ///
-/// - `--timing` with a format other than script
+/// - `--timing` with a format other than script and auto
 /// - a moment in seconds with raw, or with script without `--timing`
 /// - `--from` with another subcommand than `events` and `content`
 /// - xterm with dec

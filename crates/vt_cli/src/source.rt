@@ -3,7 +3,7 @@
 ghost use Rattle.std.specs.Prelude.{◌≡◌, ◌<◌, option_map, IfOk, IfSome};
 ghost use Rattle.vt_screen.specs.Sizes.{IsSize};
 ghost use Rattle.clap.specs.Words.{found_of, rows_of};
-ghost use Rattle.vt_cli.specs.Source.{format_named, named, takes_timing, has_times, has_moment, moment_of, takes_start, from_of, source_of, source_in, line_of};
+ghost use Rattle.vt_cli.specs.Source.{format_named, plays_as_it_is, usual_format, with_timing, format_for, has_times, has_moment, moment_of, takes_start, from_of, source_of, source_in, line_of};
 ghost use Rattle.vt_cli.specs.Source.{encoding_named, encoding_of};
 ghost use Rattle.vt_cli.specs.Source.{xterm_for, terminal_named, terminal_of, wide_named, wide_of};
 ghost use Rattle.vt_cli.specs.Source.{size_of, screen_at, screen_in, screen_named, screen_with, has_one_size, screen_for, screen_of};
@@ -119,23 +119,47 @@ fn format_named(name: &str) -> Result<Option<Format>, Complaint>
     }
 }
 
-/// Returns the format of a name. Without a name it is raw.
-fn named(name: Option<&str>) -> Result<Option<Format>, Complaint>
-    ensures { result ≡ named (option_map (λ n. n.now) name.entry) }
+/// Returns whether the command of this name plays the bytes as they are, if no option says how they were recorded.
+fn plays_as_it_is(command: &str) -> bool
+    ensures { result ≡ plays_as_it_is command.now }
 {
-    match name {
-        Some(name) => format_named(name),
-        None => Ok(Some(Format::Raw)),
+    matches!(command, "text" | "reports" | "repaint" | "status")
+}
+
+/// Returns the format without a name, or none if the beginning of the input decides.
+fn usual_format(command: &str, timed: bool) -> Option<Format>
+    ensures { result ≡ usual_format command.now timed }
+{
+    if timed {
+        return Some(Format::Script);
+    }
+    if plays_as_it_is(command) {
+        return Some(Format::Raw);
+    }
+    None
+}
+
+/// Returns the format that was named, if it goes with a timing file or there is none. A timing file is script's.
+fn with_timing(timed: bool, format: Option<Format>) -> Result<Option<Format>, Complaint>
+    ensures { result ≡ with_timing timed format }
+{
+    match format {
+        Some(format) if timed && !format.takes_timing() => Err(Complaint::NoTimingFile),
+        None if timed => Ok(Some(Format::Script)),
+        format => Ok(format),
     }
 }
 
-/// Returns whether a format has a timing file.
-fn takes_timing(format: Option<Format>) -> bool
-    ensures { result ≡ takes_timing format }
+/// Returns the format with a name, otherwise the usual one of the command.
+fn format_for(command: &str, timed: bool, name: Option<&str>) -> Result<Option<Format>, Complaint>
+    ensures { result ≡ format_for command.now timed (option_map (λ n. n.now) name.entry) }
 {
-    match format {
-        Some(format) => format.takes_timing(),
-        None => false,
+    match name {
+        Some(name) => match format_named(name) {
+            Ok(format) => with_timing(timed, format),
+            Err(complaint) => Err(complaint),
+        },
+        None => Ok(usual_format(command, timed)),
     }
 }
 
@@ -417,13 +441,10 @@ fn source_of(
         (option_map (λ t. t.now) terminal.entry) (option_map (λ n. n.now) columns.entry) (option_map (λ s. s.now) size.entry) }
     ensures in_range { IfOk result (λ source. IfSome source.size (λ size. IsSize size)) }
 {
-    let format = match named(format) {
+    let format = match format_for(command, timed, format) {
         Ok(format) => format,
         Err(complaint) => return Err(complaint),
     };
-    if timed && !takes_timing(format) {
-        return Err(Complaint::NoTimingFile);
-    }
     let from = match from_of(command, format, timed, from) {
         Ok(from) => from,
         Err(complaint) => return Err(complaint),

@@ -46,34 +46,34 @@ asked_by m = record { name = m.0; options = options_in m.0 m.1; file = first_of 
 abbrev pub asked : Option (Text × List Row) → Option Asked
 asked found = option_map asked_by found
 
--- raw input, all of it, and nothing else is asked for
-abbrev pub no_options : Options
-no_options = record { format = Some Raw; from = None; until = None; encoding = None; terminal = None; wide = None; size = None }
+-- all of an input in a format, or in the one that its beginning shows, and nothing else is asked for
+abbrev pub no_options : Option Format → Options
+no_options format = record { format = format; from = None; until = None; encoding = None; terminal = None; wide = None; size = None }
 
-abbrev pub AsksPlainly : Word → Type 0
-AsksPlainly word = (program : Text) (file : Option Text) → IsOperand file
+abbrev pub AsksPlainly : Option Format → Word → Type 0
+AsksPlainly format word = (program : Text) (file : Option Text) → IsOperand file
     → asked (subcommand_of vt220 (program ∷ word_name word ∷ option_to_list file))
-    ≡ Some (record { name = word_name word; options = Some no_options; file = file })
+    ≡ Some (record { name = word_name word; options = Some (no_options format); file = file })
 
-pub text-asks : AsksPlainly (Replay TextOutput)
+pub text-asks : AsksPlainly (Some Raw) (Replay TextOutput)
 unfolding walked
 text-asks program None is = refl
 text-asks program (Some []) is = refl
 text-asks program (Some (b ∷ name)) is = rw is (rw is refl)
 
-pub repaint-asks : AsksPlainly (Replay Repaint)
+pub repaint-asks : AsksPlainly (Some Raw) (Replay Repaint)
 unfolding walked
 repaint-asks program None is = refl
 repaint-asks program (Some []) is = refl
 repaint-asks program (Some (b ∷ name)) is = rw is (rw is refl)
 
-pub show-asks : AsksPlainly (Replay Show)
+pub show-asks : AsksPlainly None (Replay Show)
 unfolding walked
 show-asks program None is = refl
 show-asks program (Some []) is = refl
 show-asks program (Some (b ∷ name)) is = rw is (rw is refl)
 
-pub log-asks : AsksPlainly Log
+pub log-asks : AsksPlainly None Log
 unfolding walked
 log-asks program None is = refl
 log-asks program (Some []) is = refl

@@ -8,6 +8,7 @@ use Rattle.clap.specs.Words.{Row, Text, subcommand_of}
 use Rattle.vt_device.specs.Runs.{Flags}
 use Rattle.vt_recording.specs.declared.format.Encoding.{Encoding}
 use Rattle.vt_recording.specs.declared.format.Encoding.TheVariants.{Dec}
+use Rattle.vt_recording.specs.declared.format.Format.{Format}
 use Rattle.vt_recording.specs.declared.format.Format.TheVariants.{Raw}
 use Rattle.vt_recording.specs.declared.format.TerminalType.{TerminalType}
 use Rattle.vt_recording.specs.declared.format.TerminalType.TheVariants.{Vt220}
@@ -74,21 +75,21 @@ found-options : (found : Option (Text × List Row)) (r : Request) (is : IsFound 
     → options_in (word_name r.word) is.matches ≡ Some (options_of r)
 found-options found r is = rw (is.source, options_in) refl
 
-pub record AsksFor (word : Word) (file : Option Text) (r : Request) : Type 0 where
+pub record AsksFor (format : Option Format) (word : Word) (file : Option Text) (r : Request) : Type 0 where
   pub word_is : r.word ≡ word
-  pub options_are : options_of r ≡ no_options
+  pub options_are : options_of r ≡ no_options format
   pub file_is : option_map (λ f. string_bytes f) r.file ≡ file
 
-asks-for : (word : Word) → (file : Option Text) (words : List (String Global)) (r : Request) → AsksPlainly word
-    → IsPlainCommand (word_name word) file words → IsRequest words r → AsksFor word file r
-asks-for word file words r asks plain request =
+asks-for : (format : Option Format) (word : Word) → (file : Option Text) (words : List (String Global)) (r : Request) → AsksPlainly format word
+    → IsPlainCommand (word_name word) file words → IsRequest words r → AsksFor format word file r
+asks-for format word file words r asks plain request =
     let found = request.found in
-    let here : asked (found_in words) ≡ Some (record { name = word_name word; options = Some no_options; file = file }) =
+    let here : asked (found_in words) ≡ Some (record { name = word_name word; options = Some (no_options format); file = file }) =
     ap (λ (ws : List Text). asked (subcommand_of vt220 ws)) plain.are ∙ asks plain.program file plain.operand in
     let there : asked (found_in words) ≡ Some (asked_by (word_name r.word, found.matches)) = ap asked found.word in
-    let same : asked_by (word_name r.word, found.matches) ≡ record { name = word_name word; options = Some no_options; file = file } =
+    let same : asked_by (word_name r.word, found.matches) ≡ record { name = word_name word; options = Some (no_options format); file = file } =
     some-asked _ _ (sym there ∙ here) in
-    let options : options_of r ≡ no_options =
+    let options : options_of r ≡ no_options format =
     some-options _ _ (sym (found-options (found_in words) r found) ∙ ap (λ (a : Asked). a.options) same) in
     record {
       word_is = same-word r.word word (ap (λ (a : Asked). a.name) same);
@@ -105,44 +106,57 @@ named-none Trace = refl
 named-none Events = refl
 named-none Content = refl
 
-plain-terminal : (word : Word) (file : Option Text) (r : Request) → AsksFor word file r → (plain_host r).terminal ≡ Vt220
-plain-terminal word file r asks =
+plain-terminal : (format : Option Format) (word : Word) (file : Option Text) (r : Request) → AsksFor format word file r → (plain_host r).terminal ≡ Vt220
+plain-terminal format word file r asks =
     ap (λ (s : Options). terminal_for s.terminal s.encoding (named_for r.word None)) asks.options_are
     ∙ ap (λ (named : Option TerminalType). terminal_for None None named) (named-none r.word)
 
-plain-encoding : (word : Word) (file : Option Text) (r : Request) → AsksFor word file r → (plain_host r).encoding ≡ Dec
-plain-encoding word file r asks =
-    ap (λ (t : TerminalType). encoding_for t r.encoding Raw) (plain-terminal word file r asks)
-    ∙ ap (λ (s : Options). encoding_for Vt220 s.encoding Raw) asks.options_are
+plain-encoding : (format : Option Format) (word : Word) (file : Option Text) (r : Request) → AsksFor format word file r → (plain_host r).encoding ≡ Dec
+plain-encoding format word file r asks =
+    ap (λ (t : TerminalType). encoding_for t r.encoding Dec) (plain-terminal format word file r asks)
+    ∙ ap (λ (s : Options). encoding_for Vt220 s.encoding Dec) asks.options_are
 
 no-size : (plays : Bool) → unwrap_or (cond plays None None) vt220_size ≡ vt220_size
 no-size true = refl
 no-size false = refl
 
-plain-size : (word : Word) (file : Option Text) (r : Request) → AsksFor word file r → (plain_host r).size ≡ vt220_size
-plain-size word file r asks =
+plain-size : (format : Option Format) (word : Word) (file : Option Text) (r : Request) → AsksFor format word file r → (plain_host r).size ≡ vt220_size
+plain-size format word file r asks =
     ap (λ (s : Options). unwrap_or (size_for r.word s.size s.wide None None) vt220_size) asks.options_are ∙ no-size (takes_size r.word)
 
-is-streamed : (word : Word) (file : Option Text) (r : Request) (beginning : List ℕ) → AsksFor word file r
-    → takes_whole word ≡ false → is_streamed (format_of r.format beginning) r.until r.wide (needs_whole r) ≡ true
-is-streamed word file r beginning asks plays =
-    ap (λ (s : Options). is_streamed (format_of s.format beginning) s.until s.wide (takes_whole r.word || is_some s.from)) asks.options_are
+is-streamed : (format : Option Format) (word : Word) (file : Option Text) (r : Request) (beginning : List ℕ) → AsksFor format word file r
+    → takes_whole word ≡ false → format_of r.format beginning ≡ Raw
+    → is_streamed (format_of r.format beginning) r.until r.wide (needs_whole r) ≡ true
+is-streamed format word file r beginning asks plays raw =
+    ap (λ (f : Format). is_streamed f r.until r.wide (needs_whole r)) raw
+    ∙ ap (λ (s : Options). is_streamed Raw s.until s.wide (takes_whole r.word || is_some s.from)) asks.options_are
     ∙ ap (λ (e : Bool). is_streamed Raw None None (e || false)) (ap takes_whole asks.word_is ∙ plays)
 
-pub plain-table : (word : Word) → AsksPlainly word → takes_whole word ≡ false → (file : Option Text) (words : List (String Global)) (r : Request) (o : Outcome)
+pub auto-table : (format : Option Format) (word : Word) → AsksPlainly format word → takes_whole word ≡ false → (file : Option Text) (words : List (String Global)) (r : Request) (o : Outcome)
+    (beginning : List ℕ) (timing : Option (List ℕ)) (b w : List ℕ) (f : Flags)
+    → IsPlainCommand (word_name word) file words → IsRequest words r
+    → format_of r.format beginning ≡ Raw → OutcomeTable o r (format_of r.format beginning) timing b w f
+    → (WordTable o.ended word vt220_size [] Vt220 Dec r.piece b w f r.limit) × (option_map (λ f. string_bytes f) r.file ≡ file)
+auto-table format word plainly plays file words r o beginning timing b w f plain request raw table =
+    let asks = asks-for format word file words r plainly plain request in
+    let streamed : IsStreamed o r b w f =
+    subst (λ (s : Bool). OutcomeBy s o r (format_of r.format beginning) timing b w f) (is-streamed format word file r beginning asks plays raw) table in (
+      subst (λ (x : Word). WordTable o.ended x vt220_size [] Vt220 Dec r.piece b w f r.limit) asks.word_is
+          (subst (λ (e : Encoding). WordTable o.ended r.word vt220_size [] Vt220 e r.piece b w f r.limit) (plain-encoding format word file r asks)
+          (subst (λ (t : TerminalType). WordTable o.ended r.word vt220_size [] t (plain_host r).encoding r.piece b w f r.limit)
+          (plain-terminal format word file r asks)
+          (subst (λ (z : Size). WordTable o.ended r.word z [] (plain_host r).terminal (plain_host r).encoding r.piece b w f r.limit)
+          (plain-size format word file r asks) streamed.table))),
+      asks.file_is,
+    )
+
+-- the format was decided by the words
+pub plain-table : (word : Word) → AsksPlainly (Some Raw) word → takes_whole word ≡ false → (file : Option Text) (words : List (String Global)) (r : Request) (o : Outcome)
     (beginning : List ℕ) (timing : Option (List ℕ)) (b w : List ℕ) (f : Flags)
     → IsPlainCommand (word_name word) file words → IsRequest words r
     → OutcomeTable o r (format_of r.format beginning) timing b w f
     → (WordTable o.ended word vt220_size [] Vt220 Dec r.piece b w f r.limit) × (option_map (λ f. string_bytes f) r.file ≡ file)
 plain-table word plainly plays file words r o beginning timing b w f plain request table =
-    let asks = asks-for word file words r plainly plain request in
-    let streamed : IsStreamed o r b w f =
-    subst (λ (s : Bool). OutcomeBy s o r (format_of r.format beginning) timing b w f) (is-streamed word file r beginning asks plays) table in (
-      subst (λ (x : Word). WordTable o.ended x vt220_size [] Vt220 Dec r.piece b w f r.limit) asks.word_is
-          (subst (λ (e : Encoding). WordTable o.ended r.word vt220_size [] Vt220 e r.piece b w f r.limit) (plain-encoding word file r asks)
-          (subst (λ (t : TerminalType). WordTable o.ended r.word vt220_size [] t (plain_host r).encoding r.piece b w f r.limit)
-          (plain-terminal word file r asks)
-          (subst (λ (z : Size). WordTable o.ended r.word z [] (plain_host r).terminal (plain_host r).encoding r.piece b w f r.limit)
-          (plain-size word file r asks) streamed.table))),
-      asks.file_is,
-    )
+    let asks = asks-for (Some Raw) word file words r plainly plain request in
+    auto-table (Some Raw) word plainly plays file words r o beginning timing b w f plain request
+    (ap (λ (s : Options). format_of s.format beginning) asks.options_are) table

@@ -14,11 +14,12 @@ ghost use Rattle.vt_cli.specs.Request.{IsRequest};
 ghost use Rattle.vt_device.specs.Output.{OutputTable, nothing, always};
 ghost use Rattle.vt_replay.specs.declared.requests.Outcome.{Outcome};
 ghost use Rattle.vt_replay.specs.Due.{is_nothing};
+ghost use Rattle.vt_recording.specs.declared.format.Format.TheVariants.{Raw};
 ghost use Rattle.vt_replay.specs.Request.{format_of, OutcomeTable};
 ghost use Rattle.vt_laws.specs.Plain.{IsPlainCommand};
 
 /// States what `text`, `repaint`, `show` and `log` write without options, in terms of the play alone. The words are the command, and
-/// a file if its name is among them.
+/// a file if its name is among them. For `show` and `log` the beginning of the input decides, and shows no recording: it is raw.
 ///
 /// `request` makes a request of the words, and `format_of` returns a format for it and any beginning of the input. What `carry_out`
 /// states for both is then the table of results for the bytes as they come, played from power-up as a VT220 plays them. The
@@ -37,12 +38,12 @@ pub fn plain()
         × (option_map (λ name. string_bytes name) r.file ≡ file) }
     ensures show { (file : Option (List ℕ)) (words : List (String Global)) (r : Request) (o : Outcome) (beginning : List ℕ)
         (timing : Option (List ℕ)) (b w : List ℕ) (f : Flags) → IsPlainCommand (codes "show") file words → IsRequest words r
-        → OutcomeTable o r (format_of r.format beginning) timing b w f
+        → format_of r.format beginning ≡ Raw → OutcomeTable o r (format_of r.format beginning) timing b w f
         → (OutputTable nothing (λ bytes. show (play power_up bytes).state) always o.ended r.piece b w f r.limit)
         × (option_map (λ name. string_bytes name) r.file ≡ file) }
     ensures log { (file : Option (List ℕ)) (words : List (String Global)) (r : Request) (o : Outcome) (beginning : List ℕ)
         (timing : Option (List ℕ)) (b w : List ℕ) (f : Flags) → IsPlainCommand (codes "log") file words → IsRequest words r
-        → OutcomeTable o r (format_of r.format beginning) timing b w f
+        → format_of r.format beginning ≡ Raw → OutcomeTable o r (format_of r.format beginning) timing b w f
         → (OutputTable (λ bytes. log power_up bytes) (λ bytes. text (play power_up bytes).state) always o.ended r.piece b w f
         r.limit) × (option_map (λ name. string_bytes name) r.file ≡ file) }
 {}

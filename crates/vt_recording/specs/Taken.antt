@@ -1,8 +1,9 @@
 -- The content that is taken out of a recording. (this profile)
-use Rattle.std.specs.Prelude.{◌≡◌, ℕ, List, Option, Some, None, option_map}
+use Rattle.std.specs.Prelude.{◌≡◌, ℕ, List, Option, Some, None, option_map, cond}
 use Rattle.vt_recording.specs.declared.format.Format.{Format}
 use Rattle.vt_recording.specs.declared.format.Format.TheVariants as format
 use Rattle.vt_recording.specs.declared.format.Encoding.{Encoding}
+use Rattle.vt_recording.specs.declared.format.Encoding.TheVariants.{Dec, Utf8}
 use Rattle.vt_recording.specs.declared.format.Moment.{Moment}
 use Rattle.vt_device.specs.declared.fault.Part.TheVariants as part
 use Rattle.vt_device.specs.declared.fault.Break.{Break}
@@ -12,6 +13,8 @@ use Rattle.vt_recording.specs.Timing.{IsTimedAfter}
 use Rattle.vt_recording.specs.Ttyrec.{IsOfTtyrec}
 use Rattle.vt_recording.specs.Asciicast.{Cast, asciicast}
 use Rattle.vt_recording.specs.Characters.{AreWritten}
+use Rattle.vt_recording.specs.Detection.{shows_utf8}
+use Rattle.vt_recording.specs.Format.{usual_encoding}
 
 -- the recording is broken at a byte
 abbrev pub in_recording : Option ℕ → Option Break
@@ -53,3 +56,19 @@ IsTaken format.Ttyrec encoding until timing bytes content broken replaced =
     IsOfBytes (λ whole at. IsOfTtyrec (micros_of until) bytes whole at) until content broken replaced
 IsTaken format.Asciicast encoding until timing bytes content broken replaced =
     IsOfCast (asciicast (micros_of until) bytes) encoding until content broken replaced
+
+-- ---- the encoding that a recording shows
+
+-- the content of all of the recording decides. It is the same bytes in each encoding, since the format has no characters
+pub record IsShownBy (format : Format) (timing : Option (List ℕ)) (bytes : List ℕ) (encoding : Encoding) : Type 0 where
+  pub content : List ℕ
+  pub broken : Option Break
+  pub replaced : ℕ
+  pub taken : IsTaken format Dec None timing bytes content broken replaced
+  pub shown : encoding ≡ cond (shows_utf8 content) Utf8 Dec
+
+-- asciinema writes UTF-8. Raw bytes may be played before all of them are there, so they don't decide
+abbrev pub IsShown : Format → (timing : Option (List ℕ)) → (bytes : List ℕ) → Encoding → Type 0
+IsShown format.Script timing bytes encoding = IsShownBy format.Script timing bytes encoding
+IsShown format.Ttyrec timing bytes encoding = IsShownBy format.Ttyrec timing bytes encoding
+IsShown format timing bytes encoding = encoding ≡ usual_encoding format

@@ -32,6 +32,6 @@ pub use heading::{Heading, heading_of};
 pub use reached::{Passed, passed_before, take_between};
 pub use reading::read_recording;
 pub use seconds::{number, scale};
-pub use taking::{take_apart, timeline_of};
+pub use taking::{encoding_of, take_apart, timeline_of};
 pub use timeline::{Event, EventKind, Timeline};
 pub use vt_device::{Break, Fault, Part, Source, Watched};

@@ -2,13 +2,14 @@
 ghost use Rattle.std.specs.Prelude.{◌≡◌, None, IfOk, option_map};
 ghost use Rattle.vt_recording.specs.Script.{IsOfScript};
 ghost use Rattle.vt_recording.specs.Ttyrec.{IsOfTtyrec};
-ghost use Rattle.vt_recording.specs.Taken.{IsTaken, in_recording};
+ghost use Rattle.vt_recording.specs.Taken.{IsTaken, IsShown, in_recording};
 ghost use Rattle.vt_recording.specs.Moment.{cut};
 ghost use Rattle.vt_recording.specs.Timeline.{IsTimelineOf, IsOfScriptBy, AreFrames};
 ghost use Rattle.vt_recording.specs.Gathered.{IsRead, timeline_view};
 
 use crate::asciicast::in_time;
 use crate::casting::{asciicast_played, asciicast_timeline};
+use crate::detection::shows_utf8;
 use crate::format::{Encoding, Format, Moment, Taken};
 use crate::moment::{cut, micros_of};
 use crate::script::session_in;
@@ -54,6 +55,29 @@ pub fn take_apart(
             Ok(taken_of(whole, until))
         }
         Format::Asciicast => Ok(asciicast_played(alloc, bytes, encoding, until)?.taken),
+    }
+}
+
+/// Returns the encoding that a recording shows: by script or ttyrec UTF-8 if its content is that, with a character beyond
+/// ASCII; by asciinema UTF-8. Raw bytes don't decide. Returns `Err` if allocation fails.
+pub fn encoding_of(
+    alloc: Global,
+    bytes: &[u8],
+    timing: Option<&[u8]>,
+    format: Format,
+) -> Result<Encoding, AllocError>
+    ensures { IfOk result (λ e. IsShown format (option_map (λ b. b.now) timing.entry) bytes.now e) }
+{
+    match format {
+        Format::Script | Format::Ttyrec => {
+            let taken = take_apart(alloc, bytes, timing, format, Encoding::Dec, None)?;
+            Ok(if shows_utf8(&taken.content) {
+                Encoding::Utf8
+            } else {
+                Encoding::Dec
+            })
+        }
+        _ => Ok(format.usual_encoding()),
     }
 }
 

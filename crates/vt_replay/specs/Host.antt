@@ -9,13 +9,9 @@ use Rattle.vt_cli.specs.declared.what.Word.{Word}
 use Rattle.vt_cli.specs.declared.what.Word.TheVariants.{Replay, Log, Trace, Events, Content}
 use Rattle.vt_recording.specs.declared.format.Encoding.{Encoding}
 use Rattle.vt_recording.specs.declared.format.Encoding.TheVariants.{Dec, Utf8}
-use Rattle.vt_recording.specs.declared.format.Format.{Format}
-use Rattle.vt_recording.specs.declared.format.Format.TheVariants as format
 use Rattle.vt_recording.specs.declared.format.TerminalType.{TerminalType}
 use Rattle.vt_recording.specs.declared.format.TerminalType.TheVariants.{Vt220, Xterm}
 use Rattle.vt_recording.specs.declared.heading.Heading.{Heading}
-use Rattle.vt_recording.specs.Format.{usual_encoding}
-use Rattle.vt_recording.specs.Heading.{heading_of}
 use Rattle.vt_replay.specs.declared.host.Host.{Host}
 
 -- the terminal that was asked for, otherwise the one that the recording names, otherwise a VT220. Only a VT220 reads dec
@@ -25,10 +21,10 @@ terminal_for None (Some Dec) named = Vt220
 terminal_for None (Some Utf8) named = unwrap_or named Vt220
 terminal_for None None named = unwrap_or named Vt220
 
--- a VT220's host sends in the encoding that was asked for, otherwise in the usual one of the format. An xterm's host sends UTF-8
-abbrev pub encoding_for : TerminalType → (wanted : Option Encoding) → Format → Encoding
-encoding_for Vt220 wanted format = unwrap_or wanted (usual_encoding format)
-encoding_for Xterm wanted format = Utf8
+-- a VT220's host sends in the encoding that was asked for, otherwise in the one that the recording shows. An xterm's host sends UTF-8
+abbrev pub encoding_for : TerminalType → (wanted : Option Encoding) → (shown : Encoding) → Encoding
+encoding_for Vt220 wanted shown = unwrap_or wanted shown
+encoding_for Xterm wanted shown = Utf8
 
 -- the width that was asked for, otherwise the one that the recording names. Any other width than 132 columns is 80
 abbrev pub wide_for : (wanted : Option Bool) → (columns : Option ℕ) → Bool
@@ -74,27 +70,25 @@ abbrev pub wide_on : Option Size → (wanted : Option Bool) → (columns : Optio
 wide_on (Some size) wanted columns = false
 wide_on None wanted columns = wide_for wanted columns
 
-abbrev pub host_by : TerminalType → Request → Format → (columns rows : Option ℕ) → Host
-host_by terminal r format columns rows =
+abbrev pub host_by : TerminalType → Request → (shown : Encoding) → (columns rows : Option ℕ) → Host
+host_by terminal r shown columns rows =
     let size = size_for r.word r.size r.wide columns rows in record {
       terminal = terminal;
-      encoding = encoding_for terminal r.encoding format;
+      encoding = encoding_for terminal r.encoding shown;
       wide = wide_on size r.wide columns;
       size = unwrap_or size vt220_size;
     }
 
-abbrev pub host_for : Request → Format → Heading → Host
-host_for r format heading =
-    host_by (terminal_for r.terminal r.encoding (named_for r.word heading.terminal)) r format heading.columns heading.rows
-
--- the terminal, the encoding, the width and the size for which the host of a recording sent
-abbrev pub host_of : Request → Format → (bytes : List ℕ) → Host
-host_of r format bytes = host_for r format (heading_of format bytes)
+-- the terminal, the encoding, the width and the size for which the host of a recording sent, by the encoding that the recording
+-- shows and its heading
+abbrev pub host_for : Request → (shown : Encoding) → Heading → Host
+host_for r shown heading =
+    host_by (terminal_for r.terminal r.encoding (named_for r.word heading.terminal)) r shown heading.columns heading.rows
 
 -- the terminal, the encoding, the width and the size for which a host sends, if no recorder wrote the bytes: no line
--- names anything
+-- names anything, and nothing shows UTF-8
 abbrev pub plain_host : Request → Host
-plain_host r = host_for r format.Raw (record { terminal = None; columns = None; rows = None })
+plain_host r = host_for r Dec (record { terminal = None; columns = None; rows = None })
 
 -- DECCOLM makes the screen 132 columns wide. Under TERM=xterm it has an effect while ?40 is set
 abbrev pub widening : TerminalType → List ℕ

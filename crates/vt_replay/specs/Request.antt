@@ -4,6 +4,7 @@ use Rattle.vt_device.specs.Runs.{Flags}
 use Rattle.vt_cli.specs.declared.asked.Request.{Request}
 use Rattle.vt_recording.specs.declared.format.Format.{Format}
 use Rattle.vt_recording.specs.declared.format.Format.TheVariants as format
+use Rattle.vt_recording.specs.declared.format.Encoding.{Encoding}
 use Rattle.vt_recording.specs.Format.{has_times}
 use Rattle.vt_recording.specs.declared.format.Moment.{Moment}
 use Rattle.vt_recording.specs.declared.format.Moment.TheVariants.{Micros}
@@ -11,6 +12,8 @@ use Rattle.vt_recording.specs.declared.detection.Detected.{Detected}
 use Rattle.vt_recording.specs.declared.detection.Detected.TheVariants.{Recording, Compressed}
 use Rattle.vt_recording.specs.Detection.{detected}
 use Rattle.vt_device.specs.declared.fault.Break.{Break}
+use Rattle.vt_recording.specs.Heading.{heading_of}
+use Rattle.vt_recording.specs.Taken.{IsShown}
 use Rattle.vt_recording.specs.Reached.{IsTakenBetween, IsAmong, has_characters, nothing_passed}
 use Rattle.vt_recording.specs.Changes.{changes_in}
 use Rattle.vt_replay.specs.declared.resized.Resize.{Resize}
@@ -19,7 +22,7 @@ use Rattle.vt_device.specs.declared.fault.Fault.TheVariants as fault
 use Rattle.vt_recording.specs.Reading.{ReadTable}
 use Rattle.vt_replay.specs.declared.requests.Outcome.{Outcome}
 use Rattle.vt_replay.specs.declared.host.Host.{Host}
-use Rattle.vt_replay.specs.Host.{host_of, plain_host, opening}
+use Rattle.vt_replay.specs.Host.{host_for, plain_host, opening}
 use Rattle.vt_replay.specs.Words.{WordTable}
 use Rattle.vt_replay.specs.EventTable.{IsTableTaken}
 use Rattle.vt_replay.specs.Resizes.{carried_out}
@@ -58,7 +61,7 @@ pub record IsStreamed (o : Outcome) (r : Request) (b w : List ℕ) (f : Flags) :
   pub none_replaced : o.replaced ≡ 0
 
 -- the word was carried out on the content of a recording, of which c was played, from memory: no read fails. At the end
--- nothing is left
+-- nothing is left. The request's limit is of the input. What is made of that may have as many bytes as any input
 pub record IsPlayed (o : Outcome) (r : Request) (host : Host) (resizes : List Resize) (content : List ℕ) (broken : Option Break) (replaced : ℕ) (w : List ℕ)
     (writer_failed : Bool) : Type 0 where
   pub c : List ℕ
@@ -67,7 +70,7 @@ pub record IsPlayed (o : Outcome) (r : Request) (host : Host) (resizes : List Re
   pub at_end : Bool
   pub none_left : at_end ≡ true → rest ≡ []
   pub played : Result (Unit {0}) Fault
-  pub table : WordTable played r.word host.size resizes host.terminal host.encoding r.piece c w (record { reader_failed = false; reader_ended = at_end; writer_failed = writer_failed }) r.limit
+  pub table : WordTable played r.word host.size resizes host.terminal host.encoding r.piece c w (record { reader_failed = false; reader_ended = at_end; writer_failed = writer_failed }) 1099511627776
   pub ended : o.ended ≡ ended_of broken played
   pub replaces : o.replaced ≡ replaced
 
@@ -118,7 +121,9 @@ AreResizes false r format timing bytes host resizes =
 -- what is played of a recording: the opening and the content, and the changes of the size
 pub record IsPrepared (r : Request) (format : Format) (timing : Option (List ℕ)) (b : List ℕ) (host : Host) (resizes : List Resize)
     (bytes : List ℕ) (broken : Option Break) (replaced : ℕ) : Type 0 where
-  pub host_is : host ≡ host_of r format b
+  pub shown : Encoding
+  pub shows : IsShown format timing b shown
+  pub host_is : host ≡ host_for r shown (heading_of format b)
   pub content : List ℕ
   pub taken : IsTakenBy r.word r format host timing b content broken replaced
   pub joined : bytes ≡ opening r.word host ++ content

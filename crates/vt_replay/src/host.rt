@@ -1,12 +1,11 @@
-//! The terminal, encoding, width and size for which a host sends, as a request and the first line of a recording give
-//! them.
+//! The terminal, encoding, width and size for which a host sends, as a request and a recording give them.
 ghost use Rattle.std.specs.Prelude.{◌≡◌, IfSome};
 ghost use Rattle.vt_screen.specs.Sizes.{IsSize, width_of};
 ghost use Rattle.vt_replay.specs.Host.{takes_size, is_vt220, size_named, size_for};
 ghost use Rattle.vt_replay.specs.Host.{terminal_for, encoding_for, wide_for, named_for, host_for, plain_host};
 ghost use Rattle.vt_replay.specs.Host.{widening, opening};
 
-use vt_cli::{Encoding, Format, Request, TerminalType, Word, size_of};
+use vt_cli::{Encoding, Request, TerminalType, Word, size_of};
 use vt_recording::Heading;
 use vt_term::Size;
 
@@ -50,13 +49,13 @@ fn terminal_for(
     }
 }
 
-/// Returns the encoding of what a host sends for a terminal: for a VT220 the one that was asked for, otherwise the usual one of the
-/// format.
-fn encoding_for(terminal: TerminalType, wanted: Option<Encoding>, format: Format) -> Encoding
-    ensures { result ≡ encoding_for terminal wanted format }
+/// Returns the encoding of what a host sends for a terminal: for a VT220 the one that was asked for, otherwise the one that the
+/// recording shows.
+fn encoding_for(terminal: TerminalType, wanted: Option<Encoding>, shown: Encoding) -> Encoding
+    ensures { result ≡ encoding_for terminal wanted shown }
 {
     match terminal {
-        TerminalType::Vt220 => wanted.unwrap_or(format.usual_encoding()),
+        TerminalType::Vt220 => wanted.unwrap_or(shown),
         TerminalType::Xterm => Encoding::Utf8,
     }
 }
@@ -135,14 +134,15 @@ fn size_for(request: &Request, heading: Heading) -> Option<Size>
     }
 }
 
-/// Returns for what the host of a recording in a format sent, as a request and the recording's heading give it.
-pub fn host_for(request: &Request, format: Format, heading: Heading) -> Host
-    ensures host { result ≡ host_for request.now format heading }
+/// Returns for what the host of a recording sent, as a request, the encoding that the recording shows, and its heading give
+/// it.
+pub fn host_for(request: &Request, shown: Encoding, heading: Heading) -> Host
+    ensures host { result ≡ host_for request.now shown heading }
     ensures sized { IsSize result.size }
 {
     let named = named_for(request.word, heading.terminal);
     let terminal = terminal_for(request.terminal, request.encoding, named);
-    let encoding = encoding_for(terminal, request.encoding, format);
+    let encoding = encoding_for(terminal, request.encoding, shown);
     match size_for(request, heading) {
         Some(size) => Host {
             terminal,
@@ -169,7 +169,7 @@ pub(crate) fn plain_host(request: &Request) -> Host
         columns: None,
         rows: None,
     };
-    host_for(request, Format::Raw, heading)
+    host_for(request, Encoding::Dec, heading)
 }
 
 /// Returns the bytes that make the screen of a terminal 132 columns wide.

@@ -1,5 +1,5 @@
 //! The carrying out of a request, by its word.
-ghost use Rattle.std.specs.Prelude.{◌≡◌, ◌++◌, true, false, Err, option_map, All, IfOk};
+ghost use Rattle.std.specs.Prelude.{◌≡◌, ◌≤◌, ◌++◌, true, false, Err, option_map, All, IfOk};
 ghost use Rattle.std.proofs.Props.{props};
 ghost use Rattle.std.specs.Io.KnownBytes.{IsAtEnd};
 ghost use Rattle.vt_device.specs.Runs.{Moves};
@@ -23,12 +23,15 @@ use std::io::{Read, Write};
 use vt_cli::{Format, Moment, Request, Word};
 use vt_device::{Source, Watched};
 use vt_recording::{
-    Break, Content, Detected, Fault, Taken, detect, heading_of, read_recording, take_between,
-    take_with_changes,
+    Break, Content, Detected, Fault, Taken, detect, encoding_of, heading_of, read_recording,
+    take_between, take_with_changes,
 };
 
-/// Carries out a request's word on the reader's bytes, as a host sent them. Neither device has failed before, and the reader hasn't
-/// ended.
+/// The greatest limit of an input, which is that of what is made of one.
+const LIMIT_MOST: u64 = 1099511627776;
+
+/// Carries out a request's word on the reader's bytes, as a host sent them, at most a limit of them. Neither device has failed
+/// before, and the reader hasn't ended.
 fn carry_out_word<S: Source, W: Write>(
     alloc: Global,
     reader: &mut S,
@@ -36,7 +39,9 @@ fn carry_out_word<S: Source, W: Write>(
     host: Host,
     resizes: &[Resize],
     request: &Request,
+    limit: u64,
 ) -> Result<(), Fault>
+    requires limit_in_range { limit ≤ 1099511627776 }
     requires reader_works { S.failed reader.old ≡ false }
     requires reader_goes_on { S.ended reader.old ≡ false }
     requires writer_works { writer.old.failed ≡ false }
@@ -44,10 +49,10 @@ fn carry_out_word<S: Source, W: Write>(
     requires resized { All (λ r. IsSize r.size) resizes.now }
     ensures answer { Moves (S.remaining reader.old) (S.remaining reader.new) (W.contents writer.old.device)
         (W.contents writer.new.device)
-        (λ b w. WordTable result request.now.word host.size resizes.now host.terminal host.encoding request.now.piece b w (record { reader_failed = S.failed reader.new; reader_ended = S.ended reader.new; writer_failed = writer.new.failed }) request.now.limit) }
+        (λ b w. WordTable result request.now.word host.size resizes.now host.terminal host.encoding request.now.piece b w (record { reader_failed = S.failed reader.new; reader_ended = S.ended reader.new; writer_failed = writer.new.failed }) limit) }
     ensures whole { S.ended reader.new ≡ true → IsAtEnd (S.remaining reader.new) }
 {
-    let (piece, limit) = (request.piece, request.limit);
+    let piece = request.piece;
     let size = host.size;
     let language = Language::of(host.terminal, host.encoding);
     match request.word {
@@ -156,8 +161,8 @@ pub fn lacks_times(format: Format, timed: bool, until: Option<Moment>) -> bool
 ///
 /// The terminal is the request's. If the request names none, it is the one that the first line of a recording by
 /// asciinema or by script names, otherwise a VT220. If the request's encoding is dec, it is a VT220. For an xterm the
-/// host sends UTF-8. For a VT220 it sends in the request's encoding, otherwise in dec, and in a recording by asciinema
-/// in UTF-8. Content is the host's bytes.
+/// host sends UTF-8. For a VT220 it sends in the request's encoding, otherwise in the one that the recording shows, and raw
+/// bytes in dec. Content is the host's bytes.
 ///
 /// The screen has 132 columns if the request asks for them, or if it leaves the width to a recording whose first line names
 /// 132. Then bytes that set DECCOLM are played first, except for a trace.
@@ -174,7 +179,8 @@ pub fn lacks_times(format: Format, timed: bool, until: Option<Moment>) -> bool
 /// for. Otherwise the input is read whole, and the word is carried out on its content between the moments. If the
 /// recording is broken, that is the fault, after what came before was played and written.
 ///
-/// Events are made of a whole recording: they are a table of it.
+/// Events are made of a whole recording: they are a table of it. The request's limit is of the input, and not of what is made
+/// of it.
 pub fn carry_out<R: Read, W: Write>(
     alloc: Global,
     reader: &mut Watched<R>,
@@ -221,7 +227,7 @@ fn stream<R: Read, W: Write>(
     let host = plain_host(request);
     Outcome {
         replaced: 0,
-        ended: carry_out_word(alloc, reader, writer, host, &[], request),
+        ended: carry_out_word(alloc, reader, writer, host, &[], request, request.limit),
     }
 }
 
@@ -343,7 +349,8 @@ fn prepare(
 ) -> Result<Prepared, AllocError>
     ensures { IfOk result (λ p. IsPrepared request.now format (option_map (λ t. t.now) timing.entry) bytes.now p.host p.resizes.items p.bytes.items p.broken p.replaced) }
 {
-    let host = host_for(request, format, heading_of(alloc, bytes, format)?);
+    let shown = encoding_of(alloc, bytes, timing, format)?;
+    let host = host_for(request, shown, heading_of(alloc, bytes, format)?);
     let needed = needed_for(alloc, bytes, timing, format, host, request)?;
     let broken = needed.taken.broken;
     let replaced = needed.taken.replaced;
@@ -386,7 +393,15 @@ fn play_prepared<W: Write>(
     let replaced = prepared.replaced;
     let resizes = prepared.resizes;
     let mut content = Content::new(prepared.bytes);
-    let played = carry_out_word(alloc, &mut content, writer, host, &resizes, request);
+    let played = carry_out_word(
+        alloc,
+        &mut content,
+        writer,
+        host,
+        &resizes,
+        request,
+        LIMIT_MOST,
+    );
     Outcome {
         replaced,
         ended: ended_of(broken, played),

@@ -36,7 +36,7 @@ class CellChance(random.Random):
         return f"\033[{self.number()}{self.choice('@PLM')}"
 
     def scroll(self):
-        return self.choice([f"\033[{self.number()}S", f"\033[{self.number()}T", "\n", "\033D", "\033M"])
+        return self.choice([f"\033[{self.number()}S", f"\033[{self.number()}T", "\n", "\033D", "\033E", "\033M"])
 
     def margins(self):
         if self.has_sides and self.random() < 0.7:
@@ -47,7 +47,7 @@ class CellChance(random.Random):
 
     def other(self):
         protection = self.choice(['\033[1"q', '\033[0"q'])
-        return self.choice([self.place() + "\r\n", "\0337", "\0338", protection, "\r" + "x\033[b", "\033(0", "\033(B", "\b", "\033[5 q", "\033]2;t\u00e9\a"])
+        return self.choice([self.place() + "\r\n", "\0337", "\0338", "\t", protection, "\r" + "x\033[b", "\033(0", "\033(B", "\b", "\033[5 q", "\033]2;t\u00e9\a"])
 
     def input(self):
         parts = [self.text, self.text, self.text, self.pen, self.pen, self.place, self.place, self.erase, self.edit, self.scroll, self.margins, self.other]

@@ -129,8 +129,8 @@ class Xterm(Utf8Terminal):
         self.move_to(self.row, self.left() if "DECOM" in self.modes else self.first_reached())
 
     def next_line(self):
-        self.carriage_return()
         self.index()
+        self.carriage_return()
 
     def left_by(self, n):
         self.move_to(self.row, max(self.column - n, self.first_reached()))
@@ -168,7 +168,8 @@ class Xterm(Utf8Terminal):
         self.carriage_return()
 
     def tab(self):
-        super().tab()
+        if not self.wrap:
+            super().tab()
         self.column = min(self.column, self.right())
 
     def tabs(self, n):
@@ -215,11 +216,9 @@ class Xterm(Utf8Terminal):
         self.wrap = False
 
     def insert_or_delete_lines(self, n, is_insert):
-        if self.is_between():
-            is_inside = self.top <= self.row <= self.bottom
+        if self.is_between() and self.top <= self.row <= self.bottom:
             super().insert_or_delete_lines(n, is_insert)
-            self.column = self.left() if is_inside else self.column
-        self.wrap = False
+            self.column = self.left()
 
     def change_cells(self, n, final):
         line = self.cells[self.row - 1]
@@ -230,7 +229,8 @@ class Xterm(Utf8Terminal):
             del line[self.right():]
             super().change_cells(min(n, self.right() - self.column + 1), final)
             line[self.right():] = kept
-        self.wrap = False
+        elif final == "@":
+            self.wrap = False
 
     def scroll(self, first, n):
         """Moves the rows in the columns between the margins."""

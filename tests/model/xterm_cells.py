@@ -363,6 +363,8 @@ class CellXterm(Xterm):
         elif self.is_between():
             n = min(n, self.right() - at)
             self.insert_cells(n) if final == "@" else self.delete_cells(n)
+        elif final == "P":
+            return
         self.wrap = False
 
     def insert_cells(self, n):

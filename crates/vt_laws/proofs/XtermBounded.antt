@@ -24,7 +24,7 @@ use Rattle.vt_xterm.specs.declared.sides.Sides.{Sides}
 use Rattle.vt_xterm.specs.Pages.{Screens, on_display}
 use Rattle.vt_xterm.specs.Sides as between
 use Rattle.vt_xterm.specs.Bounded.{bounded_effect, bounded_controls, bounded_plain, bounded_in, other_plain, other_between, has_row, resets}
-use Rattle.vt_xterm.specs.Bounded.{is_unbounded, erases, resetting, leaving, writing, writing_if_read, printing, margins_set}
+use Rattle.vt_xterm.specs.Bounded.{is_unbounded, erases, resetting, tabbing, leaving, writing, writing_if_read, printing, margins_set}
 use Rattle.vt_xterm.specs.Front.{screen_effect}
 use Rattle.vt_xterm_trace.specs.Names.{xterm_sequence_name, xterm_names}
 use Rattle.vt_laws.proofs.Rows.{print_test}
@@ -56,10 +56,7 @@ control-named b =
         λ h. by_none _ h,
         (
           λ h. by_none _ h,
-          (
-            λ h. by_none _ h,
-            (λ h. by_none _ h, (λ h. by_none _ h, (λ h. by_none _ h, (λ h. by_none _ h, (λ h. by_none _ h, tt))))),
-          ),
+          (λ h. by_none _ h, (λ h. by_none _ h, (λ h. by_none _ h, (λ h. by_none _ h, (λ h. by_none _ h, tt))))),
         ),
       ),
     ) b
@@ -67,6 +64,10 @@ control-named b =
 substitute-named : (b : ℕ) → (b == 0x1A) ≡ true → control_name b ≡ None → ⊥
 unfolding control_name
 substitute-named b is h = by_none _ (subst (λ k. control_name k ≡ None) (eqb-true b 0x1A is) h)
+
+tab-named : (b : ℕ) → (b == 0x09) ≡ true → control_name b ≡ None → ⊥
+unfolding control_name
+tab-named b is h = by_none _ (subst (λ k. control_name k ≡ None) (eqb-true b 0x09 is) h)
 
 -- without a marker and an intermediate
 abbrev plain_name : List ℕ → ℕ → Option (List ℕ)
@@ -93,16 +94,7 @@ plain-named values last =
                     λ h. by_none _ h,
                     (
                       λ h. by_none _ h,
-                      (
-                        λ h. by_none _ h,
-                        (
-                          λ h. by_none _ h,
-                          (
-                            λ h. by_none _ h,
-                            (λ h. by_none _ h, (λ h. by_none _ h, (λ h. by_none _ h, (λ h. by_none _ h, (λ h. by_none _ h, tt))))),
-                          ),
-                        ),
-                      ),
+                      (λ h. by_none _ h, (λ h. by_none _ h, (λ h. by_none _ h, (λ h. by_none _ h, (λ h. by_none _ h, tt))))),
                     ),
                   ),
                 ),
@@ -167,16 +159,17 @@ print-same b m s none =
 control-same : (b : ℕ) (m : Sides) (s : Screens) → control_name b ≡ None → screen_effect (Control b) s ≡ s
     → bounded_effect screen_effect (Control b) m s ≡ s
 unfolding bounded_effect
-control-same b m s h same = go (b == 0x1A) refl (has_row bounded_controls b) refl
+control-same b m s h same = go (b == 0x1A) refl (b == 0x09) refl (has_row bounded_controls b) refl
   where
     reset : Screens
     reset = resetting (bounded_in bounded_controls (Control b) b []) m s
 
-    go : (x : Bool) → (b == 0x1A) ≡ x → (y : Bool) → has_row bounded_controls b ≡ y
-        → (if x then writing substitute_glyph m s else (if y then reset else screen_effect (Control b) s)) ≡ s
-    go true is y has = absurd (substitute-named b is h)
-    go false is true has = absurd (control-named b has h)
-    go false is false has = same
+    go : (x : Bool) → (b == 0x1A) ≡ x → (tabs : Bool) → (b == 0x09) ≡ tabs → (y : Bool) → has_row bounded_controls b ≡ y
+        → (if x then writing substitute_glyph m s else (if tabs then tabbing 1 m s else (if y then reset else screen_effect (Control b) s))) ≡ s
+    go true is tabs are y has = absurd (substitute-named b is h)
+    go false is true are y has = absurd (tab-named b are h)
+    go false is false are true has = absurd (control-named b has h)
+    go false is false are false has = same
 
 -- SD by `T` with one parameter
 one-down : (values : List ℕ) (m : Sides) (s : Screens) → plain_name values 0x54 ≡ None
@@ -211,8 +204,17 @@ other-same params last m s sized h same =
     (λ values m. screen_effect (Sequence None params None last)) (λ h. same) (
       λ h. by_none _ h,
       (
-        λ h. one-down params.items m s h,
-        (λ h. by_none _ h, (λ h. by_none _ h, (λ h. no-margins params.items m s sized h, tt))),
+        λ h. by_none _ h,
+        (
+          λ h. by_none _ h,
+          (
+            λ h. by_none _ h,
+            (
+              λ h. one-down params.items m s h,
+              (λ h. by_none _ h, (λ h. by_none _ h, (λ h. no-margins params.items m s sized h, tt))),
+            ),
+          ),
+        ),
       ),
     ) h
 

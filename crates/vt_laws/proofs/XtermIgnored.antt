@@ -18,7 +18,7 @@ use Rattle.vt_term.specs.Rendition.{rendition_changes, with_attribute, with_rend
 use Rattle.vt_term.specs.Resets.{is_level}
 use Rattle.vt_term.specs.Functions.{numbers_of, effect}
 use Rattle.vt_term.specs.Reports.{report}
-use Rattle.vt_term.specs.Names.{name_of, plain_escape_name, escape_with_name, sequence_name_on}
+use Rattle.vt_term.specs.Names.{name_of, control_name, plain_escape_name, escape_with_name, sequence_name_on}
 use Rattle.vt_trace.proofs.Tables.{absent, none_known}
 use Rattle.vt_xterm.specs.Attributes.{without_colours}
 use Rattle.vt_xterm.specs.declared.sides.Sides.{Sides}
@@ -146,7 +146,7 @@ private-idle = (
 plain-idle : AllIdle None plain_functions plain_names
 unfolding sequence_report_any sequences_any
 plain-idle =
-    ((refl, (λ values h s. by_none _ h, λ params d. refl)), ((refl, (λ values h s. by_none _ h, λ params d. refl)), ((refl, (λ values h s. by_none _ h, λ params d. refl)), ((refl, (λ values h s. by_none _ h, λ params d. refl)), ((refl, (λ values h s. by_none _ h, λ params d. refl)), ((refl, (λ values h s. one-idle rows_down_by _ values (λ values many d. rw many refl) h s, λ params d. refl)), ((refl, (λ values h s. by_none _ h, λ params d. refl)), ((refl, (λ values h s. by_none _ h, λ params d. refl)), ((refl, (λ values h s. by_none _ h, λ params d. refl)), ((refl, (λ values h s. by_none _ h, λ params d. refl)), ((refl, (λ values h s. by_none _ h, λ params d. refl)), ((refl, (λ values h s. by_none _ h, λ params d. refl)), ((refl, (λ values h s. by_none _ h, λ params d. refl)), ((refl, (λ values h s. rendition-idle _ values h s, λ params d. refl)), ((refl, (λ values h s. by_none _ h, λ params d. refl)), ((refl, (λ values h s. bare-idle restore_screens _ values h s, λ params d. refl)), tt))))))))))))))))
+    ((refl, (λ values h s. by_none _ h, λ params d. refl)), ((refl, (λ values h s. by_none _ h, λ params d. refl)), ((refl, (λ values h s. by_none _ h, λ params d. refl)), ((refl, (λ values h s. by_none _ h, λ params d. refl)), ((refl, (λ values h s. by_none _ h, λ params d. refl)), ((refl, (λ values h s. by_none _ h, λ params d. refl)), ((refl, (λ values h s. by_none _ h, λ params d. refl)), ((refl, (λ values h s. one-idle rows_down_by _ values (λ values many d. rw many refl) h s, λ params d. refl)), ((refl, (λ values h s. by_none _ h, λ params d. refl)), ((refl, (λ values h s. by_none _ h, λ params d. refl)), ((refl, (λ values h s. by_none _ h, λ params d. refl)), ((refl, (λ values h s. by_none _ h, λ params d. refl)), ((refl, (λ values h s. by_none _ h, λ params d. refl)), ((refl, (λ values h s. by_none _ h, λ params d. refl)), ((refl, (λ values h s. by_none _ h, λ params d. refl)), ((refl, (λ values h s. rendition-idle _ values h s, λ params d. refl)), ((refl, (λ values h s. by_none _ h, λ params d. refl)), ((refl, (λ values h s. bare-idle restore_screens _ values h s, λ params d. refl)), tt))))))))))))))))))
 
 -- ---- events
 
@@ -157,6 +157,14 @@ module _ (base : IsSoundDisplay display_at_power_up) where
   terminals-alone event s h sized =
       let left = nameless_alone base event h s.display sized in
       (ap (λ (d : Display). record s { display = d }) left.same, left.silent)
+
+  control-alone : (b : ℕ) (s : Screens) → name_of (Control b) ≡ None → s.display.grid.size ≡ vt220_size → Alone (Control b) s
+  unfolding control_name
+  control-alone b s h sized = go (b == 0x09) refl
+    where
+      go : (tabs : Bool) → (b == 0x09) ≡ tabs → Alone (Control b) s
+      go true is = by_none _ (subst (λ k. name_of (Control k) ≡ None) (eqb-true b 0x09 is) h)
+      go false is = let left = terminals-alone (Control b) s h sized in (rw is left.0, left.1)
 
   escape-alone : (last : ℕ) (s : Screens) → name_of (Escape None last) ≡ None → s.display.grid.size ≡ vt220_size
       → Alone (Escape None last) s
@@ -252,7 +260,7 @@ module _ (base : IsSoundDisplay display_at_power_up) where
       → Alone event s
   unfolding functions_of xterm_sequence_name function_in
   screen-alone (Print b) s h sized = terminals-alone (Print b) s h sized
-  screen-alone (Control b) s h sized = terminals-alone (Control b) s h sized
+  screen-alone (Control b) s h sized = control-alone b s h sized
   screen-alone (Escape None last) s h sized = escape-alone last s h sized
   screen-alone (Escape (Some inter) last) s h sized = alignment-alone inter last s h sized
   screen-alone (Sequence None params None last) s h sized = plain-alone params last s h sized

@@ -16,7 +16,7 @@ use Rattle.vt_screen.proofs.Vt220Grids.{put-sound}
 use Rattle.vt_term.specs.State.{Display, State, last_column, has_stop_at, bottom_row, at_place}
 use Rattle.vt_term.specs.Parameters.{from_one}
 use Rattle.vt_term.specs.Moving.{are_margins, bottom_margin, cursor_up, cursor_down}
-use Rattle.vt_term.specs.Editing.{is_inside}
+use Rattle.vt_term.specs.Editing.{with_grid}
 use Rattle.vt_term.specs.Sound.{IsSoundDisplayAt, IsSoundSizedDisplay}
 use Rattle.vt_term.proofs.SoundEffects as terminals
 use Rattle.vt_term.proofs.SizeKept.{own-display}
@@ -155,30 +155,9 @@ reverse_index-own m s fits i = go (s.cursor.row == s.margins.top && between.is_b
 -- IL and DL
 edited-own : (grid : Grid) (m : Sides) (s : Display) → AreSides (last_column s) m → IsSoundSizedDisplay s → IsSoundGrid grid
     → grid.size ≡ s.grid.size → grid.width ≡ s.grid.width → IsSoundSizedDisplay (between.line_edited grid m s)
-edited-own grid m s fits i sound size width = go (is_inside s && between.is_between m s)
-  where
-    home : IsSoundSizedDisplay (record s { cursor = at_place s.cursor.row m.left })
-    home = search rules
-
-    stays : IsSoundSizedDisplay (record s { cursor = at_place s.cursor.row s.cursor.col })
-    stays = search rules
-
-    go : (b : Bool) → IsSoundSizedDisplay (record s {
-      grid = if b then grid else s.grid;
-      cursor = at_place s.cursor.row (if b then m.left else s.cursor.col);
-    })
-    go true = with_grid-own grid (record s { cursor = at_place s.cursor.row m.left }) home sound size width
-    go false = stays
-
-next_line-own : KeepsOwn between.next_line
-next_line-own m s fits i = index-own m (between.carriage_return m s) fits (carriage_return-own m s fits i)
-
-line_feed-own : KeepsOwn between.line_feed
-line_feed-own m s fits i = go s.modes.lnm
-  where
-    go : (b : Bool) → IsSoundSizedDisplay (if b then between.next_line m s else between.index m s)
-    go true = next_line-own m s fits i
-    go false = index-own m s fits i
+edited-own grid m s fits i sound size width =
+    let home : IsSoundSizedDisplay (record s { cursor = at_place s.cursor.row m.left }) = search rules in
+    with_grid-own grid (record s { cursor = at_place s.cursor.row m.left }) home sound size width
 
 rows_up-own : (n : ℕ) → KeepsOwn (between.rows_up n)
 rows_up-own n m s fits i = search (rules, columns_up-sound)
@@ -200,7 +179,19 @@ insert_character-own : (n : ℕ) → KeepsOwn (between.insert_character n)
 insert_character-own n m s fits i = search (rules, insert_between-sound)
 
 delete_character-own : (n : ℕ) → KeepsOwn (between.delete_character n)
-delete_character-own n m s fits i = search (rules, delete_between-sound)
+delete_character-own n m s fits i = go (between.is_between m s)
+  where
+    go : (b : Bool) → IsSoundSizedDisplay
+        (if b then with_grid (delete_between s.grid s.cursor.row s.cursor.col m.right n) s else s)
+    go true = search (rules, delete_between-sound)
+    go false = i
+
+wrap_waiting-own : KeepsOwn between.wrap_waiting
+wrap_waiting-own m s fits i = go (nat_lt m.right (last_column s))
+  where
+    go : (b : Bool) → IsSoundSizedDisplay (if b then record s { cursor = at_place s.cursor.row m.right } else s)
+    go true = search rules
+    go false = i
 
 after_wrap-own : KeepsOwn between.after_wrap
 after_wrap-own m s fits i = go (between.is_pending m s)
@@ -378,7 +369,7 @@ module _ {A : Type 0} (part : Grid → A) (is : IsPart part) where
       (columns_down s.grid s.margins.top s.margins.bottom m.left m.right 1) s.grid (part s.grid) (is s.grid _) refl
 
   pub next_line-part : Leaves part between.next_line
-  next_line-part m s = index-part m (between.carriage_return m s)
+  next_line-part m s = index-part m s
 
   pub line_feed-part : Leaves part between.line_feed
   line_feed-part m s =
@@ -391,16 +382,19 @@ module _ {A : Type 0} (part : Grid → A) (is : IsPart part) where
   rows_down-part n m s = is s.grid _
 
   pub insert_line-part : (n : ℕ) → Leaves part (between.insert_line n)
-  insert_line-part n m s = one-grid part (is_inside s && between.is_between m s) _ s.grid (part s.grid) (is s.grid _) refl
+  insert_line-part n m s = is s.grid _
 
   pub delete_line-part : (n : ℕ) → Leaves part (between.delete_line n)
-  delete_line-part n m s = one-grid part (is_inside s && between.is_between m s) _ s.grid (part s.grid) (is s.grid _) refl
+  delete_line-part n m s = is s.grid _
 
   pub insert_character-part : (n : ℕ) → Leaves part (between.insert_character n)
   insert_character-part n m s = one-grid part (between.is_between m s) _ s.grid (part s.grid) (is s.grid _) refl
 
   pub delete_character-part : (n : ℕ) → Leaves part (between.delete_character n)
-  delete_character-part n m s = one-grid part (between.is_between m s) _ s.grid (part s.grid) (is s.grid _) refl
+  delete_character-part n m s = one-display part (between.is_between m s) _ s (part s.grid) (is s.grid _) refl
+
+  pub wrap_waiting-part : Leaves part between.wrap_waiting
+  wrap_waiting-part m s = one-display part (nat_lt m.right (last_column s)) _ s (part s.grid) refl refl
 
   pub brought-part : Leaves part between.brought
   brought-part m s = one-display part (s.modes.decom && not (between.is_between m s)) _ s (part s.grid) refl refl
@@ -478,6 +472,17 @@ pub ruleset width-parts = (
   cursor_forward_tabulation-width,
   cursor_backward_tabulation-width,
 )
+
+next_line-own : KeepsOwn between.next_line
+next_line-own m s fits i =
+    carriage_return-own m (between.index m s) (subst (λ w. AreSides w m) (sym (index-width m s)) fits) (index-own m s fits i)
+
+line_feed-own : KeepsOwn between.line_feed
+line_feed-own m s fits i = go s.modes.lnm
+  where
+    go : (b : Bool) → IsSoundSizedDisplay (if b then between.next_line m s else between.index m s)
+    go true = next_line-own m s fits i
+    go false = index-own m s fits i
 
 write_glyph-own : (glyph : ℕ) → IsGlyph glyph → KeepsOwn (between.write_glyph glyph)
 write_glyph-own glyph is m s fits i =
@@ -573,6 +578,9 @@ insert_character-in n =
 pub delete_character-in : (n : ℕ) → KeepsIn (between.delete_character n)
 delete_character-in n =
     fixed-in (between.delete_character n) (delete_character-own n) (delete_character-part (λ g. g.size) size-part n)
+
+pub wrap_waiting-in : KeepsIn between.wrap_waiting
+wrap_waiting-in = fixed-in between.wrap_waiting wrap_waiting-own (wrap_waiting-part (λ g. g.size) size-part)
 
 pub set_margins-in : (p1 p2 : ℕ) → KeepsIn (between.set_margins p1 p2)
 set_margins-in p1 p2 = fixed-in (between.set_margins p1 p2) (set_margins-own p1 p2) (set_margins-part (λ g. g.size) size-part p1 p2)

@@ -13,7 +13,7 @@ use Rattle.vt_glyph.specs.LookUp.{look_up}
 use Rattle.vt_glyph.specs.Tables.{space, substitute_glyph}
 use Rattle.vt_screen.specs.declared.size.Size.{Size}
 use Rattle.vt_screen.specs.Grid.{Grid, is_within}
-use Rattle.vt_screen.specs.Between.{columns_up, columns_down}
+use Rattle.vt_screen.specs.Between.{columns_up, columns_down, delete_between}
 use Rattle.vt_screen.specs.Laws.{RowLaws, TestLaws}
 use Rattle.vt_term.specs.declared.state.Modes.{Modes}
 use Rattle.vt_term.specs.State.{Display, last_column, bottom_row, at_place, has_stop_at}
@@ -21,7 +21,7 @@ use Rattle.vt_term.specs.Sound.{IsSoundSizedDisplay}
 use Rattle.vt_term.specs.Parameters.{first, second, count, from_one}
 use Rattle.vt_term.specs.Moving.{are_margins, bottom_margin}
 use Rattle.vt_term.specs.Tabs.{next_stop_of}
-use Rattle.vt_term.specs.Editing.{is_inside, names_area}
+use Rattle.vt_term.specs.Editing.{with_grid, names_area}
 use Rattle.vt_term.specs.Functions.{effect}
 use Rattle.vt_term.proofs.SizeKept.{own-display}
 use Rattle.vt_term.proofs.Tables.{AllRows, looked_up-holds, same-numbers}
@@ -31,14 +31,14 @@ use Rattle.vt_utf8.specs.Translation.{unshifted}
 use Rattle.vt_xterm.specs.declared.sides.Sides.{Sides}
 use Rattle.vt_xterm.specs.Columns.{line_position_absolute, line_position_forward}
 use Rattle.vt_xterm.specs.Repeating.{times}
-use Rattle.vt_xterm.specs.Tabs.{stop_before}
-use Rattle.vt_xterm.specs.Sides.{AreSides, FitsMargins, FitsSides, are_narrow, is_between, is_wrapping, is_pending, last_reached, sides_after}
+use Rattle.vt_xterm.specs.Tabs.{tab, stop_before}
+use Rattle.vt_xterm.specs.Sides.{AreSides, FitsMargins, FitsSides, are_narrow, is_between, is_enclosed, is_wrapping, is_pending, last_reached, sides_after}
 use Rattle.vt_xterm.specs.Sides as between
 use Rattle.vt_xterm.specs.Pages.{Screens, on_display}
 use Rattle.vt_xterm.specs.Bounded.{BoundedTable, bounded_in, bounded_plain, bounded_controls, has_row, other_plain, other_between}
 use Rattle.vt_xterm.specs.Bounded.{resets, erases, is_unbounded, bounded_effect, resetting, leaving, writing, writing_if_read}
 use Rattle.vt_xterm.specs.Bounded.{writing_times, writing_both, writing_wide, writing_beyond, is_at_end, printing}
-use Rattle.vt_xterm.specs.Bounded.{repeating, margins_set}
+use Rattle.vt_xterm.specs.Bounded.{repeating, margins_set, editing, waiting, tabbing}
 use Rattle.vt_xterm.specs.Attributes.{select_attributes}
 use Rattle.vt_xterm.specs.Front.{screen_effect, effect_between, xterm_effect, plain_functions, function_in, functions_of}
 use Rattle.vt_xterm.specs.Front.{save_or_set_sides, restore_if_bare}
@@ -168,15 +168,18 @@ insert_character-lands : (n : ℕ) → Lands (between.insert_character n)
 insert_character-lands n = column-lands (between.insert_character n) (λ m s. refl) (λ m s. refl)
 
 delete_character-lands : (n : ℕ) → Lands (between.delete_character n)
-delete_character-lands n = column-lands (between.delete_character n) (λ m s. refl) (λ m s. refl)
+delete_character-lands n m s sound i = go (is_between m s)
+  where
+    t : Display
+    t = with_grid (delete_between s.grid s.cursor.row s.cursor.col m.right n) s
+
+    go : (b : Bool) → (if b then t else s).modes.decom ≡ true → is_between m (if b then t else s) ≡ true
+    go true = i.origin
+    go false = i.origin
 
 -- IL and DL
 edited-lands : (grid : Sides → Display → Grid) → Lands (λ m s. between.line_edited (grid m s) m s)
-edited-lands grid m s sound i on = go (is_inside s && is_between m s)
-  where
-    go : (b : Bool) → is_within m.left m.right (if b then m.left else s.cursor.col) ≡ true
-    go true = left-within m.left m.right (two-columns m s i)
-    go false = i.origin on
+edited-lands grid m s sound i on = left-within m.left m.right (two-columns m s i)
 
 insert_line-lands : (n : ℕ) → Lands (between.insert_line n)
 insert_line-lands n = edited-lands (λ m s. columns_down s.grid s.cursor.row s.margins.bottom m.left m.right n)
@@ -251,21 +254,18 @@ bounded_controls-land =
     let feed : LeavesLoose between.line_feed = loosely between.line_feed line_feed-width line_feed-lands in (
       loosely (between.cursor_backward 1) (λ m s. refl) (cursor_backward-lands 1),
       (
-        loosely between.horizontal_tab (λ m s. refl) horizontal_tab-lands,
+        feed,
         (
           feed,
           (
             feed,
             (
-              feed,
+              loosely between.carriage_return (λ m s. refl) carriage_return-lands,
               (
-                loosely between.carriage_return (λ m s. refl) carriage_return-lands,
+                loosely between.index index-width index-lands,
                 (
-                  loosely between.index index-width index-lands,
-                  (
-                    loosely between.next_line next_line-width next_line-lands,
-                    (loosely between.reverse_index reverse_index-width reverse_index-lands, tt),
-                  ),
+                  loosely between.next_line next_line-width next_line-lands,
+                  (loosely between.reverse_index reverse_index-width reverse_index-lands, tt),
                 ),
               ),
             ),
@@ -298,29 +298,19 @@ bounded_plain-land params =
                 (
                   position,
                   (
-                    loosely (between.cursor_forward_tabulation n) (cursor_forward_tabulation-width n)
-                        (cursor_forward_tabulation-lands n),
+                    loosely (between.delete_character n) (delete_character-width n) (delete_character-lands n),
                     (
-                      loosely (between.insert_line n) (insert_line-width n) (insert_line-lands n),
+                      loosely (between.cursor_backward_tabulation n) (cursor_backward_tabulation-width n)
+                          (cursor_backward_tabulation-lands n),
                       (
-                        loosely (between.delete_line n) (delete_line-width n) (delete_line-lands n),
+                        column,
                         (
-                          loosely (between.delete_character n) (delete_character-width n) (delete_character-lands n),
+                          loosely (between.character_position_forward n) (λ m s. refl) (character_position_forward-lands n),
                           (
-                            loosely (between.cursor_backward_tabulation n) (cursor_backward_tabulation-width n)
-                                (cursor_backward_tabulation-lands n),
+                            loosely (λ m. line_position_absolute n) (λ m s. refl) (line_position_absolute-lands n),
                             (
-                              column,
-                              (
-                                loosely (between.character_position_forward n) (λ m s. refl) (character_position_forward-lands n),
-                                (
-                                  loosely (λ m. line_position_absolute n) (λ m s. refl) (line_position_absolute-lands n),
-                                  (
-                                    loosely (λ m. line_position_forward n) (λ m s. refl) (line_position_forward-lands n),
-                                    (position, tt),
-                                  ),
-                                ),
-                              ),
+                              loosely (λ m. line_position_forward n) (λ m s. refl) (line_position_forward-lands n),
+                              (position, tt),
                             ),
                           ),
                         ),
@@ -481,6 +471,51 @@ rows-fit f leaves size m s i at fit = still-sides s.pages.sides s.display (f m s
 reset-fit : (f : Sides → Display → Display) → LeavesLoose f → KeepsBetween (resetting f)
 reset-fit f lands size m s i at fit = lands m s.display (own-display size s.display i.0) at
 
+-- IL and DL
+editing-fit : (f : Sides → Display → Display) → LeavesLoose f → KeepsBetween (editing f)
+editing-fit f lands size m s i at fit =
+    one-fit (is_enclosed m s.display) (resetting f m s) s (reset-fit f lands size m s i at fit) fit
+
+-- HT and CHT
+pending-wraps : (m : Sides) (s : Display) → IsSoundSizedDisplay s → FitsMargins m s → is_pending m s ≡ true → s.modes.decawm ≡ true
+pending-wraps m s sound i = go m.wrap refl
+  where
+    go : (b : Bool) → m.wrap ≡ b → (b || s.cursor.wrap) ≡ true → s.modes.decawm ≡ true
+    go true is h = (both-true s.modes.decawm (s.cursor.col == m.right && nat_lt m.right (last_column s)) (i.wrap is)).0
+    go false is h = sound.wrap h
+
+waits-there : (wraps : Bool) (right last : ℕ) → wraps ≡ true → nat_lt right last ≡ true
+    → (wraps && (right == right && nat_lt right last)) ≡ true
+waits-there wraps right last on is = grind (arith, nat_tests)
+
+waiting-fit : (m : Sides) (s : Screens) → IsSoundSizedDisplay s.display → FitsMargins m s.display → is_pending m s.display ≡ true
+    → Fit (waiting m s)
+waiting-fit m s sound i pending = go (nat_lt m.right (last_column s.display)) refl
+  where
+    d : Display
+    d = s.display
+
+    go : (b : Bool) → nat_lt m.right (last_column d) ≡ b
+        → FitsMargins (record m { wrap = b }) (if b then record d { cursor = at_place d.cursor.row m.right } else d)
+    go true is = record {
+      sides = other-wrap (last_column d) m true i.sides;
+      wrap = λ h. waits-there d.modes.decawm m.right (last_column d) (pending-wraps m d sound i pending) is;
+      origin = λ on. within m.left m.right m.right (two-columns m d i) (omega arith);
+    }
+    go false is = loosened m d i
+
+tabbing-fit : (n : ℕ) → KeepsBetween (tabbing n)
+tabbing-fit n size m s i at fit = go (is_pending m s.display) refl
+  where
+    tabs : LeavesLoose (between.cursor_forward_tabulation n)
+    tabs =
+        loosely (between.cursor_forward_tabulation n) (cursor_forward_tabulation-width n) (cursor_forward_tabulation-lands n)
+
+    go : (b : Bool) → is_pending m s.display ≡ b
+        → Fit (if b then waiting m s else resetting (between.cursor_forward_tabulation n) m s)
+    go true is = waiting-fit m s (own-display size s.display i.0) at is
+    go false is = reset-fit (between.cursor_forward_tabulation n) tabs size m s i at fit
+
 -- SGR, SCP and RCP have a row of their own, and the others are a VT220's
 plain_functions-fit : (params : List ℕ)
     → AllRows (λ key f. resets key params ≡ false → is_some (look_up other_plain key) ≡ false → KeepsFit (f params)) plain_functions
@@ -510,18 +545,27 @@ other_between-fit params last none =
     looked_up-or (λ key f. KeepsBetween (f params)) other_plain last (λ values m. screen_effect event)
     (λ h size m s i at fit.
     other_screen-fit event last params none h (other-place last params none h) size s i fit) (
-      rows-fit (between.rows_up n) (λ m s. (refl, (refl, (refl, refl)))),
+      tabbing-fit n,
       (
-        λ size m s i at fit. one-fit (length params == 1) (on_display (between.rows_down n m) s) s
-            (rows-fit (between.rows_down n) (λ m s. (refl, (refl, (refl, refl)))) size m s i at fit) fit,
+        editing-fit (between.insert_line n) (loosely (between.insert_line n) (insert_line-width n) (insert_line-lands n)),
         (
-          rows-fit (between.rows_down n) (λ m s. (refl, (refl, (refl, refl)))),
+          editing-fit (between.delete_line n) (loosely (between.delete_line n) (delete_line-width n) (delete_line-lands n)),
           (
-            λ size m s i at fit. repeating-fit n m s at fit,
+            rows-fit (between.rows_up n) (λ m s. (refl, (refl, (refl, refl)))),
             (
-              λ size m s i at fit. margins_set-fit (first params) (second params) m s
-                  (own-display size s.display i.0) at fit,
-              tt,
+              λ size m s i at fit. one-fit (length params == 1) (on_display (between.rows_down n m) s) s
+                  (rows-fit (between.rows_down n) (λ m s. (refl, (refl, (refl, refl)))) size m s i at fit) fit,
+              (
+                rows-fit (between.rows_down n) (λ m s. (refl, (refl, (refl, refl)))),
+                (
+                  λ size m s i at fit. repeating-fit n m s at fit,
+                  (
+                    λ size m s i at fit. margins_set-fit (first params) (second params) m s
+                        (own-display size s.display i.0) at fit,
+                    tt,
+                  ),
+                ),
+              ),
             ),
           ),
         ),
@@ -561,21 +605,22 @@ no_mode-k = refl
 
 control-fit : (b : ℕ) → KeepsBetween (bounded_effect screen_effect (Control b))
 unfolding bounded_effect
-control-fit b size m s i at fit = go (b == 0x1A) refl (has_row bounded_controls b) refl
+control-fit b size m s i at fit = go (b == 0x1A) refl (b == 0x09) refl (has_row bounded_controls b) refl
   where
-    other : Screens
-    other = on_display (effect (Control b)) s
+    other : Bool → Screens
+    other tabs = on_display (λ d. if tabs then tab d else effect (Control b) d) s
 
     reset : Screens
     reset = resetting (bounded_in bounded_controls (Control b) b []) m s
 
-    go : (x : Bool) → (b == 0x1A) ≡ x → (y : Bool) → has_row bounded_controls b ≡ y
-        → Fit (if x then writing substitute_glyph m s else (if y then reset else other))
-    go true is y has = writing-fit substitute_glyph m s at
-    go false is true has =
+    go : (x : Bool) → (b == 0x1A) ≡ x → (tabs : Bool) → (b == 0x09) ≡ tabs → (y : Bool) → has_row bounded_controls b ≡ y
+        → Fit (if x then writing substitute_glyph m s else (if tabs then tabbing 1 m s else (if y then reset else other tabs)))
+    go true is tabs are y has = writing-fit substitute_glyph m s at
+    go false is true are y has = tabbing-fit 1 size m s i at fit
+    go false is false are true has =
         reset-fit (bounded_in bounded_controls (Control b) b [])
         (bounded_in-land bounded_controls (Control b) b [] (λ none. absurd (false≢true (sym none ∙ has))) bounded_controls-land) size m s i at fit
-    go false is false has = display-fit (effect (Control b)) (control-place b is has) size s i fit
+    go false is false are false has = display-fit (effect (Control b)) (control-place b is are has) size s i fit
 
 plain-fit : (params : List ℕ) (last : ℕ) → KeepsBetween (bounded_effect screen_effect (Sequence None (record { items = params }) None last))
 unfolding bounded_effect

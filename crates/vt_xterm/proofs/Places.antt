@@ -192,11 +192,12 @@ both-place marker inter last params = none-place last params
 
 -- ---- what the margins don't bound, and has no row between them
 
-pub control-place : (b : ℕ) → (b == 0x1A) ≡ false → has_row bounded_controls b ≡ false → Leaves (control b)
+pub control-place : (b : ℕ) → (b == 0x1A) ≡ false → (b == 0x09) ≡ false → has_row bounded_controls b ≡ false → Leaves (control b)
 unfolding control_any has_row AllRows
 control-place b =
-    looked_up-holds (λ key f. (key == 0x1A) ≡ false → has_row bounded_controls key ≡ false → Leaves (f.effect [])) controls b
-    no_function (λ h k. same-place) (search rules)
+    looked_up-holds
+    (λ key f. (key == 0x1A) ≡ false → (key == 0x09) ≡ false → has_row bounded_controls key ≡ false → Leaves (f.effect [])) controls
+    b no_function (λ h i k. same-place) (search rules)
 
 -- CUU, CUD, ECH, ED and EL
 pub unbounded-place : (last : ℕ) (params : List ℕ) → (last == 0x41 || (last == 0x42 || (last == 0x58 || (last == 0x4A || last == 0x4B)))) ≡ true

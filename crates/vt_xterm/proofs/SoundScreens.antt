@@ -31,12 +31,13 @@ use Rattle.vt_term.specs.Moving.{cursor_up, cursor_down, cursor_forward, are_mar
 use Rattle.vt_term.specs.Tabs.{horizontal_tab}
 use Rattle.vt_term.specs.Writing.{write_glyph}
 use Rattle.vt_term.specs.Saving.{save_cursor, restore_cursor}
-use Rattle.vt_term.specs.Editing.{erase_in_display}
+use Rattle.vt_term.specs.Editing.{is_inside, insert_line, delete_line, erase_in_display}
 use Rattle.vt_term.specs.Resets.{reset_to_initial_state as reset_display}
 use Rattle.vt_term.specs.Resets.{soft_reset, is_level, set_conformance_level, screen_alignment}
 use Rattle.vt_term.specs.Parameters.{first, second, count}
 use Rattle.vt_term.specs.State.{display_of}
 use Rattle.vt_screen.specs.Cells.{blank}
+use Rattle.vt_screen.specs.Grid.{Grid}
 use Rattle.vt_screen.specs.Laws.{RowLaws, TestLaws}
 use Rattle.vt_screen.specs.declared.cell.Cell.{Cell}
 use Rattle.vt_utf8.specs.Similar.{shown}
@@ -45,22 +46,22 @@ use Rattle.vt_xterm.specs.Columns.{cursor_character_absolute, line_position_abso
 use Rattle.vt_xterm.specs.Columns.{cursor_next_line, cursor_preceding_line}
 use Rattle.vt_xterm.specs.Scroll.{rows_up, rows_down, rows_down_by}
 use Rattle.vt_xterm.specs.Repeating.{times, column_before, glyph_before, room, repeat}
-use Rattle.vt_xterm.specs.Tabs.{back_tab, cursor_forward_tabulation, cursor_backward_tabulation}
+use Rattle.vt_xterm.specs.Tabs.{tab, back_tab, cursor_forward_tabulation, cursor_backward_tabulation}
 use Rattle.vt_xterm.specs.Attributes.{without_colours, select_attributes}
 use Rattle.vt_xterm.specs.Front.{FunctionTable, save_or_set_sides, restore_if_bare, plain_functions, private_functions}
-use Rattle.vt_xterm.specs.Front.{screen_effect, effect_between, set_level_without_sides, alignments, escapes_with}
+use Rattle.vt_xterm.specs.Front.{if_inside, control_effect, screen_effect, effect_between, set_level_without_sides, alignments, escapes_with}
 use Rattle.vt_xterm.specs.Front.{soft_reset_wrapping, set_level_wrapping, intermediate_functions, functions_of, function_in, plain_escapes, xterm_effect}
 use Rattle.vt_xterm.specs.Play.{after_events}
 use Rattle.vt_xterm.specs.Bounded.{is_bare, BoundedTable, bounded_in, bounded_plain, bounded_controls, has_row, other_plain}
 use Rattle.vt_xterm.specs.Bounded.{other_between, resets, erases, bounded_effect, writing, writing_if_read}
 use Rattle.vt_xterm.specs.Bounded.{writing_times}
-use Rattle.vt_xterm.specs.Bounded.{printing, repeating, margins_set, resetting}
+use Rattle.vt_xterm.specs.Bounded.{printing, repeating, margins_set, resetting, editing, waiting, tabbing}
 use Rattle.vt_xterm.specs.Sides as between
 use Rattle.vt_xterm.specs.Sides.{AreSides}
 use Rattle.vt_xterm.specs.declared.sides.Sides.{Sides}
 use Rattle.vt_xterm.proofs.Bounds.{KeepsIn, of_bounds, other-wrap, set-fit, keeping-in, home-in, brought-in}
 use Rattle.vt_xterm.proofs.Bounds.{origin_mode-in, rows_up-in, rows_down-in, set_margins-in, write_glyph-in, write_glyph-part}
-use Rattle.vt_xterm.proofs.Bounds.{width-part, stop_before-bounds}
+use Rattle.vt_xterm.proofs.Bounds.{width-part, stop_before-bounds, wrap_waiting-in, cursor_forward_tabulation-in, insert_line-in, delete_line-in}
 use Rattle.vt_term.specs.Functions.{sequences_any}
 
 -- ---- pages
@@ -391,9 +392,18 @@ module _ (rows : RowLaws) (tests : TestLaws) where
           times-keeps (min n (room s)) (write_glyph (glyph_before s))
           (terminals.write_glyph-keeps (glyph_before s) (glyph_before-shown s i is)) s i
 
+tab-own : terminals.Keeps tab
+tab-own s i = go s.cursor.wrap
+  where
+    go : (b : Bool) → IsSoundSizedDisplay (if b then s else horizontal_tab s)
+    go true = i
+    go false = terminals.horizontal_tab-keeps s i
+
 cursor_forward_tabulation-own : (n : ℕ) → terminals.Keeps (cursor_forward_tabulation n)
-cursor_forward_tabulation-own n s i =
-    times-keeps (min n (last_column s)) horizontal_tab terminals.horizontal_tab-keeps s i
+cursor_forward_tabulation-own n s i = times-keeps (min n (last_column s)) tab tab-own s i
+
+inside-own : (f : Display → Display) → terminals.Keeps f → terminals.Keeps (if_inside f)
+inside-own f keeps s i = one-of (is_inside s) f keeps s i
 
 cursor_backward_tabulation-own : (n : ℕ) → terminals.Keeps (cursor_backward_tabulation n)
 cursor_backward_tabulation-own n s i = times-keeps (min n (last_column s)) back_tab back_tab-keeps s i
@@ -432,9 +442,34 @@ cursor_character_absolute-keeps n some =
 cursor_forward-keeps : (n : ℕ) → KeepsDisplay (cursor_forward n)
 cursor_forward-keeps n = fixed (cursor_forward n) (terminals.cursor_forward-keeps n) (λ s. refl)
 
+tab-size : KeepsSize tab
+tab-size s = go s.cursor.wrap
+  where
+    go : (b : Bool) → (if b then s else horizontal_tab s).grid.size ≡ s.grid.size
+    go true = refl
+    go false = refl
+
+chosen-size : (b : Bool) (g h : Grid) (size : Size) → g.size ≡ size → h.size ≡ size → (if b then g else h).size ≡ size
+chosen-size true g h size first second = first
+chosen-size false g h size first second = second
+
+insert_line-size : (n : ℕ) → KeepsSize (insert_line n)
+insert_line-size n s = chosen-size (is_inside s) _ s.grid s.grid.size refl refl
+
+delete_line-size : (n : ℕ) → KeepsSize (delete_line n)
+delete_line-size n s = chosen-size (is_inside s) _ s.grid s.grid.size refl refl
+
+inserted-keeps : (n : ℕ) → KeepsDisplay (if_inside (insert_line n))
+inserted-keeps n = fixed (if_inside (insert_line n)) (inside-own (insert_line n) (terminals.insert_line-keeps n))
+    (λ s. one-of-size (is_inside s) (insert_line n) (insert_line-size n) s)
+
+deleted-keeps : (n : ℕ) → KeepsDisplay (if_inside (delete_line n))
+deleted-keeps n = fixed (if_inside (delete_line n)) (inside-own (delete_line n) (terminals.delete_line-keeps n))
+    (λ s. one-of-size (is_inside s) (delete_line n) (delete_line-size n) s)
+
 cursor_forward_tabulation-keeps : (n : ℕ) → KeepsDisplay (cursor_forward_tabulation n)
 cursor_forward_tabulation-keeps n = fixed (cursor_forward_tabulation n) (cursor_forward_tabulation-own n)
-    (λ s. times-size (min n (last_column s)) horizontal_tab (λ t. refl) s)
+    (λ s. times-size (min n (last_column s)) tab tab-size s)
 
 cursor_backward_tabulation-keeps : (n : ℕ) → KeepsDisplay (cursor_backward_tabulation n)
 cursor_backward_tabulation-keeps n = fixed (cursor_backward_tabulation n) (cursor_backward_tabulation-own n)
@@ -485,6 +520,8 @@ ruleset own-keeping = (
   cursor_character_absolute-keeps,
   cursor_forward_tabulation-keeps,
   cursor_backward_tabulation-keeps,
+  inserted-keeps,
+  deleted-keeps,
   rows_up-keeps,
   rows_down-keeps,
   rows_down_by-keeps,
@@ -551,10 +588,17 @@ module _ (glyphs : GlyphLaws) (sets : SetsLaws) (rows : RowLaws) (tests : TestLa
       looked_up-holds (λ key table. AllFunctionsKeep [] table) ((byte "#", alignments) ∷ []) inter [] tt
       ((display-keeps screen_alignment screen_alignment-keeps, tt), tt)
 
+  control_effect-keeps : (b : ℕ) → KeepsDisplay (control_effect b)
+  control_effect-keeps b size s i = go (b == 0x09)
+    where
+      go : (h : Bool) → IsSoundDisplayAt size (if h then tab s else effect (Control b) s)
+      go true = fixed tab tab-own tab-size size s i
+      go false = effect-fixed glyphs sets (Control b) size s i
+
   pub screen-event-keeps : (event : Event) → Keeps (screen_effect event)
   unfolding AllFunctionsKeep
   screen-event-keeps (Print b) = display-keeps (effect (Print b)) (effect-fixed glyphs sets (Print b))
-  screen-event-keeps (Control b) = display-keeps (effect (Control b)) (effect-fixed glyphs sets (Control b))
+  screen-event-keeps (Control b) = display-keeps (control_effect b) (control_effect-keeps b)
   screen-event-keeps (Escape None last) = function_in-keeps plain_escapes (Escape None last) last [] plain_escapes-keep
   screen-event-keeps (Escape (Some inter) last) =
       function_in-keeps (escapes_with inter) (Escape (Some inter) last) last [] (escapes_with-keep inter)
@@ -670,6 +714,17 @@ module _ (glyphs : GlyphLaws) (sets : SetsLaws) (rows : RowLaws) (tests : TestLa
       one-screen size (are_margins (bottom_row s.display) p1 p2) (resetting (between.set_margins p1 p2) m s) s
       (set_margins-in p1 p2 size m s.display fits i.0, i.1) i
 
+  tabbing-keeps : (n : ℕ) → KeepsBetween (tabbing n)
+  unfolding KeepsBetween
+  tabbing-keeps n size m s fits i =
+      one-screen size (between.is_pending m s.display) (waiting m s) (resetting (between.cursor_forward_tabulation n) m s)
+      (wrap_waiting-in size m s.display fits i.0, i.1) (cursor_forward_tabulation-in n size m s.display fits i.0, i.1)
+
+  editing-keeps : (f : Sides → Display → Display) → KeepsIn f → KeepsBetween (editing f)
+  unfolding KeepsBetween
+  editing-keeps f keeps size m s fits i =
+      one-screen size (between.is_enclosed m s.display) (resetting f m s) s (keeps size m s.display fits i.0, i.1) i
+
   other_between-keeps : (event : Event) (last : ℕ) (params : List ℕ) (size : Size) (m : Sides) (s : Screens)
       → AreSides (last_column s.display) m → AreSound size s → AreSound size (other_between screen_effect event last params m s)
   unfolding other_between AllRows KeepsBetween
@@ -677,30 +732,44 @@ module _ (glyphs : GlyphLaws) (sets : SetsLaws) (rows : RowLaws) (tests : TestLa
       let n : ℕ = count params in
       looked_up-holds (λ key f. KeepsBetween (f params)) other_plain last (λ params m. screen_effect event)
       (λ size m s fits i. screen-event-keeps event size s i) (
-        λ size m s fits i. (rows_up-in n size m s.display fits i.0, i.1),
+        tabbing-keeps n,
         (
-          λ size m s fits i. one-screen size (length params == 1) (on_display (between.rows_down n m) s) s
-              (rows_down-in n size m s.display fits i.0, i.1) i,
+          editing-keeps (between.insert_line n) (insert_line-in n),
           (
-            λ size m s fits i. (rows_down-in n size m s.display fits i.0, i.1),
-            (repeating-keeps n, (margins_set-keeps (first params) (second params), tt)),
+            editing-keeps (between.delete_line n) (delete_line-in n),
+            (
+              λ size m s fits i. (rows_up-in n size m s.display fits i.0, i.1),
+              (
+                λ size m s fits i. one-screen size (length params == 1) (on_display (between.rows_down n m) s) s
+                    (rows_down-in n size m s.display fits i.0, i.1) i,
+                (
+                  λ size m s fits i. (rows_down-in n size m s.display fits i.0, i.1),
+                  (repeating-keeps n, (margins_set-keeps (first params) (second params), tt)),
+                ),
+              ),
+            ),
           ),
         ),
       )
 
   bounded-keeps : (event : Event) (size : Size) (m : Sides) (s : Screens) → AreSides (last_column s.display) m
       → AreSound size s → AreSound size (bounded_effect screen_effect event m s)
-  unfolding bounded_effect
+  unfolding bounded_effect KeepsBetween
   bounded-keeps (Print b) size m s fits i = printing-keeps b size m s fits i
   bounded-keeps (Control b) size m s fits i =
       one-screen size (b == 0x1A) (writing substitute_glyph m s)
+      (if b == 0x09 then tabbing 1 m s else (
+      if has_row bounded_controls b then resetting (bounded_in bounded_controls (Control b) b []) m s
+      else screen_effect (Control b) s))
+      (writing-keeps substitute_glyph glyphs.substitute size m s fits i)
+      (one-screen size (b == 0x09) (tabbing 1 m s)
       (if has_row bounded_controls b then resetting (bounded_in bounded_controls (Control b) b []) m s
       else screen_effect (Control b) s)
-      (writing-keeps substitute_glyph glyphs.substitute size m s fits i)
+      (tabbing-keeps 1 size m s fits i)
       (one-screen size (has_row bounded_controls b) (resetting (bounded_in bounded_controls (Control b) b []) m s)
       (screen_effect (Control b) s)
       (bounded_in-keeps bounded_controls (Control b) b [] bounded_controls-keep size m s.display fits i.0, i.1)
-      (screen-event-keeps (Control b) size s i))
+      (screen-event-keeps (Control b) size s i)))
   bounded-keeps (Escape inter last) size m s fits i = screen-event-keeps (Escape inter last) size s i
   bounded-keeps (Sequence None params None last) size m s fits i =
       let event = Sequence None params None last in

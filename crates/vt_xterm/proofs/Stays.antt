@@ -27,20 +27,21 @@ use Rattle.vt_term.specs.Functions.{escape_tables, designate, designate_to, byte
 use Rattle.vt_term.specs.Functions.{plain_sequences, private_sequences, greater_sequences}
 use Rattle.vt_term.specs.Functions.{quote_sequences, exclamation_sequences}
 use Rattle.vt_xterm.specs.Repeating.{times, column_before, glyph_before, room, repeat}
-use Rattle.vt_xterm.specs.Tabs.{back_tab, cursor_forward_tabulation, cursor_backward_tabulation}
+use Rattle.vt_xterm.specs.Tabs.{tab, back_tab, cursor_forward_tabulation, cursor_backward_tabulation}
 use Rattle.vt_xterm.specs.Scroll.{rows_down, rows_down_by}
 use Rattle.vt_xterm.specs.declared.sides.Sides.{Sides}
-use Rattle.vt_xterm.specs.Sides.{are_sides, sides_of, sides_after, home}
+use Rattle.vt_xterm.specs.Sides.{are_sides, sides_of, sides_after, home, is_pending, is_enclosed}
 use Rattle.vt_xterm.specs.Sides as bounds
 use Rattle.vt_xterm.specs.Pages.{PagesState, Screens, on_display, save_or_restore, page_modes, with_page_mode, change_page_modes}
 use Rattle.vt_xterm.specs.Pages.{bounds_of, restored, restore_screens, sided, with_sides, unwrapped, side_mode}
 use Rattle.vt_xterm.specs.Pages.{sided_origin_mode, origin_mode_between, autowrap_mode_between}
 use Rattle.vt_xterm.specs.Bounded.{is_bare, BoundedTable, bounded_in, bounded_plain, bounded_controls, has_row, other_plain}
 use Rattle.vt_xterm.specs.Bounded.{other_between, resets, erases, bounded_effect, writing, writing_if_read, writing_times}
-use Rattle.vt_xterm.specs.Bounded.{printing, repeating, resetting}
+use Rattle.vt_xterm.specs.Bounded.{printing, repeating, resetting, editing, waiting, tabbing}
 use Rattle.vt_xterm.specs.Front.{save_or_set_sides, restore_if_bare, plain_functions, private_functions, exclamation_functions}
-use Rattle.vt_xterm.specs.Front.{screen_effect, effect_between, set_level_without_sides, alignments, escapes_with}
-use Rattle.vt_xterm.proofs.Bounds.{brought-part, write_glyph-part, set_margins-part, width-part, width-parts}
+use Rattle.vt_xterm.specs.Front.{if_inside, control_effect, screen_effect, effect_between, set_level_without_sides, alignments, escapes_with}
+use Rattle.vt_xterm.proofs.Bounds.{brought-part, write_glyph-part, set_margins-part, wrap_waiting-part, width-part, width-parts}
+use Rattle.vt_xterm.proofs.Bounds.{insert_line-width, delete_line-width, cursor_forward_tabulation-width}
 use Rattle.vt_xterm.specs.Front.{set_level_wrapping, quote_functions, intermediate_functions}
 use Rattle.vt_xterm.specs.Front.{functions_of, function_in, plain_escapes, xterm_effect}
 use Rattle.vt_xterm.specs.Front.{is_page_mode, is_paste_mode, sets_page_mode, sets_mode, is_page_function, is_paste_function}
@@ -269,8 +270,20 @@ repeat-fits n s =
     chosen-fits (column_before s == 0) s s (times (min n (room s)) (write_glyph (glyph_before s)) s) refl
     (times-fits (min n (room s)) (write_glyph (glyph_before s)) (write_glyph-fits (glyph_before s)) s)
 
+tab-fits : Fits tab
+tab-fits s = chosen-fits s.cursor.wrap s s (horizontal_tab s) refl refl
+
+control_effect-fits : (b : ℕ) → Fits (control_effect b)
+control_effect-fits b s = chosen-fits (b == 0x09) s (tab s) (control b s) (tab-fits s) (control-fits b s)
+
 cursor_forward_tabulation-fits : (n : ℕ) → Fits (cursor_forward_tabulation n)
-cursor_forward_tabulation-fits n s = times-fits (min n (last_column s)) horizontal_tab (λ t. refl) s
+cursor_forward_tabulation-fits n s = times-fits (min n (last_column s)) tab tab-fits s
+
+inserted-fits : (n : ℕ) → Fits (if_inside (insert_line n))
+inserted-fits n s = chosen-fits (is_inside s) s (insert_line n s) s (insert_line-fits n s) refl
+
+deleted-fits : (n : ℕ) → Fits (if_inside (delete_line n))
+deleted-fits n s = chosen-fits (is_inside s) s (delete_line n s) s (delete_line-fits n s) refl
 
 cursor_backward_tabulation-fits : (n : ℕ) → Fits (cursor_backward_tabulation n)
 cursor_backward_tabulation-fits n s = times-fits (min n (last_column s)) back_tab (λ t. refl) s
@@ -287,6 +300,8 @@ set_level_wrapping-fits params s =
 ruleset own-fitting = (
   cursor_forward_tabulation-fits,
   cursor_backward_tabulation-fits,
+  inserted-fits,
+  deleted-fits,
   rows_down_by-fits,
   repeat-fits,
 )
@@ -493,6 +508,15 @@ printing-stays b m s = go (glyph_read s.display.sets b)
     go None = (refl, refl)
     go (Some glyph) = writing-stays glyph m t
 
+tabbing-stays : (n : ℕ) → StaysIn (tabbing n)
+tabbing-stays n m s =
+    one-stays (is_pending m s.display) s (waiting m s) (resetting (bounds.cursor_forward_tabulation n) m s)
+    (refl, wrap_waiting-part (λ g. g.width) width-part m s.display) (refl, cursor_forward_tabulation-width n m s.display)
+
+editing-stays : (f : Sides → Display → Display) → FitsIn f → StaysIn (editing f)
+editing-stays f fits m s =
+    one-stays (is_enclosed m s.display) s (resetting f m s) s (refl, fits m s.display) (refl, refl)
+
 bounded_in-fits : (table : BoundedTable) (event : Event) (last : ℕ) (params : List ℕ) → Fits (effect event)
     → AllRows (λ key f. FitsIn (f params)) table → FitsIn (bounded_in table event last params)
 unfolding bounded_in
@@ -512,18 +536,27 @@ other_between-stays : (event : Event) (last : ℕ) (params : List ℕ) → Stays
 unfolding other_between AllRows
 other_between-stays event last params stays =
     looked_up-holds (λ key f. StaysIn (f params)) other_plain last (λ params m. screen_effect event) (λ m. stays) (
-      λ m s. (refl, refl),
+      tabbing-stays (count params),
       (
-        λ m s. one-stays (length params == 1) s (on_display (bounds.rows_down (count params) m) s) s (refl, refl) (refl, refl),
+        editing-stays (bounds.insert_line (count params)) (insert_line-width (count params)),
         (
-          λ m s. (refl, refl),
+          editing-stays (bounds.delete_line (count params)) (delete_line-width (count params)),
           (
-            repeating-stays (count params),
+            λ m s. (refl, refl),
             (
-              λ m s. one-stays (are_margins (bottom_row s.display) (first params) (second params)) s
-                  (resetting (bounds.set_margins (first params) (second params)) m s) s
-                  (refl, set_margins-part (λ g. g.width) width-part (first params) (second params) m s.display) (refl, refl),
-              tt,
+              λ m s. one-stays (length params == 1) s (on_display (bounds.rows_down (count params) m) s) s (refl, refl) (refl, refl),
+              (
+                λ m s. (refl, refl),
+                (
+                  repeating-stays (count params),
+                  (
+                    λ m s. one-stays (are_margins (bottom_row s.display) (first params) (second params)) s
+                        (resetting (bounds.set_margins (first params) (second params)) m s) s
+                        (refl, set_margins-part (λ g. g.width) width-part (first params) (second params) m s.display) (refl, refl),
+                    tt,
+                  ),
+                ),
+              ),
             ),
           ),
         ),
@@ -536,9 +569,10 @@ unfolding bounded_effect
 bounded-stays (Print b) fits stays m s = printing-stays b m s
 bounded-stays (Control b) fits stays m s =
     one-stays (b == 0x1A) s (writing substitute_glyph m s) _ (writing-stays substitute_glyph m s)
+    (one-stays (b == 0x09) s (tabbing 1 m s) _ (tabbing-stays 1 m s)
     (one-stays (has_row bounded_controls b) s (resetting (bounded_in bounded_controls (Control b) b []) m s)
     (screen_effect (Control b) s)
-    (refl, bounded_in-fits bounded_controls (Control b) b [] fits bounded_controls-fit m s.display) (stays s))
+    (refl, bounded_in-fits bounded_controls (Control b) b [] fits bounded_controls-fit m s.display) (stays s)))
 bounded-stays (Escape inter last) fits stays m s = stays s
 bounded-stays (Sequence None params None last) fits stays m s =
     let event = Sequence None params None last in
@@ -557,7 +591,7 @@ bounded-stays (Sequence (Some marker) params (Some inter) last) fits stays m s =
 pub screen-stays : (event : Event) → is_page_function event ≡ false → is_paste_function event ≡ false
     → Stays (screen_effect event)
 screen-stays (Print b) h k = display-stays (effect (Print b)) (print-fits b)
-screen-stays (Control b) h k = display-stays (effect (Control b)) (control-fits b)
+screen-stays (Control b) h k = display-stays (control_effect b) (control_effect-fits b)
 screen-stays (Escape None last) h k = escape-stays last h
 screen-stays (Escape (Some inter) last) h k = escapes_with-stays inter last
 screen-stays (Sequence marker params inter last) h k =

@@ -1,10 +1,10 @@
 -- Bytes whose events all have a VT220's effect are played as on a VT220, while DECLRMM is reset.
 use Rattle.std.proofs.Common.{◌≡◌, ℕ, List, [], ◌∷◌, ◌++◌, All, map, refl, sym, ap, ◌∙◌, subst, Bool, true, false, None}
 use Rattle.std.specs.Bool.{OnFalse}
-use Rattle.std.specs.Prelude.{if◌then◌else◌}
+use Rattle.std.specs.Prelude.{◌==◌, if◌then◌else◌}
 use Rattle.std.specs.List.{list_any}
 use Rattle.vt_syntax.specs.declared.event.Event.{Event}
-use Rattle.vt_syntax.specs.declared.event.Event.TheVariants.{Print, Sequence}
+use Rattle.vt_syntax.specs.declared.event.Event.TheVariants.{Print, Control, Sequence}
 use Rattle.vt_syntax.specs.declared.held.Held.{Held}
 use Rattle.vt_syntax.specs.declared.held.Held.TheVariants.{Nothing}
 use Rattle.vt_syntax.specs.Held.{events_from}
@@ -24,6 +24,7 @@ use Rattle.vt_xterm.specs.Front.{functions_of, function_in, xterm_effect}
 use Rattle.vt_xterm.specs.Log.{function_off, page_line_off, xterm_lines_off}
 use Rattle.vt_xterm.specs.Play as xterm
 use Rattle.vt_xterm.specs.Play.{Whole, play_bytes}
+use Rattle.vt_xterm.specs.Tabs.{tab}
 use Rattle.vt_xterm.specs.Private.Finding.{IsVt220}
 use Rattle.vt_xterm.specs.Terminals.{IsTerminals, AreTerminals, PlaysTerminals}
 use Rattle.vt_xterm.proofs.Colours.{without-colours}
@@ -45,6 +46,11 @@ rendition-own values last true is found = tt
 rendition-own values last false is found =
     subst (λ (n : ℕ). IsVt220 (Sequence None (record { items = values }) None n)) (sym is)
     (plain-rendition values (sym found))
+
+-- a control but HT
+pub control-own : (b : ℕ) (tabs : Bool) → tabs ≡ (b == 0x09) → OnFalse tabs (IsVt220 (Control b))
+control-own b true is = tt
+control-own b false is = λ s. (ap (λ (tabs : Bool). on_display (λ d. if tabs then tab d else effect (Control b) d) s) (sym is), refl)
 
 pub terminals-one : (events : List Event) (event : Event) → events ≡ event ∷ [] → IsTerminals event → AreTerminals events
 unfolding AreTerminals

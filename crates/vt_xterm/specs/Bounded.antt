@@ -1,7 +1,7 @@
 -- The effect of an event while left and right margins leave a column out: a function of these tables, otherwise the
 -- effect without such margins. (VT510 manual: DECLRMM and DECSLRM; xterm 379)
 use Rattle.std.specs.Prelude.{ℕ, List, [], ◌∷◌, Bool, false, not, length, Option, Some, None, ◌==◌, ◌&&◌, ◌||◌}
-use Rattle.std.specs.Prelude.{min, unwrap_or, is_some, if◌then◌else◌}
+use Rattle.std.specs.Prelude.{min, nat_lt, unwrap_or, is_some, if◌then◌else◌}
 use Rattle.std.proofs.Common.{zero, suc}
 use Rattle.vt_syntax.specs.declared.event.Event.{Event}
 use Rattle.vt_syntax.specs.declared.event.Event.TheVariants.{Print, Control, Escape, Sequence}
@@ -10,7 +10,7 @@ use Rattle.vt_syntax.specs.declared.held.Held.{Held}
 use Rattle.vt_syntax.specs.declared.held.Held.TheVariants.{Nothing, Text}
 use Rattle.vt_glyph.specs.Tables.{space, substitute_glyph}
 use Rattle.vt_glyph.specs.Invocation.{glyph_read, after_read}
-use Rattle.vt_term.specs.State.{Display, bottom_row}
+use Rattle.vt_term.specs.State.{Display, bottom_row, last_column}
 use Rattle.vt_term.specs.Parameters.{first, second, count}
 use Rattle.vt_term.specs.Moving.{are_margins}
 use Rattle.vt_term.specs.Editing.{names_area}
@@ -32,6 +32,19 @@ resetting f m s = with_sides (record m { wrap = false }) (on_display (f m) s)
 -- a function that leaves a pending wrap
 abbrev pub leaving : (Sides → Display → Display) → Sides → Screens → Screens
 leaving f m s = on_display (f m) s
+
+-- IL and DL: elsewhere they leave it (xterm 379)
+abbrev pub editing : (Sides → Display → Display) → Sides → Screens → Screens
+editing f m s = if between.is_enclosed m s.display then resetting f m s else s
+
+-- HT and CHT leave it, but it is at the right margin then (xterm 379)
+abbrev pub waiting : Sides → Screens → Screens
+waiting m s =
+    with_sides (record m { wrap = nat_lt m.right (last_column s.display) }) (on_display (between.wrap_waiting m) s)
+
+abbrev pub tabbing : ℕ → Sides → Screens → Screens
+tabbing n m s =
+    if between.is_pending m s.display then waiting m s else resetting (between.cursor_forward_tabulation n) m s
 
 -- a glyph is written
 abbrev pub writing : ℕ → Sides → Screens → Screens
@@ -111,7 +124,6 @@ BoundedTable = List (ℕ × (List ℕ → Sides → Display → Display))
 abbrev pub bounded_controls : BoundedTable
 bounded_controls =
     (0x08, λ params. between.cursor_backward 1)  -- BS
-    ∷ (0x09, λ params. between.horizontal_tab)  -- HT
     ∷ (0x0A, λ params. between.line_feed)  -- LF
     ∷ (0x0B, λ params. between.line_feed)  -- VT
     ∷ (0x0C, λ params. between.line_feed)  -- FF
@@ -131,9 +143,6 @@ bounded_plain =
     ∷ row "F" (λ params. between.cursor_preceding_line (count params))  -- CPL
     ∷ row "G" (λ params. between.cursor_character_absolute (count params))  -- CHA
     ∷ row "H" (λ params. between.cursor_position (first params) (second params))  -- CUP
-    ∷ row "I" (λ params. between.cursor_forward_tabulation (count params))  -- CHT
-    ∷ row "L" (λ params. between.insert_line (count params))  -- IL
-    ∷ row "M" (λ params. between.delete_line (count params))  -- DL
     ∷ row "P" (λ params. between.delete_character (count params))  -- DCH
     ∷ row "Z" (λ params. between.cursor_backward_tabulation (count params))  -- CBT
     ∷ row "`" (λ params. between.cursor_character_absolute (count params))  -- HPA
@@ -153,7 +162,10 @@ has_row table last = is_some (look_up table last)
 -- functions that leave a pending wrap, or don't always reset it
 abbrev pub other_plain : List (ℕ × (List ℕ → Sides → Screens → Screens))
 other_plain =
-    row "S" (λ params. leaving (between.rows_up (count params)))  -- SU
+    row "I" (λ params. tabbing (count params))  -- CHT
+    ∷ row "L" (λ params. editing (between.insert_line (count params)))  -- IL
+    ∷ row "M" (λ params. editing (between.delete_line (count params)))  -- DL
+    ∷ row "S" (λ params. leaving (between.rows_up (count params)))  -- SU
     -- SD
     ∷ row "T" (λ params m s. if length params == 1 then leaving (between.rows_down (count params)) m s else s)
     ∷ row "^" (λ params. leaving (between.rows_down (count params)))  -- SD (xterm)
@@ -178,7 +190,8 @@ resets last params = has_row bounded_plain last || (is_unbounded last || erases 
 abbrev pub control_between : (Event → Screens → Screens) → ℕ → Sides → Screens → Screens
 control_between other b m s =
     if b == 0x1A then writing substitute_glyph m s else (
-    if has_row bounded_controls b then resetting (bounded_in bounded_controls (Control b) b []) m s else other (Control b) s)
+    if b == 0x09 then tabbing 1 m s else (
+    if has_row bounded_controls b then resetting (bounded_in bounded_controls (Control b) b []) m s else other (Control b) s))
 
 unfoldable pub other_between : (Event → Screens → Screens) → Event → ℕ → List ℕ → Sides → Screens → Screens
 other_between other event last params = unwrap_or (look_up other_plain last) (λ params m. other event) params

@@ -11,13 +11,14 @@ use Rattle.vt_term.specs.Parameters.{first, second, count}
 use Rattle.vt_term.specs.Saving.{save_cursor}
 use Rattle.vt_term.specs.Moving.{cursor_forward}
 use Rattle.vt_term.specs.Modes.{autowrap_mode}
+use Rattle.vt_term.specs.Editing.{is_inside, insert_line, delete_line}
 use Rattle.vt_term.specs.Resets.{soft_reset, is_level, set_conformance_level, screen_alignment}
 use Rattle.vt_term.specs.Functions.{byte, row, effect}
 use Rattle.vt_xterm.specs.Columns.{cursor_character_absolute, line_position_absolute, line_position_forward}
 use Rattle.vt_xterm.specs.Columns.{cursor_next_line, cursor_preceding_line}
 use Rattle.vt_xterm.specs.Scroll.{rows_up, rows_down, rows_down_by}
 use Rattle.vt_xterm.specs.Repeating.{repeat}
-use Rattle.vt_xterm.specs.Tabs.{cursor_forward_tabulation, cursor_backward_tabulation}
+use Rattle.vt_xterm.specs.Tabs.{tab, cursor_forward_tabulation, cursor_backward_tabulation}
 use Rattle.vt_xterm.specs.Attributes.{select_attributes}
 use Rattle.vt_xterm.specs.declared.sides.Sides.{Sides}
 use Rattle.vt_xterm.specs.Pages.{Screens, on_display, change_page_modes, reset_to_initial_state, sided, set_sides}
@@ -37,6 +38,10 @@ save_or_set_sides params (Some m) s = set_sides (first params) (second params) s
 abbrev pub restore_if_bare : List ℕ → Screens → Screens
 restore_if_bare params s = if is_bare params then restore_screens s else s
 
+-- IL and DL: outside the margins they have no effect (xterm 379)
+abbrev pub if_inside : (Display → Display) → Display → Display
+if_inside f s = if is_inside s then f s else s
+
 -- control sequences without marker and intermediate, each row with its function
 abbrev pub plain_functions : FunctionTable
 plain_functions =
@@ -44,6 +49,8 @@ plain_functions =
     ∷ row "F" (λ params. on_display (cursor_preceding_line (count params)))  -- CPL
     ∷ row "G" (λ params. on_display (cursor_character_absolute (count params)))  -- CHA
     ∷ row "I" (λ params. on_display (cursor_forward_tabulation (count params)))  -- CHT
+    ∷ row "L" (λ params. on_display (if_inside (insert_line (count params))))  -- IL
+    ∷ row "M" (λ params. on_display (if_inside (delete_line (count params))))  -- DL
     ∷ row "S" (λ params. on_display (rows_up (count params)))  -- SU
     ∷ row "T" (λ params. on_display (rows_down_by params))  -- SD
     ∷ row "Z" (λ params. on_display (cursor_backward_tabulation (count params)))  -- CBT
@@ -115,10 +122,14 @@ alignments = row "8" (λ params s. with_full_sides (on_display screen_alignment 
 abbrev pub escapes_with : ℕ → FunctionTable
 escapes_with inter = table_after (row "#" alignments ∷ []) inter
 
+-- controls: HT has no effect while the wrap flag is set (xterm 379)
+abbrev pub control_effect : ℕ → Display → Display
+control_effect b s = if b == 0x09 then tab s else effect (Control b) s
+
 -- the effect of an event if left and right margins leave no column out
 abbrev pub screen_effect : Event → Screens → Screens
 screen_effect (Print b) = on_display (effect (Print b))
-screen_effect (Control b) = on_display (effect (Control b))
+screen_effect (Control b) = on_display (control_effect b)
 screen_effect (Escape None last) = function_in plain_escapes (Escape None last) last []
 screen_effect (Escape (Some inter) last) = function_in (escapes_with inter) (Escape (Some inter) last) last []
 screen_effect (Sequence marker params inter last) =

@@ -116,6 +116,10 @@ horizontal_tab m s =
 abbrev pub cursor_forward_tabulation : ℕ → Sides → Display → Display
 cursor_forward_tabulation n m s = times (min n (last_column s)) (horizontal_tab m) s
 
+-- HT and CHT under a pending wrap: it is pending at the right margin then (xterm 379)
+abbrev pub wrap_waiting : Sides → Display → Display
+wrap_waiting m s = if nat_lt m.right (last_column s) then record s { cursor = at_place s.cursor.row m.right } else s
+
 -- CBT: to the stop before, and under DECOM not left of the left margin (xterm 379)
 abbrev pub back_tab : Sides → Display → Display
 back_tab m s = record s {
@@ -151,9 +155,9 @@ reverse_index m s = record s {
   cursor = at_place (if s.cursor.row == s.margins.top then s.cursor.row else max (s.cursor.row - 1) 1) s.cursor.col;
 }
 
--- NEL
+-- NEL: IND, and then CR (xterm 379)
 abbrev pub next_line : Sides → Display → Display
-next_line m s = index m (carriage_return m s)
+next_line m s = carriage_return m (index m s)
 
 -- LF, VT and FF
 abbrev pub line_feed : Sides → Display → Display
@@ -166,12 +170,12 @@ rows_up n m s = record s { grid = columns_up s.grid s.margins.top s.margins.bott
 abbrev pub rows_down : ℕ → Sides → Display → Display
 rows_down n m s = record s { grid = columns_down s.grid s.margins.top s.margins.bottom m.left m.right n }
 
--- IL and DL: between all four margins, and the cursor goes to the left one
+-- IL and DL, which need a cursor between all four margins: it goes to the left one
+abbrev pub is_enclosed : Sides → Display → Bool
+is_enclosed m s = is_inside s && is_between m s
+
 abbrev pub line_edited : Grid → Sides → Display → Display
-line_edited grid m s = record s {
-  grid = if is_inside s && is_between m s then grid else s.grid;
-  cursor = at_place s.cursor.row (if is_inside s && is_between m s then m.left else s.cursor.col);
-}
+line_edited grid m s = record s { grid = grid; cursor = at_place s.cursor.row m.left }
 
 abbrev pub insert_line : ℕ → Sides → Display → Display
 insert_line n m s = line_edited (columns_down s.grid s.cursor.row s.margins.bottom m.left m.right n) m s
@@ -181,14 +185,14 @@ delete_line n m s = line_edited (columns_up s.grid s.cursor.row s.margins.bottom
 
 -- ---- cells that move
 
--- ICH and DCH: between the margins, up to the right one
+-- ICH and DCH: between the margins, up to the right one. Elsewhere DCH leaves a pending wrap (xterm 379)
 abbrev pub insert_character : ℕ → Sides → Display → Display
 insert_character n m s =
     with_grid (if is_between m s then insert_between s.grid s.cursor.row s.cursor.col m.right n else s.grid) s
 
 abbrev pub delete_character : ℕ → Sides → Display → Display
 delete_character n m s =
-    with_grid (if is_between m s then delete_between s.grid s.cursor.row s.cursor.col m.right n else s.grid) s
+    if is_between m s then with_grid (delete_between s.grid s.cursor.row s.cursor.col m.right n) s else s
 
 -- ---- writing
 

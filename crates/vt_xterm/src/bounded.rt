@@ -12,12 +12,13 @@ ghost use Rattle.vt_xterm.specs.Front.{screen_effect};
 ghost use Rattle.vt_xterm.specs.Play.{screens_beyond, whole_of};
 ghost use Rattle.vt_xterm.specs.Bounded.{bounded_effect, control_between, plain_between, marked_between, other_between, bounded_in};
 ghost use Rattle.vt_xterm.specs.Bounded.{bounded_controls, bounded_plain, has_row, resets, erases, margins_set, repeating};
-ghost use Rattle.vt_xterm.specs.Bounded.{writing, writing_times, printing, writing_wide, writing_both, writing_beyond, held_beyond};
+ghost use Rattle.vt_xterm.specs.Bounded.{tabbing, writing, writing_times, printing, writing_wide, writing_both, writing_beyond, held_beyond};
 
 use crate::columns::{line_position_absolute, line_position_forward};
 use crate::front::SizedPages;
 use crate::functions::carry_out_wide;
 use crate::sides::Sides;
+use crate::tabs::HT;
 use vt_syntax::{EventKind, Held};
 use vt_term::{Glyph, SizedTerminal, count};
 use vt_utf8::{cells, shown_as};
@@ -97,7 +98,6 @@ fn is_bounded_control(b: u8) -> bool
 {
     match b {
         0x08 => true,
-        0x09 => true,
         0x0A => true,
         0x0B => true,
         0x0C => true,
@@ -130,6 +130,8 @@ fn control(
 {
     if b == 0x1A {
         write(terminal, pages, sides, Glyph::substitute());
+    } else if b == HT {
+        forward_tabs(terminal, pages, sides, 1, out);
     } else if is_bounded_control(b) {
         pages.sides = Some(sides.unwrapped());
         bounded_control(terminal, sides, b, out);
@@ -152,7 +154,6 @@ fn bounded_control(terminal: &mut SizedTerminal, sides: Sides, b: u8, out: &mut 
 {
     match b {
         0x08 => sides.cursor_backward(terminal, 1),
-        0x09 => sides.horizontal_tab(terminal, out),
         0x0A => sides.line_feed(terminal),
         0x0B => sides.line_feed(terminal),
         0x0C => sides.line_feed(terminal),
@@ -177,9 +178,6 @@ fn is_bounded_plain(last: u8) -> bool
         b'F' => true,
         b'G' => true,
         b'H' => true,
-        b'I' => true,
-        b'L' => true,
-        b'M' => true,
         b'P' => true,
         b'Z' => true,
         b'`' => true,
@@ -268,9 +266,6 @@ fn bounded_plain(
         b'F' => sides.cursor_preceding_line(terminal, n),
         b'G' => sides.cursor_character_absolute(terminal, n),
         b'H' => sides.cursor_position(terminal, value(values, 0), value(values, 1)),
-        b'I' => sides.cursor_forward_tabulation(terminal, n, out),
-        b'L' => sides.insert_line(terminal, n),
-        b'M' => sides.delete_line(terminal, n),
         b'P' => sides.delete_character(terminal, n),
         b'Z' => sides.cursor_backward_tabulation(terminal, n),
         b'`' => sides.cursor_character_absolute(terminal, n),
@@ -289,8 +284,8 @@ fn bounded_plain(
     }
 }
 
-/// Carries out a control sequence that leaves a pending wrap, or doesn't always reset it: SU, SD, REP, DECSTBM, or one that the margins
-/// don't bound.
+/// Carries out a control sequence that leaves a pending wrap, or doesn't always reset it: CHT, IL, DL, SU, SD, REP, DECSTBM, or one that the
+/// margins don't bound.
 #[tactic(auto, unfolding(crate::specs::Bounded::other_between, vt_term::specs::Functions::sequences_any, vt_term::specs::Reports::sequence_report_any))]
 fn other_plain(
     terminal: &mut SizedTerminal,
@@ -316,6 +311,19 @@ fn other_plain(
 {
     let n = count(values);
     match last {
+        b'I' => forward_tabs(terminal, pages, sides, n, out),
+        b'L' => {
+            if sides.is_enclosed(terminal) {
+                pages.sides = Some(sides.unwrapped());
+                sides.insert_line(terminal, n);
+            }
+        }
+        b'M' => {
+            if sides.is_enclosed(terminal) {
+                pages.sides = Some(sides.unwrapped());
+                sides.delete_line(terminal, n);
+            }
+        }
         b'S' => sides.rows_up(terminal, n),
         b'T' => {
             if values.len() == 1 {
@@ -333,6 +341,30 @@ fn other_plain(
             };
             carry_out_wide(terminal, pages, kind, values, out);
         }
+    }
+}
+
+/// Carries out CHT, and HT with 1. `out` stays, and has capacity for ten more bytes.
+fn forward_tabs(
+    terminal: &mut SizedTerminal,
+    pages: &mut SizedPages,
+    sides: Sides,
+    n: u16,
+    out: &mut Vec<u8>,
+)
+    requires fits { AreSides terminal.old.display.grid.width sides }
+    requires room { vec_len out.old + 10 ≤ vec_capacity out.old }
+    ensures terminal { terminal.new ≡ shown_by (tabbing n sides (screens terminal.old pages.old)) terminal.old.held }
+    ensures pages { pages.new ≡ (tabbing n sides (screens terminal.old pages.old)).pages }
+    ensures out { out.new.items ≡ out.old.items }
+    ensures len { vec_len out.new ≡ vec_len out.old }
+    ensures capacity { vec_capacity out.old ≤ vec_capacity out.new }
+{
+    if sides.is_pending(terminal) {
+        pages.sides = Some(sides.wait(terminal));
+    } else {
+        pages.sides = Some(sides.unwrapped());
+        sides.cursor_forward_tabulation(terminal, n, out);
     }
 }
 

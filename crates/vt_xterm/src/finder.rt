@@ -9,6 +9,7 @@ ghost use Rattle.vt_xterm.specs.Front.{sets_sides};
 ghost use Rattle.vt_xterm.specs.Private.Finding.{IsVt220};
 
 use crate::attributes::has_colour;
+use crate::tabs::HT;
 use vt_syntax::EventKind;
 use vt_syntax::laws::spelled;
 use vt_term::laws::sized_happened;
@@ -26,6 +27,8 @@ pub(crate) fn is_own_plain(values: &[u16], last: u8) -> bool
         b'F' => true,
         b'G' => true,
         b'I' => true,
+        b'L' => true,
+        b'M' => true,
         b'Z' => true,
         b'S' => true,
         b'T' => true,
@@ -64,7 +67,7 @@ pub(crate) fn is_own(kind: EventKind, values: &[u16]) -> bool
 {
     match kind {
         EventKind::Print(_) => false,
-        EventKind::Control(_) => false,
+        EventKind::Control(b) => b == HT,
         EventKind::Escape { inter: None, last } => last == b'c' || last == b'8',
         EventKind::Escape {
             inter: Some(inter),

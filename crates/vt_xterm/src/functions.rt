@@ -1,8 +1,8 @@
 //! The function that an event asks for.
-ghost use Rattle.std.specs.Prelude.{◌≡◌, ◌≤◌, ◌+◌, ◌++◌, [], vec_len, vec_capacity, Some, None};
+ghost use Rattle.std.specs.Prelude.{◌≡◌, ◌≤◌, ◌+◌, ◌++◌, ◌⊎◌, [], vec_len, vec_capacity, Some, None};
 ghost use Rattle.vt_syntax.specs.Event.{event_of};
 ghost use Rattle.vt_syntax.specs.Spelling.{IsEvent};
-ghost use Rattle.vt_syntax.specs.declared.event.Event.TheVariants.{Escape, Sequence};
+ghost use Rattle.vt_syntax.specs.declared.event.Event.TheVariants.{Control, Escape, Sequence};
 ghost use Rattle.vt_term.specs.Parameters.{first, second};
 ghost use Rattle.vt_term.specs.Resets.{is_level};
 ghost use Rattle.vt_term.specs.Reports.{report};
@@ -10,7 +10,8 @@ ghost use Rattle.vt_xterm.specs.Pages.{screens, shown_by, set_sides, reset_to_in
 ghost use Rattle.vt_xterm.specs.Front.{plain_functions, private_functions, exclamation_functions, quote_functions, plain_escapes};
 ghost use Rattle.vt_xterm.specs.Scroll.{rows_down_by};
 ghost use Rattle.vt_xterm.specs.Front.{save_or_set_sides, restore_if_bare, functions_of, function_in, screen_effect, xterm_effect};
-ghost use Rattle.vt_xterm.specs.Front.{escapes_with};
+ghost use Rattle.vt_xterm.specs.Front.{escapes_with, control_effect, if_inside};
+ghost use Rattle.vt_term.specs.Functions.{effect};
 ghost use Rattle.vt_xterm.specs.Bounded.{is_bare};
 
 use crate::attributes::select_attributes;
@@ -23,7 +24,7 @@ use crate::front::SizedPages;
 use crate::modes::{change_modes, restore};
 use crate::repeating::repeat;
 use crate::sides::Sides;
-use crate::tabs::{cursor_backward_tabulation, cursor_forward_tabulation};
+use crate::tabs::{HT, cursor_backward_tabulation, cursor_forward_tabulation, tab};
 use vt_syntax::EventKind;
 use vt_term::{SizedTerminal, count};
 
@@ -79,7 +80,7 @@ pub(crate) fn carry_out_wide(
 {
     match kind {
         EventKind::Print(_) => terminal.carry_out(kind, values, out),
-        EventKind::Control(_) => terminal.carry_out(kind, values, out),
+        EventKind::Control(b) => control(terminal, b, out),
         EventKind::Escape { inter: None, last } => plain_escape(terminal, pages, last, out),
         EventKind::Escape {
             inter: Some(inter),
@@ -90,6 +91,24 @@ pub(crate) fn carry_out_wide(
             inter,
             last,
         } => sequence(terminal, pages, marker, values, inter, last, out),
+    }
+}
+
+/// Carries out a control.
+#[inline(always)]
+#[tactic(auto, unfolding(vt_term::specs::Reports::control_report_any))]
+fn control(terminal: &mut SizedTerminal, b: u8, out: &mut Vec<u8>)
+    requires event { IsEvent (Control b) }
+    requires room { vec_len out.old + 10 ≤ vec_capacity out.old }
+    ensures terminal { terminal.new ≡ record terminal.old { display = control_effect b terminal.old.display } }
+    ensures reports { out.new.items ≡ out.old.items ++ report (Control b) terminal.old.display }
+    ensures bounded { vec_len out.new ≤ vec_len out.old + 10 }
+    ensures capacity { vec_capacity out.old ≤ vec_capacity out.new }
+{
+    if b == HT {
+        tab(terminal, out);
+    } else {
+        terminal.carry_out(EventKind::Control(b), &[], out);
     }
 }
 
@@ -204,7 +223,7 @@ fn sequence(
 }
 
 /// Carries out a control sequence without marker and intermediate.
-#[tactic(auto, unfolding(crate::specs::Front::function_in, vt_term::specs::Functions::sequences_any, vt_term::specs::Reports::sequence_report_any))]
+#[tactic(auto, unfolding(crate::specs::Front::function_in, vt_term::specs::Functions::sequence_in, vt_term::specs::Functions::sequences_any, vt_term::specs::Reports::sequence_report_any))]
 pub(crate) fn plain_sequence(
     terminal: &mut SizedTerminal,
     pages: &mut SizedPages,
@@ -229,6 +248,8 @@ pub(crate) fn plain_sequence(
         b'F' => cursor_preceding_line(terminal, count(values)),
         b'G' => cursor_character_absolute(terminal, count(values)),
         b'I' => cursor_forward_tabulation(terminal, count(values), out),
+        b'L' => edit_lines(terminal, values, last, out),
+        b'M' => edit_lines(terminal, values, last, out),
         b'S' => terminal.scroll_up(count(values)),
         b'T' => scroll_down_by(terminal, values),
         b'Z' => cursor_backward_tabulation(terminal, count(values)),
@@ -249,6 +270,31 @@ pub(crate) fn plain_sequence(
             };
             terminal.carry_out(kind, values, out);
         }
+    }
+}
+
+/// Carries out IL or DL, which has no effect outside the margins. It causes no report.
+#[tactic(auto, unfolding(vt_term::specs::Functions::sequences_any, vt_term::specs::Reports::sequence_report_any))]
+fn edit_lines(terminal: &mut SizedTerminal, values: &[u16], last: u8, out: &mut Vec<u8>)
+    requires event { IsEvent (Sequence None (record { items = values.now }) None last) }
+    requires lines { (last ≡ 0x4C) ⊎ (last ≡ 0x4D) }
+    requires room { vec_len out.old + 10 ≤ vec_capacity out.old }
+    ensures terminal { terminal.new ≡ record terminal.old {
+      display = if_inside (effect (Sequence None (record { items = values.now }) None last)) terminal.old.display;
+    } }
+    ensures out { out.new.items ≡ out.old.items }
+    ensures len { vec_len out.new ≡ vec_len out.old }
+    ensures capacity { vec_capacity out.old ≤ vec_capacity out.new }
+{
+    let row = terminal.cursor().row;
+    let margins = terminal.margins();
+    if margins.top <= row && row <= margins.bottom {
+        let kind = EventKind::Sequence {
+            marker: None,
+            inter: None,
+            last,
+        };
+        terminal.carry_out(kind, values, out);
     }
 }
 

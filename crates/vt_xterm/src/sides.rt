@@ -1,6 +1,6 @@
 //! Left and right margins, and what each function does between them.
-ghost use Rattle.std.specs.Prelude.{◌≡◌, ◌≤◌, ◌+◌, ◌&&◌, IfSome, IfNone, true, false, vec_len, vec_capacity};
-ghost use Rattle.vt_term.specs.Editing.{is_inside};
+ghost use Rattle.std.specs.Prelude.{◌≡◌, ◌≤◌, ◌+◌, IfSome, IfNone, true, false, nat_lt, vec_len, vec_capacity};
+ghost use Rattle.std.specs.Bool.{OnTrue};
 ghost use Rattle.vt_xterm.specs.Bounded.{is_at_end};
 ghost use Rattle.vt_xterm.specs.Sides.{AreSides, full_sides, are_narrow, are_sides, sides_of};
 ghost use Rattle.vt_xterm.specs.Sides as between;
@@ -269,13 +269,13 @@ impl Sides {
         terminal.move_to(cursor.row, cursor.col);
     }
 
-    /// Carries out NEL: CR, and then IND.
+    /// Carries out NEL: IND, and then CR.
     pub(crate) fn next_line(&self, terminal: &mut SizedTerminal)
         requires fits { AreSides terminal.old.display.grid.width self.now }
         ensures { terminal.new ≡ record terminal.old { display = between.next_line self.now terminal.old.display } }
     {
-        self.carriage_return(terminal);
         self.index(terminal);
+        self.carriage_return(terminal);
     }
 
     /// Carries out LF, VT and FF: IND, and under LNM also CR.
@@ -313,8 +313,9 @@ impl Sides {
     }
 
     /// Returns whether the cursor is between all four margins.
-    fn is_inside(&self, terminal: &SizedTerminal) -> bool
-        ensures { result ≡ (is_inside terminal.now.display && between.is_between self.now terminal.now.display) }
+    pub(crate) fn is_enclosed(&self, terminal: &SizedTerminal) -> bool
+        ensures value { result ≡ between.is_enclosed self.now terminal.now.display }
+        ensures row { OnTrue result (terminal.now.display.cursor.row ≤ terminal.now.display.margins.bottom) }
     {
         let row = terminal.cursor().row;
         let margins = terminal.margins();
@@ -322,35 +323,29 @@ impl Sides {
     }
 
     /// Carries out IL between all four margins: inserts `n` blank rows at the cursor's row, and moves the cursor to the
-    /// left margin. Outside the margins it only resets the wrap flag.
+    /// left margin.
     pub(crate) fn insert_line(&self, terminal: &mut SizedTerminal, n: u16)
         requires fits { AreSides terminal.old.display.grid.width self.now }
         requires some { 1 ≤ n }
+        requires row { terminal.old.display.cursor.row ≤ terminal.old.display.margins.bottom }
         ensures { terminal.new ≡ record terminal.old { display = between.insert_line n self.now terminal.old.display } }
     {
-        let cursor = terminal.cursor();
-        if self.is_inside(terminal) {
-            terminal.columns_down(cursor.row, self.left, self.right, n);
-            terminal.move_to(cursor.row, self.left);
-        } else {
-            terminal.move_to(cursor.row, cursor.col);
-        }
+        let row = terminal.cursor().row;
+        terminal.columns_down(row, self.left, self.right, n);
+        terminal.move_to(row, self.left);
     }
 
     /// Carries out DL between all four margins: deletes `n` rows starting at the cursor's row, and moves the cursor to
-    /// the left margin. Outside the margins it only resets the wrap flag.
+    /// the left margin.
     pub(crate) fn delete_line(&self, terminal: &mut SizedTerminal, n: u16)
         requires fits { AreSides terminal.old.display.grid.width self.now }
         requires some { 1 ≤ n }
+        requires row { terminal.old.display.cursor.row ≤ terminal.old.display.margins.bottom }
         ensures { terminal.new ≡ record terminal.old { display = between.delete_line n self.now terminal.old.display } }
     {
-        let cursor = terminal.cursor();
-        if self.is_inside(terminal) {
-            terminal.columns_up(cursor.row, self.left, self.right, n);
-            terminal.move_to(cursor.row, self.left);
-        } else {
-            terminal.move_to(cursor.row, cursor.col);
-        }
+        let row = terminal.cursor().row;
+        terminal.columns_up(row, self.left, self.right, n);
+        terminal.move_to(row, self.left);
     }
 
     /// Carries out ICH between the margins: inserts `n` blank cells at the cursor, up to the right margin. Outside the
@@ -367,18 +362,17 @@ impl Sides {
         terminal.move_to(cursor.row, cursor.col);
     }
 
-    /// Carries out DCH between the margins: deletes `n` cells starting at the cursor, up to the right margin. Outside
-    /// the margins it only resets the wrap flag.
+    /// Carries out DCH between the margins: deletes `n` cells starting at the cursor, up to the right margin.
     pub(crate) fn delete_character(&self, terminal: &mut SizedTerminal, n: u16)
         requires fits { AreSides terminal.old.display.grid.width self.now }
         requires some { 1 ≤ n }
         ensures { terminal.new ≡ record terminal.old { display = between.delete_character n self.now terminal.old.display } }
     {
-        let cursor = terminal.cursor();
         if self.is_between(terminal) {
+            let cursor = terminal.cursor();
             terminal.delete_between(self.right, n);
+            terminal.move_to(cursor.row, cursor.col);
         }
-        terminal.move_to(cursor.row, cursor.col);
     }
 
     /// Carries out a pending wrap.
@@ -459,6 +453,23 @@ impl Sides {
         forward_tab(terminal, out);
         let cursor = terminal.cursor();
         terminal.move_to(cursor.row, cursor.col.min(self.right));
+    }
+
+    /// Carries out HT and CHT under a pending wrap. Returns the margins with the wrap that is pending at the right one.
+    pub(crate) fn wait(&self, terminal: &mut SizedTerminal) -> Sides
+        requires fits { AreSides terminal.old.display.grid.width self.now }
+        ensures terminal { terminal.new ≡ record terminal.old { display = between.wrap_waiting self.now terminal.old.display } }
+        ensures sides { result ≡ record self.now { wrap = nat_lt self.now.right terminal.old.display.grid.width } }
+    {
+        let wrap = self.right < terminal.width();
+        if wrap {
+            terminal.move_to(terminal.cursor().row, self.right);
+        }
+        Sides {
+            left: self.left,
+            right: self.right,
+            wrap,
+        }
     }
 
     /// Carries out CHT: HT `n` times. `out` stays, and has capacity for ten more bytes.

@@ -1,13 +1,13 @@
-//! Tabs, by functions that a VT220 lacks.
+//! Tabs, by functions that a VT220 lacks, and HT.
 ghost use Rattle.std.specs.Prelude.{◌≡◌, ◌≤◌, ◌+◌, length, vec_len, vec_capacity};
 ghost use Rattle.vt_term.specs.Tabs.{horizontal_tab};
-ghost use Rattle.vt_xterm.specs.Tabs.{stop_before, back_tab, cursor_forward_tabulation, cursor_backward_tabulation};
+ghost use Rattle.vt_xterm.specs.Tabs.{tab, stop_before, back_tab, cursor_forward_tabulation, cursor_backward_tabulation};
 
 use vt_syntax::EventKind;
 use vt_term::SizedTerminal;
 
 /// The control HT.
-const HT: u8 = 0x09;
+pub(crate) const HT: u8 = 0x09;
 
 /// Returns the nearest stop left of a column, or else column 1.
 pub(crate) fn stop_before(stops: &[bool], col: usize) -> usize
@@ -36,7 +36,7 @@ fn back_tab(terminal: &mut SizedTerminal)
     terminal.move_to(cursor.row, col);
 }
 
-/// Carries out HT, which causes no report.
+/// Carries out HT as a VT220 does. It causes no report.
 #[tactic(auto, unfolding(vt_term::specs::Functions::control_any, vt_term::specs::Reports::control_report_any))]
 pub(crate) fn forward_tab(terminal: &mut SizedTerminal, out: &mut Vec<u8>)
     requires { vec_len out.old + 10 ≤ vec_capacity out.old }
@@ -46,6 +46,19 @@ pub(crate) fn forward_tab(terminal: &mut SizedTerminal, out: &mut Vec<u8>)
     ensures capacity { vec_capacity out.old ≤ vec_capacity out.new }
 {
     terminal.carry_out(EventKind::Control(HT), &[], out);
+}
+
+/// Carries out HT, which has no effect while the wrap flag is set. `out` stays, and has capacity for ten more bytes.
+pub(crate) fn tab(terminal: &mut SizedTerminal, out: &mut Vec<u8>)
+    requires { vec_len out.old + 10 ≤ vec_capacity out.old }
+    ensures terminal { terminal.new ≡ record terminal.old { display = tab terminal.old.display } }
+    ensures out { out.new.items ≡ out.old.items }
+    ensures len { vec_len out.new ≡ vec_len out.old }
+    ensures capacity { vec_capacity out.old ≤ vec_capacity out.new }
+{
+    if !terminal.cursor().wrap {
+        forward_tab(terminal, out);
+    }
 }
 
 /// Carries out CHT: HT `n` times. `out` stays, and has capacity for ten more bytes.
@@ -59,7 +72,7 @@ pub(crate) fn cursor_forward_tabulation(terminal: &mut SizedTerminal, n: u16, ou
 {
     let count = (n as usize).min(terminal.width());
     for _ in 0..count {
-        forward_tab(terminal, out);
+        tab(terminal, out);
     }
 }
 

@@ -1,6 +1,7 @@
 -- The items of a repaint have a VT220's effect under TERM=xterm, if DECCOLM has an effect there: all of them while DECLRMM is reset, and
 -- those from the brush on also while it is set.
 use Rattle.std.proofs.Common.{◌≡◌, Bool, true, false, not, cond, ◌&&◌, ℕ, List, [], ◌∷◌, ◌++◌, Option, Some, None, eqb, refl, ap}
+use Rattle.std.specs.Prelude.{◌==◌, if◌then◌else◌}
 use Rattle.std.specs.Bool.{⊤}
 use Rattle.std.specs.List.{flat_map, list_any, range_with_len}
 use Rattle.std.specs.Cmp.Lexicographic.{pointwise}
@@ -41,6 +42,7 @@ use Rattle.vt_xterm.specs.Sides.{bounds}
 use Rattle.vt_xterm.specs.Pages.{Screens, on_display, with_page_mode, bounds_of}
 use Rattle.vt_xterm.specs.Attributes.{begins_colour}
 use Rattle.vt_xterm.specs.Bounded.{bounded_effect, bounded_in, has_row, other_between}
+use Rattle.vt_xterm.specs.Tabs.{tab}
 use Rattle.vt_xterm.specs.Front.{functions_of, function_in, screen_effect, effect_between, xterm_effect}
 use Rattle.vt_xterm.proofs.Colours.{without-colours}
 use Rattle.vt_term.specs.Functions.{sequences_any}
@@ -311,9 +313,10 @@ module _ (other : PageState) (alternate : Bool) where
   unfolding bounds
   print-painted code s = refl
 
-  control-painted : (code : ℕ) → IsPainted (Control code)
+  control-painted : (code : ℕ) → (code == 0x09) ≡ false → IsPainted (Control code)
   unfolding bounds
-  control-painted code s = refl
+  control-painted code not s =
+      ap (λ (tabs : Bool). on_display (λ d. if tabs then tab d else effect (Control code) d) (on s)) not
 
   save-painted : IsPainted save_cursor
   unfolding function_in bounds
@@ -321,8 +324,8 @@ module _ (other : PageState) (alternate : Bool) where
 
   spelling-painted : (spelling : Spelling) → AreEach IsPainted (spelling_events spelling)
   spelling-painted (Plain code) = each-one IsPainted _ (print-painted code)
-  spelling-painted (Second code) = each-more IsPainted _ _ (control-painted 0x8E) (each-one IsPainted _ (print-painted code))
-  spelling-painted (Third code) = each-more IsPainted _ _ (control-painted 0x8F) (each-one IsPainted _ (print-painted code))
+  spelling-painted (Second code) = each-more IsPainted _ _ (control-painted 0x8E refl) (each-one IsPainted _ (print-painted code))
+  spelling-painted (Third code) = each-more IsPainted _ _ (control-painted 0x8F refl) (each-one IsPainted _ (print-painted code))
 
   glyph-painted : (cell : Cell) → AreEach IsPainted (glyph_events cell)
   unfolding glyph_events
@@ -343,7 +346,7 @@ module _ (other : PageState) (alternate : Bool) where
   unfolding stop_events
   stop-painted stops c =
       each-when IsPainted (has_stop_at stops c) _
-      (each-more IsPainted _ _ (position-painted 1 c) (each-one IsPainted _ (control-painted 0x88)))
+      (each-more IsPainted _ _ (position-painted 1 c) (each-one IsPainted _ (control-painted 0x88 refl)))
 
   clear-painted : IsPainted (sequence_of (3 ∷ []) 0x67)
   unfolding functions_of function_in bounds

@@ -58,6 +58,8 @@ plain_names =
     ∷ row "F" (always (codes "CPL"))
     ∷ row "G" (always (codes "CHA"))
     ∷ row "I" (always (codes "CHT"))
+    ∷ row "L" (always (codes "IL"))
+    ∷ row "M" (always (codes "DL"))
     ∷ row "S" (always (codes "SU"))
     ∷ row "T" (taking is_one (codes "SD"))
     ∷ row "Z" (always (codes "CBT"))

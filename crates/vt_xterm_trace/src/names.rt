@@ -90,6 +90,8 @@ fn plain_name(rows: usize, values: &[u16], last: u8) -> Option<&'static str>
         b'F' => Some("CPL"),
         b'G' => Some("CHA"),
         b'I' => Some("CHT"),
+        b'L' => Some("IL"),
+        b'M' => Some("DL"),
         b'S' => Some("SU"),
         b'T' => if_takes(is_one(values), "SD"),
         b'Z' => Some("CBT"),

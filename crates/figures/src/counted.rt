@@ -3,9 +3,11 @@ ghost use Rattle.std.specs.Prelude.{◌≤◌};
 
 use std::alloc::{AllocError, Global};
 use vt_paint::{PAINT_LIMIT, repaint};
-use vt_picture::{SHOW_LIMIT, show};
-use vt_term::Terminal;
-use vt_update::{UPDATE_LIMIT, update_reserved};
+use vt_picture::SHOW_LIMIT;
+use vt_picture::sized::show;
+use vt_term::{Size, SizedTerminal, Terminal};
+use vt_update::UPDATE_LIMIT;
+use vt_update::sized::{update_limit, update_reserved};
 
 /// The call that is made after each frame.
 #[derive(Clone, Copy)]
@@ -28,10 +30,10 @@ impl Call {
     }
 
     /// Makes the call into `out`, which has capacity for it. Returns whether it succeeded.
-    fn make(self, terminal: &Terminal, shown: &mut Terminal, out: &mut Vec<u8>) -> bool {
+    fn make(self, terminal: &Terminal, shown: &mut SizedTerminal, out: &mut Vec<u8>) -> bool {
         match self {
             Call::Nothing => true,
-            Call::Show => show(terminal, out).is_ok(),
+            Call::Show => show(&terminal.sized, out).is_ok(),
             Call::Repaint => repaint(terminal, out).is_ok(),
             Call::Update => update(shown, terminal, out),
         }
@@ -39,19 +41,19 @@ impl Call {
 }
 
 /// Updates what is shown. Returns whether both terminals are between sequences, and `out` has capacity.
-pub(crate) fn update(shown: &mut Terminal, to: &Terminal, out: &mut Vec<u8>) -> bool {
-    if !shown.is_between() || !to.is_between() || out.reserve(UPDATE_LIMIT).is_err() {
+pub(crate) fn update(shown: &mut SizedTerminal, to: &Terminal, out: &mut Vec<u8>) -> bool {
+    let to = &to.sized;
+    if !shown.is_between() || !to.is_between() || out.reserve(update_limit(to.size())).is_err() {
         return false;
     }
-    update_reserved(shown, to, out);
-    true
+    update_reserved(shown, to, out)
 }
 
 /// A terminal on which a recording is played, and a second one for what is shown.
 #[derive(Drop)]
 struct Player {
     terminal: Terminal,
-    shown: Terminal,
+    shown: SizedTerminal,
     reports: Vec<u8>,
     out: Vec<u8>,
 }
@@ -62,7 +64,7 @@ impl Player {
             reports: Vec::new(alloc),
             out: Vec::with_capacity(alloc, PAINT_LIMIT.max(SHOW_LIMIT).max(UPDATE_LIMIT))?,
             terminal: Terminal::new(alloc)?,
-            shown: Terminal::new(alloc)?,
+            shown: SizedTerminal::new(alloc, Size::vt220())?,
         })
     }
 

@@ -5,9 +5,14 @@ use vt_picture::{DRAW_LIMIT, PICTURE_LIMIT, SHOW_LIMIT};
 use vt_screen::{COLUMNS, ROWS};
 use vt_term::{REPORT_LIMIT, ROW_TEXT_LIMIT, TEXT_LIMIT};
 use vt_update::UPDATE_LIMIT;
-use vt_utf8::UTF8_LINES_LIMIT;
-use vt_xterm::LINES_LIMIT as XTERM_LINES_LIMIT;
+use vt_utf8::BYTE_LIMIT;
 use vt_xterm_paint::XTERM_PAINT_LIMIT;
+
+/// The capacity for lines without which a feed of UTF-8 with a log stops.
+const UTF8_LINES_LIMIT: usize = BYTE_LIMIT * ROW_TEXT_LIMIT;
+
+/// The capacity for lines without which a feed with a log stops under TERM=xterm: that of two screens.
+const XTERM_LINES_LIMIT: usize = 2 * TEXT_LIMIT;
 
 /// Prints each constant with the header's name.
 pub(crate) fn print_limits(rt: &impl Print) -> io::Result<()> {

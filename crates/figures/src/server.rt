@@ -4,7 +4,7 @@ use std::alloc::{AllocError, Global};
 use std::io;
 use std::time::{Clock, Instant};
 use vt_paint::{PAINT_LIMIT, repaint};
-use vt_term::Terminal;
+use vt_term::{Size, SizedTerminal, Terminal};
 use vt_update::UPDATE_LIMIT;
 
 /// The bytes that a client was sent, and the time that it took to make them.
@@ -41,7 +41,7 @@ impl Sent {
 #[derive(Drop)]
 pub(crate) struct Server {
     terminal: Terminal,
-    shown: Terminal,
+    shown: SizedTerminal,
     reports: Vec<u8>,
     pub(crate) frames: u64,
     pub(crate) inside: u64,
@@ -61,14 +61,14 @@ impl Server {
             updates: Sent::new(alloc, UPDATE_LIMIT)?,
             repaints: Sent::new(alloc, PAINT_LIMIT)?,
             terminal: Terminal::new(alloc)?,
-            shown: Terminal::new(alloc)?,
+            shown: SizedTerminal::new(alloc, Size::vt220())?,
         })
     }
 
     /// Resets everything to its power-up state, with nothing sent. The buffers keep their capacity.
     pub(crate) fn restart(&mut self, alloc: Global) -> Result<(), AllocError> {
         self.terminal = Terminal::new(alloc)?;
-        self.shown = Terminal::new(alloc)?;
+        self.shown = SizedTerminal::new(alloc, Size::vt220())?;
         self.frames = 0;
         self.inside = 0;
         self.repainted = 0;

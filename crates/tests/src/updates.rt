@@ -1,12 +1,11 @@
 //! Tests what no clause says of the update: it asks for no memory, and what the output holds makes no difference. What is
 //! sent is in lib/rows/updates.txt.
-ghost use Rattle.std.specs.Prelude.{◌+◌, ◌*◌, ◌≤◌, vec_len, vec_capacity};
 
 use crate::rows::holds;
 use crate::scarce::Scarce;
 use std::alloc::{AllocError, Global};
-use vt_term::Terminal;
-use vt_update::{UPDATE_LIMIT, update_reserved};
+use vt_term::{Size, SizedTerminal};
+use vt_update::sized::{update_limit, update_reserved};
 
 /// Bytes of the screen that is shown, and of the one that is asked for.
 type Pair = (&'static [u8], &'static [u8]);
@@ -19,8 +18,8 @@ const PAIRS: [Pair; 3] = [
 ];
 
 /// Returns a terminal as at power-up that was fed these bytes.
-fn terminal(alloc: Global, input: &[u8]) -> Result<Terminal, AllocError> {
-    let mut terminal = Terminal::new(alloc)?;
+fn terminal(alloc: Global, input: &[u8]) -> Result<SizedTerminal, AllocError> {
+    let mut terminal = SizedTerminal::new(alloc, Size::vt220())?;
     let mut reports = Vec::new(alloc);
     terminal.feed(input, &mut reports)?;
     Ok(terminal)
@@ -29,10 +28,10 @@ fn terminal(alloc: Global, input: &[u8]) -> Result<Terminal, AllocError> {
 /// Returns what an update sends while there is no memory.
 fn reserved_update(
     alloc: Global,
-    shown: &mut Terminal,
-    to: &Terminal,
+    shown: &mut SizedTerminal,
+    to: &SizedTerminal,
 ) -> Result<Vec<u8>, AllocError> {
-    let mut out = Vec::with_capacity(alloc, UPDATE_LIMIT)?;
+    let mut out = Vec::with_capacity(alloc, update_limit(to.size()))?;
     let scarce = Scarce::new(alloc)?;
     if shown.is_between() && to.is_between() {
         update_reserved(shown, to, &mut out);
@@ -56,23 +55,22 @@ fn no_memory_is_asked_for(rt: HostRuntime) {
     }
 }
 
-/// Appends two updates that each lead from a blank screen to a letter.
-fn append_two(shown: &mut Terminal, again: &mut Terminal, to: &Terminal, out: &mut Vec<u8>)
-    requires { vec_len out.old + 2 * UPDATE_LIMIT ≤ vec_capacity out.old }
-{
-    if shown.is_between() && again.is_between() && to.is_between() {
-        update_reserved(shown, to, out);
-        update_reserved(again, to, out);
+/// Appends an update that leads from a blank screen to a letter.
+fn append_a_letter(alloc: Global, out: &mut Vec<u8>) -> Result<(), AllocError> {
+    let mut shown = SizedTerminal::new(alloc, Size::vt220())?;
+    let to = terminal(alloc, b"A")?;
+    out.reserve(update_limit(to.size()))?;
+    if shown.is_between() && to.is_between() {
+        update_reserved(&mut shown, &to, out);
     }
+    Ok(())
 }
 
 /// Returns whether an update appends the same to what another one sent.
 fn appends_a_letter(alloc: Global) -> Result<bool, AllocError> {
-    let mut shown = Terminal::new(alloc)?;
-    let mut again = Terminal::new(alloc)?;
-    let to = terminal(alloc, b"A")?;
-    let mut out = Vec::with_capacity(alloc, 2 * UPDATE_LIMIT)?;
-    append_two(&mut shown, &mut again, &to, &mut out);
+    let mut out = Vec::new(alloc);
+    append_a_letter(alloc, &mut out)?;
+    append_a_letter(alloc, &mut out)?;
     Ok(out.as_slice() == b"AA".as_slice())
 }
 

@@ -1,10 +1,9 @@
 -- How often the bell rings: in an event, in graphic bytes, in bytes without a BEL, and in bytes that are played in parts.
 use Rattle.std.proofs.Common.{◌≡◌, ◌≢◌, refl, ap, List, ℕ, zero, suc, [], ◌∷◌, ◌++◌, ◌+◌, ◌≤◌, ◌<◌, take, drop, arith}
-use Rattle.std.proofs.Common.{All, get_or, length, map, ◌∙◌, sym, subst, inl, inr}
+use Rattle.std.proofs.Common.{All, get_or, length, map, ◌∙◌}
 use Rattle.std.specs.Prelude.{count_by, cond}
 use Rattle.std.proofs.Math.Seq.{take-add, take-length}
 use Rattle.vt_glyph.specs.Invocation.{HasGlyph}
-use Rattle.vt_syntax.specs.Class.{IsOfLines}
 use Rattle.vt_syntax.specs.declared.event.Event.{Event}
 use Rattle.vt_syntax.specs.declared.event.Event.TheVariants.{Print}
 use Rattle.vt_syntax.specs.declared.held.Held.{Held}
@@ -84,17 +83,6 @@ module _ (law : SplitLaw) where
       let all : bells held (b ∷ take n bytes) ≡ bells held (b ∷ []) + bells next (take n bytes) =
       bells-append law held (b ∷ []) (take n bytes) in
       omega (arith, all, first, others)
-
-  -- bytes of lines
-  pub lines-quiet : ControlLaw → (held : Held) (bytes : List ℕ) → IsHeldPart held → All IsOfLines bytes → bells held bytes ≡ 0
-  lines-quiet controls held bytes is all =
-      ap (bells held) (sym (take-length bytes))
-      ∙ quiet controls (length bytes) held bytes is (λ i low bell. no-bell (subst IsOfLines bell (all i 0 low)))
-    where
-      no-bell : IsOfLines 7 → ⊥
-      no-bell (inl h) = absurd (omega (arith, h.0))
-      no-bell (inr (inl h)) = absurd (omega (arith, h.0))
-      no-bell (inr (inr h)) = absurd (omega (arith, h))
 
   pub more-bells : (s t : State) (piece : List ℕ) (at n so_far rung : ℕ)
       → t ≡ (play s (take at piece)).state → so_far ≡ bells s.held (take at piece)

@@ -5,7 +5,6 @@ use Rattle.std.specs.List.{range_with_len, sum_by}
 use Rattle.vt_screen.specs.declared.cell.Cell.{Cell}
 use Rattle.vt_screen.specs.Cells.{brush_of}
 use Rattle.vt_screen.specs.declared.size.Size.{Size}
-use Rattle.vt_screen.specs.Sizes.{vt220_size}
 use Rattle.vt_screen.specs.Grid.{Grid, cell_at}
 use Rattle.vt_term.specs.State.{Display, State, last_column}
 use Rattle.vt_term.specs.Play.{play}
@@ -56,17 +55,3 @@ pub record Changes (s t : State) (before after : List ℕ) : Type 0 where
   pub sent : List ℕ
   pub appended : after ≡ before ++ sent
   pub played : play s sent ≡ record { state = t; reports = [] }
-
--- ---- on a VT220
-
-abbrev pub differing : Grid → Grid → ℕ
-differing a b = differing_at vt220_size a b
-
-abbrev pub AreMarked : List (List Bool) → Grid → Grid → Type 0
-AreMarked marks a b = AreMarkedAt vt220_size marks a b
-
-abbrev pub AreCounted : List ℕ → Grid → Grid → Type 0
-AreCounted counts a b = AreCountedAt vt220_size counts a b
-
-abbrev pub AreChanges : List (List Bool) → Display → Display → Type 0
-AreChanges marks s t = AreChangesAt vt220_size marks s t

@@ -24,6 +24,4 @@ pub use bytes::{push_bytes, push_number, push_when, put_front, put_part};
 pub use function::{FUNCTION_LIMIT, Function};
 pub use modes::{ALL_MODES, AT_POWER_UP, DECAWM, DECCOLM, DECOM, IRM, MODES, mode_values};
 pub use paint::{PAINT_LIMIT, PaintError};
-pub use views::{
-    changed_places, repaint, repaint_changes_reserved, repaint_items_reserved, repaint_reserved,
-};
+pub use views::{repaint, repaint_reserved};

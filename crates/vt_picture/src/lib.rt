@@ -12,14 +12,9 @@ mod looks;
 mod runs;
 mod showing;
 pub mod sized;
-mod views;
 
 pub use bytes::push_glyph;
 pub use document::PICTURE_LIMIT;
 pub use drawing::DRAW_LIMIT;
 pub use drawing::pen::Pen;
 pub use showing::{SHOW_LIMIT, push_change, push_rendition};
-pub use views::{
-    draw, draw_from, draw_from_reserved, draw_reserved, picture, picture_reserved, show,
-    show_reserved,
-};

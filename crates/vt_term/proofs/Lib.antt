@@ -18,7 +18,5 @@ pub mod Resized
 pub mod OneSize
 pub mod Happened
 mod Playing
-mod Forgetting
-pub mod Passing
 pub mod Scrolled
 pub mod LineEnds

@@ -25,4 +25,3 @@ pub mod Happenings
 pub mod ScrollSteps
 pub mod Observing
 pub mod Observers
-pub mod Unseen

@@ -33,10 +33,6 @@ IsSoundPage page = IsSoundPageAt vt220_size page
 abbrev pub blank_page : Size → PageState
 blank_page size = record { grid = blank_grid size false; saved = saved_at_power_up }
 
--- the blank page of a VT220's size
-abbrev pub page_at_power_up : PageState
-page_at_power_up = blank_page vt220_size
-
 -- blank cells; what was saved stays
 abbrev pub blanked : PageState → PageState
 blanked page = record page { grid = blank_grid page.grid.size (page.grid.width == page.grid.size.wide) }

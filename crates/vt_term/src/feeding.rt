@@ -17,7 +17,6 @@ use crate::codes::{CR, LF, RIGHT};
 use crate::observing::{Nobody, Observer};
 use crate::profile::{Profile, Vt220};
 use crate::sized::{REPORT_LIMIT, SizedTerminal};
-use crate::unseen::{LEAST, Passed};
 use std::alloc::AllocError;
 use vt_glyph::laws::in_use;
 use vt_syntax::laws::{one_split, spelled};
@@ -28,9 +27,6 @@ use vt_syntax::{
 
 /// The least number of plain bytes that are written separately even if bytes of the right half follow.
 const LONG_RUN: usize = 8;
-
-/// The most bytes that are played before the next search for lines that nobody sees.
-const BLOCK: usize = 16384;
 
 /// Returns whether there is a byte at a position, and it is of the right half.
 #[inline(always)]
@@ -71,7 +67,9 @@ impl SizedTerminal {
     }
 
     /// Plays a chunk of the host's bytes, and appends the reports to `out`. `out` has capacity for ten more bytes for
-    /// each byte of the chunk. It never fails and allocates nothing.
+    /// each byte of the chunk. It never fails and allocates nothing. (Speed: as the only place with this feed, it has the whole
+    /// dispatcher inline.)
+    #[inline(never)]
     pub fn feed_reserved(&mut self, piece: &[u8], out: &mut Vec<u8>)
         requires { vec_len out.old + 10 * length piece.now ≤ vec_capacity out.old }
         ensures state { self.new ≡ (play self.old piece.now).state }
@@ -79,47 +77,7 @@ impl SizedTerminal {
         ensures bounded { vec_len out.new ≤ vec_len out.old + 10 * length piece.now }
         ensures capacity { vec_capacity out.old ≤ vec_capacity out.new }
     {
-        if piece.len() < LEAST {
-            self.feed_unobserved(piece, out);
-        } else {
-            self.feed_large(piece, out);
-        }
-    }
-
-    /// Plays a chunk as `feed_reserved` does, and doesn't look for lines that nobody sees. `out` has capacity for ten
-    /// more bytes for each byte of the chunk. It never fails and allocates nothing. (Speed: as the only place with this
-    /// feed, it has the whole dispatcher inline.)
-    #[inline(never)]
-    pub fn feed_unobserved(&mut self, piece: &[u8], out: &mut Vec<u8>)
-        requires { vec_len out.old + 10 * length piece.now ≤ vec_capacity out.old }
-        ensures state { self.new ≡ (play self.old piece.now).state }
-        ensures reports { out.new.items ≡ out.old.items ++ (play self.old piece.now).reports }
-        ensures bounded { vec_len out.new ≤ vec_len out.old + 10 * length piece.now }
-        ensures capacity { vec_capacity out.old ≤ vec_capacity out.new }
-    {
         self.feed_observed(piece, &mut Nobody, out);
-    }
-
-    /// Plays a chunk as `feed_reserved` does, if lines may be passed in it. (Speed: a small chunk needs no loop over
-    /// blocks.)
-    #[inline(never)]
-    fn feed_large(&mut self, piece: &[u8], out: &mut Vec<u8>)
-        requires { vec_len out.old + 10 * length piece.now ≤ vec_capacity out.old }
-        ensures state { self.new ≡ (play self.old piece.now).state }
-        ensures reports { out.new.items ≡ out.old.items ++ (play self.old piece.now).reports }
-        ensures bounded { vec_len out.new ≤ vec_len out.old + 10 * length piece.now }
-        ensures capacity { vec_capacity out.old ≤ vec_capacity out.new }
-    {
-        self.soundness();
-        one_split();
-        let mut rest = piece;
-        while !rest.is_empty() {
-            let Passed { unseen, looked_at } = self.pass_unseen(rest);
-            let end = looked_at.max(BLOCK).min(rest.len());
-            self.feed_unobserved(&rest[unseen..end], out);
-            rest = &rest[end..];
-        }
-        self.soundness();
     }
 
     /// Plays a chunk of the host's bytes, appends the reports to `out`, and tells the observer of it. Returns how many bytes

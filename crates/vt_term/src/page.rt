@@ -1,8 +1,8 @@
 //! Pages: what a terminal shows, and a caller may exchange.
-ghost use Rattle.std.specs.Prelude.{◌≡◌, ◌≤◌, Bool, IfOk};
+ghost use Rattle.std.specs.Prelude.{◌≡◌, Bool, IfOk};
 ghost use Rattle.vt_screen.specs.Sizes.{width_of, IsSize};
 ghost use Rattle.vt_term.specs.State.{display_of, state_of};
-ghost use Rattle.vt_term.specs.Pages.{PageState, IsSoundSizedPage, page_at_power_up, blank_page, blanked, fitted, page_of, with_page};
+ghost use Rattle.vt_term.specs.Pages.{PageState, IsSoundSizedPage, blank_page, blanked, fitted, page_of, with_page};
 
 use crate::display::Display;
 use crate::sized::SizedTerminal;
@@ -95,58 +95,6 @@ impl SizedPage {
         self.screen.set_width(width == self.screen.size().wide);
         self.saved.col = self.saved.col.min(self.screen.width());
         self.saved.wrap = false;
-    }
-}
-
-/// A page of a VT220's size: the cells of a screen, and the state that DECSC saved on it. `new` allocates its memory, and nothing
-/// else does.
-#[derive(Drop)]
-pub struct Page {
-    /// The page, whose size is a VT220's.
-    pub sized: SizedPage,
-}
-
-impl Model for Page {
-    ghost use Rattle.std.specs.Prelude.{◌≡◌};
-    ghost use Rattle.vt_screen.specs.Sizes.{vt220_size};
-    ghost use Rattle.vt_term.specs.Pages.{PageState};
-
-    ghost Value = { PageState };
-
-    ghost view = { λ p. p.sized };
-
-    ghost invariant = { λ p. p.sized.grid.size ≡ vt220_size };
-}
-
-impl Page {
-    /// Returns a blank page of 80 columns, with the state that is saved at power-up. Returns `Err` if allocation fails.
-    pub fn new(alloc: Global) -> Result<Page, AllocError>
-        ensures { IfOk result (λ page. page ≡ page_at_power_up) }
-    {
-        Ok(Page {
-            sized: SizedPage::new(alloc, Size::vt220())?,
-        })
-    }
-
-    /// Makes the page as at power-up: blank, of 80 columns, with the state that is saved at power-up.
-    pub fn reset(&mut self)
-        ensures { self.new ≡ page_at_power_up }
-    {
-        self.sized.reset();
-    }
-
-    /// Blanks the cells. The saved state stays.
-    pub fn blank(&mut self)
-        ensures { self.new ≡ blanked self.old }
-    {
-        self.sized.blank();
-    }
-
-    /// Makes the page equal to another one. It never fails and allocates nothing.
-    pub fn copy_from(&mut self, other: &Page)
-        ensures { self.new ≡ other.now }
-    {
-        self.sized.copy_from(&other.sized);
     }
 }
 

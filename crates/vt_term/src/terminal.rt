@@ -1,15 +1,14 @@
 //! The terminal of a VT220.
-ghost use Rattle.std.specs.Prelude.{◌≡◌, ◌↔◌, ◌≤◌, ◌+◌, ◌++◌, ◌⊎◌, IfOk, IsTrue, IsOk, OnOk, OnErr, true, false, length, vec_len};
+ghost use Rattle.std.specs.Prelude.{◌≡◌, ◌↔◌, ◌≤◌, ◌+◌, ◌*◌, ◌++◌, ◌⊎◌, IfOk, IsTrue, IsOk, OnOk, OnErr, true, false, length, vec_len};
 ghost use Rattle.std.specs.Prelude.{vec_capacity};
 ghost use Rattle.vt_syntax.specs.Held.{IsHeldPart};
 ghost use Rattle.vt_syntax.specs.declared.held.Held.TheVariants.{Nothing};
 ghost use Rattle.vt_screen.specs.Grid.{columns, row_of, last_row};
-ghost use Rattle.vt_term.specs.State.{display_at_power_up, power_up};
+ghost use Rattle.vt_term.specs.State.{power_up};
 ghost use Rattle.vt_term.specs.Sound.{IsSound};
-ghost use Rattle.vt_term.specs.Text.{text, line_text};
-ghost use Rattle.vt_term.specs.Pages.{fitted, page_of, with_page};
+ghost use Rattle.vt_term.specs.Play.{play};
+ghost use Rattle.vt_term.specs.Text.{text};
 
-use crate::page::Page;
 use crate::sized::SizedTerminal;
 use crate::state::{Cursor, Margins, Modes, Saved};
 use crate::tabs::STOPS;
@@ -17,7 +16,7 @@ use std::alloc::{AllocError, Global};
 use std::marker::Model;
 use vt_glyph::Sets;
 use vt_screen::{Brush, Cell, ROWS, Size};
-use vt_syntax::{Held, Parser};
+use vt_syntax::Held;
 
 /// The limit of the text of a row in bytes: three for each of 132 cells, and LF.
 pub const ROW_TEXT_LIMIT: usize = 3 * STOPS + 1;
@@ -66,6 +65,37 @@ impl Terminal {
         Ok(Terminal {
             sized: SizedTerminal::new(alloc, Size::vt220())?,
         })
+    }
+
+    /// Plays a chunk of the host's bytes, and appends the reports to `out`.
+    ///
+    /// It first reserves ten bytes of capacity for each byte of the chunk. Returns `Err` if that fails, or is more than
+    /// any vector may hold. Then the terminal and the contents of `out` are unchanged.
+    #[inline(always)]
+    pub fn feed(&mut self, piece: &[u8], out: &mut Vec<u8>) -> Result<(), AllocError>
+        ensures state { OnOk result (self.new ≡ (play self.old piece.now).state) }
+        ensures reports { OnOk result (out.new.items ≡ out.old.items ++ (play self.old piece.now).reports) }
+        ensures bounded { vec_len out.new ≤ vec_len out.old + 10 * length piece.now }
+        ensures same_state { OnErr result (self.new ≡ self.old) }
+        ensures same_out { OnErr result (out.new.items ≡ out.old.items) }
+        ensures has_room { vec_len out.old + 10 * length piece.now ≤ vec_capacity out.old → IsOk result }
+        ensures capacity { vec_capacity out.old ≤ vec_capacity out.new }
+    {
+        self.sized.feed(piece, out)
+    }
+
+    /// Plays a chunk of the host's bytes, and appends the reports to `out`. `out` has capacity for ten more bytes for
+    /// each byte of the chunk. It never fails and allocates nothing.
+    #[inline(always)]
+    #[tactic(auto, using(crate::proofs::Staying::play_stays))]
+    pub fn feed_reserved(&mut self, piece: &[u8], out: &mut Vec<u8>)
+        requires { vec_len out.old + 10 * length piece.now ≤ vec_capacity out.old }
+        ensures state { self.new ≡ (play self.old piece.now).state }
+        ensures reports { out.new.items ≡ out.old.items ++ (play self.old piece.now).reports }
+        ensures bounded { vec_len out.new ≤ vec_len out.old + 10 * length piece.now }
+        ensures capacity { vec_capacity out.old ≤ vec_capacity out.new }
+    {
+        self.sized.feed_reserved(piece, out);
     }
 
     /// Returns the cells of a row, 1 to 24: as many as the screen is wide.
@@ -159,14 +189,6 @@ impl Terminal {
         self.sized.held()
     }
 
-    /// Returns a parser with the same held part. It reads the following bytes as the terminal does.
-    #[inline(always)]
-    pub fn parser(&self) -> Parser
-        ensures { result ≡ self.now.held }
-    {
-        self.sized.parser()
-    }
-
     /// Returns whether the terminal is between sequences.
     #[inline(always)]
     pub fn is_between(&self) -> bool
@@ -208,48 +230,5 @@ impl Terminal {
         ensures capacity { vec_capacity out.old ≤ vec_capacity out.new }
     {
         self.sized.text_reserved(out);
-    }
-
-    /// Appends the text of one row, 1 to 24, to `out`, which has capacity for `ROW_TEXT_LIMIT` more bytes. It never fails
-    /// and allocates nothing.
-    #[inline(always)]
-    pub fn row_text_reserved(&self, row: usize, out: &mut Vec<u8>)
-        requires row { (1 ≤ row) × (row ≤ last_row) }
-        requires room { vec_len out.old + ROW_TEXT_LIMIT ≤ vec_capacity out.old }
-        ensures items { out.new.items ≡ out.old.items ++ line_text (row_of self.now.display.grid row) }
-        ensures bounded { vec_len out.new ≤ vec_len out.old + ROW_TEXT_LIMIT }
-        ensures capacity { vec_capacity out.old ≤ vec_capacity out.new }
-    {
-        self.sized.row_text_reserved(row, out);
-    }
-
-    /// Makes the state equal to that of another terminal, the held part included. It never fails and allocates nothing.
-    #[inline(always)]
-    pub fn copy_from(&mut self, other: &Terminal)
-        ensures { self.new ≡ other.now }
-    {
-        self.sized.copy_from(&other.sized);
-    }
-
-    /// Exchanges the page that is shown: its cells and what DECSC saved. Everything else stays. The page first gets the
-    /// terminal's width: if it has another one, it changes as by DECCOLM, to blank cells.
-    #[inline(always)]
-    #[tactic(auto, using(crate::proofs::Staying::page_stays))]
-    pub fn exchange_page(&mut self, page: &mut Page)
-        ensures shown { self.new ≡ record self.old {
-          display = with_page (fitted self.old.display.grid.width page.old) self.old.display;
-        } }
-        ensures page { page.new ≡ page_of self.old.display }
-    {
-        self.sized.exchange_page(&mut page.sized);
-    }
-
-    /// Makes the terminal as at power-up, with a copy of the cells of a page and of what DECSC saved on it. It never fails and
-    /// allocates nothing.
-    #[inline(always)]
-    pub fn show_copy(&mut self, page: &Page)
-        ensures { self.new ≡ record power_up { display = with_page page.now display_at_power_up } }
-    {
-        self.sized.show_copy(&page.sized);
     }
 }

@@ -2,7 +2,7 @@
 ghost use Rattle.std.specs.Prelude.{◌≡◌, ◌++◌, List, ℕ};
 ghost use Rattle.vt_term.specs.State.{State};
 ghost use Rattle.vt_screen.specs.declared.size.Size.{Size};
-ghost use Rattle.vt_term.specs.Sound.{IsSoundAt, IsSound};
+ghost use Rattle.vt_term.specs.Sound.{IsSoundAt};
 ghost use Rattle.vt_term.specs.Play.{play};
 ghost use Rattle.vt_trace.specs.declared.tracing.Tracer.{Tracer};
 ghost use Rattle.vt_trace.specs.Trace.{trace, tracer_all};
@@ -23,16 +23,6 @@ pub fn sized_cuts()
     sized_soundness();
 }
 
-/// States that bytes may be cut anywhere: the trace of chunks in turn is that of the chunks joined.
-pub fn cuts()
-    ensures lines { (s : State) (t : Tracer) (a b : List ℕ) → IsSound s
-        → trace s t (a ++ b) ≡ trace s t a ++ trace (play s a).state (tracer_all s t a) b }
-    ensures tracer { (s : State) (t : Tracer) (a b : List ℕ) → IsSound s
-        → tracer_all s t (a ++ b) ≡ tracer_all (play s a).state (tracer_all s t a) b }
-{
-    sized_cuts();
-}
-
 /// States at any size that UTF-8 may be cut anywhere, also inside a character. The trace of chunks in turn is that of
 /// the chunks joined.
 pub fn sized_utf8_cuts()
@@ -44,16 +34,4 @@ pub fn sized_utf8_cuts()
 {
     play_cuts();
     sized_soundness();
-}
-
-/// States that UTF-8 may be cut anywhere, also inside a character: the trace of chunks in turn is that of the chunks
-/// joined.
-pub fn utf8_cuts()
-    ensures lines { (s : State) (t : Tracer) (pending a b : List ℕ) → IsSound s → trace_utf8 s t pending (a ++ b)
-        ≡ trace_utf8 s t pending a
-        ++ trace_utf8 (play_utf8 s pending a).state (tracer_utf8 s t pending a) (pending_after pending a) b }
-    ensures tracer { (s : State) (t : Tracer) (pending a b : List ℕ) → IsSound s → tracer_utf8 s t pending (a ++ b)
-        ≡ tracer_utf8 (play_utf8 s pending a).state (tracer_utf8 s t pending a) (pending_after pending a) b }
-{
-    sized_utf8_cuts();
 }

@@ -4,7 +4,6 @@
 mod buffer;
 mod bytes;
 mod dialects;
-mod feeds;
 mod functions;
 mod items;
 pub mod laws;
@@ -20,7 +19,6 @@ mod utf8;
 
 pub use bytes::push_shown;
 pub use dialects::Traceable;
-pub use feeds::{trace_reserved, trace_utf8_reserved};
 pub use lines::LINE_LIMIT;
 pub use names::{Naming, Vt220Names};
 pub use observer::{trace_as, trace_byte};

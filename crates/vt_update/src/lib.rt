@@ -12,8 +12,6 @@ mod scrolling;
 pub mod sized;
 mod state;
 mod updating;
-mod views;
 mod writing;
 
 pub use updating::UPDATE_LIMIT;
-pub use views::update_reserved;

@@ -3,7 +3,6 @@ pub mod Texts
 mod Encodes
 mod Reading
 mod Firsts
-pub mod Sizes
 pub mod Cuts
 pub mod Silence
 mod Plain

@@ -26,13 +26,6 @@ pub fn sized_soundness()
     played_soundness();
 }
 
-/// States that each state that UTF-8 leaves is sound: it is one that the terminal's bytes leave.
-pub fn soundness()
-    ensures { (s : State) (pending bytes : List ℕ) → IsSound s → IsSound (play_utf8 s pending bytes).state }
-{
-    sized_soundness();
-}
-
 /// States at any size that UTF-8 may be cut anywhere: chunks in turn leave the state, the pending part and the reports of the
 /// chunks joined.
 pub fn sized_cuts()
@@ -51,23 +44,6 @@ pub fn sized_cuts()
     played_soundness();
 }
 
-/// States that UTF-8 may be cut anywhere: chunks in turn leave the state, the pending part and the reports of the chunks
-/// joined.
-pub fn cuts()
-    ensures none { (s : State) (pending : List ℕ) → IsSound s
-        → play_utf8 s pending [] ≡ record { state = s; reports = [] } }
-    ensures two { (s : State) (pending a b : List ℕ) → IsSound s → play_utf8 s pending (a ++ b)
-        ≡ both (play_utf8 s pending a) (play_utf8 (play_utf8 s pending a).state (pending_after pending a) b) }
-    ensures pending { (pending a b : List ℕ)
-        → pending_after pending (a ++ b) ≡ pending_after (pending_after pending a) b }
-    ensures translated { (s : State) (pending a b : List ℕ) → IsSound s → translated s pending (a ++ b)
-        ≡ translated s pending a ++ translated (play_utf8 s pending a).state (pending_after pending a) b }
-    ensures all { (s : State) (pending : List ℕ) (pieces : List (List ℕ)) → IsSound s
-        → play_utf8_all s pending pieces ≡ play_utf8 s pending (joined pieces) }
-{
-    sized_cuts();
-}
-
 /// States at any size what a byte is translated to: the bytes of the characters that it completes, each in the state that those
 /// before it leave. Those characters may be given in two parts, as `Decoder::push` does.
 pub fn sized_one_byte()
@@ -77,16 +53,6 @@ pub fn sized_one_byte()
 {
     played_cuts();
     played_soundness();
-}
-
-/// States what a byte is translated to: the bytes of the characters that it completes, each in the state that those before
-/// it leave. Those characters may be given in two parts, as `Decoder::push` does.
-pub fn one_byte()
-    ensures { (s : State) (pending : List ℕ) (b : ℕ) (xs ys : List ℕ) → IsSound s → xs ++ ys ≡ (read pending b).characters
-        → translated s pending (b ∷ [])
-        ≡ translated_all s xs ++ translated_all (play s (translated_all s xs)).state ys }
-{
-    sized_one_byte();
 }
 
 /// States at any size that a character beyond ASCII causes no report, in any state. Its bytes are ESC and ASCII with a
@@ -99,14 +65,6 @@ pub fn sized_silence()
     spelled();
     all_glyphs();
     spelling();
-}
-
-/// States that a character beyond ASCII causes no report, in any state, and that its bytes are ESC and ASCII with a glyph.
-pub fn silence()
-    ensures silent { (s : State) (c : ℕ) → IsSound s → 0x80 ≤ c → (play s (translation s c)).reports ≡ [] }
-    ensures plain { (s : State) (c : ℕ) → 0x80 ≤ c → All IsPlain (translation s c) }
-{
-    sized_silence();
 }
 
 /// States that ASCII with nothing pending is played as the terminal's own bytes, and leaves nothing pending. So a

@@ -5,7 +5,6 @@ mod ascii;
 mod coded;
 mod decoder;
 mod feeding;
-mod feeds;
 pub mod laws;
 mod log;
 mod showing;
@@ -17,10 +16,6 @@ mod translation;
 
 pub use ascii::ascii_run;
 pub use decoder::{Decoder, whole_character};
-pub use feeds::{
-    LINES_LIMIT, UTF8_LINES_LIMIT, feed_beyond_ascii, feed_beyond_ascii_log,
-    feed_utf8_log_reserved, feed_utf8_reserved, translated,
-};
 pub use log::Log;
 pub use showing::shown_as;
 pub use sink::Sink;

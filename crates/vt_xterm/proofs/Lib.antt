@@ -17,7 +17,6 @@ pub mod SoundWholes
 pub mod Screens
 mod Limits
 mod Logged
-mod Unseen
 pub mod OfOneSize
 mod TextPlayed
 mod TakenAs

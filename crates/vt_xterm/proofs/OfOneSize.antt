@@ -7,7 +7,7 @@ use Rattle.vt_term.specs.State.{State}
 use Rattle.vt_syntax.specs.declared.held.Held.{Held}
 use Rattle.vt_term.specs.Sound.{IsSoundSized}
 use Rattle.vt_term.specs.Pages.{IsSoundSizedPage, IsSoundPageAt}
-use Rattle.vt_term.specs.Play.{Played, play}
+use Rattle.vt_term.specs.Play.{play}
 use Rattle.vt_term.specs.Machines.{KeepsSize}
 use Rattle.vt_term.proofs.SizeKept.{own-display, play_kept}
 use Rattle.vt_xterm.specs.Pages.{Screens, PagesState}
@@ -51,17 +51,8 @@ pub still-one : (s t : State) (p q : PagesState) → KeepSizes s p t q → p.oth
     → q.other.grid.size ≡ t.display.grid.size
 still-one s t p q kept one = kept.other ∙ one ∙ sym kept.shown
 
-pub still-shown : (s t : State) (p : PagesState) → t.display.grid.size ≡ s.display.grid.size
-    → p.other.grid.size ≡ s.display.grid.size → p.other.grid.size ≡ t.display.grid.size
-still-shown s t p is one = one ∙ sym is
-
 pub played-size : (s t : State) (bytes : List ℕ) → t ≡ (play s bytes).state → t.display.grid.size ≡ s.display.grid.size
 played-size s t bytes is = ap (λ (u : State). u.display.grid.size) is ∙ play_kept s bytes
-
--- lines that nobody sees
-pub unseen-size : (s t : State) (a b : List ℕ) → play t a ≡ play s b → t.display.grid.size ≡ s.display.grid.size
-unseen-size s t a b same =
-    sym (play_kept t a) ∙ ap (λ (p : Played). p.state.display.grid.size) same ∙ play_kept s b
 
 -- bytes that are read, and no event
 pub read-size : (s t : State) (h : Held) → t ≡ record s { held = h } → t.display.grid.size ≡ s.display.grid.size

@@ -2,16 +2,16 @@
 ghost use Rattle.std.specs.Prelude.{◌≡◌, ◌≤◌, IfOk, IfSome, None, Some, false, length, is_some};
 ghost use Rattle.std.specs.Bool.{OnFalse};
 ghost use Rattle.vt_screen.specs.Sizes.{IsSize};
-ghost use Rattle.vt_term.specs.State.{display_at_power_up, power_up, display_of, state_of};
+ghost use Rattle.vt_term.specs.State.{display_of, state_of};
 ghost use Rattle.vt_term.specs.Pages.{IsSoundSizedPage, with_page};
 ghost use Rattle.vt_xterm.specs.Pages.{pages_of, change_sides};
 ghost use Rattle.vt_xterm.specs.Sides.{AreSides, full_sides, bounds};
-ghost use Rattle.vt_xterm.specs.Play.{front_at_power_up, front_of};
+ghost use Rattle.vt_xterm.specs.Play.{front_of};
 
 use crate::sides::Sides;
 use std::alloc::{AllocError, Global};
 use std::marker::Model;
-use vt_term::{Size, SizedPage, SizedTerminal, Terminal};
+use vt_term::{Size, SizedPage, SizedTerminal};
 use vt_utf8::Decoder;
 
 /// The page that isn't shown, of any size, which page is shown, and what else xterm keeps of a screen.
@@ -236,88 +236,5 @@ impl SizedFront {
         ensures { result ≡ is_some (bounds width self.now.pages.sides) }
     {
         self.pages.bounds(width).is_some()
-    }
-}
-
-/// What a VT220's terminal lacks under TERM=xterm: what is pending of UTF-8, the page that isn't shown, three modes,
-/// and the left and right margins. `new` allocates its memory, and nothing else does.
-#[derive(Drop)]
-pub struct Front {
-    /// The front, whose size is a VT220's.
-    pub sized: SizedFront,
-}
-
-impl Model for Front {
-    ghost use Rattle.std.specs.Prelude.{◌≡◌};
-    ghost use Rattle.vt_screen.specs.Sizes.{vt220_size};
-    ghost use Rattle.vt_xterm.specs.Play.{FrontState};
-
-    ghost Value = { FrontState };
-
-    ghost view = { λ f. f.sized };
-
-    ghost invariant = { λ f. f.sized.pages.other.grid.size ≡ vt220_size };
-}
-
-impl Front {
-    /// Returns a front at power-up, for a terminal at power-up: nothing is pending, and the main page is shown. Returns `Err`
-    /// if allocation fails.
-    pub fn new(alloc: Global) -> Result<Front, AllocError>
-        ensures { IfOk result (λ front. front ≡ front_at_power_up) }
-    {
-        Ok(Front {
-            sized: SizedFront::new(alloc, Size::vt220())?,
-        })
-    }
-
-    /// Makes what the front keeps equal to what another one keeps. It never fails and allocates nothing.
-    pub fn copy_from(&mut self, other: &Front)
-        ensures { self.new ≡ other.now }
-    {
-        self.sized.copy_from(&other.sized);
-    }
-
-    /// Makes a terminal as at power-up, with a copy of the cells of the page that isn't shown and of what DECSC saved on it. It
-    /// never fails and allocates nothing.
-    pub fn show_other(&self, terminal: &mut Terminal)
-        ensures { terminal.new ≡ record power_up { display = with_page self.now.pages.other display_at_power_up } }
-    {
-        self.sized.show_other(&mut terminal.sized);
-    }
-
-    /// Returns the pending bytes of UTF-8: at most three.
-    pub fn pending(&self) -> &[u8]
-        ensures value { result.now ≡ self.now.pending }
-        ensures few { length result.now ≤ 3 }
-    {
-        self.sized.pending()
-    }
-
-    /// Returns whether the alternate page is shown.
-    pub fn is_alternate(&self) -> bool
-        ensures { result ≡ self.now.pages.alternate }
-    {
-        self.sized.is_alternate()
-    }
-
-    /// Returns whether pasted text is wanted in brackets, `CSI 200 ~` and `CSI 201 ~` (?2004).
-    pub fn brackets(&self) -> bool
-        ensures { result ≡ self.now.pages.brackets }
-    {
-        self.sized.brackets()
-    }
-
-    /// Returns whether DECCOLM has an effect.
-    pub fn resizes(&self) -> bool
-        ensures { result ≡ self.now.pages.resizes }
-    {
-        self.sized.resizes()
-    }
-
-    /// Returns the left and right margins, if DECLRMM is set.
-    pub fn sides(&self) -> Option<Sides>
-        ensures { result ≡ self.now.pages.sides }
-    {
-        self.sized.sides()
     }
 }

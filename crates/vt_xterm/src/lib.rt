@@ -8,7 +8,6 @@ mod attributes;
 mod bounded;
 mod columns;
 mod feeding;
-mod feeds;
 mod finder;
 mod front;
 mod functions;
@@ -25,6 +24,5 @@ pub mod sized;
 mod tabs;
 
 pub use attributes::{begins_colour, colour_length};
-pub use feeds::{LINES_LIMIT, feed_xterm_log_reserved, feed_xterm_reserved};
-pub use front::{Front, SizedFront};
+pub use front::SizedFront;
 pub use sides::Sides;

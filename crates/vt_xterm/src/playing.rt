@@ -1,7 +1,6 @@
 //! Playing bytes with the functions of xterm, without a log.
 ghost use Rattle.std.specs.Prelude.{◌≡◌, ◌≤◌, ◌+◌, ◌*◌, ◌++◌, length, take, vec_len, vec_capacity, None};
 ghost use Rattle.vt_syntax.specs.Event.{event_of};
-ghost use Rattle.vt_syntax.specs.declared.held.Held.TheVariants.{Nothing};
 ghost use Rattle.vt_syntax.specs.Spelling.{IsEvent};
 ghost use Rattle.vt_term.specs.Reports.{report};
 ghost use Rattle.vt_xterm.specs.Front.{xterm_effect};
@@ -16,17 +15,11 @@ use crate::front::SizedPages;
 use crate::functions::carry_out;
 use vt_glyph::laws::{glyphs, soundness as sets_soundness};
 use vt_screen::laws::{rows, tests};
-use vt_syntax::laws::{one_split, spelled};
+use vt_syntax::laws::one_split;
 use vt_syntax::{EventKind, Taken, Values};
-use vt_term::{Passed, Profile, SizedTerminal};
+use vt_term::{Profile, SizedTerminal};
 
-/// The most bytes that are played before the next search for lines that nobody sees.
-const BLOCK: usize = 16384;
-
-/// The fewest bytes in which lines that nobody sees are searched for.
-const LEAST: usize = 1024;
-
-/// Plays bytes of the terminal, with the functions of xterm. Returns how many it played: all. Lines that nobody sees aren't written.
+/// Plays bytes of the terminal, with the functions of xterm. Returns how many it played: all.
 pub(crate) fn feed_pages(
     terminal: &mut SizedTerminal,
     pages: &mut SizedPages,
@@ -75,41 +68,7 @@ pub(crate) fn feed_block(
     if pages.sides.is_some() {
         return feed_one(terminal, pages, piece, out);
     }
-    if piece.len() < LEAST || !terminal.is_between() {
-        return feed_before(terminal, pages, piece, out);
-    }
-    let passed = feed_lines(terminal, pages, piece, out);
-    if BLOCK <= passed || passed == piece.len() {
-        return passed;
-    }
-    passed + feed_before(terminal, pages, &piece[passed..], out)
-}
-
-/// Plays lines at the front of a chunk, of which nobody sees the first ones. Returns how many bytes it played: 0 if
-/// there are no such lines.
-#[inline(always)]
-fn feed_lines(
-    terminal: &mut SizedTerminal,
-    pages: &SizedPages,
-    piece: &[u8],
-    out: &mut Vec<u8>,
-) -> usize
-    requires none { pages.now.sides ≡ None }
-    requires between { terminal.old.held ≡ Nothing }
-    requires room { vec_len out.old + 10 * length piece.now ≤ vec_capacity out.old }
-    ensures within { result ≤ length piece.now }
-    ensures size { terminal.new.display.grid.size ≡ terminal.old.display.grid.size }
-    ensures fed { FeedsBytes (whole_of terminal.old pages.now) (take result piece.now) (whole_of terminal.new pages.now)
-        out.old.items out.new.items }
-    ensures bounded { vec_len out.new ≤ vec_len out.old + 10 * result }
-    ensures capacity { vec_capacity out.old ≤ vec_capacity out.new }
-{
-    let _ = pages;
-    one_split();
-    spelled();
-    let Passed { unseen, looked_at } = terminal.pass_unseen(piece);
-    terminal.feed_unobserved(&piece[unseen..looked_at], out);
-    looked_at
+    feed_before(terminal, pages, piece, out)
 }
 
 /// Plays the front of a chunk that isn't empty up to an event that sets DECLRMM, or this event. Returns how many bytes it played.
@@ -134,9 +93,8 @@ fn feed_before(
 {
     one_split();
     terminal.soundness();
-    let end = BLOCK.min(piece.len());
-    let played = feed_written(terminal, pages, &piece[..end], out);
-    if played == end {
+    let played = feed_written(terminal, pages, piece, out);
+    if played == piece.len() {
         return played;
     }
     played + feed_one(terminal, pages, &piece[played..], out)

@@ -5,7 +5,5 @@
 pub mod laws;
 mod paint;
 pub mod sized;
-mod views;
 
 pub use paint::XTERM_PAINT_LIMIT;
-pub use views::repaint_xterm_reserved;

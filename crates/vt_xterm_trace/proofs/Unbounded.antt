@@ -1,19 +1,19 @@
 -- Bytes of lines, which are fed while DECLRMM is reset, and what happens at them.
-use Rattle.std.proofs.Common.{◌≡◌, ℕ, zero, suc, take, Bool, true, false, List, [], ◌∷◌, ◌++◌, None, All, refl, sym, ap, ◌∙◌, arith, subst}
+use Rattle.std.proofs.Common.{◌≡◌, ℕ, zero, suc, take, Bool, true, false, List, [], ◌∷◌, ◌++◌, None, All, refl, sym, ap, ◌∙◌, arith, subst, inl, inr}
 use Rattle.std.specs.Prelude.{◌==◌, ◌||◌, nat_le, if◌then◌else◌}
+use Rattle.std.proofs.lemmas.Bool.Decides.{nat_tests}
 use Rattle.std.proofs.lemmas.List.Elements.{All-nil, All-cons, All-tail}
 use Rattle.vt_syntax.specs.declared.event.Event.{Event}
 use Rattle.vt_syntax.specs.declared.event.Event.TheVariants.{Print, Control}
 use Rattle.vt_syntax.specs.declared.held.Held.{Held}
 use Rattle.vt_syntax.specs.declared.held.Held.TheVariants.{Nothing}
-use Rattle.vt_syntax.specs.Class.{is_plain, IsOfLines}
+use Rattle.vt_syntax.specs.Class.{is_plain, is_opener, opens_string, IsOfLines}
 use Rattle.vt_syntax.specs.Held.{events_from, held_from}
 use Rattle.vt_syntax.specs.Laws.{SpellingLaw}
 use Rattle.vt_syntax.specs.Reading.{single_function}
 use Rattle.vt_term.specs.Happenings.{Happening, happenings_on, events_in}
 use Rattle.vt_term.specs.Machines.{Machine, screens_after}
 use Rattle.vt_term.specs.Scrolling.{lines_off}
-use Rattle.vt_term.proofs.Passing.{opens-nothing}
 use Rattle.vt_xterm.specs.Pages.{Screens}
 use Rattle.vt_xterm.specs.Front.{screen_effect}
 use Rattle.vt_xterm.specs.Play.{xterm}
@@ -22,6 +22,12 @@ use Rattle.vt_xterm.specs.Private.Profiles.{unbounded}
 use Rattle.vt_xterm.proofs.NoSides.{event-none, after-none}
 
 -- ---- bytes of lines set no DECLRMM
+
+opens-nothing : (b : ℕ) → IsOfLines b → is_opener b ≡ false
+unfolding opens_string
+opens-nothing b (inl h) = grind (arith, nat_tests)
+opens-nothing b (inr (inl h)) = grind (arith, nat_tests)
+opens-nothing b (inr (inr h)) = grind (arith, nat_tests)
 
 single-none : (b : ℕ) → AllKeepNone (single_function b)
 unfolding AllKeepNone

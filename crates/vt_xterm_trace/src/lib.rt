@@ -2,11 +2,9 @@
 #![tactic(auto)]
 
 mod attributes;
-mod feeds;
 pub mod laws;
 mod names;
 pub mod sized;
 mod tracing;
 
-pub use feeds::trace_xterm_reserved;
 pub use names::XtermNames;

@@ -5,7 +5,7 @@ use super::common::Failed;
 use crate::rows::holds;
 use std::alloc::{AllocError, Global};
 use vt_replay::{Fault, Format, Request, Watched, What, Word, carry_out};
-use vt_term::Terminal;
+use vt_term::{Size, SizedTerminal};
 use vt_vectors::{ShortReader, ShortWriter, vector, vector_count};
 
 /// The greatest input of the program, unless it is told another.
@@ -265,7 +265,7 @@ fn ends_before(alloc: Global, input: &[u8], word: Word, is_between: bool) -> Res
 /// The outputs that are due of the bytes that were read.
 #[derive(Drop)]
 struct Due {
-    terminal: Terminal,
+    terminal: SizedTerminal,
     reports: Vec<u8>,
     lines: Vec<u8>,
 }
@@ -303,7 +303,7 @@ fn reads_fail(alloc: Global, input: &[u8], word: Word, due: &mut Due) -> Result<
 /// Returns whether each read fails in turn, and none is made after the one that gave no byte.
 fn each_read_fails(alloc: Global, input: &[u8], word: Word) -> Result<bool, Failed> {
     let mut due = Due {
-        terminal: Terminal::new(alloc)?,
+        terminal: SizedTerminal::new(alloc, Size::vt220())?,
         reports: Vec::new(alloc),
         lines: Vec::new(alloc),
     };

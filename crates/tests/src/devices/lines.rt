@@ -4,7 +4,7 @@ ghost use Rattle.std.specs.Prelude.{◌+◌, ◌≤◌, vec_capacity, vec_len};
 use crate::rows::holds;
 use std::alloc::{AllocError, Global};
 use vt_syntax::EventKind;
-use vt_term::{ROW_TEXT_LIMIT, Terminal};
+use vt_term::{ROW_TEXT_LIMIT, Size, SizedTerminal};
 
 /// Returns numbered lines with an end each.
 fn numbered(alloc: Global, count: u32, end: &[u8]) -> Result<Vec<u8>, AllocError> {
@@ -21,7 +21,7 @@ fn numbered(alloc: Global, count: u32, end: &[u8]) -> Result<Vec<u8>, AllocError
 /// fed.
 fn feed_to_a_line(
     alloc: Global,
-    terminal: &mut Terminal,
+    terminal: &mut SizedTerminal,
     bytes: &[u8],
     lines: &mut Vec<u8>,
 ) -> Result<usize, AllocError> {
@@ -35,7 +35,7 @@ fn feed_to_a_line(
 
 /// Returns the lines that scroll off if there is capacity for one at a time.
 fn logged_by_lines(alloc: Global, input: &[u8]) -> Result<Vec<u8>, AllocError> {
-    let mut terminal = Terminal::new(alloc)?;
+    let mut terminal = SizedTerminal::new(alloc, Size::vt220())?;
     let mut lines = Vec::new(alloc);
     let mut at = 0;
     for _ in 0..1000u16 {
@@ -66,7 +66,7 @@ fn fitting_lines(
     capacity: usize,
 ) -> Result<(Vec<u8>, usize), AllocError> {
     let piece = &input[..input.len().min(4096)];
-    let mut terminal = Terminal::new(alloc)?;
+    let mut terminal = SizedTerminal::new(alloc, Size::vt220())?;
     let mut reports = Vec::with_capacity(alloc, 40960)?;
     let mut lines = Vec::with_capacity(alloc, capacity)?;
     let played = terminal.feed_log_reserved(piece, &mut reports, &mut lines);
@@ -94,7 +94,7 @@ fn a_line_is_read_before_it_scrolls_off(rt: HostRuntime) {
 
 /// Returns whether LF scrolls a line off in the last row, and not in the first.
 fn is_told_by_the_row(alloc: Global) -> Result<bool, AllocError> {
-    let mut terminal = Terminal::new(alloc)?;
+    let mut terminal = SizedTerminal::new(alloc, Size::vt220())?;
     let mut reports = Vec::new(alloc);
     let first = terminal.scrolls_off(EventKind::Control(b'\n'));
     terminal.feed(b"\x1b[24H", &mut reports)?;
@@ -110,7 +110,7 @@ fn a_line_feed_scrolls_in_the_last_row(rt: HostRuntime) {
 const INPUT: &[u8] = b"A\x1b[2J\x1b[24;80Hxy\x1b[6n\n\n\x1bcB\x1b[24H\n\n";
 
 /// Feeds the input in the capacity that is there. Returns how many bytes it fed.
-fn feed(terminal: &mut Terminal, reports: &mut Vec<u8>, lines: &mut Vec<u8>) -> usize
+fn feed(terminal: &mut SizedTerminal, reports: &mut Vec<u8>, lines: &mut Vec<u8>) -> usize
     requires { vec_len reports.old + 1000 ≤ vec_capacity reports.old }
 {
     if INPUT.len() > 100 {
@@ -123,7 +123,7 @@ fn feed(terminal: &mut Terminal, reports: &mut Vec<u8>, lines: &mut Vec<u8>) -> 
 fn takes_no_memory(alloc: Global, room: usize, is_enough: bool) -> Result<bool, AllocError> {
     let mut reports = Vec::with_capacity(alloc, 1000)?;
     let mut lines = Vec::with_capacity(alloc, room)?;
-    let mut terminal = Terminal::new(alloc)?;
+    let mut terminal = SizedTerminal::new(alloc, Size::vt220())?;
     let of_reports = reports.capacity();
     let of_lines = lines.capacity();
     let played = feed(&mut terminal, &mut reports, &mut lines);

@@ -3,15 +3,16 @@ ghost use Rattle.std.specs.Prelude.{◌+◌, ◌≤◌, vec_capacity, vec_len};
 
 use crate::rows::holds;
 use std::alloc::{AllocError, Global};
-use vt_term::Terminal;
-use vt_trace::{SKIPPED_LIMIT, TRACE_LIMIT, Tracer, trace_end, trace_reserved};
+use vt_term::{Size, SizedTerminal};
+use vt_trace::sized::trace_reserved;
+use vt_trace::{SKIPPED_LIMIT, TRACE_LIMIT, Tracer, trace_end};
 
 /// A text, controls, a request, an ignored event, a string, and a text that is still open.
 const INPUT: &[u8] = b"Hi\r\n\x1b[6n\x1b[?1049h\x9d0;a\x9cB";
 
 /// Returns whether a trace plays the whole input, or a front of it, and leaves the capacity of its outputs as it was.
 fn trace_takes_no_memory(
-    terminal: &mut Terminal,
+    terminal: &mut SizedTerminal,
     reports: &mut Vec<u8>,
     out: &mut Vec<u8>,
     whole: bool,
@@ -35,7 +36,7 @@ fn trace_fits(alloc: Global, count: usize) -> Result<bool, AllocError>
 {
     let mut reports = Vec::with_capacity(alloc, 1000)?;
     let mut out = Vec::with_capacity(alloc, TRACE_LIMIT * count)?;
-    let mut terminal = Terminal::new(alloc)?;
+    let mut terminal = SizedTerminal::new(alloc, Size::vt220())?;
     Ok(trace_takes_no_memory(&mut terminal, &mut reports, &mut out, count > 20))
 }
 

@@ -7,7 +7,9 @@ use crate::rows::holds;
 use crate::scarce::{BLOCKS, Growing, Scarce, follows_ok, refusals};
 use std::alloc::{AllocError, Global};
 use vt_paint::{PAINT_LIMIT, PaintError, repaint, repaint_reserved};
-use vt_picture::{PICTURE_LIMIT, SHOW_LIMIT, picture, picture_reserved, show, show_reserved};
+use vt_picture::laws::vt220_limits;
+use vt_picture::sized::{picture, picture_reserved, show, show_reserved};
+use vt_picture::{PICTURE_LIMIT, SHOW_LIMIT};
 use vt_replay::{Fault, Format, Refused, Request, Watched, What, Word, carry_out, request};
 use vt_term::{ROW_TEXT_LIMIT, ROWS, TEXT_LIMIT, Terminal};
 use vt_vectors::{Mismatch, Vector, check, vector, vector_count};
@@ -97,8 +99,8 @@ fn is_fed(alloc: Global, feeding: &Feeding<'_>) -> Result<bool, Failed> {
 /// that had its memory.
 fn append_view(terminal: &Terminal, what: What, out: &mut Vec<u8>) -> bool {
     match what {
-        What::Picture => picture(terminal, out).is_ok(),
-        What::Show => show(terminal, out).is_ok(),
+        What::Picture => picture(&terminal.sized, out).is_ok(),
+        What::Show => show(&terminal.sized, out).is_ok(),
         What::Repaint => repaint(terminal, out) != Err(PaintError::Memory),
         _ => terminal.text(out).is_ok(),
     }
@@ -167,13 +169,14 @@ const LONGEST: usize = 100;
 fn append_reserved(terminal: &mut Terminal, input: &[u8], out: &mut Vec<u8>) -> bool
     requires { vec_len out.old + (1000 + TEXT_LIMIT + SHOW_LIMIT + PICTURE_LIMIT + PAINT_LIMIT) ≤ vec_capacity out.old }
 {
+    vt220_limits();
     if input.len() > LONGEST {
         return false;
     }
     terminal.feed_reserved(input, out);
     terminal.text_reserved(out);
-    show_reserved(terminal, out);
-    picture_reserved(terminal, out);
+    show_reserved(&terminal.sized, out);
+    picture_reserved(&terminal.sized, out);
     if !terminal.is_between() {
         return false;
     }
@@ -185,8 +188,8 @@ fn append_reserved(terminal: &mut Terminal, input: &[u8], out: &mut Vec<u8>) -> 
 fn append(terminal: &mut Terminal, input: &[u8], out: &mut Vec<u8>) -> bool {
     terminal.feed(input, out).is_ok()
         && terminal.text(out).is_ok()
-        && show(terminal, out).is_ok()
-        && picture(terminal, out).is_ok()
+        && show(&terminal.sized, out).is_ok()
+        && picture(&terminal.sized, out).is_ok()
         && repaint(terminal, out).is_ok()
 }
 
@@ -481,7 +484,7 @@ fn push_row_text(
 {
     let mut line = Vec::with_capacity(alloc, ROW_TEXT_LIMIT)?;
     let scarce = Scarce::new(alloc)?;
-    terminal.row_text_reserved(row, &mut line);
+    terminal.sized.row_text_reserved(row, &mut line);
     drop(scarce);
     all.extend_from_slice(line.as_slice())?;
     Ok(())

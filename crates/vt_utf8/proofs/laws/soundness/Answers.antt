@@ -1,5 +1,0 @@
-use Rattle.vt_screen.specs.Sizes.{vt220_size}
-use Rattle.vt_utf8.proofs.laws.soundness.Goals as goal
-
-pub returns : goal.returns
-returns c = c.sized_soundness.ensures vt220_size

@@ -6,6 +6,8 @@ use Rattle.std.proofs.Common.{get_or-set_other, replicate}
 use Rattle.std.proofs.lemmas.List.{with_items_is, get_or-replicate, get_or_past, length-replicate}
 use Rattle.std.proofs.lemmas.Bool.{cases_lt}
 use Rattle.std.proofs.lemmas.Bool.Decides.{leb_tells, eqb_tells}
+use Rattle.std.specs.List.{CopiedTo, SameBelow, SameFrom}
+use Rattle.vt_screen.specs.Between.{given_any, insert_between_any, delete_between_any, from_left_any, from_right_any}
 use Rattle.std.proofs.Math.Dec.{leb, ltb}
 use Rattle.std.specs.Vec.{with_items}
 use Rattle.std.specs.Global.{Vec}
@@ -118,59 +120,6 @@ put_inserting-row {C = C} z o xs ys w row col at k cell order long row1 row24 na
       ]
     ])
 
-pub insert_cells-row : {C : Type 0} (z : C) (o : Order) (xs ys : List C) (cell : C) (w row col n m at k : ℕ) → IsOrder o → length xs ≡ room o.size
-    → 1 ≤ row → row ≤ o.size.rows → w ≤ stride o.size
-    → 1 ≤ col → col ≤ w → m ≡ min n (w + 1 - col) → at ≡ start_of o row → k ≡ w → length ys ≡ length (mid_of at k xs)
-    → ((i : ℕ) → col - 1 ≤ i → i < col - 1 + m → get_or ys i z ≡ cell)
-    → ((i : ℕ) → col - 1 + m ≤ i → i < length (mid_of at k xs)
-    → get_or ys i z ≡ get_or (mid_of at k xs) (i - m) z)
-    → ((i : ℕ) → i < col - 1 → get_or ys i z ≡ get_or (mid_of at k xs) i z)
-    → grid_of o.size w (stored_or z o (put_mid at k xs ys)) ≡ insert_any z cell (grid_of o.size w (stored_or z o xs)) row col n
-insert_cells-row {C = C} z o xs ys cell w row col n m at k order long row1 row24 narrow col1 colw is_min here wide len gap moved front
-    =
-    let below = start-below o order row row1 row24 in
-    let mid : length (mid_of at k xs) ≡ k = length-mid_of at k xs (omega arith) in
-    let long_part : length ys ≡ k = len ∙ mid in
-    row-rewritten z o xs ys w row at k _ order long row1 row24 narrow here wide long_part
-    (λ i c is low. elim (leb_tells (col + n) c) [
-      | inl t ↦
-          let same : m ≡ n = omega arith in
-          rw t.0 (moved i (omega arith) (omega arith) ∙ mid-before z o xs w row at 0 k (i - m) (c - n) row1 row24
-          (omega arith) (omega arith) (omega arith) (omega arith))
-      | inr t ↦ elim (leb_tells col c) [
-        | inl u ↦ rw (t.0, u.0) (gap i (omega arith) (omega arith))
-        | inr u ↦ rw (t.0, u.0) (front i (omega arith)
-            ∙ mid-before z o xs w row at 0 k i c row1 row24 (omega arith) (omega arith) (omega arith) (omega arith))
-      ]
-    ])
-
-pub delete_cells-row : {C : Type 0} (z : C) (o : Order) (xs ys : List C) (cell : C) (w row col n m at k : ℕ) → IsOrder o → length xs ≡ room o.size
-    → 1 ≤ row → row ≤ o.size.rows → w ≤ stride o.size
-    → 1 ≤ col → col ≤ w → m ≡ min n (w + 1 - col) → at ≡ start_of o row → k ≡ w → length ys ≡ length (mid_of at k xs)
-    → ((i : ℕ) → col - 1 ≤ i → i + m < length (mid_of at k xs)
-    → get_or ys i z ≡ get_or (mid_of at k xs) (i + m) z)
-    → ((i : ℕ) → i < length (mid_of at k xs) → length (mid_of at k xs) ≤ i + m → get_or ys i z ≡ cell)
-    → ((i : ℕ) → i < col - 1 → get_or ys i z ≡ get_or (mid_of at k xs) i z)
-    → grid_of o.size w (stored_or z o (put_mid at k xs ys)) ≡ delete_any z cell (grid_of o.size w (stored_or z o xs)) row col n
-delete_cells-row {C = C} z o xs ys cell w row col n m at k order long row1 row24 narrow col1 colw is_min here wide len moved end front
-    =
-    let below = start-below o order row row1 row24 in
-    let mid : length (mid_of at k xs) ≡ k = length-mid_of at k xs (omega arith) in
-    let long_part : length ys ≡ k = len ∙ mid in
-    row-rewritten z o xs ys w row at k _ order long row1 row24 narrow here wide long_part
-    (λ i c is low. elim (leb_tells col c) [
-      | inl t ↦ elim (leb_tells (c + n) w) [
-        | inl u ↦
-            let same : m ≡ n = omega arith in
-            rw (t.0, u.0) (moved i (omega arith) (omega arith)
-            ∙ mid-before z o xs w row at 0 k (i + m) (c + n) row1 row24 (omega arith) (omega arith) (omega arith)
-            (omega arith))
-        | inr u ↦ rw (t.0, u.0) (end i (omega arith) (omega arith))
-      ]
-      | inr t ↦ rw t.0 (front i (omega arith) ∙ mid-before z o xs w row at 0 k i c row1 row24 (omega arith) (omega arith)
-          (omega arith) (omega arith))
-    ])
-
 -- a column is among some columns, or before or after them
 pub among : (a b c : ℕ) → ((leb a c && leb c b ≡ true) × (a ≤ c) × (c ≤ b))
     ⊎ ((leb a c && leb c b ≡ false) × ((c < a) ⊎ (b < c)))
@@ -194,6 +143,152 @@ among-before a b c = elim (leb_tells a c) [
   ]
   | inr f ↦ inr (rw f.0 refl, inl f.1)
 ]
+
+-- cells of a row, between two columns, are written over
+given-row : {C : Type 0} (z : C) (g : GridOf C) (row left right : ℕ) (f : ℕ → ℕ → C)
+    → row_any z g row (λ c. if is_within left right c then f row c else at_or z g row c)
+    ≡ given_any z g (columns_of row left right) f
+given-row {C = C} z g row left right f = grid_of-same g.size g.width _ _ (λ r c r1 r24 c1 cw. elim (eqb_tells r row) [
+  | inl e ↦ rw (e.0, e.1) refl
+  | inr e ↦ rw e.0 refl
+])
+
+-- a row was copied, between two columns
+pub copied-row : {C : Type 0} (z : C) (o : Order) (xs zs : List C) (w from to left right src at n : ℕ) → IsOrder o
+    → 1 ≤ from → from ≤ o.size.rows → 1 ≤ to → to ≤ o.size.rows → w ≤ stride o.size → 1 ≤ left → left ≤ right → right ≤ w
+    → src ≡ start_of o from + left - 1 → at ≡ start_of o to + left - 1 → n ≡ right + 1 - left
+    → CopiedTo xs zs src at n × SameBelow xs zs at × SameFrom xs zs (at + n)
+    → grid_of o.size w (stored_or z o zs)
+    ≡ given_any z (grid_of o.size w (stored_or z o xs)) (columns_of to left right) (λ r c. at_or z (grid_of o.size w (stored_or z o xs)) from c)
+copied-row {C = C} z o xs zs w from to left right src at n order f1 f24 t1 t24 narrow l1 lr rw_ is_src is_at is_n (copied, below, above) =
+    let g = grid_of o.size w (stored_or z o xs) in
+    row-written z o xs zs w to _ order t1 t24 narrow
+    (λ c c1 cw. elim (among left right c) [
+      | inl t ↦
+          let place : src + (start_of o to + (c - 1) - at) ≡ start_of o from + (c - 1) = omega (arith, t) in
+          rw t.0 (copied (start_of o to + (c - 1)) z (omega (arith, t)) (omega (arith, t))
+          ∙ ap (λ x. get_or xs x z) place ∙ before z o xs w from c f1 f24 c1 cw)
+      | inr t ↦ rw t.0 (elim t.1 [
+        | inl l ↦ below (start_of o to + (c - 1)) z (omega (arith, l)) ∙ before z o xs w to c t1 t24 c1 cw
+        | inr l ↦ above (start_of o to + (c - 1)) z (omega (arith, l)) ∙ before z o xs w to c t1 t24 c1 cw
+      ])
+    ])
+    (λ i h. elim h [
+      | inl l ↦ below i z (omega arith)
+      | inr l ↦ above i z (omega arith)
+    ])
+    ∙ given-row z g to left right (λ r c. at_or z g from c)
+
+pub insert_between-row : {C : Type 0} (z : C) (o : Order) (xs ys : List C) (cell : C) (w row col right n m at k : ℕ) → IsOrder o
+    → length xs ≡ room o.size → 1 ≤ row → row ≤ o.size.rows → w ≤ stride o.size
+    → 1 ≤ col → col ≤ right → right ≤ w → m ≡ min n (right + 1 - col) → at ≡ start_of o row → k ≡ right
+    → length ys ≡ length (mid_of at k xs)
+    → ((i : ℕ) → col - 1 ≤ i → i < col - 1 + m → get_or ys i z ≡ cell)
+    → ((i : ℕ) → col - 1 + m ≤ i → i < length (mid_of at k xs)
+    → get_or ys i z ≡ get_or (mid_of at k xs) (i - m) z)
+    → ((i : ℕ) → i < col - 1 → get_or ys i z ≡ get_or (mid_of at k xs) i z)
+    → grid_of o.size w (stored_or z o (put_mid at k xs ys)) ≡ insert_between_any z cell (grid_of o.size w (stored_or z o xs)) row col right n
+insert_between-row {C = C} z o xs ys cell w row col right n m at k order long row1 row24 narrow col1 colr rightw is_min here is len gap moved front
+    =
+    let g = grid_of o.size w (stored_or z o xs) in
+    let below = start-below o order row row1 row24 in
+    let mid : length (mid_of at k xs) ≡ k = length-mid_of at k xs (omega arith) in
+    part-written z o xs ys w row at 0 k _ order long row1 row24 narrow (omega arith) (omega arith) (len ∙ mid)
+    (λ i c place low. elim (among col right c) [
+      | inl t ↦ elim (leb_tells (col + n) c) [
+        | inl u ↦
+            let same : m ≡ n = omega (arith, t, u) in
+            rw (t.0, u.0) (moved i (omega (arith, u)) (omega arith) ∙ mid-before z o xs w row at 0 k (i - m) (c - n) row1 row24
+            (omega arith) (omega (arith, u)) (omega arith) (omega arith))
+        | inr u ↦ rw (t.0, u.0) (gap i (omega (arith, t)) (omega (arith, t, u)))
+      ]
+      | inr t ↦ elim t.1 [
+        | inl l ↦ rw t.0 (front i (omega (arith, l))
+            ∙ mid-before z o xs w row at 0 k i c row1 row24 (omega arith) (omega arith) (omega arith) (omega arith))
+        | inr l ↦ absurd (omega (arith, l))
+      ]
+    ])
+    (λ c c1 cw out. elim (among col right c) [
+      | inl t ↦ absurd (elim out [ inl l ↦ omega arith | inr l ↦ omega (arith, t) ])
+      | inr t ↦ rw t.0 refl
+    ])
+    ∙ given-row z g row col right (from_left_any z cell g col n)
+
+pub delete_between-row : {C : Type 0} (z : C) (o : Order) (xs ys : List C) (cell : C) (w row col right n m at k : ℕ) → IsOrder o
+    → length xs ≡ room o.size → 1 ≤ row → row ≤ o.size.rows → w ≤ stride o.size
+    → 1 ≤ col → col ≤ right → right ≤ w → m ≡ min n (right + 1 - col) → at ≡ start_of o row → k ≡ right
+    → length ys ≡ length (mid_of at k xs)
+    → ((i : ℕ) → col - 1 ≤ i → i + m < length (mid_of at k xs)
+    → get_or ys i z ≡ get_or (mid_of at k xs) (i + m) z)
+    → ((i : ℕ) → i < length (mid_of at k xs) → length (mid_of at k xs) ≤ i + m → get_or ys i z ≡ cell)
+    → ((i : ℕ) → i < col - 1 → get_or ys i z ≡ get_or (mid_of at k xs) i z)
+    → grid_of o.size w (stored_or z o (put_mid at k xs ys)) ≡ delete_between_any z cell (grid_of o.size w (stored_or z o xs)) row col right n
+delete_between-row {C = C} z o xs ys cell w row col right n m at k order long row1 row24 narrow col1 colr rightw is_min here is len moved end front
+    =
+    let g = grid_of o.size w (stored_or z o xs) in
+    let below = start-below o order row row1 row24 in
+    let mid : length (mid_of at k xs) ≡ k = length-mid_of at k xs (omega arith) in
+    part-written z o xs ys w row at 0 k _ order long row1 row24 narrow (omega arith) (omega arith) (len ∙ mid)
+    (λ i c place low. elim (among col right c) [
+      | inl t ↦ elim (leb_tells (c + n) right) [
+        | inl u ↦
+            let same : m ≡ n = omega (arith, t, u) in
+            rw (t.0, u.0) (moved i (omega (arith, t)) (omega (arith, u))
+            ∙ mid-before z o xs w row at 0 k (i + m) (c + n) row1 row24 (omega arith) (omega arith) (omega (arith, u))
+            (omega (arith, u)))
+        | inr u ↦ rw (t.0, u.0) (end i (omega arith) (omega (arith, t, u)))
+      ]
+      | inr t ↦ elim t.1 [
+        | inl l ↦ rw t.0 (front i (omega (arith, l))
+            ∙ mid-before z o xs w row at 0 k i c row1 row24 (omega arith) (omega arith) (omega arith) (omega arith))
+        | inr l ↦ absurd (omega (arith, l))
+      ]
+    ])
+    (λ c c1 cw out. elim (among col right c) [
+      | inl t ↦ absurd (elim out [ inl l ↦ omega arith | inr l ↦ omega (arith, t) ])
+      | inr t ↦ rw t.0 refl
+    ])
+    ∙ given-row z g row col right (from_right_any z cell g right n)
+
+-- up to the last column
+pub insert-whole : {C : Type 0} (z : C) (g : GridOf C) (cell : C) (row col n : ℕ)
+    → insert_between_any z cell g row col g.width n ≡ insert_any z cell g row col n
+insert-whole {C = C} z g cell row col n =
+    sym (given-row z g row col g.width (from_left_any z cell g col n))
+    ∙ grid_of-same g.size g.width _ _ (λ r c r1 r24 c1 cw. elim (eqb_tells r row) [
+      | inl e ↦ elim (among col g.width c) [
+        | inl t ↦ elim (leb_tells col c) [
+          | inl u ↦ rw (e.0, t.0, u.0) refl
+          | inr u ↦ absurd (omega (arith, t, u))
+        ]
+        | inr t ↦ elim t.1 [
+          | inl l ↦ elim (leb_tells (col + n) c) [
+            | inl u ↦ absurd (omega (arith, l, u))
+            | inr u ↦ elim (leb_tells col c) [
+              | inl v ↦ absurd (omega (arith, l, v))
+              | inr v ↦ rw (e.0, t.0, u.0, v.0) refl
+            ]
+          ]
+          | inr l ↦ absurd (omega (arith, l))
+        ]
+      ]
+      | inr e ↦ rw e.0 refl
+    ])
+
+pub delete-whole : {C : Type 0} (z : C) (g : GridOf C) (cell : C) (row col n : ℕ)
+    → delete_between_any z cell g row col g.width n ≡ delete_any z cell g row col n
+delete-whole {C = C} z g cell row col n =
+    sym (given-row z g row col g.width (from_right_any z cell g g.width n))
+    ∙ grid_of-same g.size g.width _ _ (λ r c r1 r24 c1 cw. elim (eqb_tells r row) [
+      | inl e ↦ elim (leb_tells col c) [
+        | inl u ↦ elim (leb_tells c g.width) [
+          | inl v ↦ rw (e.0, u.0, v.0) refl
+          | inr v ↦ absurd (omega (arith, v))
+        ]
+        | inr u ↦ rw (e.0, u.0) refl
+      ]
+      | inr e ↦ rw e.0 refl
+    ])
 
 pub put_run-row : (o : Order) (xs ys : List Cell) (w row col at k : ℕ) (codes : List ℕ) (like : Cell) → IsOrder o
     → length xs ≡ room o.size → 1 ≤ row → row ≤ o.size.rows → w ≤ stride o.size

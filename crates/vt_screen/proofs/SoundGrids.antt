@@ -13,6 +13,7 @@ use Rattle.vt_screen.specs.Sizes.{width_of, IsSize}
 use Rattle.vt_screen.specs.Grid.{Grid, IsSoundGrid, grid_of}
 use Rattle.vt_screen.specs.Grid.{put_run}
 use Rattle.vt_screen.specs.Grid.{is_within}
+use Rattle.vt_screen.specs.Between.{given_any, columns_up_any, columns_down_any, insert_between_any, delete_between_any}
 use Rattle.vt_screen.specs.Kinds.{CellsOf, erased_any}
 use Rattle.vt_screen.specs.Shown.{blank_is_shown}
 use Rattle.vt_screen.proofs.Places.{IsGrid-grid_of}
@@ -61,6 +62,36 @@ put_run-sound g row col glyphs like sound are =
       | inl t ↦ rw t.0 (are (c - col) 0 (omega (arith, t)))
       | inr t ↦ rw t.0 (at _ g row c blank_is_shown sound)
     ])
+
+-- an area that gets sound cells
+pub given-sound : {C : Type 0} {test : C → Bool} (z : C) (g : GridOf C) (area : ℕ → ℕ → Bool) (f : ℕ → ℕ → C) → IsTrue (test z)
+    → IsSoundGridOf test g → ((r c : ℕ) → IsTrue (test (f r c))) → IsSoundGridOf test (given_any z g area f)
+given-sound {test = test} z g area f on sound each =
+    made g _ sound (λ r c. chosen test (area r c) _ _ (each r c) (at z g r c on sound))
+
+pub copied-sound : {C : Type 0} {test : C → Bool} (z : C) (g : GridOf C) (area : ℕ → ℕ → Bool) (from : ℕ) → IsTrue (test z)
+    → IsSoundGridOf test g → IsSoundGridOf test (given_any z g area (λ r c. at_or z g from c))
+copied-sound {test = test} z g area from on sound = given-sound z g area _ on sound (λ r c. at z g from c on sound)
+
+pub columns_up-sound : {C : Type 0} {test : C → Bool} (z : C) (g : GridOf C) (cell : C) (top bottom left right n : ℕ) → IsTrue (test z)
+    → IsTrue (test cell) → IsSoundGridOf test g → IsSoundGridOf test (columns_up_any z cell g top bottom left right n)
+columns_up-sound {test = test} z g cell top bottom left right n on shows sound = given-sound z g _ _ on sound
+    (λ r c. chosen test (leb (r + n) bottom) _ _ (at z g (r + n) c on sound) shows)
+
+pub columns_down-sound : {C : Type 0} {test : C → Bool} (z : C) (g : GridOf C) (cell : C) (top bottom left right n : ℕ) → IsTrue (test z)
+    → IsTrue (test cell) → IsSoundGridOf test g → IsSoundGridOf test (columns_down_any z cell g top bottom left right n)
+columns_down-sound {test = test} z g cell top bottom left right n on shows sound = given-sound z g _ _ on sound
+    (λ r c. chosen test (leb (top + n) r) _ _ (at z g (r - n) c on sound) shows)
+
+pub insert_between-sound : {C : Type 0} {test : C → Bool} (z : C) (g : GridOf C) (cell : C) (row col right n : ℕ) → IsTrue (test z)
+    → IsTrue (test cell) → IsSoundGridOf test g → IsSoundGridOf test (insert_between_any z cell g row col right n)
+insert_between-sound {test = test} z g cell row col right n on shows sound = given-sound z g _ _ on sound
+    (λ r c. chosen test (leb (col + n) c) _ _ (at z g r (c - n) on sound) shows)
+
+pub delete_between-sound : {C : Type 0} {test : C → Bool} (z : C) (g : GridOf C) (cell : C) (row col right n : ℕ) → IsTrue (test z)
+    → IsTrue (test cell) → IsSoundGridOf test g → IsSoundGridOf test (delete_between_any z cell g row col right n)
+delete_between-sound {test = test} z g cell row col right n on shows sound = given-sound z g _ _ on sound
+    (λ r c. chosen test (leb (c + n) right) _ _ (at z g r (c + n) on sound) shows)
 
 pub insert_cells-sound : {C : Type 0} {test : C → Bool} (z : C) (g : GridOf C) (cell : C) (row col n : ℕ) → IsTrue (test z) → IsTrue (test cell) → IsSoundGridOf test g
     → IsSoundGridOf test (insert_any z cell g row col n)

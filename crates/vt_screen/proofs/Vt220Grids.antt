@@ -9,6 +9,7 @@ use Rattle.vt_screen.specs.Shown.{blank_is_shown, erased_is_shown}
 use Rattle.vt_screen.specs.Kinds.{vt220_cells}
 use Rattle.vt_screen.specs.Grid.{Grid, IsGrid, IsSoundGrid, cell_at, blank_grid, put, put_inserting, insert_cells, delete_cells}
 use Rattle.vt_screen.specs.Grid.{erase_area, scroll_up, scroll_down, fill, grid_on}
+use Rattle.vt_screen.specs.Between.{columns_up, columns_down, insert_between, delete_between, put_between}
 use Rattle.vt_screen.proofs.SoundGrids as any
 use Rattle.vt_screen.proofs.OtherSize as any_size
 
@@ -35,6 +36,28 @@ scroll_up-sound g top bottom n sound = any.scroll_up-sound blank g blank top bot
 
 pub scroll_down-sound : (g : Grid) (top bottom n : ℕ) → IsSoundGrid g → IsSoundGrid (scroll_down g top bottom n)
 scroll_down-sound g top bottom n sound = any.scroll_down-sound blank g blank top bottom n blank_is_shown blank_is_shown sound
+
+pub columns_up-sound : (g : Grid) (top bottom left right n : ℕ) → IsSoundGrid g → IsSoundGrid (columns_up g top bottom left right n)
+columns_up-sound g top bottom left right n sound =
+    any.columns_up-sound blank g blank top bottom left right n blank_is_shown blank_is_shown sound
+
+pub columns_down-sound : (g : Grid) (top bottom left right n : ℕ) → IsSoundGrid g
+    → IsSoundGrid (columns_down g top bottom left right n)
+columns_down-sound g top bottom left right n sound =
+    any.columns_down-sound blank g blank top bottom left right n blank_is_shown blank_is_shown sound
+
+pub insert_between-sound : (g : Grid) (row col right n : ℕ) → IsSoundGrid g → IsSoundGrid (insert_between g row col right n)
+insert_between-sound g row col right n sound =
+    any.insert_between-sound blank g blank row col right n blank_is_shown blank_is_shown sound
+
+pub delete_between-sound : (g : Grid) (row col right n : ℕ) → IsSoundGrid g → IsSoundGrid (delete_between g row col right n)
+delete_between-sound g row col right n sound =
+    any.delete_between-sound blank g blank row col right n blank_is_shown blank_is_shown sound
+
+pub put_between-sound : (g : Grid) (row col right : ℕ) (cell : Cell) → IsSoundGrid g → IsGlyph cell.glyph
+    → IsSoundGrid (put_between g row col right cell)
+put_between-sound g row col right cell sound glyph =
+    any.insert_between-sound blank g cell row col right 1 blank_is_shown glyph sound
 
 pub fill-sound : (g : Grid) (cell : Cell) → IsSoundGrid g → IsGlyph cell.glyph → IsSoundGrid (fill g cell)
 fill-sound g cell sound glyph = any.fill-sound g cell sound glyph

@@ -1,8 +1,9 @@
 //! Kinds of cells.
-ghost use Rattle.std.specs.Prelude.{◌≡◌, IsTrue};
+ghost use Rattle.std.specs.Prelude.{◌≡◌, ◌↔◌, IsTrue};
 ghost use Rattle.vt_screen.specs.Kinds.{CellsOf};
 
 use crate::cell::Cell;
+use crate::line::same_cells;
 use vt_glyph::Glyph;
 
 /// A type of cells that a screen can have.
@@ -21,6 +22,10 @@ pub trait Cells: Copy + Drop {
     /// States that the cell is sound, for proofs. It does nothing when it runs.
     fn is_sound(self)
         ensures { IsTrue (cells.shown self) };
+
+    /// Returns whether two rows have the same cells.
+    fn same_row(a: &[Self], b: &[Self]) -> bool
+        ensures { IsTrue result ↔ (a.now ≡ b.now) };
 
     /// A blank cell is sound.
     ghost blank_shown: { IsTrue (cells.shown cells.blank) };
@@ -56,5 +61,10 @@ impl Cells for Cell {
     #[inline(always)]
     fn is_sound(self) {
         let _ = self.glyph.to_char();
+    }
+
+    #[inline(always)]
+    fn same_row(a: &[Cell], b: &[Cell]) -> bool {
+        same_cells(a, b)
     }
 }

@@ -2,7 +2,7 @@
 //! 132 cells. Rows and columns count from 1.
 #![tactic(auto)]
 
-pub mod between;
+mod between;
 mod cell;
 mod kind;
 pub mod laws;

@@ -8,8 +8,7 @@ ghost use Rattle.vt_screen.specs.Order.{stored_or};
 use crate::cell::Cell;
 use crate::kind::Cells;
 use crate::line::{
-    erase_cells, fill_line, insert_blanks, insert_cell, remove_cells, same_cells, write_codes,
-    write_graphics,
+    erase_cells, fill_line, insert_blanks, insert_cell, remove_cells, write_codes, write_graphics,
 };
 use crate::order::RowOrder;
 use crate::size::{ROWS, Size};
@@ -85,6 +84,7 @@ impl<C: Cells> Screen<C> {
     ghost use Rattle.vt_screen.specs.Grid.{IsGrid, IsSoundGridOf, at_or, row_or, put_any, put_inserting_any, changed_any, columns_of, span_of};
     ghost use Rattle.vt_screen.specs.Grid.{insert_any, delete_any, scroll_up_any, scroll_down_any, fill_any, blank_any};
     ghost use Rattle.vt_screen.specs.Grid.{grid_on_any, row_from_any, width_on_any};
+    ghost use Rattle.vt_screen.specs.Between.{given_any, insert_between_any, delete_between_any};
 
     /// Returns a narrow screen of a size, all blank. It allocates memory for a wide one. Returns `Err` if allocation
     /// fails.
@@ -117,6 +117,25 @@ impl<C: Cells> Screen<C> {
         self.cells.copy_from_slice(&other.cells);
         self.order = other.order.copied();
         self.width = other.width;
+    }
+
+    /// Returns whether the two screens have the same size, the same width and the same cells.
+    pub fn same(&self, other: &Screen<C>) -> bool
+        ensures { IsTrue result ↔ (self.now ≡ other.now) }
+    {
+        let size = self.order.size();
+        if !size.same(other.order.size()) {
+            return false;
+        }
+        if self.width != other.width {
+            return false;
+        }
+        for row in 1..size.rows + 1 {
+            if !C::same_row(self.row(row), other.row(row)) {
+                return false;
+            }
+        }
+        true
     }
 
     /// Returns the number of columns on a screen of another size: those of its wide form, if this screen is wide.
@@ -274,11 +293,23 @@ impl<C: Cells> Screen<C> {
         ensures grid { self.new ≡ insert_any C.cells.blank empty self.old row column n }
         ensures sound { IsSoundGridOf C.cells.shown self.new }
     {
+        let width = self.width();
+        self.insert_between(row, column, width, n, empty);
+    }
+
+    /// Inserts `n` cells at a row and a column. The cells starting there move right, and those that pass the column `right`
+    /// are lost.
+    pub fn insert_between(&mut self, row: usize, column: usize, right: usize, n: u16, empty: C)
+        requires row { (1 ≤ row) × (row ≤ self.old.size.rows) }
+        requires columns { (1 ≤ column) × (column ≤ right) × (right ≤ self.old.width) }
+        ensures grid { self.new ≡ insert_between_any C.cells.blank empty self.old row column right n }
+        ensures sound { IsSoundGridOf C.cells.shown self.new }
+    {
         empty.is_sound();
         let start = self.order.start(row);
-        let count = (n as usize).min(self.width + 1 - column);
+        let count = (n as usize).min(right + 1 - column);
         insert_blanks(
-            &mut self.cells[start..start + self.width],
+            &mut self.cells[start..start + right],
             column - 1,
             count,
             empty,
@@ -293,15 +324,41 @@ impl<C: Cells> Screen<C> {
         ensures grid { self.new ≡ delete_any C.cells.blank empty self.old row column n }
         ensures sound { IsSoundGridOf C.cells.shown self.new }
     {
+        let width = self.width();
+        self.delete_between(row, column, width, n, empty);
+    }
+
+    /// Deletes `n` cells starting at a row and a column. The cells after them, up to the column `right`, move left, and
+    /// `empty` comes in there.
+    pub fn delete_between(&mut self, row: usize, column: usize, right: usize, n: u16, empty: C)
+        requires row { (1 ≤ row) × (row ≤ self.old.size.rows) }
+        requires columns { (1 ≤ column) × (column ≤ right) × (right ≤ self.old.width) }
+        ensures grid { self.new ≡ delete_between_any C.cells.blank empty self.old row column right n }
+        ensures sound { IsSoundGridOf C.cells.shown self.new }
+    {
         empty.is_sound();
         let start = self.order.start(row);
-        let count = (n as usize).min(self.width + 1 - column);
+        let count = (n as usize).min(right + 1 - column);
         remove_cells(
-            &mut self.cells[start..start + self.width],
+            &mut self.cells[start..start + right],
             column - 1,
             count,
             empty,
         );
+    }
+
+    /// Copies the cells of a row, between two columns, over those of another row.
+    pub(crate) fn copy_columns(&mut self, from: usize, to: usize, left: usize, right: usize)
+        requires from { (1 ≤ from) × (from ≤ self.old.size.rows) }
+        requires to { (1 ≤ to) × (to ≤ self.old.size.rows) }
+        requires columns { (1 ≤ left) × (left ≤ right) × (right ≤ self.old.width) }
+        ensures grid { self.new ≡ given_any C.cells.blank self.old (columns_of to left right) (λ r c. at_or C.cells.blank self.old from c) }
+        ensures sound { IsSoundGridOf C.cells.shown self.new }
+    {
+        let place = self.order.start(to) + left - 1;
+        let source = self.order.start(from);
+        self.cells
+            .copy_within(source + left - 1..source + right, place);
     }
 
     /// Moves the rows `top` to `bottom` up by `n`. The first `n` are lost, and blank rows are added at the bottom.
@@ -418,7 +475,7 @@ impl<C: Cells> Screen<C> {
 
 impl Screen {
     ghost use Rattle.vt_screen.specs.Sizes.{vt220_size};
-    ghost use Rattle.vt_screen.specs.Grid.{IsSoundGrid, put_run, blank_grid, erase, put, grid_on};
+    ghost use Rattle.vt_screen.specs.Grid.{IsSoundGrid, put_run, blank_grid, erase, put};
     ghost use Rattle.vt_screen.specs.Grid.{insert_cells, delete_cells, scroll_up, scroll_down};
 
     /// Returns a narrow screen of the VT220's size, all blank. It allocates memory for a wide one, 24 rows of 132 cells.
@@ -427,25 +484,6 @@ impl Screen {
         ensures { IfOk result (λ screen. screen ≡ blank_grid vt220_size false) }
     {
         Screen::with_size(alloc, Size::vt220())
-    }
-
-    /// Returns whether the two screens have the same size, the same width and the same cells.
-    pub fn same(&self, other: &Screen) -> bool
-        ensures { IsTrue result ↔ (self.now ≡ other.now) }
-    {
-        let size = self.order.size();
-        if !size.same(other.order.size()) {
-            return false;
-        }
-        if self.width != other.width {
-            return false;
-        }
-        for row in 1..size.rows + 1 {
-            if !same_cells(self.row(row), other.row(row)) {
-                return false;
-            }
-        }
-        true
     }
 
     /// Writes ASCII codes, each from 20 to 7E, starting at a row and a column. The result is that of writing them one
@@ -531,15 +569,6 @@ impl Screen {
         ensures sound { IsSoundGrid self.new }
     {
         self.put(row, column, cell);
-    }
-
-    /// Makes the screen show the cells of another one of any size, as `copy_on` does.
-    pub fn copy_vt220(&mut self, other: &Screen, off: usize)
-        requires { off ≤ other.now.size.rows }
-        ensures grid { self.new ≡ grid_on self.old.size off other.now }
-        ensures sound { IsSoundGrid self.new }
-    {
-        self.copy_on(other, off);
     }
 
     /// Inserts `n` blank cells at a row and a column.

@@ -2,26 +2,28 @@
 use Rattle.std.proofs.Common.{◌≡◌, ◌∙◌, ℕ, zero, suc, ◌+◌, ◌-◌, ◌≤◌, ◌<◌, Bool, true, false, ◌&&◌, ◌==◌, if◌then◌else◌, List, [], length}
 use Rattle.std.proofs.Common.{min, max, ◌++◌, append_assoc}
 use Rattle.std.specs.List.{range_with_len, flat_map}
-use Rattle.std.proofs.Common.{arith, refl, sym, ap, subst, inl, inr}
+use Rattle.std.proofs.Common.{arith, refl, sym, ap, subst, inl, inr, IsTrue}
 use Rattle.std.proofs.Math.Dec.{leb}
 use Rattle.std.proofs.lemmas.Bool.Decides.{leb_tells, eqb_tells}
 use Rattle.std.proofs.lemmas.Bool.{and_parts, false≢true}
 use Rattle.vt_screen.specs.declared.size.Size.{Size}
 use Rattle.vt_screen.specs.Sizes.{IsSize}
 use Rattle.vt_screen.specs.Cells.{blank}
-use Rattle.vt_screen.specs.Grid.{Grid, width_on, grid_on, row_of}
+use Rattle.vt_screen.specs.Grid.{Grid, width_on, width_on_any, grid_on, row_of}
 use Rattle.vt_screen.proofs.Places.{width-bounds, length-row_of, get_or-row_of, row_of-same}
 use Rattle.vt_screen.proofs.Vt220Grids.{grid_on-sound}
+use Rattle.vt_screen.proofs.SoundGrids.{grid_on-sound as any_grid_on-sound}
+use Rattle.vt_screen.specs.Shown.{blank_is_shown}
 use Rattle.vt_screen.proofs.Vt220Grids.{own-size}
 use Rattle.vt_screen.proofs.OtherSize.{own-width}
 use Rattle.vt_term.specs.declared.state.Cursor.{Cursor}
 use Rattle.vt_term.specs.declared.state.Margins.{Margins}
 use Rattle.vt_term.specs.State.{Saved}
-use Rattle.vt_term.specs.State.{Display, State, margins_of}
-use Rattle.vt_term.specs.Sound.{IsPlace, AreSoundMargins, IsSoundDisplayAt, IsSoundSizedDisplay, IsSoundAt, IsSoundSized}
+use Rattle.vt_term.specs.State.{DisplayOf, Display, State, margins_of}
+use Rattle.vt_term.specs.Sound.{IsPlace, AreSoundMargins, IsSoundDisplayOf, IsSoundSizedDisplay, IsSoundAt, IsSoundSized}
 use Rattle.vt_term.specs.Pages.{PageState, IsSoundPageAt, IsSoundSizedPage}
 use Rattle.vt_term.specs.Resizing.{count_off, col_on, wrap_on, page_on}
-use Rattle.vt_term.specs.Resizing.{cursor_on, saved_on, stops_on, is_stop_on, is_as_large, margins_on, display_on}
+use Rattle.vt_term.specs.Resizing.{cursor_on, saved_on, stops_on, is_stop_on, is_as_large, margins_on, display_on, display_on_any}
 use Rattle.vt_term.specs.Resizing.{state_on, log_on, hidden_off, hidden_log}
 use Rattle.vt_term.specs.Text.{lines_text, line_text}
 use Rattle.vt_term.proofs.Stops.{stops-same, length-stops_where}
@@ -57,8 +59,8 @@ origin-inside : (large : Bool) (size : Size) (m : Margins) (row : ℕ) → (larg
 origin-inside true size m row low h inside = (omega (arith, low refl, inside), omega (arith, inside))
 origin-inside false size m row low h inside = absurd (false≢true h)
 
-rows-equal : (size : Size) (s : Display) → is_as_large size s ≡ true → s.grid.size.rows ≡ size.rows
-rows-equal size s h = elim (eqb_tells s.grid.size.rows size.rows) [
+rows-equal : {C B : Type 0} (size : Size) (s : DisplayOf C B) → is_as_large size s ≡ true → s.grid.size.rows ≡ size.rows
+rows-equal {C = C} size s h = elim (eqb_tells s.grid.size.rows size.rows) [
   | inl e ↦ e.1
   | inr e ↦ absurd (false≢true (sym e.0 ∙ (and_parts _ _ h).0))
 ]
@@ -78,16 +80,17 @@ page_on-sound size off page sized sound =
       saved_sets = sound.saved_sets;
     }
 
-pub display_on-sound : (size : Size) (s : Display) → IsSize size → IsSoundSizedDisplay s → IsSoundDisplayAt size (display_on size s)
+pub display_on-sound : {C B : Type 0} {shown : C → Bool} (z : C) (size : Size) (s : DisplayOf C B) → IsTrue (shown z) → IsSize size
+    → IsSoundDisplayOf shown s.grid.size s → IsSoundDisplayOf shown size (display_on_any z size s)
 unfolding stops_on
-display_on-sound size s sized sound =
+display_on-sound {shown = shown} z size s on sized sound =
     let some : 1 ≤ size.rows = omega (arith, sized.rows.0) in
-    let wide : (2 ≤ width_on size s.grid) × (width_on size s.grid ≤ size.wide) =
-    width-bounds size (width_on size s.grid) sized (s.grid.width == s.grid.size.wide, refl) in
+    let wide : (2 ≤ width_on_any size s.grid) × (width_on_any size s.grid ≤ size.wide) =
+    width-bounds size (width_on_any size s.grid) sized (s.grid.width == s.grid.size.wide, refl) in
     record {
       of_size = refl;
-      grid = grid_on-sound size (count_off size s) s.grid sized sound.grid;
-      cursor = place_on size.rows (width_on size s.grid) s.grid.size.rows s.grid.width s.cursor.row s.cursor.col
+      grid = any_grid_on-sound z size (count_off size s) s.grid on sized sound.grid;
+      cursor = place_on size.rows (width_on_any size s.grid) s.grid.size.rows s.grid.width s.cursor.row s.cursor.col
           (min s.cursor.row size.rows) s.cursor.wrap (omega (arith, some, sound.cursor.row_1)) (omega arith) (omega (arith, wide))
           sound.cursor;
       wrap = λ h. sound.wrap (and_parts _ _ h).0;
@@ -98,14 +101,22 @@ display_on-sound size s sized sound =
       sets = sound.sets;
       margins = margins-sound (is_as_large size s) size s.grid.size.rows s.margins (rows-equal size s) sized.rows.0 sound.margins;
       stops = length-stops_where size.wide (is_stop_on s.stops);
-      saved = place_on size.rows (width_on size s.grid) s.grid.size.rows s.grid.width s.saved.row s.saved.col
+      saved = place_on size.rows (width_on_any size s.grid) s.grid.size.rows s.grid.width s.saved.row s.saved.col
           (min (max 1 (s.saved.row - count_off size s)) size.rows) s.saved.wrap (omega (arith, some)) (omega arith)
           (omega (arith, wide)) sound.saved;
       saved_sets = sound.saved_sets;
     }
 
+-- a display that was brought to the size of another one
+pub brought-sound : {C B : Type 0} {shown : C → Bool} (z : C) (s inside now new : DisplayOf C B) → IsTrue (shown z) → inside ≡ now
+    → IsSize inside.grid.size → IsSoundDisplayOf shown s.grid.size s → new ≡ display_on_any z now.grid.size s
+    → IsSoundDisplayOf shown new.grid.size new
+brought-sound {shown = shown} z s inside now new on same sized sound is =
+    subst (λ d. IsSoundDisplayOf shown d.grid.size d) (sym is)
+    (display_on-sound z now.grid.size s on (subst (λ d. IsSize d.grid.size) same sized) sound)
+
 pub state_on-sound : (size : Size) (s : State) → IsSize size → IsSoundSized s → IsSoundAt size (state_on size s)
-state_on-sound size s sized sound = record { display = display_on-sound size s.display sized sound.display; held = sound.held }
+state_on-sound size s sized sound = record { display = display_on-sound blank size s.display blank_is_shown sized sound.display; held = sound.held }
 
 -- ---- on its own size
 

@@ -2,18 +2,19 @@
 -- moves with its row, and the page that isn't shown goes by its own cursor. This profile: a saved place is brought inside at once; a wrap
 -- flag is in the last column alone; a column that comes in has the tab stop of power-up)
 use Rattle.std.specs.Prelude.{ℕ, ◌+◌, ◌-◌, List, Bool, ◌==◌, ◌&&◌, min, max, nat_le, length, if◌then◌else◌}
-use Rattle.vt_screen.specs.Grid.{width_on, grid_on}
+use Rattle.vt_screen.specs.Cells.{blank}
+use Rattle.vt_screen.specs.Grid.{width_on, width_on_any, grid_on, grid_on_any}
 use Rattle.vt_screen.specs.declared.size.Size.{Size}
 use Rattle.vt_term.specs.declared.state.Cursor.{Cursor}
 use Rattle.vt_term.specs.declared.state.Margins.{Margins}
 use Rattle.vt_term.specs.declared.state.Modes.{Modes}
-use Rattle.vt_term.specs.State.{Saved}
-use Rattle.vt_term.specs.State.{Display, State, bottom_row, last_column, margins_of, stops_where, has_stop_at, is_stop_at_power_up}
-use Rattle.vt_term.specs.Pages.{PageState, page_of, with_page}
+use Rattle.vt_term.specs.declared.state.SavedOf.{SavedOf}
+use Rattle.vt_term.specs.State.{DisplayOf, Display, State, bottom_row, last_column, margins_of, stops_where, has_stop_at, is_stop_at_power_up}
+use Rattle.vt_term.specs.Pages.{PageState}
 use Rattle.vt_term.specs.Text.{lines_text}
 
 -- the rows that leave at the top: as many as the cursor would be below the last row
-abbrev pub count_off : Size → Display → ℕ
+abbrev pub count_off : {C B : Type 0} → Size → DisplayOf C B → ℕ
 count_off size s = s.cursor.row - size.rows
 
 -- a column brought inside a screen of this width; from a wrap flag the next column, if the screen has it
@@ -29,7 +30,7 @@ abbrev pub cursor_on : ℕ → ℕ → Cursor → Cursor
 cursor_on rows width c = record { row = min c.row rows; col = col_on width c.col c.wrap; wrap = wrap_on width c.col c.wrap }
 
 -- what DECSC saved: its place moves up with its row, after so many rows have left at the top, and is brought inside
-abbrev pub saved_on : ℕ → ℕ → ℕ → Saved → Saved
+abbrev pub saved_on : {B : Type 0} → ℕ → ℕ → ℕ → SavedOf B → SavedOf B
 saved_on rows width off saved = record saved {
   row = min (max 1 (saved.row - off)) rows;
   col = col_on width saved.col saved.wrap;
@@ -55,25 +56,30 @@ abbrev pub hidden_off : Size → PageState → ℕ
 hidden_off size page = page.saved.row - size.rows
 
 -- the screen has as many rows and columns as before
-abbrev pub is_as_large : Size → Display → Bool
-is_as_large size s = bottom_row s == size.rows && last_column s == width_on size s.grid
+abbrev pub is_as_large : {C B : Type 0} → Size → DisplayOf C B → Bool
+is_as_large size s = bottom_row s == size.rows && last_column s == width_on_any size s.grid
 
 -- the margins stay on a screen that is as large, and another one has full margins
-abbrev pub margins_on : Size → Display → Margins
+abbrev pub margins_on : {C B : Type 0} → Size → DisplayOf C B → Margins
 margins_on size s = if is_as_large size s then s.margins else margins_of size
 
 -- DECOM stays on a screen that is as large, and another one resets it
-abbrev pub modes_on : Size → Display → Modes
+abbrev pub modes_on : {C B : Type 0} → Size → DisplayOf C B → Modes
 modes_on size s = record s.modes { decom = s.modes.decom && is_as_large size s }
 
--- everything else stays
-abbrev pub display_on : Size → Display → Display
-display_on size s = record (with_page (page_on size (count_off size s) (page_of s)) s) {
-  cursor = cursor_on size.rows (width_on size s.grid) s.cursor;
+-- everything else stays, and the cells that come in are z
+abbrev pub display_on_any : {C B : Type 0} → C → Size → DisplayOf C B → DisplayOf C B
+display_on_any z size s = record s {
+  grid = grid_on_any z size (count_off size s) s.grid;
+  cursor = cursor_on size.rows (width_on_any size s.grid) s.cursor;
   margins = margins_on size s;
   stops = stops_on size.wide s.stops;
   modes = modes_on size s;
+  saved = saved_on size.rows (width_on_any size s.grid) (count_off size s) s.saved;
 }
+
+abbrev pub display_on : Size → Display → Display
+display_on = display_on_any blank
 
 -- what is held of a sequence stays
 abbrev pub state_on : Size → State → State

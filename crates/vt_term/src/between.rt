@@ -10,7 +10,7 @@ ghost use Rattle.vt_term.specs.State.{at_place};
 use crate::sized::SizedTerminal;
 use crate::state::Cursor;
 use vt_glyph::Glyph;
-use vt_screen::{Cell, between};
+use vt_screen::Cell;
 use vt_syntax::Parser;
 
 impl SizedTerminal {
@@ -26,7 +26,9 @@ impl SizedTerminal {
         } }
     {
         let bottom = self.display.margins.bottom;
-        between::columns_up(&mut self.display.screen, top, bottom, left, right, n);
+        self.display
+            .screen
+            .columns_up(top, bottom, left, right, n, Cell::blank());
     }
 
     /// Moves the rows from `top` to the bottom margin down by `n`, between two columns. Blank cells come in. The cursor stays.
@@ -41,7 +43,9 @@ impl SizedTerminal {
         } }
     {
         let bottom = self.display.margins.bottom;
-        between::columns_down(&mut self.display.screen, top, bottom, left, right, n);
+        self.display
+            .screen
+            .columns_down(top, bottom, left, right, n, Cell::blank());
     }
 
     /// Inserts `n` blank cells at the cursor, up to a column. The cursor stays.
@@ -55,7 +59,9 @@ impl SizedTerminal {
         } }
     {
         let Cursor { row, col, .. } = self.display.cursor;
-        between::insert_between(&mut self.display.screen, row, col, right, n);
+        self.display
+            .screen
+            .insert_between(row, col, right, n, Cell::blank());
     }
 
     /// Removes `n` cells at the cursor, up to a column. The cursor stays.
@@ -69,7 +75,9 @@ impl SizedTerminal {
         } }
     {
         let Cursor { row, col, .. } = self.display.cursor;
-        between::delete_between(&mut self.display.screen, row, col, right, n);
+        self.display
+            .screen
+            .delete_between(row, col, right, n, Cell::blank());
     }
 
     /// Writes a glyph at the cursor. If `inserts`, the cells up to the column `last` first move right. Then the cursor
@@ -94,7 +102,7 @@ impl SizedTerminal {
         let Cursor { row, col, .. } = self.display.cursor;
         let cell = Cell::new(glyph, self.display.pen.brush());
         if inserts {
-            between::put_between(&mut self.display.screen, row, col, last, cell);
+            self.display.screen.insert_between(row, col, last, 1, cell);
         } else {
             self.display.screen.put_vt220(row, col, cell);
         }

@@ -2,11 +2,12 @@
 ghost use Rattle.std.specs.Prelude.{◌≡◌};
 
 use crate::display::Display;
+use crate::kind::Kind;
 use crate::sized::SizedTerminal;
 
-impl Display {
+impl<K: Kind> Display<K> {
     /// Makes every part equal to that of another display of the same size.
-    fn copy_from(&mut self, other: &Display)
+    pub fn copy_from(&mut self, other: &Display<K>)
         requires { self.old.grid.size ≡ other.now.grid.size }
         ensures { self.new ≡ other.now }
     {

@@ -15,7 +15,7 @@ use vt_screen::ROWS;
 
 impl<K: Kind> Display<K> {
     /// Carries out CR: moves the cursor to column 1.
-    pub(crate) fn carriage_return(&mut self)
+    pub fn carriage_return(&mut self)
         ensures { self.new ≡ carriage_return self.old }
     {
         self.cursor = Cursor::at(self.cursor.row, 1);
@@ -24,7 +24,7 @@ impl<K: Kind> Display<K> {
     /// Carries out IND: moves the cursor down by one, not past the last row. At the bottom margin the scroll region moves up
     /// instead.
     #[inline(never)]
-    pub(crate) fn index(&mut self)
+    pub fn index(&mut self)
         ensures { self.new ≡ index_any (kind_of K.cells K.own) self.old }
     {
         let Cursor { row, col, .. } = self.cursor;
@@ -64,7 +64,7 @@ impl<K: Kind> Display<K> {
     /// Carries out RI: moves the cursor up by one, not past row 1. At the top margin the scroll region moves down
     /// instead.
     #[inline(never)]
-    pub(crate) fn reverse_index(&mut self)
+    pub fn reverse_index(&mut self)
         ensures { self.new ≡ reverse_index_any (kind_of K.cells K.own) self.old }
     {
         let mut row = self.cursor.row;
@@ -83,7 +83,7 @@ impl<K: Kind> Display<K> {
 
     /// Carries out NEL: CR, and then IND.
     #[inline(never)]
-    pub(crate) fn next_line(&mut self)
+    pub fn next_line(&mut self)
         ensures { self.new ≡ next_line_any (kind_of K.cells K.own) self.old }
     {
         self.carriage_return();
@@ -91,7 +91,7 @@ impl<K: Kind> Display<K> {
     }
 
     /// Carries out LF, VT and FF: IND, and under LNM also CR.
-    pub(crate) fn line_feed(&mut self)
+    pub fn line_feed(&mut self)
         ensures { self.new ≡ line_feed_any (kind_of K.cells K.own) self.old }
     {
         if self.modes.lnm {
@@ -102,7 +102,7 @@ impl<K: Kind> Display<K> {
     }
 
     /// Moves the cursor home: to column 1 of row 1, or under DECOM of the top margin's row.
-    pub(crate) fn home(&mut self)
+    pub fn home(&mut self)
         ensures { self.new ≡ home self.old }
     {
         let row = if self.modes.decom {
@@ -114,7 +114,7 @@ impl<K: Kind> Display<K> {
     }
 
     /// Carries out BS: moves the cursor left by one, not past column 1.
-    pub(crate) fn backspace(&mut self)
+    pub fn backspace(&mut self)
         ensures { self.new ≡ backspace self.old }
     {
         self.cursor = Cursor::at(self.cursor.row, (self.cursor.col - 1).max(1));
@@ -122,7 +122,7 @@ impl<K: Kind> Display<K> {
 
     /// Carries out CUU: moves the cursor up by `n`, not past the top margin. If it starts above the margin, it stops at
     /// row 1.
-    pub(crate) fn cursor_up(&mut self, n: u16)
+    pub fn cursor_up(&mut self, n: u16)
         ensures { self.new ≡ cursor_up n self.old }
     {
         let limit = if self.margins.top <= self.cursor.row {
@@ -136,7 +136,7 @@ impl<K: Kind> Display<K> {
 
     /// Carries out CUD: moves the cursor down by `n`, not past the bottom margin. If it starts below the margin, it
     /// stops at the last row.
-    pub(crate) fn cursor_down(&mut self, n: u16)
+    pub fn cursor_down(&mut self, n: u16)
         ensures { self.new ≡ cursor_down n self.old }
     {
         let limit = if self.cursor.row <= self.margins.bottom {
@@ -149,7 +149,7 @@ impl<K: Kind> Display<K> {
     }
 
     /// Carries out CUF: moves the cursor right by `n`, not past the last column.
-    pub(crate) fn cursor_forward(&mut self, n: u16)
+    pub fn cursor_forward(&mut self, n: u16)
         ensures { self.new ≡ cursor_forward n self.old }
     {
         let col = (self.cursor.col + n as usize).min(self.screen.width());
@@ -157,7 +157,7 @@ impl<K: Kind> Display<K> {
     }
 
     /// Carries out CUB: moves the cursor left by `n`, not past column 1.
-    pub(crate) fn cursor_backward(&mut self, n: u16)
+    pub fn cursor_backward(&mut self, n: u16)
         ensures { self.new ≡ cursor_backward n self.old }
     {
         let col = self.cursor.col.saturating_sub(n as usize).max(1);
@@ -169,7 +169,7 @@ impl<K: Kind> Display<K> {
     ///
     /// Speed: a position on the screen is used as it is. Any other is bounded out of line.
     #[inline(always)]
-    pub(crate) fn cursor_position(&mut self, line: u16, col: u16)
+    pub fn cursor_position(&mut self, line: u16, col: u16)
         ensures { self.new ≡ cursor_position line col self.old }
     {
         let row = line as usize;
@@ -199,7 +199,7 @@ impl<K: Kind> Display<K> {
 
     /// Carries out DECSTBM: sets margins of at least two rows, and moves the cursor home. Other margins have no effect.
     #[inline(never)]
-    pub(crate) fn set_margins(&mut self, top: u16, bottom: u16)
+    pub fn set_margins(&mut self, top: u16, bottom: u16)
         ensures { self.new ≡ set_margins top bottom self.old }
     {
         let top = (top as usize).max(1);

@@ -13,7 +13,7 @@ impl<K: Kind> Display<K> {
     /// Carries out IL: inserts `n` blank rows at the cursor's row, and moves the cursor to column 1. The rows down to
     /// the bottom margin move down. Outside the margins it only resets the wrap flag.
     #[inline(never)]
-    pub(crate) fn insert_line(&mut self, n: u16)
+    pub fn insert_line(&mut self, n: u16)
         ensures { self.new ≡ insert_line_any (kind_of K.cells K.own) n self.old }
     {
         let row = self.cursor.row;
@@ -29,7 +29,7 @@ impl<K: Kind> Display<K> {
     /// Carries out DL: deletes `n` rows starting at the cursor's row, and moves the cursor to column 1. The rows down
     /// to the bottom margin move up. Outside the margins it only resets the wrap flag.
     #[inline(never)]
-    pub(crate) fn delete_line(&mut self, n: u16)
+    pub fn delete_line(&mut self, n: u16)
         ensures { self.new ≡ delete_line_any (kind_of K.cells K.own) n self.old }
     {
         let row = self.cursor.row;
@@ -44,7 +44,7 @@ impl<K: Kind> Display<K> {
 
     /// Carries out ICH: inserts `n` blank cells at the cursor.
     #[inline(never)]
-    pub(crate) fn insert_character(&mut self, n: u16)
+    pub fn insert_character(&mut self, n: u16)
         ensures { self.new ≡ insert_character_any (kind_of K.cells K.own) n self.old }
     {
         self.screen
@@ -54,7 +54,7 @@ impl<K: Kind> Display<K> {
 
     /// Carries out DCH: deletes `n` cells starting at the cursor.
     #[inline(never)]
-    pub(crate) fn delete_character(&mut self, n: u16)
+    pub fn delete_character(&mut self, n: u16)
         ensures { self.new ≡ delete_character_any (kind_of K.cells K.own) n self.old }
     {
         self.screen
@@ -64,7 +64,7 @@ impl<K: Kind> Display<K> {
 
     /// Carries out ECH: blanks `n` cells starting at the cursor, at least one, not past the last column.
     #[inline(never)]
-    pub(crate) fn erase_character(&mut self, n: u16)
+    pub fn erase_character(&mut self, n: u16)
         requires { 1 ≤ n }
         ensures { self.new ≡ erase_character_any (kind_of K.cells K.own) n self.old }
     {
@@ -76,7 +76,7 @@ impl<K: Kind> Display<K> {
     /// Carries out EL, and DECSEL, which is selective: 0 erases starting at the cursor, 1 up to the cursor, 2 the whole
     /// line.
     #[inline(never)]
-    pub(crate) fn erase_in_line(&mut self, selective: bool, p: u16)
+    pub fn erase_in_line(&mut self, selective: bool, p: u16)
         ensures { self.new ≡ erase_in_line_any (kind_of K.cells K.own) selective p self.old }
     {
         let Cursor { col, .. } = self.cursor;
@@ -103,7 +103,7 @@ impl<K: Kind> Display<K> {
     /// Carries out ED, and DECSED, which is selective: 0 erases starting at the cursor, 1 up to the cursor, 2 the whole
     /// screen.
     #[inline(never)]
-    pub(crate) fn erase_in_display(&mut self, selective: bool, p: u16)
+    pub fn erase_in_display(&mut self, selective: bool, p: u16)
         ensures { self.new ≡ erase_in_display_any (kind_of K.cells K.own) selective p self.old }
     {
         let Cursor { row, col, .. } = self.cursor;

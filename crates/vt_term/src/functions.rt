@@ -45,7 +45,7 @@ impl<K: Kind> Display<K> {
     /// Carries out an event: its kind, and the values of a control sequence. It appends the report in the state before
     /// the event to `out`: at most ten bytes, for which `out` has capacity.
     #[inline(always)]
-    pub(crate) fn carry_out(&mut self, kind: EventKind, values: &[u16], out: &mut Vec<u8>)
+    pub fn carry_out(&mut self, kind: EventKind, values: &[u16], out: &mut Vec<u8>)
         requires event { IsEvent (event_of kind values.now) }
         requires room { vec_len out.old + 10 ≤ vec_capacity out.old }
         ensures state { self.new ≡ effect_any (kind_of K.cells K.own) (event_of kind values.now) self.old }
@@ -75,7 +75,7 @@ impl<K: Kind> Display<K> {
     /// Speed: CUP and SGR are tested before the table, and all others out of line.
     #[inline(always)]
     #[tactic(auto, unfolding(crate::specs::Functions::sequences_any, crate::specs::Functions::sequence_in, crate::specs::Reports::sequence_report_any))]
-    pub(crate) fn carry_out_values(&mut self, front: &FrontValues, out: &mut Vec<u8>)
+    pub fn carry_out_values(&mut self, front: &FrontValues, out: &mut Vec<u8>)
         requires few { (1 ≤ front.now.count) × (front.now.count ≤ 3) }
         requires values { AreFirst front.now }
         requires room { vec_len out.old + 10 ≤ vec_capacity out.old }
@@ -99,7 +99,7 @@ impl<K: Kind> Display<K> {
     /// Carries out a C0 or C1 control. (It is inlined in each caller, so CR and LF cost no dispatch.)
     #[inline(always)]
     #[tactic(auto, unfolding(crate::specs::Functions::control_any))]
-    pub(crate) fn control(&mut self, b: u8)
+    pub fn control(&mut self, b: u8)
         ensures { self.new ≡ control_any (kind_of K.cells K.own) b self.old }
     {
         match b {
@@ -182,7 +182,7 @@ impl<K: Kind> Display<K> {
 
     /// Carries out SCS: designates the set of a final byte. Another final byte does nothing.
     #[inline(always)]
-    fn designate(&mut self, slot: u8, last: u8)
+    pub fn designate(&mut self, slot: u8, last: u8)
         requires { slot < 4 }
         ensures { self.new ≡ designate slot last self.old }
     {
@@ -192,7 +192,7 @@ impl<K: Kind> Display<K> {
     }
 
     /// Carries out LS0 to LS3.
-    fn lock_left(&mut self, slot: u8)
+    pub fn lock_left(&mut self, slot: u8)
         requires { slot < 4 }
         ensures { self.new ≡ with_sets (locked_left slot) self.old }
     {
@@ -200,7 +200,7 @@ impl<K: Kind> Display<K> {
     }
 
     /// Carries out LS1R to LS3R.
-    fn lock_right(&mut self, slot: u8)
+    pub fn lock_right(&mut self, slot: u8)
         requires { (1 ≤ slot) × (slot < 4) }
         ensures { self.new ≡ with_sets (locked_right slot) self.old }
     {
@@ -208,7 +208,7 @@ impl<K: Kind> Display<K> {
     }
 
     /// Carries out SS2 and SS3.
-    fn shift_once(&mut self, slot: u8)
+    pub fn shift_once(&mut self, slot: u8)
         requires { (2 ≤ slot) × (slot < 4) }
         ensures { self.new ≡ with_sets (shifted_once slot) self.old }
     {

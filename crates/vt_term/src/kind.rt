@@ -1,5 +1,5 @@
 //! Kinds of terminals by their cells.
-ghost use Rattle.std.specs.Prelude.{◌≡◌, ◌≤◌};
+ghost use Rattle.std.specs.Prelude.{◌≡◌, ◌↔◌, ◌≤◌, IsTrue};
 ghost use Rattle.vt_syntax.specs.Front.{front_list};
 ghost use Rattle.vt_term.specs.Kinds.{OwnOf};
 
@@ -48,6 +48,10 @@ pub trait Kind: Cells {
     /// Makes the pen protect what it writes, or not.
     fn protection(&mut self, on: bool)
         ensures { own.brush_of self.new ≡ own.protection on (own.brush_of self.old) };
+
+    /// Returns whether two brushes are the same.
+    fn same_brush(a: &Self::Brush, b: &Self::Brush) -> bool
+        ensures { IsTrue result ↔ (a.now ≡ b.now) };
 }
 
 impl Kind for Cell {
@@ -95,5 +99,10 @@ impl Kind for Cell {
     #[inline(always)]
     fn protection(&mut self, on: bool) {
         self.protected = on;
+    }
+
+    #[inline(always)]
+    fn same_brush(a: &Brush, b: &Brush) -> bool {
+        a.rendition == b.rendition && a.protected == b.protected
     }
 }

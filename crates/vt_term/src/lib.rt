@@ -32,6 +32,7 @@ mod terminal;
 mod text;
 mod writing;
 
+pub use display::Display;
 pub use functions::count;
 pub use kind::Kind;
 pub use observing::{Nobody, Observer};

@@ -11,7 +11,7 @@ use crate::state::{Cursor, Margins};
 impl<K: Kind> Display<K> {
     /// Carries out SM and RM of ANSI modes: each parameter in order.
     #[inline(never)]
-    pub(crate) fn change_ansi_modes(&mut self, params: &[u16], on: bool)
+    pub fn change_ansi_modes(&mut self, params: &[u16], on: bool)
         ensures { self.new ≡ change_modes ansi_modes_any on params.now self.old }
     {
         for p in params {
@@ -20,7 +20,7 @@ impl<K: Kind> Display<K> {
     }
 
     /// Carries out SM and RM of private modes: each parameter in order.
-    pub(crate) fn change_private_modes(&mut self, params: &[u16], on: bool)
+    pub fn change_private_modes(&mut self, params: &[u16], on: bool)
         ensures { self.new ≡ change_modes (private_modes_any (kind_of K.cells K.own)) on params.now self.old }
     {
         for p in params {
@@ -61,7 +61,7 @@ impl<K: Kind> Display<K> {
     }
 
     /// Sets or resets DECOM. The cursor goes home.
-    fn origin_mode(&mut self, on: bool)
+    pub fn origin_mode(&mut self, on: bool)
         ensures { self.new ≡ origin_mode on self.old }
     {
         let row = if on { self.margins.top } else { 1 };
@@ -70,7 +70,7 @@ impl<K: Kind> Display<K> {
     }
 
     /// Sets or resets DECAWM. If it is reset, so is the wrap flag.
-    fn autowrap_mode(&mut self, on: bool)
+    pub fn autowrap_mode(&mut self, on: bool)
         ensures { self.new ≡ autowrap_mode on self.old }
     {
         self.modes.decawm = on;
@@ -79,7 +79,7 @@ impl<K: Kind> Display<K> {
 
     /// Carries out DECCOLM: 132 or 80 columns, all blank, full margins, and the cursor home. The saved column is
     /// brought inside the width, and the saved wrap flag is reset.
-    fn column_mode(&mut self, wide: bool)
+    pub fn column_mode(&mut self, wide: bool)
         ensures { self.new ≡ column_mode_any (kind_of K.cells K.own) wide self.old }
     {
         self.screen.set_width(wide);
@@ -90,14 +90,14 @@ impl<K: Kind> Display<K> {
     }
 
     /// Carries out DECKPAM and DECKPNM.
-    pub(crate) fn keypad_mode(&mut self, application: bool)
+    pub fn keypad_mode(&mut self, application: bool)
         ensures { self.new ≡ keypad_mode application self.old }
     {
         self.modes.keypad_application = application;
     }
 
     /// Carries out S8C1T and S7C1T.
-    pub(crate) fn report_form(&mut self, eight: bool)
+    pub fn report_form(&mut self, eight: bool)
         ensures { self.new ≡ report_form eight self.old }
     {
         self.modes.reports_8bit = eight;

@@ -65,7 +65,7 @@ impl SizedTerminal {
     pub fn stops(&self) -> &[bool]
         ensures { result.now ≡ self.now.display.stops }
     {
-        self.display.stops.as_slice()
+        self.display.stops()
     }
 
     /// Returns the modes, with those of the keypad and of the form of reports.

@@ -60,7 +60,7 @@ fn change(pen: &mut Cell, p: u16)
 impl<K: Kind> Display<K> {
     /// Carries out SGR: each parameter in order.
     #[inline(always)]
-    pub(crate) fn select_graphic_rendition(&mut self, params: &[u16])
+    pub fn select_graphic_rendition(&mut self, params: &[u16])
         ensures { self.new ≡ select_any (kind_of K.cells K.own) params.now self.old }
     {
         self.pen.attributes(params);
@@ -68,7 +68,7 @@ impl<K: Kind> Display<K> {
 
     /// Carries out SGR with one to three parameters.
     #[inline(always)]
-    pub(crate) fn select_front_rendition(&mut self, front: &FrontValues)
+    pub fn select_front_rendition(&mut self, front: &FrontValues)
         requires few { (1 ≤ front.now.count) × (front.now.count ≤ 3) }
         ensures { self.new ≡ select_any (kind_of K.cells K.own) (front_list front.now) self.old }
     {
@@ -76,7 +76,7 @@ impl<K: Kind> Display<K> {
     }
 
     /// Carries out DECSCA: 1 protects what is written afterwards, 0 and 2 don't.
-    pub(crate) fn select_character_attribute(&mut self, p: u16)
+    pub fn select_character_attribute(&mut self, p: u16)
         ensures { self.new ≡ select_protection_any (kind_of K.cells K.own) p self.old }
     {
         match p {

@@ -30,7 +30,7 @@ impl SizedTerminal {
 impl<K: Kind> Display<K> {
     /// Appends the report of an event in this display.
     #[inline(always)]
-    pub(crate) fn report(&self, kind: EventKind, values: &[u16], out: &mut Vec<u8>)
+    pub fn report(&self, kind: EventKind, values: &[u16], out: &mut Vec<u8>)
         requires { vec_len out.old + 10 ≤ vec_capacity out.old }
         ensures items { out.new.items ≡ out.old.items ++ report_any (kind_of K.cells K.own) (event_of kind values.now) self.now }
         ensures bounded { vec_len out.new ≤ vec_len out.old + 10 }
@@ -64,7 +64,7 @@ impl<K: Kind> Display<K> {
 
     /// Appends the report to a control sequence, by its first parameter. Only those that end with `c` or `n` have one.
     #[inline(always)]
-    pub(crate) fn report_sequence(
+    pub fn report_sequence(
         &self,
         marker: Option<u8>,
         inter: Option<u8>,

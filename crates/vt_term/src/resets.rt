@@ -12,7 +12,7 @@ use vt_glyph::{Glyph, Sets};
 impl<K: Kind> Display<K> {
     /// Carries out DECALN: writes `E` at every position, without attributes and unprotected. Sets full margins, and
     /// moves the cursor home.
-    pub(crate) fn screen_alignment(&mut self)
+    pub fn screen_alignment(&mut self)
         ensures { self.new ≡ screen_alignment_any (kind_of K.cells K.own) self.old }
     {
         self.screen.fill(K::plain().written(Glyph::ascii(b'E')));
@@ -21,7 +21,7 @@ impl<K: Kind> Display<K> {
     }
 
     /// Carries out RIS: resets the display to its power-up state.
-    pub(crate) fn reset_to_initial_state(&mut self)
+    pub fn reset_to_initial_state(&mut self)
         ensures { self.new ≡ reset_any (kind_of K.cells K.own) self.old }
     {
         self.screen.set_width(false);
@@ -36,7 +36,7 @@ impl<K: Kind> Display<K> {
 
     /// Carries out DECSTR. It leaves the cursor's position, the cells, the stops, and the modes that the definition
     /// doesn't name.
-    pub(crate) fn soft_reset(&mut self)
+    pub fn soft_reset(&mut self)
         ensures { self.new ≡ soft_reset_any (kind_of K.cells K.own) self.old }
     {
         self.cursor.wrap = false;
@@ -54,7 +54,7 @@ impl<K: Kind> Display<K> {
     }
 
     /// Carries out DECSCL: a soft reset, and then the form of reports. Other values have no effect.
-    pub(crate) fn set_conformance_level(&mut self, p1: u16, p2: u16)
+    pub fn set_conformance_level(&mut self, p1: u16, p2: u16)
         ensures { self.new ≡ conformance_level_any (kind_of K.cells K.own) p1 p2 self.old }
     {
         let eight = match (p1, p2) {

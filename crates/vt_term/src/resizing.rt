@@ -2,12 +2,13 @@
 ghost use Rattle.std.specs.Prelude.{◌≡◌, ◌≤◌, ◌+◌, ◌*◌, ◌++◌, vec_len, vec_capacity, IsOk, OnOk, OnErr};
 ghost use Rattle.vt_term.specs.Text.{row_text_limit};
 ghost use Rattle.vt_term.specs.Resizing.{count_off, col_on, cursor_on, saved_on, is_as_large, margins_on, modes_on};
-ghost use Rattle.vt_term.specs.Resizing.{display_on, state_on, log_on, page_on, hidden_off, hidden_log};
+ghost use Rattle.vt_term.specs.Resizing.{display_on_any, state_on, log_on, page_on, hidden_off, hidden_log};
 
 use crate::display::Display;
+use crate::kind::Kind;
 use crate::page::SizedPage;
 use crate::sized::SizedTerminal;
-use crate::state::{Cursor, Margins, Modes, Saved};
+use crate::state::{Cursor, Margins, Modes, SavedOf};
 use crate::text::push_rows;
 use std::alloc::AllocError;
 use vt_screen::Size;
@@ -35,7 +36,7 @@ fn cursor_on(cursor: Cursor, rows: usize, width: usize) -> Cursor
 
 /// Returns what DECSC saved after `off` rows have left at the top. Its place moves up with its row, and is brought inside in the
 /// same way.
-fn saved_on(saved: Saved, rows: usize, width: usize, off: usize) -> Saved
+fn saved_on<B: Copy>(saved: SavedOf<B>, rows: usize, width: usize, off: usize) -> SavedOf<B>
     ensures { result ≡ saved_on rows width off saved }
 {
     let mut inside = saved;
@@ -45,9 +46,9 @@ fn saved_on(saved: Saved, rows: usize, width: usize, off: usize) -> Saved
     inside
 }
 
-impl Display {
+impl<K: Kind> Display<K> {
     /// Returns how many rows leave at the top of a screen of another size: as many as the cursor would be below the last row.
-    fn count_off(&self, size: Size) -> usize
+    pub fn count_off(&self, size: Size) -> usize
         ensures off { result ≡ count_off size self.now }
         ensures bound { result ≤ self.now.grid.size.rows }
     {
@@ -82,14 +83,14 @@ impl Display {
     }
 
     /// Makes another display, of any size, show what this one shows.
-    fn resize_into(&self, target: &mut Display)
-        ensures { target.new ≡ display_on target.old.grid.size self.now }
+    pub fn resize_into(&self, target: &mut Display<K>)
+        ensures { target.new ≡ display_on_any K.cells.blank target.old.grid.size self.now }
     {
         self.soundness();
         let size = target.screen.size();
         let width = self.screen.width_on(size);
         let off = self.count_off(size);
-        target.screen.copy_vt220(&self.screen, off);
+        target.screen.copy_on(&self.screen, off);
         target.cursor = cursor_on(self.cursor, size.rows, width);
         target.pen = self.pen;
         target.sets = self.sets;

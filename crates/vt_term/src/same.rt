@@ -1,15 +1,9 @@
 //! Tests whether two parts are equal.
 ghost use Rattle.std.specs.Prelude.{◌≡◌, ◌↔◌, IsTrue};
 
-use crate::state::{Modes, Saved};
+use crate::kind::Kind;
+use crate::state::{Modes, SavedOf};
 use vt_glyph::Set;
-use vt_screen::Brush;
-
-pub(crate) fn same_brush(a: &Brush, b: &Brush) -> bool
-    ensures { IsTrue result ↔ (a.now ≡ b.now) }
-{
-    a.rendition == b.rendition && a.protected == b.protected
-}
 
 pub(crate) fn same_stops(a: &[bool], b: &[bool]) -> bool
     ensures { IsTrue result ↔ (a.now ≡ b.now) }
@@ -29,13 +23,13 @@ fn same_designations(a: &[Set; 4], b: &[Set; 4]) -> bool
     a == b
 }
 
-pub(crate) fn same_saved(a: &Saved, b: &Saved) -> bool
+pub(crate) fn same_saved<K: Kind>(a: &SavedOf<K::Brush>, b: &SavedOf<K::Brush>) -> bool
     ensures { IsTrue result ↔ (a.now ≡ b.now) }
 {
     a.row == b.row
         && a.col == b.col
         && a.wrap == b.wrap
-        && same_brush(&a.brush, &b.brush)
+        && K::same_brush(&a.brush, &b.brush)
         && same_designations(&a.g, &b.g)
         && a.gl == b.gl
         && a.gr == b.gr

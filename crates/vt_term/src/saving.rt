@@ -8,7 +8,7 @@ use crate::state::{Cursor, SavedOf};
 
 impl<K: Kind> Display<K> {
     /// Carries out DECSC: saves the cursor.
-    pub(crate) fn save_cursor(&mut self)
+    pub fn save_cursor(&mut self)
         ensures { self.new ≡ save_cursor self.old }
     {
         self.saved = SavedOf {
@@ -25,7 +25,7 @@ impl<K: Kind> Display<K> {
 
     /// Carries out DECRC: restores the saved cursor. It restores the wrap flag only under DECAWM. A pending single
     /// shift stays.
-    pub(crate) fn restore_cursor(&mut self)
+    pub fn restore_cursor(&mut self)
         ensures { self.new ≡ restore_cursor self.old }
     {
         let saved = self.saved;

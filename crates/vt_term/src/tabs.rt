@@ -132,7 +132,7 @@ impl TabStops {
 
 impl<K: Kind> Display<K> {
     /// Carries out HT: moves the cursor to the next tab stop, or to the last column if there is none.
-    pub(crate) fn horizontal_tab(&mut self)
+    pub fn horizontal_tab(&mut self)
         ensures { self.new ≡ horizontal_tab self.old }
     {
         let col = next_stop(self.stops.as_slice(), self.cursor.col, self.screen.width());
@@ -140,7 +140,7 @@ impl<K: Kind> Display<K> {
     }
 
     /// Carries out HTS: sets a tab stop at the cursor's column.
-    pub(crate) fn set_tab(&mut self)
+    pub fn set_tab(&mut self)
         ensures { self.new ≡ set_tab self.old }
     {
         self.stops.set(self.cursor.col, true);
@@ -149,7 +149,7 @@ impl<K: Kind> Display<K> {
     /// Carries out TBC: 0 clears the stop at the cursor's column, 3 clears all stops.
     #[inline(never)]
     #[tactic(auto, using(crate::proofs::SoundEffects::length_no_stops))]
-    pub(crate) fn clear_tabs(&mut self, p: u16)
+    pub fn clear_tabs(&mut self, p: u16)
         ensures { self.new ≡ clear_tabs p self.old }
     {
         match p {

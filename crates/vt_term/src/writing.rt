@@ -21,7 +21,7 @@ use vt_screen::laws::runs;
 impl<K: Kind> Display<K> {
     /// Reads a graphic byte, 20..7E or A0..FF, through the sets, and writes its glyph.
     #[inline(always)]
-    pub(crate) fn print(&mut self, b: u8)
+    pub fn print(&mut self, b: u8)
         requires { ((0x20 ≤ b) × (b ≤ 0x7E)) ⊎ (0xA0 ≤ b) }
         ensures { self.new ≡ print_any (kind_of K.cells K.own) b self.old }
     {
@@ -32,7 +32,7 @@ impl<K: Kind> Display<K> {
 
     /// Writes a glyph at the cursor, after a pending wrap.
     #[inline(always)]
-    pub(crate) fn write_glyph(&mut self, glyph: Glyph)
+    pub fn write_glyph(&mut self, glyph: Glyph)
         ensures { self.new ≡ write_glyph_any (kind_of K.cells K.own) glyph self.old }
     {
         self.carry_out_wrap();
@@ -41,7 +41,7 @@ impl<K: Kind> Display<K> {
 
     /// Carries out a pending wrap.
     #[inline(always)]
-    pub(crate) fn carry_out_wrap(&mut self)
+    pub fn carry_out_wrap(&mut self)
         ensures { self.new ≡ after_wrap_any (kind_of K.cells K.own) self.old }
     {
         if self.cursor.wrap {

@@ -1,18 +1,14 @@
 -- Every function between left and right margins keeps the display sound, and its size and width.
 use Rattle.std.proofs.Common.{rules, arith, ◌≡◌, ℕ, ◌≤◌, ◌<◌, ◌+◌, ◌-◌, Bool, true, false, zero, suc, refl, subst, sym, ◌∙◌, List, Option, Some, None}
-use Rattle.std.specs.Prelude.{◌&&◌, ◌==◌, not, nat_le, nat_lt, min, max, if◌then◌else◌, IsTrue}
-use Rattle.std.proofs.Math.Dec.{leb}
+use Rattle.std.specs.Prelude.{◌&&◌, ◌==◌, not, nat_le, nat_lt, min, max, if◌then◌else◌}
 use Rattle.std.proofs.lemmas.Bool.Decides.{nat_tests}
-use Rattle.vt_glyph.specs.Tables.{IsGlyph, is_glyph}
+use Rattle.vt_glyph.specs.Tables.{IsGlyph}
 use Rattle.vt_screen.specs.declared.cell.Cell.{Cell}
 use Rattle.vt_screen.specs.declared.size.Size.{Size}
-use Rattle.vt_screen.specs.Cells.{blank, cell_of}
-use Rattle.vt_screen.specs.Grid.{Grid, IsSoundGrid, cell_at, put}
-use Rattle.vt_screen.specs.Between.{changed, rectangle, from_below, from_above, from_left, from_right}
-use Rattle.vt_screen.specs.Between.{columns_up, columns_down, insert_between, delete_between, put_between}
-use Rattle.vt_screen.proofs.Places.{IsGrid-grid_of}
-use Rattle.vt_screen.proofs.Composed.{test-at, test-formula}
-use Rattle.vt_screen.proofs.Vt220Grids.{put-sound}
+use Rattle.vt_screen.specs.Cells.{cell_of}
+use Rattle.vt_screen.specs.Grid.{Grid, IsSoundGrid, put}
+use Rattle.vt_screen.specs.Between.{columns_up, columns_down, delete_between, put_between}
+use Rattle.vt_screen.proofs.Vt220Grids.{put-sound, columns_up-sound, columns_down-sound, insert_between-sound, delete_between-sound, put_between-sound}
 use Rattle.vt_term.specs.State.{Display, State, last_column, has_stop_at, bottom_row, at_place}
 use Rattle.vt_term.specs.Parameters.{from_one}
 use Rattle.vt_term.specs.Moving.{are_margins, bottom_margin, cursor_up, cursor_down}
@@ -26,56 +22,6 @@ use Rattle.vt_xterm.specs.Repeating.{times}
 use Rattle.vt_xterm.specs.Tabs.{stop_before}
 use Rattle.vt_xterm.specs.Sides.{AreSides}
 use Rattle.vt_xterm.specs.Sides as between
-
--- ---- grids
-
-abbrev shown : Cell → Bool
-shown cell = is_glyph cell.glyph
-
-chosen : (which : Bool) (x y : Cell) → IsTrue (shown x) → IsTrue (shown y) → IsTrue (shown (if which then x else y))
-chosen true x y on_x on_y = on_x
-chosen false x y on_x on_y = on_y
-
-blank-shown : IsTrue (shown blank)
-unfolding is_glyph
-blank-shown = refl
-
-at : (g : Grid) (r c : ℕ) → IsSoundGrid g → IsTrue (shown (cell_at g r c))
-at g r c sound = test-at blank shown g r c blank-shown sound.glyphs
-
-changed-sound : (g : Grid) (area : ℕ → ℕ → Bool) (f : ℕ → ℕ → Cell) → IsSoundGrid g
-    → ((r c : ℕ) → IsTrue (shown (f r c))) → IsSoundGrid (changed g area f)
-changed-sound g area f sound each = record {
-  shape = IsGrid-grid_of g.size g.width _ sound.shape.size sound.shape.width;
-  glyphs = test-formula shown g.size g.width (λ r c. if area r c then f r c else cell_at g r c)
-      (λ r c r1 r24 c1 cw. chosen (area r c) (f r c) (cell_at g r c) (each r c) (at g r c sound));
-}
-
-pub columns_up-sound : (g : Grid) (top bottom left right n : ℕ) → IsSoundGrid g → IsSoundGrid (columns_up g top bottom left right n)
-columns_up-sound g top bottom left right n sound =
-    changed-sound g (rectangle top bottom left right) (from_below g bottom n) sound
-    (λ r c. chosen (leb (r + n) bottom) (cell_at g (r + n) c) blank (at g (r + n) c sound) blank-shown)
-
-pub columns_down-sound : (g : Grid) (top bottom left right n : ℕ) → IsSoundGrid g
-    → IsSoundGrid (columns_down g top bottom left right n)
-columns_down-sound g top bottom left right n sound =
-    changed-sound g (rectangle top bottom left right) (from_above g top n) sound
-    (λ r c. chosen (leb (top + n) r) (cell_at g (r - n) c) blank (at g (r - n) c sound) blank-shown)
-
-pub insert_between-sound : (g : Grid) (row col right n : ℕ) → IsSoundGrid g → IsSoundGrid (insert_between g row col right n)
-insert_between-sound g row col right n sound =
-    changed-sound g (rectangle row row col right) (from_left g col n) sound
-    (λ r c. chosen (leb (col + n) c) (cell_at g r (c - n)) blank (at g r (c - n) sound) blank-shown)
-
-pub delete_between-sound : (g : Grid) (row col right n : ℕ) → IsSoundGrid g → IsSoundGrid (delete_between g row col right n)
-delete_between-sound g row col right n sound =
-    changed-sound g (rectangle row row col right) (from_right g right n) sound
-    (λ r c. chosen (leb (c + n) right) (cell_at g r (c + n)) blank (at g r (c + n) sound) blank-shown)
-
-pub put_between-sound : (g : Grid) (row col right : ℕ) (cell : Cell) → IsSoundGrid g → IsGlyph cell.glyph
-    → IsSoundGrid (put_between g row col right cell)
-put_between-sound g row col right cell sound glyph =
-    put-sound (insert_between g row col right 1) row col cell (insert_between-sound g row col right 1 sound) glyph
 
 -- ---- functions of the display, at its own size
 

@@ -1,0 +1,4 @@
+pub mod Parting
+pub mod Lines
+pub mod Wholes
+pub mod Runs

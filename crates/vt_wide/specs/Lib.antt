@@ -1,0 +1,4 @@
+pub mod Kinds
+pub mod Edits
+pub mod Whole
+pub mod Runs

@@ -1,0 +1,57 @@
+-- The parts of the two numbers of a cell.
+use Rattle.std.proofs.Common.{◌≡◌, ℕ, ◌+◌, ◌*◌, ◌/◌, ◌%◌, ◌<◌, Bool, true, IsTrue, nat_eq, arith, ap, ap₂, sym, ◌∙◌, refl}
+use Rattle.std.specs.Prelude.{◌&&◌}
+use Rattle.std.proofs.lemmas.Bool.Decides.{nat_tests}
+use lib.Utf8.{scalar}
+use Rattle.vt_xterm_cell.specs.Words.{COLOURS, look_of, look_by, word_of_look, parts_of, IsText, IsLook}
+use Rattle.vt_xterm_cell.specs.Back.{look_back}
+
+low : (a b c : ℕ) → a < COLOURS → (a + 0x4000000 * (b + 0x4000000 * c)) % 0x4000000 ≡ a
+low a b c small = omega arith
+
+above : (a n : ℕ) → a < COLOURS → (a + 0x4000000 * n) / 0x4000000 ≡ n
+above a n small = omega arith
+
+high : (b c : ℕ) → b < COLOURS → (b + 0x4000000 * c) % 0x4000000 ≡ b
+high b c small = omega arith
+
+pub joined_is : (a b c : ℕ) → a < COLOURS → b < COLOURS
+    → look_of (a + 0x4000000 * (b + 0x4000000 * c)) ≡ look_by a b c
+joined_is a b c small little = rw (low a b c small, above a (b + 0x4000000 * c) small, high b c little, above b c little) refl
+
+-- ---- marks
+
+also : (a b c d : Bool) → IsTrue (a && (b && c)) → d ≡ true → IsTrue (a && (d && c))
+also a b c d h is = grind arith
+
+last : (a b c d : Bool) → IsTrue (a && (b && c)) → d ≡ true → IsTrue (a && (b && d))
+last a b c d h is = grind arith
+
+pub first_marked : (t m : ℕ) → IsText t → scalar m ≡ true → m < 0x110000 → t / 0x200000 % 0x200000 ≡ 0 → IsText (t + m * 0x200000)
+first_marked t m is known small none =
+    let a : (t + m * 0x200000) % 0x200000 ≡ t % 0x200000 = omega arith in
+    let b : (t + m * 0x200000) / 0x200000 % 0x200000 ≡ m = omega arith in
+    let c : (t + m * 0x200000) / 0x40000000000 % 0x200000 ≡ t / 0x40000000000 % 0x200000 = omega arith in
+    record {
+      scalars = rw (a, b, c) (also _ _ _ _ is.scalars known);
+      small = omega (arith, is.small);
+    }
+
+pub second_marked : (t m : ℕ) → IsText t → scalar m ≡ true → m < 0x110000 → t / 0x40000000000 % 0x200000 ≡ 0 → IsText (t + m * 0x40000000000)
+second_marked t m is known small none =
+    let a : (t + m * 0x40000000000) % 0x200000 ≡ t % 0x200000 = omega arith in
+    let b : (t + m * 0x40000000000) / 0x200000 % 0x200000 ≡ t / 0x200000 % 0x200000 = omega arith in
+    let c : (t + m * 0x40000000000) / 0x40000000000 % 0x200000 ≡ m = omega arith in
+    record {
+      scalars = rw (a, b, c) (last _ _ _ _ is.scalars known);
+      small = omega (arith, is.small);
+    }
+
+-- ---- equality
+
+pub same_looks : (t u l m : ℕ) → IsLook l → IsLook m → t ≡ u
+    → (IsTrue (nat_eq l m) → parts_of t l ≡ parts_of u m) × (parts_of t l ≡ parts_of u m → IsTrue (nat_eq l m))
+same_looks t u l m is are same = (
+  λ h. let b : l ≡ m = grind (arith, nat_tests) in ap₂ parts_of same b,
+  λ e. let b : l ≡ m = sym (look_back l is) ∙ ap (λ p. word_of_look p.look) e ∙ look_back m are in grind (arith, nat_tests),
+)

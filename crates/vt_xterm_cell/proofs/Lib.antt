@@ -1,0 +1,4 @@
+mod Numbers
+mod Digits
+mod Readings
+pub mod Shown

@@ -1,0 +1,7 @@
+pub mod Look
+pub mod Words
+pub mod Back
+pub mod Cells
+pub mod Rendition
+pub mod Kinds
+pub mod Wide

@@ -1,0 +1,4 @@
+pub mod Actions
+pub mod Languages
+pub mod Observing
+pub mod Observers

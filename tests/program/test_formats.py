@@ -150,9 +150,10 @@ def test_long_raw_bytes_are_found(run, word):
         assert run(f"{word} --format auto --piece {piece}", data=long) == run(f"{word} --piece {piece}", data=long)
 
 
-def test_raw_bytes_are_played_as_they_come(program):
-    """Lines are written while the input is still open, as soon as its first bytes show that it is raw."""
-    with subprocess.Popen([program, "log"], stdin=subprocess.PIPE, stdout=subprocess.PIPE) as running:
+@pytest.mark.parametrize("asked", (("--format", "raw"), ("--encoding", "dec"), ("--terminal", "xterm")))
+def test_raw_bytes_are_played_as_they_come(program, asked):
+    """Lines are written while the input is still open, as soon as its first bytes show that it is raw, if they don't have to decide on the encoding."""
+    with subprocess.Popen([program, "log", *asked], stdin=subprocess.PIPE, stdout=subprocess.PIPE) as running:
         running.stdin.write(b"line\r\n" * 25)
         running.stdin.flush()
         assert select.select([running.stdout], [], [], 300)[0] != []

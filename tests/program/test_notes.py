@@ -36,6 +36,7 @@ def test_recording_of_another_size(run, format, data):
         done = run(f"log --columns 80 --format {ask}", data=data)
         assert (done.status, done.err) == (0, noted("recorded at 120x40, played on 80x24"))
         assert run(f"log --columns 80 --quiet --format {ask}", data=data) == (0, done.out, b"")
+        assert run(f"events --format {ask}", data=data).err == run(f"content --format {ask}", data=data).err == b""
 
 
 CAST = cast_of(USUAL)
@@ -45,7 +46,7 @@ STAYS = "the window changes its size, and the screen stays at 80x24"
 
 @pytest.mark.parametrize("words, data, note", (
     *((words, RESIZED, STAYS) for words in ("picture --size 80x24", "trace --columns 80", "log --columns 80")),
-    *((words, RESIZED, "") for words in ("text", "picture", "log", "trace", "repaint --terminal xterm")),
+    *((words, RESIZED, "") for words in ("text", "picture", "log", "trace", "repaint --terminal xterm", "events", "content")),
     # a window that doesn't, and a text with quotes
     ("log", RESIZED.replace(b'"r", "120', b'"i", "120'), ""),
     ("text", RESIZED.replace(b"120x40", b"1x20"), "the window changes to a size from outside 2x2 to 255x255, and the screen doesn't"),
@@ -72,6 +73,11 @@ def test_language(run, data, note):
     assert run("text", data=data).err == noted(note)
     for options in ("--terminal vt220", "--encoding dec", "--quiet"):
         assert run(f"text {options}", data=data).err == b""
+
+
+@pytest.mark.parametrize("front, end", ((4094, "é"), (4095, "Ã©"), (4096, "Ã©")))
+def test_raw_bytes_whose_first_4096_decide(told, front, end):
+    assert told("show", data=front * b"x" + "é".encode()).decode().rstrip().endswith("x" + end)
 
 
 BOTH = lines({**USUAL, "env": {"TERM": "xterm-256color"}}) + b'[0.1, "o", "shell\\u001b[?1049hfull"]\n[0.3, "o", "\\u001b[?1049l"]\n'

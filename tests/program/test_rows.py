@@ -1,4 +1,9 @@
 """The rows of lib/rows that are of the program: what it prints, and how it ends. The head of lib/rows/words.txt describes a row."""
+import json
+import os
+import subprocess
+import time
+
 import pytest
 from vectors import lines_of, spelled
 
@@ -51,3 +56,51 @@ def test_row(run, tmp_path, words, sent, wanted, files):
                 assert found == wanted["scrolled"] + run("text", *pieces, *words[1:], data=sent, cwd=tmp_path).out
             else:
                 assert found == wanted.get(name, b"")
+
+
+# tmux cuts the main page by the program's cursor under ?47 (docs/SPECIFICATION.md, 'A change of the size').
+CUT_BY_TMUX = "windows.txt: window: ?47 with DECSC, lower to the end"
+WINDOWS = [pytest.param(row.values[1], id=row.id) for row in ROWS if row.id.startswith("windows.txt") and row.id != CUT_BY_TMUX]
+
+
+def kept(lines, cursor, column):
+    """Returns the lines up to the cursor's, its column, and the lines below it without blank ones at the end."""
+    lines = [line.rstrip() for line in lines]
+    return lines[:cursor], column, "\n".join(lines[cursor:]).rstrip("\n")
+
+
+def kept_by_tmux(place, header, events):
+    """Returns what tmux keeps when it plays a recording and its window changes at the same places."""
+    env = {name: value for name, value in os.environ.items() if name != "TMUX"} | {"LC_ALL": "C.UTF-8"}
+
+    def run(*words):
+        return subprocess.run(["tmux", "-f", place / "conf", "-S", place / "socket", *map(str, words)], env=env, check=True, capture_output=True, text=True).stdout
+
+    (place / "conf").write_text("set -g status off\nset -g history-limit 1000\n")
+    os.mkfifo(place / "host")
+    run("new-session", "-d", "-x", header["width"], "-y", header["height"], f"stty raw -echo; cat {place}/host; exec sleep infinity")
+    try:
+        with open(place / "host", "wb", buffering=0) as host:
+            for number, (_, kind, text) in enumerate(events):
+                if kind == "r":
+                    columns, rows = text.split("x")
+                    run("resize-window", "-x", columns, "-y", rows)
+                    continue
+                # The title comes after the text, so tmux has then played it.
+                host.write(f"{text}\033]2;{number}\033\\".encode())
+                while run("display-message", "-p", "#{pane_title}").strip() != str(number):
+                    time.sleep(0.01)
+            history, row, column = map(int, run("display-message", "-p", "#{history_size} #{cursor_y} #{cursor_x}").split())
+            return kept(run("capture-pane", "-p", "-S", "-", "-E", "-").split("\n")[:-1], history + row + 1, column + 1)
+    finally:
+        run("kill-server")
+
+
+@pytest.mark.parametrize("sent", WINDOWS)
+def test_window_next_to_tmux(told, tmp_path, sent):
+    """A shell whose window changes while a program is shown: its lines, its cursor and what is below that are as in tmux."""
+    header, *events = map(json.loads, sent.decode().splitlines())
+    rows = [int(text.split("x")[1]) for _, kind, text in events if kind == "r"][-1]
+    lines = told("log --format asciicast", data=sent).decode().split("\n")[:-1]
+    row, column = map(int, told("status --format asciicast", data=sent).split(b"\n")[0].split()[1:])
+    assert kept(lines, len(lines) - rows + row, column) == kept_by_tmux(tmp_path, header, events)

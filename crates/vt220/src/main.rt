@@ -10,7 +10,7 @@ mod notes;
 mod peeked;
 mod reasons;
 
-use crate::notes::print_notes;
+use crate::notes::{LOOKED_AT, print_notes};
 use crate::peeked::Peeked;
 use crate::reasons::{STANDARD_OUTPUT, Seen, print_error, print_reason};
 use std::alloc::AllocError;
@@ -18,8 +18,9 @@ use std::env::{self, Env};
 use std::fs::{File, Files, OpenFile};
 use std::io::{self, ErrorKind, Input, Read, Write};
 use std::process::ExitCode;
+use vt_recording::shows_utf8;
 use vt_replay::{
-    Break, Detected, Fault, Format, Outcome, Part, Refused, Request, Watched, What, Word,
+    Break, Detected, Encoding, Fault, Format, Outcome, Part, Refused, Request, Watched, What, Word,
     carry_out, detect, format_of, lacks_times, read_recording, request,
 };
 
@@ -123,20 +124,40 @@ fn ended_unread(rt: &impl AllocGlobal, request: &Request, error: io::Error) -> E
     ended_early(rt, request, fault, Part::Recording, Some(error))
 }
 
+/// Returns whether the beginning of raw input decides on its encoding: it decides on the format, the word plays it, and neither a
+/// terminal nor an encoding was asked for.
+fn leaves_open(request: &Request) -> bool {
+    request.format.is_none()
+        && request.terminal.is_none()
+        && request.encoding.is_none()
+        && !matches!(request.word, Word::Events | Word::Content)
+}
+
+/// Returns the encoding for an input that begins so: UTF-8 if raw input shows it and the request leaves it open, otherwise that of
+/// the request.
+fn encoding_by(request: &Request, format: Format, beginning: &[u8]) -> Option<Encoding> {
+    let front = beginning.get(..LOOKED_AT).unwrap_or(beginning);
+    if leaves_open(request) && format == Format::Raw && shows_utf8(front) {
+        return Some(Encoding::Utf8);
+    }
+    request.encoding
+}
+
 /// Carries out a request on a device's bytes, to standard output. If no format was asked for, the beginning of the input
-/// decides.
+/// decides, also on the encoding of raw input.
 fn carry_out_on<R: Print + AllocGlobal, D: Read + Drop>(
     rt: &R,
     device: D,
     timing: Option<&[u8]>,
-    request: &Request,
+    request: &mut Request,
 ) -> Ended {
     let mut input = match Peeked::new(rt.alloc(), device) {
         Ok(input) => input,
         Err(AllocError) => return ended_early(rt, request, Fault::Memory, Part::Recording, None),
     };
     if request.format.is_none() {
-        if let Err(error) = input.look(rt.alloc()) {
+        let least = if leaves_open(request) { LOOKED_AT } else { 0 };
+        if let Err(error) = input.look(rt.alloc(), least) {
             return ended_unread(rt, request, error);
         }
     }
@@ -147,13 +168,17 @@ fn carry_out_on<R: Print + AllocGlobal, D: Read + Drop>(
         ended.beginning = input.into_beginning();
         return ended;
     }
-    carry_out_in(rt, input, format, timing, request)
+    let asked = request.encoding;
+    request.encoding = encoding_by(request, format, input.beginning());
+    let ended = carry_out_in(rt, input, format, timing, request);
+    request.encoding = asked;
+    ended
 }
 
 /// Returns why an input that begins so isn't played, if it isn't: its beginning was to decide on its format, and it is
-/// compressed, or it has no times, and a moment needs them.
+/// compressed or by asciinema of another version, or it has no times, and a moment needs them.
 fn refusal_of(request: &Request, format: Format, timed: bool, beginning: &[u8]) -> Option<Fault> {
-    if request.format.is_none() && matches!(detect(beginning), Detected::Compressed(_)) {
+    if request.format.is_none() && is_unknown(beginning) {
         let part = Part::Recording;
         return Some(Fault::Broken(Break { part, at: 0 }));
     }
@@ -161,6 +186,16 @@ fn refusal_of(request: &Request, format: Format, timed: bool, beginning: &[u8]) 
         return Some(Fault::NoTimes);
     }
     None
+}
+
+/// Returns whether an input that begins so is compressed, or by asciinema of a version that isn't known.
+fn is_unknown(beginning: &[u8]) -> bool {
+    match detect(beginning) {
+        Detected::Compressed(_) => true,
+        Detected::Recording(format) => {
+            format == Format::Raw && beginning.starts_with(b"{\"version\":")
+        }
+    }
 }
 
 /// Carries out a request on an input in a format, to standard output, and flushes that, after a fault too.
@@ -207,7 +242,7 @@ fn is_too_long(file: &impl OpenFile, limit: u64) -> bool {
 fn carry_out_by_name<R: Files + Input + Print + Eprint + AllocGlobal>(
     rt: &R,
     timing: Option<&[u8]>,
-    request: &Request,
+    request: &mut Request,
 ) -> Ended {
     match &request.file {
         Some(name) => match File::open(rt, name.as_str()) {
@@ -224,7 +259,7 @@ fn carry_out_by_name<R: Files + Input + Print + Eprint + AllocGlobal>(
 /// Reads the timing file, if one is named, and carries out the request.
 fn carry_out_with_timing<R: Files + Input + Print + Eprint + AllocGlobal>(
     rt: &R,
-    request: &Request,
+    request: &mut Request,
 ) -> Ended {
     let Some(name) = &request.timing else {
         return carry_out_by_name(rt, None, request);
@@ -305,10 +340,10 @@ fn main(rt: HostRuntime) -> ExitCode {
         Ok(words) => words,
         Err(ended) => return ended,
     };
-    let request = match request(rt.alloc(), words) {
+    let mut request = match request(rt.alloc(), words) {
         Ok(request) => request,
         Err(refused) => return refused_by(&rt, &refused),
     };
-    let ended = carry_out_with_timing(&rt, &request);
+    let ended = carry_out_with_timing(&rt, &mut request);
     ended_after(&rt, &request, ended)
 }

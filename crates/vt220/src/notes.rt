@@ -11,7 +11,7 @@ use vt_replay::{
 
 /// The number of first bytes that are looked at for what a host sends. Looking at more would cost as much as playing
 /// them.
-const LOOKED_AT: usize = 4096;
+pub(crate) const LOOKED_AT: usize = 4096;
 
 /// Sequences of xterm that programs send and a VT220 doesn't have: the alternate screen, and a colour of 256.
 const XTERM_SEQUENCES: [&[u8]; 2] = [b"\x1B[?1049h", b"\x1B[38;5;"];
@@ -43,6 +43,21 @@ pub(crate) fn print_notes<R: Eprint + AllocGlobal>(
     if let Some(hint) = hint.or(language_hint(request, format, heading, host, beginning)) {
         let _ = eprintln!(rt; "vt220: {name}: {hint}");
     }
+    if !matches!(request.word, Word::Events | Word::Content) {
+        print_sizes(rt, request, format, heading, host, beginning);
+    }
+}
+
+/// Prints what there is to note of the sizes of a recording that begins so and is played on a screen.
+fn print_sizes<R: Eprint + AllocGlobal>(
+    rt: &R,
+    request: &Request,
+    format: Format,
+    heading: Heading,
+    host: Host,
+    beginning: &[u8],
+) {
+    let name = name_of(request, Part::Recording);
     let (width, height) = host.screen();
     if let (Some(columns), Some(rows)) = (heading.columns, heading.rows) {
         if columns as usize != width || rows as usize != height {
@@ -99,7 +114,7 @@ fn language_hint(
     if heading.terminal.is_none() && has_any(front, 0x1B, &XTERM_SEQUENCES) {
         return Some("it has sequences of an xterm: use --terminal xterm");
     }
-    if format == Format::Raw && shows_utf8(front) {
+    if request.format == Some(Format::Raw) && shows_utf8(front) {
         return Some("it looks like UTF-8: use --encoding utf-8");
     }
     None

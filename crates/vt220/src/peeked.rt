@@ -53,13 +53,13 @@ impl<D: Read + Drop> Peeked<D> {
         beginning
     }
 
-    /// Looks at the first bytes: reads them ahead until they show the format, at most [`DETECTION_LENGTH`] of them, maybe some
-    /// more. Gives them again to the reads that follow.
-    pub(crate) fn look(&mut self, alloc: Global) -> io::Result<()> {
+    /// Looks at the first bytes, at least at so many: reads them ahead until they show the format, at most [`DETECTION_LENGTH`] of
+    /// them, maybe some more. Gives them again to the reads that follow.
+    pub(crate) fn look(&mut self, alloc: Global, least: usize) -> io::Result<()> {
         let mut buffer = vec![in alloc; 0u8; PIECE]?;
         for _ in 0..DETECTION_LENGTH {
             let count = self.read_ahead(buffer.as_mut_slice())?;
-            if count == 0 || self.has_enough() {
+            if count == 0 || self.has_enough(least) {
                 break;
             }
         }
@@ -73,9 +73,10 @@ impl<D: Read + Drop> Peeked<D> {
         Ok(count)
     }
 
-    /// Returns whether the first bytes suffice for the decision on the format.
-    fn has_enough(&self) -> bool {
-        self.beginning.len() >= DETECTION_LENGTH || stays_raw(&self.beginning)
+    /// Returns whether the first bytes suffice for the decision on the format, and are at least so many.
+    fn has_enough(&self, least: usize) -> bool {
+        let count = self.beginning.len();
+        count >= DETECTION_LENGTH || (count >= least && stays_raw(&self.beginning))
     }
 
     /// Keeps bytes that were read, if they are among the first. Those that there is no memory for are left out.

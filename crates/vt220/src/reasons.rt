@@ -67,6 +67,10 @@ fn print_broken(rt: &impl Eprint, request: &Request, place: Break, seen: Seen) {
         let _ = eprintln!(rt; "vt220: {name}: {}", hint_of(seen.detected).unwrap_or(""));
         return;
     }
+    if request.format.is_none() && seen.format == Format::Raw {
+        let _ = eprintln!(rt; "vt220: {name}: it is by asciinema, of a version that isn't known");
+        return;
+    }
     let expected = expected(seen.format, place);
     let _ = match other_look(place, seen) {
         Some(look) => eprintln!(rt; "vt220: {name}: {expected}; {look}"),

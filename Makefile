@@ -1,6 +1,6 @@
 # Builds and installs. crates.txt is the graph of the crates. The toolchain proves what isn't proved before it builds.
 #
-#   make              the program, the library for C, the session keeper, the player and the fleet's holder of programs
+#   make              the program, the library for C, the session keeper and the player
 #   make program      crates/vt220/out/vt220, which ./vt220 runs
 #   make unproved     out/unproved/vt220, the same without a proof, which ./vt220 runs until `make program` is done
 #   make try          prints the screen that the bytes of standard input leave, or those of a small example. The core runs without a proof
@@ -9,7 +9,6 @@
 #   make keeper       out/vt220-keep
 #   make player       out/vt220-play, over the reader of recordings
 #   make python       out/_calls.abi3.so, the extension module of the Python package, with the headers of PYTHON
-#   make holder       out/vt220-fleet-holder, which needs nothing that is proved
 #   make js           the package for JavaScript in out/js/: vt220.wasm, package/ and vt220-VERSION.tgz; and what apps/page/vt220-page
 #                     and the fleet's page need
 #   make install      installs these under PREFIX with their manual pages and completions, and prints each file
@@ -81,8 +80,8 @@ ifneq ($(call asks,js install-page),)
 $(call need,npm and wasm-opt,command -v npm >/dev/null && command -v wasm-opt >/dev/null || echo none,npm binaryen)
 endif
 
-.PHONY: everything program unproved try screen lib keeper player python holder js install install-lib install-page uninstall crates version help
-everything: program lib keeper player holder
+.PHONY: everything program unproved try screen lib keeper player python js install install-lib install-page uninstall crates version help
+everything: program lib keeper player
 program: $(PROGRAM)
 unproved: $(UNPROVED)
 screen: $(SCREEN)
@@ -95,7 +94,6 @@ lib: $(OUT)/libvt220.a $(OUT)/libvt220.so $(OUT)/vt220.pc $(addprefix $(OUT)/,$(
 keeper: $(OUT)/vt220-keep
 player: $(OUT)/vt220-play
 python: $(OUT)/_calls.abi3.so
-holder: $(OUT)/vt220-fleet-holder
 
 # The time of what the toolchain builds is that of the beginning. So a source that changes meanwhile is newer.
 $(PROGRAM) $(SCREEN): $$(call sources,$$(notdir $$@))
@@ -140,9 +138,6 @@ $(OUT)/vt220-play: $(PLAYER) $(wildcard apps/play/*.h) apps/keep/outer.h apps/ke
 $(OUT)/_calls.abi3.so: lib/python/calls.c lib/c/include/vt220.h
 	@mkdir -p $(@D)
 	$(CC) -std=c11 $(CFLAGS) $(LDFLAGS) -fPIC -shared -I$$($(PYTHON) -c 'import sysconfig; print(sysconfig.get_paths()["include"])') -Ilib/c/include -o $@ $<
-$(OUT)/vt220-fleet-holder: apps/fleet/holder/holder.c $(wildcard apps/keep/command.[ch] apps/keep/frame.[ch])
-	@mkdir -p $(@D)
-	$(CC) -std=c11 $(CFLAGS) $(LDFLAGS) -o $@ $(filter %.c,$^)
 
 js: program lib $(READER)
 	@lib/js/build

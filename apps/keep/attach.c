@@ -397,15 +397,19 @@ static int follow(const char *name) {
     return status;
 }
 
-int attach(int socket, const char *name, bool is_read_only, bool removes) {
+void attach_needs(const char *name) {
     const char *inside = getenv("KEEP_SESSION"), *encoding = getenv("KEEP_ENCODING");
     bool reads_utf8 = encoding != NULL && strcmp(encoding, encoding_name(true)) == 0;
-    it.socket = socket;
-    it.is_read_only = is_read_only;
-    it.detach = (uint8_t)keys_detach();
     if (inside != NULL && !reads_utf8) fail(1, "cannot attach to %s from inside session %s, whose terminal doesn't read UTF-8", name, inside);
     if (inside != NULL && strcmp(inside, name) == 0) fail(1, "cannot attach to %s from inside itself", name);
     if (!isatty(STDOUT_FILENO) || !outer_open()) fail(2, "attach needs a terminal");
+}
+
+int attach(int socket, const char *name, bool is_read_only, bool removes) {
+    it.socket = socket;
+    it.is_read_only = is_read_only;
+    it.detach = (uint8_t)keys_detach();
+    attach_needs(name);
     if (vt220_open(&it.terminal) != VT220_OK) fail(1, "out of memory");
     struct hello hello = wire_greet(socket, name, ASK_ATTACH, (is_read_only ? FLAG_READ_ONLY : 0) | (removes ? FLAG_REMOVES : 0));
     it.version = hello.version;

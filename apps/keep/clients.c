@@ -210,15 +210,20 @@ void answer_waiting(void) {
 
 /* --- what a client asks --- */
 
-static size_t count_attached(void) {
+/* Returns how many clients are attached: of those that only look, or of the others. */
+static size_t count_attached(bool only_look) {
     size_t count = 0;
-    for (size_t i = 0; i < CLIENT_LIMIT; i++) count += the.clients[i] != NULL && the.clients[i]->state == ATTACHED;
+    for (size_t i = 0; i < CLIENT_LIMIT; i++) {
+        const struct client *c = the.clients[i];
+        count += c != NULL && c->state == ATTACHED && ((c->flags & FLAG_READ_ONLY) != 0) == only_look;
+    }
     return count;
 }
 
 /* Attaches a client. The session then follows its window, too, so its first screen has this size. */
 static void admit(struct client *c) {
-    if (count_attached() >= ATTACHED_LIMIT || !open_like(&c->shown, VT220_BYTES)) {
+    bool only_looks = (c->flags & FLAG_READ_ONLY) != 0;
+    if (count_attached(only_looks) >= (only_looks ? LOOKING_LIMIT : ATTACHED_LIMIT) || !open_like(&c->shown, VT220_BYTES)) {
         put(c, FRAME_FULL, NULL, 0);
         leave(c);
         return;
@@ -247,7 +252,7 @@ static size_t write_line(char *to) {
     char end[64] = "-\t-";
     if (the.is_over) snprintf(end, sizeof end, "%lld\t%d", (long long)the.ending.time, shell_status(the.ending.status));
     return (size_t)snprintf(to, SMALL_FRAMES, "%s\t%zu\t%zu\t%zu\t%ld\t%lld\t%s\t%s\t%s\t%s", the.is_over ? "ended" : "running",
-                            vt220_rows(&the.terminal), vt220_width(&the.terminal), count_attached(), (long)the.command, (long long)the.began, end, the.title,
+                            vt220_rows(&the.terminal), vt220_width(&the.terminal), count_attached(false) + count_attached(true), (long)the.command, (long long)the.began, end, the.title,
                             encoding_name(the.language), terminal_name(the.language));
 }
 

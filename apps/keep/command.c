@@ -1,4 +1,4 @@
-/* Runs a command on a new pseudo-terminal: the keeper's, and that of a holder of the fleet. */
+/* Runs a command on a new pseudo-terminal. */
 #ifndef _GNU_SOURCE
 #define _GNU_SOURCE /* for openpty and pipe2 */
 #endif

@@ -168,6 +168,7 @@ static int do_new(char **words, const struct options *options) {
     if (is_there(&folder, words[0], options->attaches)) {
         if (!options->attaches) fail(1, "session %s already exists", words[0]);
     } else {
+        if (options->attaches) attach_needs(words[0]);
         start_session(&folder, &beginning);
     }
     return options->attaches ? attach(existing(&folder, words[0]), words[0], false, true) : 0;
@@ -244,6 +245,18 @@ static int do_upgrade(char **words, const struct options *options) {
     return 0;
 }
 
+/* `fleet host` becomes this: a keeper in the foreground, whose session the host daemon publishes. It ends with the command's status. Its arguments are
+ * the daemon's socket, the patience, 1 if viewers may type, the bytes between checkpoints, the locale, the encoding, the terminal, the size, the name
+ * in the store, and the command. */
+static int do_publish(char **words, const struct options *options) {
+    struct options wanted = {.locale = words[4], .encoding = words[5], .terminal = words[6]};
+    struct folder folder = open_folder();
+    struct publication publication = {words[0], words[8], *words[2] == '1', (uint64_t)atoll(words[3]), atoll(words[1])};
+    struct beginning beginning = {NULL, words[4], words + 9, language_wanted(&wanted), size_given(words[7]), true};
+    (void)options;
+    publish_session(&folder, &publication, &beginning);
+}
+
 /* A keeper runs this on the file of its state. */
 static int do_resume(char **words, const struct options *options) {
     (void)options;
@@ -285,7 +298,7 @@ static const struct command {
     int (*run)(char **words, const struct options *options);
 } commands[] = {{"new", "+hA", 2, INT_MAX, do_new},   {"attach", "+hr", 1, 1, do_attach}, {"detach", "+h", 1, 1, do_detach},
                 {"list", "+h", 0, 0, do_list},        {"text", "+h", 1, 1, do_text},      {"log", "+h", 1, 1, do_log},
-                {"repaint", "+h", 1, 1, do_repaint},  {"upgrade", "+h", 1, 1, do_upgrade}, {RESUME, "+h", 1, 2, do_resume},
+                {"repaint", "+h", 1, 1, do_repaint},  {"upgrade", "+h", 1, 1, do_upgrade}, {RESUME, "+h", 1, 2, do_resume}, {PUBLISH, "+h", 10, INT_MAX, do_publish},
                 {"send", "+hl", 1, INT_MAX, do_send}, {"kill", "+h", 1, 1, do_kill},      {"rename", "+h", 2, 2, do_rename},
                 {"serve", "", 0, INT_MAX, do_serve},
                 {"help", "+h", 0, 1, do_help},        {"--help", "+h", 0, 0, do_help},    {"-h", "+h", 0, 0, do_help},

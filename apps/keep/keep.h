@@ -103,9 +103,19 @@ struct beginning {
 struct window nearest_size(size_t rows, size_t columns); /* the size nearest to this one that a session may have */
 bool is_size(const struct window *size);                /* whether a session may have it */
 
+#define PUBLISH "publish" /* the command that `fleet host` becomes */
 #define RESUME "resume" /* the command by which a keeper starts the program that replaces it; its arguments are numbers of files */
 
+/* A session that the host daemon of this machine publishes. */
+struct publication {
+    const char *socket, *name; /* of the daemon; of the session in the store */
+    bool takes_input;
+    uint64_t every;     /* bytes between two checkpoints, at least */
+    long long patience; /* milliseconds after a signal to end for which the store is waited for */
+};
+
 void start_session(const struct folder *folder, const struct beginning *beginning);
+noreturn void publish_session(const struct folder *folder, const struct publication *wanted, struct beginning *beginning);
 /* Goes on with the session whose state is in a file. If `told` is a file, only reports there whether that is possible. */
 noreturn void resume_session(int state, int told);
 
@@ -143,6 +153,7 @@ void scroll_leave(void);
 
 /* --- attach.c and send.c --- */
 
+void attach_needs(const char *name); /* ends the program if a session of this name can't be attached here */
 int attach(int socket, const char *name, bool is_read_only, bool removes); /* `removes`: the session of a command that has ended */
 void send_keys_to(const struct folder *folder, const char *name, char **keys, bool is_text);
 int shell_status(int ending);

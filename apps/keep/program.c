@@ -10,7 +10,6 @@
 #include <unistd.h>
 
 enum {
-    DRAIN_LIMIT = 256, /* the most chunks that are read once the command has ended */
     LINES_ROOM = PIECE * VT220_ROW_TEXT_LIMIT /* more than vt220_feed_log needs at any size to go on */
 };
 
@@ -54,6 +53,7 @@ bool settle(void) {
         if (!vt220_same_state(&the.settled, &the.terminal)) the.changes++;
         vt220_copy(&the.settled, &the.terminal);
         the.since_len = 0;
+        publish_settled();
     }
     if (the.width != vt220_width(&the.terminal)) set_line_size();
     return is_between;
@@ -98,6 +98,7 @@ static void play(const uint8_t *bytes, size_t len) {
         at = end + 1;
     }
     if (has_rung) ring_clients();
+    publish_bytes(bytes, len);
     if (!settle()) remember(bytes, len);
 }
 

@@ -13,8 +13,9 @@
 #include <sys/wait.h>
 #include <time.h>
 #include <unistd.h>
+#include "command.h"
 
-enum { LINGER = 86400, SHOWN_LINGER = 3600 * 1000 };
+enum { LINGER = 86400, SHOWN_LINGER = 3600 * 1000, NO_STORE = 69 };
 
 struct session the = {.master = -1, .slave = -1, .listener = -1, .size = {VT220_ROWS, NARROW}, .is_vt220 = true};
 
@@ -104,6 +105,7 @@ static void look_for_end(void) {
     the.ending = (struct ending){.status = status, .time = time(NULL)};
     the.leave_at = now() + the.linger;
     tell_end();
+    publish_end();
     if (the.kill_at != 0) the.is_seen = true; /* who ended it knows */
 }
 
@@ -111,17 +113,20 @@ static void earlier(long long *until, long long time) {
     if (time < *until) *until = time;
 }
 
-/* Waits for an event: of the listener, of the program, and of each client that is here, in this order. */
+enum { FIRST = 3 }; /* of the clients' places among what is waited for */
+
+/* Waits for an event: of the listener, of the program, of the host daemon, and of each client that is here, in this order. */
 static void wait_for_event(struct pollfd *polled, const size_t *place, const sigset_t *open_mask) {
     long long time = now(), until = LLONG_MAX;
-    nfds_t count = 2;
+    nfds_t count = FIRST;
     bool is_resting = time < the.listens_at;
     polled[0] = (struct pollfd){is_resting ? -1 : the.listener, POLLIN, 0};
-    polled[1] = (struct pollfd){the.master, (short)(POLLIN | (the.waiting > 0 ? POLLOUT : 0)), 0};
+    polled[1] = (struct pollfd){the.master, (short)((publish_has_room() ? POLLIN : 0) | (the.waiting > 0 ? POLLOUT : 0)), 0};
+    polled[2] = publish_polled(&until);
     if (is_resting) earlier(&until, the.listens_at);
     if (the.binds_at != 0) earlier(&until, the.binds_at);
     if (the.kill_at != 0 && !the.is_over) earlier(&until, the.kill_at);
-    if (the.is_over && !the.is_given_up) earlier(&until, the.leave_at);
+    if (the.is_over && !the.is_given_up && !publish_is_on()) earlier(&until, the.leave_at);
     for (size_t i = 0; i < CLIENT_LIMIT; i++) {
         struct client *c = the.clients[i];
         if (c == NULL) continue;
@@ -140,7 +145,8 @@ static void obey_signals(long long time) {
     if (has_child_ended) look_for_end();
     if (is_told_to_bind || (the.binds_at != 0 && time >= the.binds_at)) mend_socket();
     if (is_told_to_end == 2 && !the.is_over) kill(-the.command, SIGKILL);
-    if (is_told_to_end && the.is_over) give_up();
+    if (is_told_to_end) publish_leave();
+    if (is_told_to_end && the.is_over && publish_is_done()) give_up();
     else if (is_told_to_end) hang_up();
     is_told_to_end = is_told_to_bind = 0;
     if (the.kill_at != 0 && time >= the.kill_at && !the.is_over) {
@@ -164,18 +170,20 @@ static bool is_done(const struct client *c, long long time) {
 }
 
 static void turn(const sigset_t *open_mask) {
-    struct pollfd polled[2 + CLIENT_LIMIT];
-    size_t place[CLIENT_LIMIT], count = 2;
+    struct pollfd polled[FIRST + CLIENT_LIMIT];
+    size_t place[CLIENT_LIMIT], count = FIRST;
     for (size_t i = 0; i < CLIENT_LIMIT; i++) place[i] = the.clients[i] != NULL ? count++ : 0;
     wait_for_event(polled, place, open_mask);
     if (polled[1].revents & POLLOUT) write_program();
     if (polled[1].revents & (POLLIN | POLLHUP | POLLERR)) read_program();
     long long time = now();
     obey_signals(time);
+    publish_turn(polled[2].revents, time);
     for (size_t i = 0; i < CLIENT_LIMIT; i++) {
         if (place[i] != 0) attend(i, polled[place[i]].revents, time);
     }
-    if (the.is_over && (the.is_seen || time >= the.leave_at)) give_up();
+    bool may_leave = publish_is_on() ? publish_is_done() : the.is_seen || time >= the.leave_at;
+    if (the.is_over && may_leave) give_up();
     for (size_t i = 0; i < CLIENT_LIMIT; i++) {
         if (place[i] != 0 && is_done(the.clients[i], time)) let_go(i);
     }
@@ -257,8 +265,8 @@ static bool begin(const struct beginning *beginning, struct report *report) {
 static noreturn void go_on(void) {
     sigset_t open_mask;
     sigemptyset(&open_mask);
-    while (!the.is_given_up || has_clients()) turn(&open_mask);
-    exit(0);
+    while (!the.is_given_up || has_clients() || !publish_is_done()) turn(&open_mask);
+    exit(publish_is_on() ? publish_status() : 0);
 }
 
 static noreturn void keep(const struct beginning *beginning, int told) {
@@ -275,6 +283,56 @@ static noreturn void keep(const struct beginning *beginning, int told) {
     if (null > 2) close(null);
     if (fchdir(the.folder.file) != 0) is_told_to_end = 1; /* by its working directory `vt220-keep list` knows it */
     settle();
+    go_on();
+}
+
+/* Waits until the daemon has named the session. Returns false if there is none, it refuses, or this process is told to end. */
+static bool is_named(void) {
+    sigset_t open_mask;
+    sigemptyset(&open_mask);
+    int beginning = publish_beginning();
+    while (beginning == 0 && !is_told_to_end) {
+        long long until = LLONG_MAX;
+        struct pollfd polled = publish_polled(&until);
+        if (ppoll(&polled, 1, NULL, &open_mask) < 0) polled.revents = 0;
+        publish_turn(polled.revents, now());
+        beginning = publish_beginning();
+    }
+    return beginning > 0 && !is_told_to_end;
+}
+
+/* Returns a name for the socket of a session that has any name in the store. */
+static const char *local_name(const char *stored) {
+    static char name[NAME_LIMIT + 1];
+    char why[WHY_LIMIT];
+    size_t len = 0;
+    for (; *stored != 0 && len < NAME_LIMIT - 14; stored++) {
+        bool is_fit = is_name((char[]){'n', *stored, 0});
+        if (is_fit || ((uint8_t)*stored & 0xC0) != 0x80) name[len++] = is_fit ? *stored : '_';
+    }
+    name[len] = 0;
+    if (!is_name(name)) name[0] = '_';
+    if (!is_free(the.folder.file, name, why)) snprintf(name + len, sizeof name - len, ".%d", (int)getpid());
+    return name;
+}
+
+noreturn void publish_session(const struct folder *folder, const struct publication *wanted, struct beginning *beginning) {
+    struct report report = {0};
+    the.folder = *folder;
+    hold_signals();
+    publish_begin(wanted, beginning);
+    if (!is_named()) exit(publish_status() != 0 ? publish_status() : NO_STORE);
+    beginning->name = local_name(wanted->name);
+    if (!begin(beginning, &report)) {
+        if (report.status != COMMAND_NOT_FOUND && report.status != COMMAND_NO_RUN) fail(report.status, "%s", report.why);
+        publish_bytes((const uint8_t *)report.why, strlen(report.why));
+        publish_bytes((const uint8_t *)"\r\n", 2);
+        the.is_over = true;
+        the.ending.status = report.status << 8;
+        publish_end();
+    }
+    if (fchdir(the.folder.file) != 0) is_told_to_end = 1;
+    if (!the.is_over) settle();
     go_on();
 }
 

@@ -8,15 +8,19 @@
 #define KEEP_SESSION_H
 
 #include "keep.h"
+#include <poll.h>
+#include <stdio.h>
 
 enum {
     ATTACHED_LIMIT = 32,
+    LOOKING_LIMIT = 32, /* clients that are attached and only look */
     ASKING_LIMIT = 16,  /* clients that aren't attached; one more replaces the oldest, so silent ones block nobody */
-    CLIENT_LIMIT = ATTACHED_LIMIT + ASKING_LIMIT,
+    CLIENT_LIMIT = ATTACHED_LIMIT + LOOKING_LIMIT + ASKING_LIMIT,
     INTERVAL = 20,      /* milliseconds from one update of a client to its next */
     KILL_AFTER = 2000,  /* milliseconds that a command has to end after SIGHUP */
     LOCK_PAUSE = 10,    /* milliseconds between two looks at the lock of the directory, if somebody else holds it */
     PIECE = 4096,       /* the most bytes of one read of the program */
+    DRAIN_LIMIT = 256,  /* the most chunks that are read once the command has ended, or before its line gets another size */
     INPUT_LIMIT = 8192, /* the most bytes of keys that wait for the program, and as many of reports */
     SMALL_FRAMES = 1024, /* capacity for the frames after an update */
     SINCE_LIMIT = 1024, /* the most bytes that are remembered of an unfinished sequence */
@@ -121,7 +125,30 @@ uint64_t log_begin(void);
 uint64_t log_end(void);
 size_t log_read(uint64_t *place, uint64_t end, uint8_t *to, size_t size, uint64_t *lost);
 
+/* publish.c: a session that the host daemon of this machine publishes. Without one, its functions do nothing */
+/* What an upgrade hands over of it. */
+enum {
+    ITEM_PUBLISHED = 'F', ITEM_DAEMON = 'A', ITEM_STORED_NAME = 'B', ITEM_WORD = 'O', ITEM_WRITTEN = 'U', ITEM_CHANGES = 'G', ITEM_TYPED = 'I'
+};
+
+void publish_begin(const struct publication *wanted, const struct beginning *beginning);
+int publish_beginning(void);
+bool publish_is_on(void);
+void publish_bytes(const uint8_t *bytes, size_t len);
+void publish_settled(void);
+void publish_size(void);
+bool publish_has_room(void);
+void publish_end(void);
+void publish_leave(void);
+bool publish_is_done(void);
+int publish_status(void);
+struct pollfd publish_polled(long long *until);
+void publish_turn(short events, long long time);
+void publish_put(void (*put_item)(FILE *to, char letter, const void *bytes, size_t len), FILE *to);
+bool publish_take(char letter, const uint8_t *bytes, size_t len);
+
 /* size.c */
+void resize_program(struct window size);          /* after what the program wrote before */
 void set_size(struct window size);                /* that of terminals that are opened next */
 bool open_like(vt220 *t, uint32_t language);      /* a terminal of the session's size; false if allocation fails */
 void follow_windows(void);                        /* gives the session the size for which its clients' windows ask */

@@ -107,9 +107,17 @@ static void resize_session(struct window size) {
     the.is_vt220 = false;
     the.changes++;
     set_line_size();
+    publish_size();
     for (size_t i = 0; i < CLIENT_LIMIT; i++) {
         if (the.clients[i] != NULL && !fit_client(the.clients[i])) the.clients[i]->deadline = 0;
     }
+}
+
+void resize_program(struct window size) {
+    struct pollfd polled = {the.master, POLLIN, 0};
+    if (the.is_over || !is_size(&size) || (size.rows == the.size.rows && size.columns == the.size.columns)) return;
+    for (int i = 0; i < DRAIN_LIMIT && poll(&polled, 1, 0) > 0 && read_program(); i++) {}
+    resize_session(size);
 }
 
 void follow_windows(void) {

@@ -20,9 +20,9 @@
 #include <sys/wait.h>
 #include <unistd.h>
 
-/* Since form 2 there is ITEM_ENCODING, since form 3 ITEM_TERMINAL, and since form 4 ITEM_SIZE and ITEM_WINDOW. A session is written in the lowest
+/* Since form 2 there is ITEM_ENCODING, since form 3 ITEM_TERMINAL, since form 4 ITEM_SIZE and ITEM_WINDOW, and since form 5 what publish.c has. A session is written in the lowest
  * form that has all of it, so that a program that knows no higher one can go on with it. */
-enum { FORM_LOWEST = 1, FORM_ENCODING = 2, FORM_TERMINAL = 3, FORM = 4 };
+enum { FORM_LOWEST = 1, FORM_ENCODING = 2, FORM_TERMINAL = 3, FORM_SIZE = 4, FORM = 5 };
 
 static const char fits[] = "can go on"; /* what the new program reports; anything else is the reason why it can't */
 
@@ -89,7 +89,7 @@ static void put_head(FILE *to, char letter, size_t len) {
 
 static void put_item(FILE *to, char letter, const void *bytes, size_t len) {
     put_head(to, letter, len);
-    fwrite(bytes, 1, len, to);
+    if (len > 0) fwrite(bytes, 1, len, to);
 }
 
 static void put_session(FILE *to) {
@@ -213,13 +213,14 @@ static void put_client(FILE *to, const struct client *c) {
 }
 
 static bool put_state(FILE *to, char *why) {
-    struct heading heading = {.form = has_sizes() ? FORM : the.language == VT220_XTERM ? FORM_TERMINAL : FORM_ENCODING};
+    struct heading heading = {.form = publish_is_on() ? FORM : has_sizes() ? FORM_SIZE : the.language == VT220_XTERM ? FORM_TERMINAL : FORM_ENCODING};
     memcpy(heading.magic, magic, sizeof magic);
     fwrite(&heading, sizeof heading, 1, to);
     put_session(to);
     put_size(to);
     if (!put_terminal(to, why)) return false;
     put_input(to);
+    publish_put(put_item, to);
     put_log(to);
     for (size_t i = 0; i < CLIENT_LIMIT; i++) {
         if (the.clients[i] != NULL) put_client(to, the.clients[i]);
@@ -439,7 +440,7 @@ static bool take_item(char letter, const uint8_t *bytes, size_t len) {
     case ITEM_LINES: log_append(bytes, len); return true;
     case ITEM_CLIENT: return take_client(bytes, len);
     case ITEM_WINDOW: return take_window(bytes, len);
-    default: return false;
+    default: return publish_take(letter, bytes, len);
     }
 }
 

@@ -1,17 +1,14 @@
 """The command `fleet`.
 
-Exit status: 0 success; 1 an input or output error; 2 the command line is wrong; 3 no such session or worker; 4 the session has a
+Exit status: 0 success; 1 an input or output error; 2 the command line is wrong; 3 no such session; 4 the session has a
 fault; 5 another host has the name; 6 refused by the host or the store; 69 the store can't be reached or can't keep a fleet; 77
 permission denied; 78 the configuration is wrong. `host` ends with its program's status.
 """
 import argparse
 import logging
 import os
-import queue
 import signal
 import sys
-import threading
-import time
 
 import fleet
 from redis.exceptions import AuthenticationError, NoPermissionError, RedisError
@@ -53,55 +50,26 @@ def override(chosen, words, *names):
 
 
 def do_run(words, settings):
-    return fleet.local.run(words.workers, words.command)
-
-
-def do_worker(words, settings):
-    chosen = settings.worker
-    override(chosen, words, "every", "lease", "keep", "most", "retain", "metrics")
-    store = settings.connect(waits=True, is_examined=True)
-    worker = fleet.worker.Worker(store, chosen)
-    if chosen.metrics:
-        fleet.metrics.serve(fleet.metrics.WorkerMetrics(worker), chosen.metrics)
-    on_end(lambda: (setattr(worker, "is_leaving", True), setattr(store, "patience", min(LEAVING, settings.store.give_up))))
-    while not worker.is_gone:
-        worker.turn()
-    return 0
-
-
-def on_end(call):
-    """Has a thread make a call for each signal that ends this process. Python runs a handler between two steps of the main thread, which
-    may hold a lock that the call waits for. So the handler takes no lock: a SimpleQueue's put may interrupt anything."""
-    came = queue.SimpleQueue()
-
-    def heed():
-        while True:
-            came.get()
-            call()
-
-    threading.Thread(target=heed, daemon=True).start()
-    for ends in ENDS:
-        signal.signal(ends, lambda *_: came.put(None))
+    return fleet.local.run(words.command)
 
 
 def do_host(words, settings):
-    if bool(words.replay) == bool(words.command):
-        raise Unclear("host needs a command, or --replay FILE")
+    if not words.command:
+        raise Unclear("host needs a command")
     language, chosen = chosen_language(words, settings.host), settings.host
-    if words.replay:
-        return replay(settings, words, language)
     chosen.input, chosen.user = words.input or chosen.input, words.user or chosen.user
-    fleet.program.become_holder(words.name, words.command, language, chosen, min(LEAVING, settings.store.give_up))
+    fleet.program.become_keeper(words.name, words.command, language, chosen, min(LEAVING, settings.store.give_up))
 
 
 def do_daemon(words, settings):
     fleet.program.hide()
     store = settings.connect(waits=True, is_examined=True)
     daemon = fleet.daemon.Daemon(store, settings.host, fleet.wire.path_of(settings.host))
+    override(settings.host, words, "keep", "retain")
     address = words.metrics or settings.host.metrics
     if address:
         fleet.metrics.serve(fleet.metrics.DaemonMetrics(daemon), address)
-    for ends in ENDS:  # the programs stay with their holders
+    for ends in ENDS:  # the programs stay with their keepers
         signal.signal(ends, lambda *_: os._exit(0))
     daemon.serve()
 
@@ -113,20 +81,6 @@ def chosen_language(words, chosen):
         raise Unclear("--terminal xterm is in UTF-8, and doesn't go with --encoding dec")
     encoding = "utf-8" if terminal == "xterm" else words.encoding or chosen.encoding
     return fleet.keys.Language(encoding, terminal, words.size or chosen.size)
-
-
-def replay(settings, words, language):
-    """Sends a file's bytes as a session, at `rate` bytes a second, in twenty parts a second."""
-    store = settings.connect(waits=True, is_examined=True)
-    host = fleet.host.Host(store, words.name, settings.host.lease, words.input or settings.host.input, words.replay, None, *language)
-    host.register()
-    with open(words.replay, "rb") as file:
-        while data := file.read(max(1, words.rate // 20)):
-            host.send(data)
-            host.renew_if_due()
-            time.sleep(len(data) / words.rate)
-    host.end(0)
-    return 0
 
 
 def of_session(call):
@@ -160,9 +114,8 @@ def do_screen(store, incarnation, words):
 
 @of_session
 def do_log(store, incarnation, words):
-    first = fleet.export.log(store, incarnation, sys.stdout.buffer)
-    if first:
-        print(f"fleet: the first {first} bytes are no longer in the store", file=sys.stderr)
+    if missing := fleet.export.log(store, incarnation, sys.stdout.buffer):
+        print(f"fleet: {missing} bytes are no longer in the store", file=sys.stderr)
 
 
 @of_session
@@ -228,24 +181,17 @@ PATIENCE = "--patience", {"type": option(seconds, "patience"), "default": 10, "h
 
 
 def add_hosts(add):
-    each = add("run", do_run, "starts a store, a host daemon and workers on this machine, until Ctrl-C or the end of COMMAND")
-    each.add_argument("--workers", type=option(int, "workers"), default=4, help="the number of workers (4)")
+    each = add("run", do_run, "starts a store and a host daemon on this machine, until Ctrl-C or the end of COMMAND")
     each.add_argument("command", nargs=argparse.REMAINDER)
-    each = add("worker", do_worker, "plays sessions until SIGTERM, and then moves them to other workers", METRICS)
-    each.add_argument("--every", type=option(int, "every"), help="bytes between two checkpoints of a session (4096)")
-    each.add_argument("--lease", type=option(float, "lease"), help="seconds of silence after which other workers take its sessions (5)")
+    each = add("daemon", do_daemon, "publishes all sessions of this machine, and alone knows the store there; the next daemon goes on with them", METRICS)
     each.add_argument("--keep", type=option(int, "keep"), help="bytes before a checkpoint that stay in the store: a number, or all (all)")
-    each.add_argument("--most", type=option(int, "most"), help="the most sessions that it plays (1000000)")
     each.add_argument("--retain", type=option(seconds, "retain"), help="how long an ended session stays in the store, such as 7d (for ever)")
-    add("daemon", do_daemon, "has all sessions of this machine, and alone knows the store there; the next daemon goes on with them", METRICS)
     each = add("host", do_host, "runs a command on a pseudo-terminal, as a session of this machine's daemon", NAME)
     each.add_argument("--input", action="store_true", help="allows viewers to type")
     each.add_argument("--encoding", choices=CHOICES["encoding"], help="what the command writes: the VT220's own bytes, or UTF-8 (dec)")
     each.add_argument("--terminal", choices=CHOICES["terminal"], help="the terminal that the command writes for; xterm is in UTF-8 (vt220)")
     each.add_argument("--size", type=explained(screen), metavar="COLUMNSxROWS", help="the size of its screen, from 2x2 to 255x255 (80x24)")
-    each.add_argument("--replay", metavar="FILE", help="sends a file's bytes instead of running a command")
-    each.add_argument("--user", help="runs the command and its holder as this user, which needs root")
-    each.add_argument("--rate", type=option(int, "rate"), default=9600, help="bytes a second for --replay (9600)")
+    each.add_argument("--user", help="runs the command and its keeper as this user, which needs root")
     each.add_argument("command", nargs=argparse.REMAINDER)
 
 
@@ -272,7 +218,6 @@ def add_viewers(add):
 def add_operators(add):
     each = add("list", of_operator("show_list", "json", "all"), "lists the sessions", JSON)
     each.add_argument("--all", action="store_true", help="also lists ended sessions")
-    add("workers", of_operator("workers", "json"), "lists the workers, how many sessions each has, and which are silent, or unfit: they failed on their first sessions", JSON)
     each = add("kill", of_operator("kill", "name", "signal", "patience"), "sends a signal to a session's program, and waits until it ends", PATIENCE, NAME)
     each.add_argument("--signal", choices=("HUP", "INT", "TERM", "KILL"), default="HUP", help="the signal (HUP)")
     each = add("resize", of_operator("resize", "name", "size", "patience"), "changes the size of a session's screen, and waits until the session has it", PATIENCE, NAME)
@@ -280,10 +225,6 @@ def add_operators(add):
     each = add("end", of_operator("end", "name", "keep", "force"), "ends a session that has no host", NAME)
     each.add_argument("--keep", type=option(seconds, "keep"), help="how long it stays in the store, such as 7d; 0 removes it at once (for ever)")
     each.add_argument("--force", action="store_true", help="also if its host is alive, which then hangs up on the program")
-    each = add("retry", of_operator("retry", "name"), "has workers try sessions with a fault again")
-    each.add_argument("name", nargs="+")
-    each = add("drain", of_operator("drain", "worker", "patience"), "moves a worker's sessions to other workers, and ends it", PATIENCE)
-    each.add_argument("worker", help="its name, or the beginning of its name")
     each = add("metrics", do_metrics, "serves metrics of the whole fleet for Prometheus, at /metrics, and /healthz")
     each.add_argument("address", metavar="HOST:PORT", help="the address on which it listens")
     add("check-store", do_check, "checks whether the store can keep a fleet, and has connections left")

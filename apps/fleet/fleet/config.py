@@ -34,21 +34,14 @@ class Store:
 
 
 @dataclass
-class Worker:
-    every: int = 4096
-    lease: float = 5.0
-    keep: int = None
-    most: int = 10**6
-    retain: float = None
-    metrics: str = ""
-
-
-@dataclass
 class Host:
     lease: float = 10.0
+    linger: float = 600.0
+    every: int = 4096
+    keep: int = None
+    retain: float = None
     input: bool = False
     user: str = ""
-    orphan: float = 7 * 86400.0
     encoding: str = "dec"
     terminal: str = "vt220"
     size: str = "80x24"
@@ -65,7 +58,7 @@ class Web:
     metrics: str = ""
 
 
-SECTIONS = {"store": Store, "worker": Worker, "host": Host, "web": Web}
+SECTIONS = {"store": Store, "host": Host, "web": Web}
 YES = dict.fromkeys(("yes", "true", "on", "1"), True) | dict.fromkeys(("no", "false", "off", "0"), False)
 
 
@@ -78,7 +71,7 @@ def seconds(word):
 EXPECTED = {bool: "yes or no", int: "a number", float: "a time, such as 30, 10m or 7d"}
 NO_LIMIT = ("all", "never", "")
 # The least number and the largest of a setting or an option. Others have 0 and MOST.
-BOUNDS = {"every": (1, 10**9), "lease": (0.01, 10**7), "most": (1, 10**9), "timeout": (0.01, 10**7), "port": (0, 65535), "rate": (1, 10**9), "workers": (1, 1000)}
+BOUNDS = {"every": (1, 10**9), "lease": (0.01, 10**7), "timeout": (0.01, 10**7), "port": (0, 65535)}
 MOST = 10**12
 
 

@@ -1,5 +1,5 @@
 """The host daemon: one process for all sessions of a machine, and the only one there that knows the store and its password. A session's
-program and its holder run under the session's own user, so they reach neither this process nor another session.
+program and its keeper run under the session's own user, so they reach neither this process nor another session.
 
 It has two connections to the store: one over which all sessions say what they have to say, and one that waits for what comes for their programs.
 """
@@ -16,10 +16,10 @@ import time
 from concurrent.futures import Future
 
 from . import wire
-from .host import BEAT, COUNT, name_of_host
-from .keys import key, new_id
+from .host import is_dead_here, name_of_host
+from .keys import key, lease, new_id, text, version
 from .program import Link, Program
-from .store import ResponseError
+from .store import ResponseError, is_of_session
 
 log = logging.getLogger("fleet.host")
 
@@ -27,7 +27,10 @@ TOGETHER = 256  # calls that are sent with one message, at most
 RENEWED = 100  # leases that are renewed with one call, so that the store has time for others between two of them
 LAST = 64  # reads that take in all that a connection holds
 OF_USER = 64  # connections of another user than the daemon's, at most
-TAKEN = 5  # the exit status of a holder whose name another session has
+TAKEN = 5  # the exit status of a keeper whose name another session has
+BEAT = 10 / 3  # seconds between two looks at the store, at most
+COUNT = 256  # entries of a stream that are read at once
+AUDITED = 16  # sessions that are looked after with each beat
 
 
 class Shared:
@@ -63,23 +66,11 @@ class Shared:
     def run(self, name, *arguments):
         return self.store.checked(self.ask(*self.store.call_of(name, *arguments)))
 
-    def hget(self, name, field):
-        return self.ask("HGET", name, field)
-
     def post(self, *words):
         """Asks for something, and waits for no answer. Returns what will have it."""
         asked = Future()
         self.asked.put((words, asked))
         return asked
-
-    def hset(self, name, field, value):
-        self.post("HSET", name, field, value)
-
-    def xdel(self, name, entry_id):
-        self.post("XDEL", name, entry_id)
-
-    def xtrim(self, name, minid, approximate):
-        self.post("XTRIM", name, "MINID", minid)
 
 
 def listening(path):
@@ -100,12 +91,14 @@ def listening(path):
 
 class Daemon:
     def __init__(self, store, chosen, path):
-        store.run("living")  # the store has the functions, or this user has no right to them
-        self.store, self.shared, self.lease, self.me = store, Shared(store), chosen.lease, name_of_host()
-        self.sessions = {}  # name -> Program
+        store.run("renew", 0, "")  # the store has the functions, or this user has no right to them
+        self.store, self.shared, self.chosen, self.me = store, Shared(store), chosen, name_of_host()
+        self.sessions = {}  # (user, name) -> Program: the store decides between users
         self.links = {}  # file -> (Link, its Program, or None until its state has come)
-        self.holders = {}  # the file of a holder's process -> (the process, its Program)
+        self.keepers = {}  # the file of a keeper's process -> (the process, its Program)
         self.lock, self.counts = threading.RLock(), collections.Counter()  # the counts are of sessions that are over
+        self.complained = {}  # user -> when that was logged
+        self.cursor = "0"  # of the audit
         self.wakes = key(new_id(), "signals").encode()  # a stream of this daemon alone
         self.events, self.listener = select.epoll(), listening(path)
         self.events.register(self.listener, select.EPOLLIN)
@@ -120,16 +113,16 @@ class Daemon:
                 try:
                     self.attend(file, event)
                 except Exception:
-                    log.exception("a holder")
+                    log.exception("a keeper")
                     time.sleep(0.1)
 
-    # The holders.
+    # The keepers.
 
     def attend(self, file, event):
-        """Does what is due at a file: the listener, a holder's process that has ended, or a connection."""
+        """Does what is due at a file: the listener, a keeper's process that has ended, or a connection."""
         if file == self.listener.fileno():
             self.meet()
-        elif file in self.holders:
+        elif file in self.keepers:
             self.lose(file)
         elif file in self.links:
             link = self.links[file][0]
@@ -146,7 +139,7 @@ class Daemon:
             self.drop(link)
 
     def hear(self, link):
-        """Takes in what a holder says. One that says anything else than a holder does is left."""
+        """Takes in what a keeper says. One that says anything else than a keeper does is left."""
         try:
             for letter, data in link.hear():
                 program = self.links[link.socket.fileno()][1]
@@ -159,45 +152,55 @@ class Daemon:
         except EOFError:
             self.drop(link)
         except Exception as error:
-            log.error("a holder of the user %d: %s", link.user, error)
+            self.complain(link.user, error)
             link.refuse(1, error)
             self.drop(link)
 
+    def complain(self, user, error):
+        """Logs what is strange, of each user once a minute: another user could fill the journal."""
+        now = time.monotonic()
+        if now - self.complained.get(user, -60) >= 60:
+            self.complained[user] = now
+            log.error("a keeper of the user %d: %s", user, error)
+
     def begin(self, link, state):
-        """Begins a session, or goes on with it if its holder comes again."""
-        before = self.sessions.get(state.name)
-        for file in [file for file, (_, program) in self.holders.items() if program is before]:
+        """Begins a session, or goes on with it if its keeper comes again."""
+        name = link.user, state.name
+        before, mine = self.sessions.get(name), next((program for pid, program in self.keepers.values() if pid == link.pid), None)
+        if mine and mine.is_alive() and mine is not before:
+            raise wire.Strange("a process keeps one session")
+        for file in [file for file, (_, program) in self.keepers.items() if program is before]:
             self.lose(file)  # if it has just ended
         is_same = before and state.incarnation and state.incarnation == before.host.incarnation
-        if before and (before.link.user != link.user or not (is_same or before.is_gone)):
+        if before and not (is_same or before.is_over or before.is_gone):
             link.refuse(TAKEN, f"the name {state.name!r} is held by a session of this machine")
             return
         program = Program(self, link, state, before)
         if is_same:
             before.leave()
         with self.lock:
-            self.sessions[state.name] = program
+            self.sessions[name] = program
         self.links[link.socket.fileno()] = link, program
         self.know(link.pid, program)
         program.start()
 
     def know(self, pid, program):
-        """Has the end of a holder's process noticed."""
-        file = next((file for file, (known, _) in self.holders.items() if known == pid), None)
+        """Has the end of a keeper's process noticed."""
+        file = next((file for file, (known, _) in self.keepers.items() if known == pid), None)
         if file is None:
             with contextlib.suppress(OSError):  # it is in another container, or has just ended
                 file = os.pidfd_open(pid)
                 self.events.register(file, select.EPOLLIN)
         if file is not None:
-            self.holders[file] = pid, program
+            self.keepers[file] = pid, program
 
     def lose(self, file):
-        """Notes that a holder's process has ended, if it has. What it said last is taken in first."""
+        """Notes that a keeper's process has ended, if it has. What it said last is taken in first."""
         ended = select.poll()
         ended.register(file, select.POLLIN)
         if not ended.poll(0):
             return
-        _, program = self.holders.pop(file)
+        _, program = self.keepers.pop(file)
         self.events.unregister(file)
         os.close(file)
         for _ in range(LAST):
@@ -206,19 +209,18 @@ class Daemon:
         program.lose()
 
     def drop(self, link):
-        """Closes a connection. If nobody knows the holder's process, it counts as ended."""
+        """Closes a connection. If nobody knows the keeper's process, it counts as ended."""
         if link.is_open:
             _, program = self.links.pop(link.socket.fileno())
             link.close()
-            if program and all(each is not program for _, each in self.holders.values()):
+            if program and all(each is not program for _, each in self.keepers.values()):
                 program.lose()
 
     def forget(self, program):
         """The thread of a session has ended."""
         with self.lock:
             self.counts.update(program.counts())
-            if self.sessions.get(program.state.name) is program:
-                del self.sessions[program.state.name]
+            self.sessions = {name: each for name, each in self.sessions.items() if each is not program}
 
     def all(self):
         with self.lock:
@@ -248,11 +250,10 @@ class Daemon:
         programs = {stream: (program, last) for program in self.all() for stream, last in program.streams().items()}
         streams = {self.wakes: b"0-0"} | {stream: last for stream, (_, last) in programs.items()}
         try:
-            came = self.store.read_streams(COUNT, streams, BEAT)
+            came = self.store.read_streams(COUNT, streams, min(BEAT, self.chosen.lease / 3))
         except ResponseError as error:
-            for program in self.all():
-                program.host.remove_wrong(error)
-            return
+            log.error("the streams can't be read at once: %s", error)
+            came = [each for stream, last in streams.items() for each in self.read_one(stream, last)]
         for stream, entries in came:
             try:
                 if stream == self.wakes:
@@ -262,20 +263,44 @@ class Daemon:
             except Exception:
                 log.exception("what came in %s", stream)
 
+    def read_one(self, stream, last):
+        """Returns what came in a stream, without waiting. What somebody wrote in its place is removed."""
+        try:
+            return self.store.read_streams(COUNT, {stream: last})
+        except ResponseError as error:
+            if is_of_session(error):
+                self.shared.ask("DEL", stream)
+            return []
+
     def renew_on(self):
         while True:
-            time.sleep(min(BEAT, self.lease / 3))
-            some = [program for program in self.all() if program.is_named and not program.host.is_ended]
+            time.sleep(min(BEAT, self.chosen.lease / 3))
+            some = [program for program in self.all() if program.is_named and not program.is_over]
             for at in range(0, len(some), RENEWED):
                 try:
                     self.renew(some[at : at + RENEWED])
                 except Exception:
                     log.exception("the leases")
+            try:
+                self.audit()
+            except Exception:
+                log.exception("the audit")
+
+    def audit(self):
+        """Looks after some sessions of the whole fleet: all daemons do."""
+        retain = -1 if self.chosen.retain is None else int(self.chosen.retain * 1000)
+        self.cursor = self.shared.run("audit", self.cursor, AUDITED, retain, version())[0]
+
+    def is_dead_here(self, name):
+        """Returns whether the host that has a name was one of this machine and is no more."""
+        incarnation = self.shared.ask("GET", lease(name))
+        host = text(self.shared.ask("HGET", key(text(incarnation), "about"), "host")) if incarnation else ""
+        return not incarnation or is_dead_here(host)
 
     def renew(self, programs):
         """Renews the leases of sessions with one call."""
-        stored = [program.host.stored for program in programs]
+        stored = [program.host.at for program in programs]
         names = [word for program in programs for word in (program.host.name, program.host.incarnation)]
-        answers = self.shared.run("renew", int(self.lease * 1000), self.me, *names)[1:]
+        answers = self.shared.run("renew", int(self.chosen.lease * 1000), self.me, *names)[1:]
         for program, answer, at in zip(programs, answers, stored):
             program.note(answer, at)

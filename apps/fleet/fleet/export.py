@@ -8,7 +8,7 @@ import vt220.cast
 import vt220.page
 from vt220.process import TERMS
 
-from .keys import DEC, key, language_of, text
+from .keys import DEC, key, language_of, length, number, text
 from .session import bytes_of, events_of, first_screen
 
 PROGRAM = os.path.join(os.path.dirname(os.path.abspath(__file__)), "..", "..", "..", "crates", "vt220", "out", "vt220")
@@ -21,12 +21,13 @@ def program():
 
 
 def log(store, incarnation, out):
-    """Writes the bytes that the store has. Returns the position of the first one."""
-    first = None
-    for at, _, data in bytes_of(store, incarnation):
-        first = at - len(data) if first is None else first
-        out.write(data)
-    return first or 0
+    """Writes the bytes that the store has. Returns how many it has no more."""
+    last = missing = 0
+    for at, _, code, data in events_of(store, incarnation):
+        begin = at - length("bytes" if code == "o" else "screen", data)
+        missing, last = missing + begin - last, at
+        out.write(data if code == "o" else b"")
+    return missing + max(0, number(store.hget(key(incarnation, "about"), "end"), 0) - last)
 
 
 def language(store, incarnation):

@@ -5,14 +5,12 @@ import itertools
 import logging
 import threading
 import time
-from concurrent.futures import ThreadPoolExecutor
 
 import vt220
 
 from . import keys
-from .keys import key
 from .operate import about
-from .session import as_it_is
+from .session import whole
 from .store import ResponseError
 from .view import Viewer
 
@@ -20,18 +18,6 @@ log = logging.getLogger("fleet.web")
 
 MOST = 400  # sessions that the page shows: the latest ones
 LISTED = 1.0  # seconds between looks at which sessions there are
-READ = 1 << 20  # bytes that are played for a session that no worker shows
-CANCEL = b"\x18"  # CAN: what is unfinished is given up
-
-
-def whole(terminal):
-    """Returns a terminal without what is unfinished on it."""
-    if terminal.is_between():
-        return terminal
-    made = terminal.copy()
-    made.feed(CANCEL)
-    return made
-
 
 class Picture:
     """A session's screen, for clients that have terminals of their own: each one is told bytes that lead its terminal there. Changes are
@@ -54,11 +40,6 @@ class Picture:
             self.updates.append((self.number, update))
         else:
             self.terminal, self.begin, self.updates = terminal, self.number, []
-
-    def replace(self, terminal, size):
-        """Takes in a terminal that was read from the store."""
-        if self.shown < 0 or size != self.size or not terminal.same_state(self.terminal):
-            self.follow(terminal, size)
 
     def learn(self, facts):
         if facts != self.facts:
@@ -86,23 +67,23 @@ class Followed(Viewer):
 
     def __init__(self, store, incarnation):
         super().__init__(store, incarnation)
-        self.picture, self.read, self.is_final, self.is_reading = Picture(incarnation), 0.0, False, False
+        self.picture = Picture(incarnation)
 
-    def play(self, fields):
-        """Plays a frame, and has clients play it too. A worker sends a repaint also if nothing changed, and clients aren't sent that."""
-        before = self.picture.terminal.copy() if b"update" not in fields and self.picture.shown >= 0 else None
-        if is_played := super().play(fields):
-            size = self.language.screen, self.resized
-            if before is not None and size == self.picture.size and before.same_state(self.terminal):
-                self.picture.terminal = self.terminal
-            else:
-                self.picture.follow(self.terminal, size, fields.get(b"update"))
-        return is_played
+    def show(self):
+        update = super().show()
+        size = self.language.screen, self.resized
+        if update is None or update or self.picture.shown < 0:
+            self.picture.follow(self.terminal, size, update)
+        return update
 
-    def is_to_be_read(self):
-        """Returns whether its screen is to be read from the store, since no worker shows it."""
-        is_shown = self.is_final or (self.worker and not self.is_over)
-        return not is_shown and not self.is_reading and time.monotonic() - self.read >= 5
+    def is_final(self):
+        """Returns whether all of an ended session is shown."""
+        return self.is_over and self.session is not None and self.session.at >= self.size
+
+    def learn(self, facts):
+        super().learn(facts)
+        self.size = facts["size"]
+        self.picture.learn({name: facts[name] for name in ("name", "state", "host", "fault", "size", "input", "screen")} | {"fault": self.fault})
 
 
 class Gallery:
@@ -112,7 +93,6 @@ class Gallery:
         self.store, self.on_change = store, on_change
         self.followed, self.order = {}, []
         self.lock = threading.Lock()
-        self.reader = ThreadPoolExecutor(1)  # reads screens that no worker shows; whoever looks at others doesn't wait for it
         self.listed = 0.0
         self.clients = 0
 
@@ -132,11 +112,15 @@ class Gallery:
             self.listed = time.monotonic()
             self.list()
             self.on_change()
-        watched = {key(each.incarnation, "view").encode(): each for each in self.followed.values() if not each.is_final}
+        watched = {}
+        for each in self.followed.values():
+            if not each.fault and not each.is_final():
+                with self.lock:
+                    self.guarded(each, lambda: watched.update(dict.fromkeys(each.streams(), each)))
         if not watched:
             time.sleep(0.2)
             return
-        came = self.frames_of(watched)
+        came = self.entries_of(watched)
         for stream, entries in came:
             each = watched[stream]
             with self.lock:
@@ -145,14 +129,14 @@ class Gallery:
             self.on_change()
             time.sleep(0.03)  # what comes meanwhile is one change
 
-    def frames_of(self, watched):
+    def entries_of(self, watched):
         """Returns what came for sessions, with {stream: session}. If that is refused, each one is read by itself."""
         try:
-            return self.store.xread({stream: each.last for stream, each in watched.items()}, block=250, count=200)
+            return self.store.read_streams(Viewer.COUNT, {stream: each.last.encode() for stream, each in watched.items()}, 0.25)
         except ResponseError:
             came = []
             for stream, each in watched.items():
-                self.guarded(each, lambda: came.extend(self.store.xread({stream: each.last}, count=200)))
+                self.guarded(each, lambda: came.extend(self.store.read_streams(Viewer.COUNT, {stream: each.last.encode()})))
             time.sleep(0.2)
             return came
 
@@ -164,17 +148,7 @@ class Gallery:
         with self.lock:
             self.order, self.followed = order, {i: self.followed.get(i) or Followed(self.store, i) for i in order}
             for each in listed:  # so no client is told of a session without its facts
-                facts = {name: each[name] for name in ("name", "state", "worker", "host", "fault", "lag", "size", "input", "screen")}
-                self.followed[each["incarnation"]].picture.learn(facts)
-        asked = [each for each in self.followed.values() if not each.is_final]
-        answers = self.store.run_all([self.store.call_of("watch", each.incarnation) for each in asked])
-        for each, answer in zip(asked, answers):
-            if isinstance(answer, list):
-                self.guarded(each, each.hear, answer)
-        for each in self.followed.values():
-            if each.is_to_be_read():
-                each.is_reading = True
-                self.reader.submit(self.read, each)
+                self.followed[each["incarnation"]].learn(each)
 
     def guarded(self, each, call, *arguments):
         """Calls something for a session. Whatever is wrong with that one harms no other: `list` has its fault."""
@@ -185,18 +159,6 @@ class Gallery:
             if said != each.fault:
                 log.warning("%s can't be shown: %s", keys.shown(each.incarnation), keys.shown(said))
             each.fault = said
-
-    def read(self, each):
-        """Reads a session's screen from the store."""
-        is_over = each.is_over
-        self.guarded(each, self.replace, each)
-        each.read, each.is_final, each.is_reading = time.monotonic(), is_over, False
-
-    def replace(self, each):
-        session = as_it_is(self.store, each.incarnation, READ)
-        with self.lock:
-            each.picture.replace(session.terminal, (session.language.screen, session.resized))
-        self.on_change()
 
     def since(self, told):
         """Returns what a client is to be told, and brings `told` (numbers by session) up to that."""

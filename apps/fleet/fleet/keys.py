@@ -6,36 +6,18 @@ the incarnation, so that a name can be used again without meeting anything of it
     fleet:names                  hash: name -> the latest incarnation
     fleet:lease:NAME             the incarnation whose host holds the name; expires when that host is silent
     fleet:all                    sorted set of all incarnations, by the moment that they started
-    fleet:live                   set of those that have neither ended nor failed
-    fleet:waiting                sorted set of those that want a worker
-    fleet:suspects               sorted set of those in whose company workers died: they are taken alone
-    fleet:trying                 hash: worker -> the suspect that it plays alone
-    fleet:foreign                hash: incarnation -> the format that it needs; it waits for a worker that knows this format
-    fleet:workers                hash: worker -> a count that it raises four times a lease, the lease, and the formats that it knows
-    fleet:format                 the newest format that all workers know, and how many workers there were when it was found
-    fleet:alive:WORKER           expires when the worker didn't raise its count for a lease, by the store's clock
-    fleet:draining               set of the workers that are to hand their sessions over
-    fleet:unfit                  set of the workers that failed on their first sessions, and take no more
-    fleet:of:WORKER              set of the incarnations that a worker owns
+    fleet:live                   set of those that haven't ended
 
-    fleet:INCARNATION:about      hash: name, host, started, owner, end (of the bytes), played, answered, how it ended, and unless it is
-                                 a VT220 with its own bytes: the encoding, the terminal, the screen, and the format that the session needs;
-                                 whether its size can be changed (resizable), and the present size if it was (resized)
-    fleet:INCARNATION:bytes      stream of what the host sent. The id of an entry is POSITION-0, the position after its last byte. A
+    fleet:INCARNATION:about      hash: name, host, user (machine and number), started, renewed, end (of the bytes), seen, how it ended (closed), and
+                                 the encoding, the terminal and the screen; the present size if it was changed (resized)
+    fleet:INCARNATION:bytes      stream of what the program wrote. The id of an entry is POSITION-0, the position after its last byte. A
                                  change of the size counts as one byte. The first entry is 0-1; the last one, POSITION-2, carries the exit
                                  status
-    fleet:INCARNATION:answers    stream of reports. The id of a report is the position just after the byte that asked for it
-    fleet:INCARNATION:checkpoint hash: a position and bytes that rebuild the terminal there, with length, checksum and versions; and its
+    fleet:INCARNATION:checkpoint hash: a position and bytes that rebuild the terminal there, with length, checksum and version; and its
                                  size if that was changed
-    fleet:INCARNATION:view       stream for viewers: a repaint, then updates
     fleet:INCARNATION:keys       stream of what viewers typed
     fleet:INCARNATION:signals    stream of the signals and the sizes that operators sent
     fleet:INCARNATION:typed:VIEWER  the number of the last thing that a viewer typed; goes when the viewer leaves, or after a day
-    fleet:INCARNATION:ended      hash: where and how it ended, and the screen's text
-    fleet:INCARNATION:fault      why no worker can go on with it
-    fleet:INCARNATION:failed     set of the workers that met an error there that isn't the session's own
-
-Channels: fleet:new (a session waits), fleet:wake:WORKER (one of its sessions has bytes, or a viewer).
 """
 import functools
 import hashlib
@@ -49,10 +31,8 @@ import vt220
 
 from .config import is_screen
 
-# The formats that this program reads and writes. Since 3 a session has an encoding, since 4 a terminal, since 5 a size of its screen, and since
-# 6 changes of this size.
-FORMATS = (2, 3, 4, 5, 6)
-FORMAT, OLDEST = max(FORMATS), min(FORMATS)
+FORMATS = range(2, 8)  # the formats that this program reads; it writes the last one
+FORMAT = max(FORMATS)
 
 
 def size_of(screen):
@@ -81,14 +61,8 @@ class Language(NamedTuple):
 
 
 DEC, UTF8, XTERM = Language(), Language("utf-8"), Language("utf-8", "xterm")
-NEEDED = {DEC: OLDEST, UTF8: 3, XTERM: 4}  # the oldest format in which a session of a language is written that has a VT220's size
-SIZED = 5  # and of any other one
-RESIZED = 6  # and whose size was changed
-ALL, LIVE, NAMES, WAITING, SUSPECTS, TRYING, FOREIGN, WORKERS, DRAINING, UNFIT = (
-    "fleet:all", "fleet:live", "fleet:names", "fleet:waiting", "fleet:suspects", "fleet:trying", "fleet:foreign",
-    "fleet:workers", "fleet:draining", "fleet:unfit",
-)
-NEW = "fleet:new"
+LANGUAGES = DEC, UTF8, XTERM  # at 80x24
+ALL, LIVE, NAMES = "fleet:all", "fleet:live", "fleet:names"
 NAME_LIMIT = 200
 PIECE = 16384  # bytes of an entry at most
 SHOWN = 1000  # characters of what the store says that are shown at most
@@ -96,7 +70,7 @@ DIGITS = 18  # of a number
 
 
 class Fault(Exception):
-    """A session cannot go on. The class's name is the fault's name, and stays in the store."""
+    """A session can't be read. The class's name is the fault's name."""
 
 
 class Trimmed(Fault):
@@ -112,34 +86,18 @@ class Wrong(Fault):
 
 
 class Version(Fault):
-    """An entry or a checkpoint is of no format, or of one that this program doesn't know: `format` is that one's number."""
-
-    format = 0
+    """An entry or a checkpoint is of no format, or of one that this program doesn't know."""
 
     def __init__(self, what, said):
-        super().__init__(f"{what} of version {text(said)[:40]!r}; this program knows the format {FORMAT}")
-        self.format = format_of(said)
-
-
-class Forged(Fault):
-    """The store has a report that no byte asked for."""
-
-
-class Differs(Fault):
-    """The store has another entry at a position than this program would write there."""
-
-
-class Long(Exception):
-    """There are more bytes after a session's checkpoint than a reader plays."""
+        super().__init__(f"{what} of version {text(said)[:40]!r}; this program knows the formats up to {FORMAT}")
 
 
 class Damaged(Exception):
     """A checkpoint was cut short or changed."""
 
 
-# These return the names of keys, and of a channel: a part of an incarnation, what is of a worker, and the lease on a session's name.
+# These return the names of keys: a part of an incarnation, and the lease on a session's name.
 key = "fleet:{}:{}".format
-of, alive, wake = "fleet:of:{}".format, "fleet:alive:{}".format, "fleet:wake:{}".format
 lease = "fleet:lease:{}".format
 
 
@@ -181,7 +139,7 @@ def now():
 def language_of(encoding, terminal, screen):
     """Returns a session's language, as `about` has it. Raises Wrong if there is no such one."""
     language = Language(*(text(each) or default for each, default in zip((encoding, terminal, screen), DEC)))
-    if language._replace(screen=DEC.screen) not in NEEDED:
+    if language._replace(screen=DEC.screen) not in LANGUAGES:
         wrong = shown(encoding)[:40], shown(terminal)[:40]
         raise Wrong(f"the session has the encoding {wrong[0]!r}" + (f" and the terminal {wrong[1]!r}" if terminal else ""))
     if not is_screen(language.screen):
@@ -189,19 +147,14 @@ def language_of(encoding, terminal, screen):
     return language
 
 
-def needed(language):
-    """Returns the oldest format in which a session of a language is written."""
-    return NEEDED[language] if language in NEEDED else SIZED
-
-
 def length(field, data):
     """Returns how many positions an entry takes, by its field: each byte takes one, and a change of the size, too."""
     return len(data) if field == "bytes" else 1
 
 
-def version(number=FORMAT):
-    """Returns the version of a format and of the library, as entries carry it."""
-    return f"{number}.{vt220.version()}"
+def version():
+    """Returns the version of the format and of the library, as entries carry it."""
+    return f"{FORMAT}.{vt220.version()}"
 
 
 @functools.lru_cache(maxsize=64)
@@ -209,13 +162,6 @@ def format_of(said):
     """Returns the number of the format in a version that an entry carries, of any library's version. Returns 0 if it is no version."""
     words = re.fullmatch(rb"([1-9][0-9]{0,3})\.[0-9]{1,9}", said)
     return int(words[1]) if words else 0
-
-
-def agreed(said, formats=FORMATS, language=DEC):
-    """Returns the format to write: the newest one that all living workers know, as the store says, if this program knows it. It is
-    never older than the language needs."""
-    newest = number(said, 0)
-    return max(newest if newest in formats else max(formats), needed(language))
 
 
 def checked_name(name):
@@ -238,16 +184,10 @@ def checksum(at, repaint, screen=""):
     return hashlib.sha256(b"%d:%d:" % (at, len(repaint)) + repaint + screen.encode()).hexdigest()
 
 
-def checkpoint(at, repaint, number=FORMAT, screen=""):
-    """Returns the fields of a checkpoint: a position, bytes that rebuild the terminal there, and its size if that was changed."""
-    made = {"at": at, "length": len(repaint), "sha256": checksum(at, repaint, screen), "v": version(number), "repaint": repaint}
-    return made | {"screen": screen}
-
-
-def read_checkpoint(fields, formats=FORMATS):
+def read_checkpoint(fields):
     """Returns the position of a checkpoint, the bytes that rebuild the terminal, and its size if that was changed. Raises Damaged if it isn't as it was
-    stored, and Version if it isn't of one of these formats."""
-    if b"v" in fields and format_of(fields[b"v"]) not in formats:
+    stored, and Version if it isn't of a known format."""
+    if b"v" in fields and format_of(fields[b"v"]) not in FORMATS:
         raise Version("a checkpoint", fields[b"v"])
     try:
         at, length, repaint, screen = int(fields[b"at"]), int(fields[b"length"]), fields[b"repaint"], text(fields.get(b"screen"))

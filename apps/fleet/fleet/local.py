@@ -1,4 +1,4 @@
-"""A store, a host daemon and workers on this machine, for `fleet run`, the tests and the measurements: a Redis that is reached through a Unix
+"""A store and a host daemon on this machine, for `fleet run`, the tests and the measurements: a Redis that is reached through a Unix
 socket in a directory of mode 0700, so by this user alone, and that writes each change to disk before it answers."""
 import contextlib
 import ctypes
@@ -71,13 +71,13 @@ class LocalStore:
         while self.daemon.poll() is None and not is_listening(self.where()["FLEET_DAEMON"]):
             time.sleep(0.02)
 
-    def holders(self):
-        """Returns the processes of the holders whose daemon is here."""
+    def keepers(self):
+        """Returns the processes of the keepers whose daemon is here."""
         found, path = [], os.fsencode(self.where()["FLEET_DAEMON"])
         for pid in filter(str.isdigit, os.listdir("/proc")):
             with contextlib.suppress(OSError), open(f"/proc/{pid}/cmdline", "rb") as words:
                 name, *rest = words.read().split(b"\0")
-                found += [int(pid)] if name.endswith(b"/vt220-fleet-holder") and rest[0] == path else []
+                found += [int(pid)] if name.endswith(b"vt220-keep") and path in rest else []
         return found
 
     def kill_daemon(self):
@@ -86,53 +86,21 @@ class LocalStore:
 
     def stop(self):
         """Ends the programs, the daemon and the store."""
-        for pid in self.holders():
-            os.kill(pid, signal.SIGTERM)
+        for pid in self.keepers():
+            with contextlib.suppress(ProcessLookupError):
+                os.kill(pid, signal.SIGTERM)
         if self.daemon:
             self.kill_daemon()
         self.kill()
         shutil.rmtree(self.folder, ignore_errors=True)
 
 
-class Workers:
-    """Workers side by side; what they log goes to a file."""
-
-    before = None  # what each child calls before its program starts
-
-    def __init__(self, count, folder, url, *words):
-        self.words, self.folder, self.url = words, folder, url
-        self.all = [self.another() for _ in range(count)]
-
-    def another(self):
-        with open(os.path.join(self.folder, "workers"), "ab") as said:
-            words = [PYTHON, COMMAND, "worker", *self.words]
-            where = os.environ | {"FLEET_REDIS": self.url}
-            return subprocess.Popen(words, stdout=subprocess.DEVNULL, stderr=said, env=where, preexec_fn=self.before)
-
-    def kill(self, number):
-        """Kills one with no warning, and starts another."""
-        self.all[number].send_signal(signal.SIGKILL)
-        self.all[number].wait()
-        self.all[number] = self.another()
-
-    def said(self):
-        with open(os.path.join(self.folder, "workers")) as said:
-            return said.read().splitlines()
-
-    def stop(self):
-        for worker in self.all:
-            worker.kill()
-            worker.wait()
-
-
-def run(count, command):
-    """Starts a store and workers, until Ctrl-C or as long as a command runs. A worker that ends is started again. If this process is
-    killed, they are, too."""
-    LocalStore.before = Workers.before = staticmethod(tied())
+def run(command):
+    """Starts a store and a host daemon, until Ctrl-C or as long as a command runs. If this process is killed, they are, too. Programs go on."""
+    LocalStore.before = staticmethod(tied())
     for ends in (signal.SIGHUP, signal.SIGTERM):
         signal.signal(ends, lambda *_: sys.exit(1))
     store = LocalStore()
-    workers = Workers(count, store.folder, store.url)
     store.start_daemon()
     where = store.where()
     print("export", *(f"{name}={value}" for name, value in where.items()), file=sys.stderr, flush=True)
@@ -141,9 +109,9 @@ def run(count, command):
             return subprocess.call(command, env=os.environ | where)
         while True:
             time.sleep(1)
-            workers.all = [each if each.poll() is None else workers.another() for each in workers.all]
+            if store.daemon.poll() is not None:
+                store.start_daemon()
     except KeyboardInterrupt:
         return 0
     finally:
-        workers.stop()
         store.stop()

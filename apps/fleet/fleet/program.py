@@ -1,5 +1,5 @@
-"""A session as the host daemon has it: what its program's holder says goes into the store, and what comes from there to the holder. The
-holder is a separate process, which outlives the daemon: the next daemon goes on where this one stopped."""
+"""A session as the host daemon has it: what its program's keeper says goes into the store, and what comes from there to the keeper. The
+keeper is a separate process, which outlives the daemon: the next daemon goes on where this one stopped."""
 import contextlib
 import ctypes
 import logging
@@ -12,23 +12,22 @@ import struct
 import threading
 import time
 
-from vt220.process import LOCALES, TERMS
+from vt220.process import LOCALES
 
 from . import wire
 from .config import is_screen
-from .host import Host, is_dead_here
-from .keys import PIECE, Fault, checked_name, language_of
+from .host import Behind, Closed, Host, Taken, user_of
+from .keys import checked_name, language_of, new_id, text
 
 log = logging.getLogger("fleet.host")
 
 HERE = os.path.dirname(os.path.abspath(__file__))
-HOLDERS = [os.path.join(HERE, place, "vt220-fleet-holder") for place in ("..", "../../../out")]  # of the package, and of the repository
+KEEPERS = [os.path.join(HERE, place, "vt220-keep") for place in ("..", "../../../out", "../../../bin")]  # of the repository, or as it is installed
 GATHER = 0.003  # seconds that more of the same output is waited for
+PIECE = 16384  # bytes of an entry of the store
+AGAIN = 1.0  # seconds until a session that another one keeps from its name is registered again
+TRIES = 3  # to go on with a session whose store takes nothing. Then it is another one
 CHOKED = 256  # inputs that a program may not have read; more stay in the store
-NEWS = object()  # the store said something of the session
-KNOWN = object()  # the holder said what it knows
-
-
 PR_SET_DUMPABLE = 4
 
 
@@ -37,15 +36,15 @@ def hide():
     ctypes.CDLL(None).prctl(PR_SET_DUMPABLE, 0, 0, 0, 0)
 
 
-class Left(Exception):
-    """Another thread goes on with the session."""
+def keeper():
+    """Returns the path of the keeper's program: VT220_KEEP's, the one next to this, or else the one on the path."""
+    return os.environ.get("VT220_KEEP") or next(filter(os.path.exists, KEEPERS), "/usr/bin/vt220-keep")
 
 
-def environment_of(language, user):
+def environment_of(user):
     """Returns the environment for a program, and gives this process to a user, if there is one. Nothing of the fleet's is in it, where an
     address or a password may be."""
     kept = {name: value for name, value in os.environ.items() if not name.startswith("FLEET_") and "REDIS" not in name}
-    kept |= {"TERM": TERMS[language[1]], "LC_ALL": LOCALES[language[0]], "LINES": str(language.size()["rows"]), "COLUMNS": str(language.size()["columns"])}
     if not user:
         return kept
     try:
@@ -59,17 +58,15 @@ def environment_of(language, user):
     return kept | {"HOME": found.pw_dir, "USER": user, "LOGNAME": user, "SHELL": found.pw_shell}
 
 
-def become_holder(name, command, language, chosen, patience):
-    """Becomes the holder of a program, which ends with the program's status."""
-    orphan = -1 if chosen.orphan is None else int(chosen.orphan * 1000)
-    path, holder = wire.path_of(chosen), next(filter(os.path.exists, HOLDERS), HOLDERS[0])
-    words = [path, orphan, int(patience * 1000), int(chosen.input), *language, checked_name(name), *command]
-    environment = environment_of(language, chosen.user)
-    os.execve(holder, [holder, *map(str, words)], environment)
+def become_keeper(name, command, language, chosen, patience):
+    """Becomes the keeper of a program, which ends with the program's status."""
+    path, program = wire.path_of(chosen), keeper()
+    words = [path, int(patience * 1000), int(chosen.input), chosen.every, LOCALES[language.encoding], *language, checked_name(name), *command]
+    os.execve(program, [program, "publish", "--", *map(str, words)], environment_of(chosen.user))
 
 
 class Link:
-    """A connection to a holder. Nobody waits for a holder that doesn't read: the bytes wait."""
+    """A connection to a keeper. Nobody waits for a keeper that doesn't read: the bytes wait."""
 
     def __init__(self, made, events):
         self.socket, self.events, self.reader, self.out, self.lock = made, events, wire.Reader(), bytearray(), threading.Lock()
@@ -99,7 +96,7 @@ class Link:
             self.socket.close()
 
     def hear(self):
-        """Yields the frames that came. Raises EOFError if the holder has ended, or Strange if it is none."""
+        """Yields the frames that came. Raises EOFError if the keeper has ended, or Strange if it is none."""
         try:
             came = self.socket.recv(1 << 17, socket.MSG_DONTWAIT)
         except BlockingIOError:
@@ -110,13 +107,12 @@ class Link:
         if not came:
             raise EOFError
 
-    def shut(self):
-        """Has the other thread find this connection at its end."""
-        with contextlib.suppress(OSError):
-            self.socket.shutdown(socket.SHUT_RDWR)
-
     def refuse(self, status, why):
         self.say(wire.packed(wire.REFUSED, status, str(why).encode()[:1000]))
+
+
+class Left(Exception):
+    """Another thread goes on with the session."""
 
 
 class Program(threading.Thread):
@@ -125,47 +121,56 @@ class Program(threading.Thread):
     def __init__(self, daemon, link, state, before):
         super().__init__(daemon=True)
         self.fleet, self.link, self.state, self.before = daemon, link, state, before
-        self.host = Host(daemon.shared, state.name, daemon.lease, state.takes_input, state.command, state.incarnation or None, *state.language, me=daemon.me)
-        self.host.renews, self.host.is_program_over = False, self.is_program_over
-        # (position after them, bytes, their field), NEWS, KNOWN, or None for the end; and what was taken of that and put back.
-        self.came, self.ahead = queue.SimpleQueue(), []
-        self.heard = self.heard_from = state.base  # the position up to which the holder has sent bytes, and at which it began
-        self.is_named = self.passes_on = self.is_over = self.is_gone = self.is_left = self.knows_sizes = False
-        self.resizes = 0  # changes of the size that the holder made
-        self.given = self.taken = 0  # inputs that the holder was sent, and that the program has read
+        self.host = Host(daemon.shared, state.name, daemon.chosen, state.language, state.takes_input, state.command, state.incarnation, daemon.me, user_of(link.user))
+        self.came, self.ahead = queue.SimpleQueue(), []  # what the keeper said for the store: (what, position, ..); and what was put back
+        self.waiting = 0  # bytes of it
+        self.is_named = self.is_gone = self.is_left = self.is_over = False
+        self.given = self.taken = self.resizes = self.stored = 0  # inputs that the keeper was sent, and that the program has read; and what was stored
         self.unread, self.lock = [], threading.Lock()  # inputs that the program may not have read: (stream, id)
-        self.end, self.status = state.end, None  # the position after what the program wrote, as far as this is known
         self.sends_since = None  # since when the same bytes are being sent
 
-    # What the holder says.
+    # What the keeper says.
 
     def hear(self, letter, data):
-        """Takes in a frame. Raises Strange if a holder doesn't send it."""
+        """Takes in a frame. Raises Strange if no keeper sends it."""
         if len(data) < wire.NUMBER.size:
             raise wire.Strange("a frame without a number")
         number, data = wire.NUMBER.unpack_from(data)[0], data[wire.NUMBER.size :]
-        if letter == wire.BYTES:
-            if number != self.heard + len(data) or number - max(self.heard_from, self.host.at) > 4 * wire.HELD:
-                raise wire.Strange("bytes that no holder sends")
-            self.take(number, data, "bytes")
-        elif letter == wire.RESIZED:
-            if number != self.heard + 1 or not is_screen(data.decode("latin-1")):
-                raise wire.Strange("a change of the size that no holder makes")
-            self.take(number, data, "screen")
-        elif letter == wire.KNOWS and number > 0 and not self.knows_sizes:
-            self.knows_sizes = True
-            self.came.put(KNOWN)
-        elif letter == wire.TAKEN:
+        is_wrong = number >= wire.MOST or letter == wire.BYTES and not 0 < len(data) <= min(number, PIECE)
+        is_wrong = is_wrong or letter == wire.ENDED and not (data.isdigit() and len(data) <= 3)
+        if is_wrong or letter == wire.RESIZED and not (number and is_screen(text(data))):
+            raise wire.Strange("a frame that no keeper sends")
+        if letter == wire.TAKEN:
             self.note_taken(number)
-        elif letter == wire.OVER:
-            self.is_over = True
-        elif letter == wire.ENDED:
-            self.status = number
-            self.came.put(None)
+        elif letter in (wire.BYTES, wire.RESIZED, wire.ENDED):
+            self.put(letter, number, data)
+        elif letter in (wire.CHECKPOINT, wire.JUMP):
+            screen, _, repaint = data.partition(b"\0")
+            if screen and not is_screen(text(screen)):
+                raise wire.Strange("a checkpoint that no keeper makes")
+            self.put(letter, number, repaint, text(screen))
 
-    def take(self, number, data, field):
-        self.heard, self.end = number, max(self.end, number)
-        self.came.put((number, data, field))
+    def put(self, letter, number, data, *more):
+        self.count(len(data))
+        if self.waiting > wire.WAITING + wire.LONGEST:
+            raise wire.Strange("more than a keeper sends before it is stored")
+        self.came.put((letter, number, data, *more))
+
+    def count(self, length):
+        with self.lock:
+            self.waiting += length
+
+    def drop_stale(self):
+        """Forgets what the keeper sent before it is told to send it again."""
+        parts, self.ahead = self.ahead, []
+        with contextlib.suppress(queue.Empty):
+            while True:
+                part = self.came.get_nowait()
+                self.count(-len(part[2]) if part and isinstance(part[0], bytes) else 0)
+                parts.append(part)
+        for part in parts:
+            if part is None or part and not isinstance(part[0], bytes):
+                self.came.put(part)
 
     def note_taken(self, number):
         """Removes from the store what the program has."""
@@ -173,19 +178,14 @@ class Program(threading.Thread):
             was_choked, count = len(self.unread) >= CHOKED, max(0, number - self.taken)
             read, self.unread, self.taken = self.unread[:count], self.unread[count:], self.taken + count
         for stream, entry_id in read:
-            self.host.forget(stream, entry_id)
+            self.fleet.shared.post("XDEL", self.host.part(stream), entry_id)
         if was_choked and len(self.unread) < CHOKED:
             self.fleet.wake()
 
     def lose(self):
-        """Notes that the holder is no more."""
+        """Notes that the keeper is no more."""
         self.is_gone = True
         self.came.put(None)
-
-    def is_program_over(self):
-        if self.is_left:
-            raise Left
-        return self.is_over or self.is_gone
 
     def leave(self):
         """Has this thread end, so that another one goes on with the session."""
@@ -194,22 +194,22 @@ class Program(threading.Thread):
 
     def counts(self):
         """Returns how much of this session went to the store, and to its program."""
-        return {"bytes": self.host.stored - self.host.begun, "inputs": self.given, "resizes": self.resizes}
+        return {"bytes": self.stored, "inputs": self.given, "resizes": self.resizes}
 
     # What goes to the store.
 
     def run(self):
         try:
-            self.begin()
-            while came := self.next():
-                self.sends_since = time.monotonic()
-                self.resizes += came[2] == "screen" and came[0] > self.host.at
-                self.host.send_up_to(*came)
-                self.sends_since = None
-                self.link.say(wire.packed(wire.KEPT, self.host.at))
-                self.begin_to_pass_on()
-            self.host.end("lost" if self.status is None else self.status)
-            self.link.say(wire.packed(wire.DONE))
+            if self.before:
+                self.before.join()
+                self.before = None
+            language_of(*(each.encode() for each in self.host.language))
+            if self.state.incarnation:
+                self.register()
+            else:
+                self.begin()
+            self.publish_on()
+            self.link.say(wire.framed(wire.DONE))
         except Left:
             pass
         except Exception as error:
@@ -218,84 +218,167 @@ class Program(threading.Thread):
             self.fleet.forget(self)
 
     def begin(self):
-        """Takes the name, once the name's session before has ended. Then the program may begin."""
-        if self.before:
-            self.before.join()
-            self.before = None
-        language_of(*(each.encode() for each in self.host.language))
-        self.host.resume(lambda host: is_dead_here(host) and not self.is_gone and not self.is_left)
-        self.host.adopt(self.state.base, self.state.end, self.state.last)
-        self.is_named = True
-        self.link.say(wire.framed(wire.NAMED, self.host.incarnation.encode()))
-        self.begin_to_pass_on()
+        """Takes the name for a program that doesn't run yet. It waits for the lease of a keeper of its user that died with its daemon."""
+        end = time.monotonic() + 2 * self.host.chosen.lease
+        while True:
+            try:
+                self.host.register()
+                return self.go_on()
+            except Taken:
+                if time.monotonic() > end or not self.fleet.is_dead_here(self.host.name):
+                    raise
+                self.pause()
 
-    def begin_to_pass_on(self):
-        """Begins to pass on what comes for the program, once this host has all that it may have to send again."""
-        if not self.passes_on and self.host.is_whole():
-            self.passes_on = True
-            self.fleet.wake()
+    def register(self):
+        """Takes the name once more, for a program that runs. Whoever has it is waited for. A session that was lost is another one from now on."""
+        while True:
+            try:
+                self.host.register()
+                return self.go_on()
+            except Taken as taken:
+                log.warning("%s: %s", self.host.name, taken)
+                self.pause()
+            except Closed as closed:
+                if closed.status == "ended":
+                    raise
+                self.host.incarnation = new_id()
+
+    def pause(self):
+        time.sleep(AGAIN)
+        self.look_around()
+        if self.is_gone:
+            raise Left
+
+    def go_on(self):
+        """Has the keeper send what the store lacks, and passes on what comes for the program."""
+        if self.host.at > self.state.end and self.host.registered == 1:
+            raise Closed("the store has more bytes than the program wrote")
+        if not self.is_named:
+            self.host.adopt(self.state.last)
+        self.drop_stale()
+        self.link.say(wire.framed(wire.NAMED, self.host.incarnation.encode()) + wire.packed(wire.FROM, self.host.at))
+        self.is_named = True
+        self.fleet.wake()
+
+    def publish_on(self):
+        """Stores what the keeper says, until its end is there. Whenever the store went back, the keeper goes back, too."""
+        failed, stood = 0, -1
+        while True:
+            part = self.next()
+            self.sends_since = time.monotonic()
+            try:
+                if part is None:
+                    return self.host.finish("lost")
+                if part and self.publish(*part):
+                    return None
+            except Behind as behind:
+                log.warning("%s: %s; it is registered again", self.host.name, behind)
+                failed = failed + 1 if self.host.at == stood else 0
+                stood = self.host.at
+                if failed > TRIES:
+                    self.host.incarnation = new_id()
+                if part is not None:
+                    self.register()
+                else:
+                    self.host.register()
+                    self.came.put(None)
+            self.sends_since = None
+
+    def publish(self, letter, number, data, screen=""):
+        """Stores a part that the keeper said, unless it is one that it sent before it went back. Returns whether it is the end."""
+        host, before = self.host, self.host.at
+        if letter in (wire.CHECKPOINT, wire.JUMP):
+            if letter == wire.JUMP or number <= host.at:
+                host.check(number, data, screen, letter == wire.JUMP)
+        elif letter == wire.ENDED:
+            if number != host.at:
+                return False
+            self.is_over = True
+            host.finish(text(data))
+            return True
+        elif letter == wire.RESIZED and number == host.at + 1:
+            host.append(data, "screen")
+            self.resizes += 1
+        elif letter == wire.BYTES and number - len(data) <= host.at < number:
+            for at in range(host.at - number + len(data), len(data), PIECE):
+                host.append(data[at : at + PIECE])
+        self.stored += host.at - before
+        self.link.say(wire.packed(wire.KEPT, host.at))
+        return False
+
+    def look_around(self):
+        if self.is_left:
+            raise Left
 
     def next(self):
-        """Returns what the program wrote: (position after them, bytes, "bytes"), all that come within some milliseconds; or a change of the size, with
-        its field; or None at its end."""
-        came, end = self.next_part(), time.monotonic() + GATHER
-        while came and came[2] == "bytes" and len(came[1]) < PIECE and (left := end - time.monotonic()) > 0:
+        """Returns what the keeper said next: bytes that come within some milliseconds, together. Returns nothing if a renewal found the store behind,
+        and None if the keeper is no more."""
+        part, end = self.next_part(), time.monotonic() + GATHER
+        while part and part[0] == wire.BYTES and len(part[2]) < PIECE and (left := end - time.monotonic()) > 0:
             try:
                 more = self.next_part(left)
             except queue.Empty:
                 break
-            if more is None or more[2] != "bytes":
+            if not more or more[0] != wire.BYTES or more[1] != part[1] + len(more[2]):
                 self.ahead.append(more)
                 break
-            came = more[0], came[1] + more[1], "bytes"
-        return came
+            part = more[0], more[1], part[2] + more[2]
+        return part
 
     def next_part(self, patience=None):
-        while True:
-            part = self.ahead.pop() if self.ahead else self.came.get(timeout=patience)
-            self.is_program_over()
-            if part is KNOWN:
-                self.host.allow_resizing()
-            elif part is not NEWS:
-                return part
-            else:
-                self.host.renew_if_due()
+        if self.ahead:
+            return self.ahead.pop()
+        part = self.came.get(timeout=patience)
+        self.look_around()
+        if part and isinstance(part[0], bytes):
+            self.count(-len(part[2]))
+        elif part:
+            self.heed(*part)
+            part = ()
+        return part
+
+    def note(self, answer, at):
+        """Notes what the store said to a renewal, for this session's thread. It had the bytes up to `at` before."""
+        if text(answer[0]) != "ok" or int(answer[1]) < at:
+            self.came.put((answer, at))
+
+    def heed(self, answer, at):
+        said = text(answer[0])
+        if said == "closed":
+            raise Closed(answer[1])
+        log.warning("%s: the store says %s %s of %d", self.host.name, said, text(answer[1]) if len(answer) > 1 else "", at)
+        self.register()
 
     def give_up(self, error):
-        """Ends the program if the session can't go on, or couldn't begin. Otherwise the holder comes again."""
+        """Refuses a program that didn't begin, ends one whose session an operator ended, and has any other come again."""
         from .cli import message_of, status_of
 
-        log.error("%s: %s: %s", self.host.name, type(error).__name__, error, exc_info=None if isinstance(error, Fault) else error)
-        if isinstance(error, Fault) or not self.is_named and not self.state.incarnation:
+        log.error("%s: %s: %s", self.host.name, type(error).__name__, error, exc_info=None if status_of(error) else error)
+        if not self.is_named and not self.state.incarnation:
             self.link.refuse(status_of(error) or 1, message_of(error))
+        elif isinstance(error, Closed) and error.status == "ended":
+            self.link.say(wire.packed(wire.STOP) + wire.framed(wire.DONE))
         else:
-            time.sleep(1)
-            self.link.shut()
+            self.link.refuse(status_of(error) or 1, message_of(error))
 
     # What comes from the store.
 
     def streams(self):
         """Returns the streams in which something may come for the program: {stream: the last id}."""
-        if not self.passes_on or self.host.is_ended:
+        if not self.is_named or self.is_gone or self.is_over:
             return {}
         return self.host.streams(("signals",) if len(self.unread) >= CHOKED else wire.STREAMS)
 
     def pass_on(self, part, entries):
-        """Sends what came for the program to its holder. Keys stay in the store until the holder said that the program has them: if this
-        daemon dies, the next one removes those that the holder took. A signal or a size is read at once, also if this daemon dies."""
-        for kind, stream, entry_id, what in self.host.read_entries([[part, entries]]):
+        """Sends what came for the program to its keeper. Keys stay in the store until the keeper said that the program has them: if this
+        daemon dies, the next one removes those that the keeper took. A signal or a size is read at once, also if this daemon dies."""
+        for kind, stream, entry_id, what in self.host.read_entries(part, entries):
             if stream == "signals":
                 letter, data = (wire.SIGNAL, bytes([what])) if kind == "signal" else (wire.SIZE, what)
-                if letter == wire.SIGNAL or self.knows_sizes:
-                    self.link.say(wire.framed(letter, wire.entry(stream, entry_id, data)))
-                self.host.forget(stream, entry_id)
+                self.link.say(wire.framed(letter, wire.entry(stream, entry_id, data)))
+                self.fleet.shared.post("XDEL", part, entry_id)
                 continue
             with self.lock:
                 self.given += 1
                 self.unread.append((stream, entry_id))
             self.link.say(wire.framed(wire.INPUT, wire.entry(stream, entry_id, what)))
-
-    def note(self, answer, at):
-        """Notes what the store said to a renewal, for this session's thread."""
-        self.host.news.append((answer, at))
-        self.came.put(NEWS)

@@ -5,26 +5,23 @@ state. Bytes may be cut anywhere. So a checkpoint and the bytes after its positi
 a checkpoint's position is before the bytes that begin a character and wait for its other bytes.
 """
 from .config import is_screen
-from .keys import DEC, FORMATS, PIECE, Damaged, Long, Lost, Trimmed, Version, Wrong
+from .keys import DEC, FORMATS, PIECE, Damaged, Lost, Trimmed, Version, Wrong
 from .keys import format_of, key, language_of, number as number_of, position, read_checkpoint, text
 
 
 class Session:
     """A session's terminal, played up to the position `at`."""
 
-    def __init__(self, incarnation, at=0, repaint=b"", screen="", formats=FORMATS, language=DEC):
-        self.incarnation, self.at, self.formats, self.language = incarnation, at, formats, language
-        self.newest = 0  # the newest format of what was read
+    def __init__(self, incarnation, at=0, repaint=b"", screen="", language=DEC):
+        self.incarnation, self.at, self.language = incarnation, at, language
         self.terminal, self.resized = language.opened(), ""  # the size if it was changed
-        self.resized_at = at  # the position of the last change
         if screen:
             self.resize(screen)
         self.terminal.feed(repaint)
-        self.status = None
 
     def resize(self, screen):
         """Changes the size."""
-        self.language, self.resized, self.resized_at = self.language._replace(screen=screen), screen, self.at
+        self.language, self.resized = self.language._replace(screen=screen), screen
         self.terminal.resize(**self.language.size())
 
     def viewed(self):
@@ -34,11 +31,8 @@ class Session:
     def data_of(self, entry_id, fields):
         """Returns what of an entry wasn't played yet: of a change of the size one byte. Raises a fault if it isn't a host's, or if bytes before it are
         missing."""
-        said = fields.get(b"v", b"")
-        written = format_of(said)
-        if written not in self.formats:
-            raise Version(f"entry {text(entry_id)} is", said)
-        self.newest = max(self.newest, written)
+        if format_of(fields.get(b"v", b"")) not in FORMATS:
+            raise Version(f"entry {text(entry_id)} is", fields.get(b"v", b""))
         head, _, tail = entry_id.partition(b"-")
         at, number = int(head), int(tail)
         screen = fields.get(b"screen", b"")
@@ -48,38 +42,29 @@ class Session:
         begin = at - len(data)
         if begin > self.at:
             raise Trimmed(f"the bytes from {self.at} to {begin} are gone")
-        if number == 2:
-            self.status = fields[b"status"].decode()
         return data[self.at - begin :] if at > self.at else b""
 
-    def settled(self):
-        """Returns the position up to which all bytes are in the terminal's state, and so in its repaint: what is pending comes after it."""
-        return self.at - len(self.terminal.pending())
-
-    def is_settled(self):
-        """Returns whether the terminal is between sequences, and no change of the size came after what is pending."""
-        return self.terminal.is_between() and self.settled() >= self.resized_at
-
-    def play_entry(self, entry_id, fields, reports, most=None, budget=None):
-        """Plays what of an entry wasn't played yet, up to `most` reports and so many bytes. Returns how many bytes were played, and whether these
-        are all."""
+    def play_entry(self, entry_id, fields):
+        """Plays what of an entry wasn't played yet."""
         data = self.data_of(entry_id, fields)
         if data and b"screen" in fields:
             self.at += 1
             self.resize(text(fields[b"screen"]))
-            return 1, True
-        played = self.play(data[:budget], reports, most)
-        return played, played == len(data)
+        elif data:
+            self.terminal.feed(data)
+            self.at += len(data)
 
-    def play(self, data, reports, most=None):
-        """Plays bytes, up to `most` reports. Appends the reports as (position, bytes), and returns how many bytes were played."""
-        begin, length = self.at, len(data)
-        while self.at - begin < length and (most is None or len(reports) < most):
-            played, report = self.terminal.feed_until_report(data[self.at - begin :])
-            self.at += played
-            if report:
-                reports.append((self.at, report))
-        return self.at - begin
+
+CANCEL = b"\x18"  # CAN: what is unfinished is given up
+
+
+def whole(terminal):
+    """Returns a terminal without what is unfinished on it."""
+    if terminal.is_between():
+        return terminal
+    made = terminal.copy()
+    made.feed(CANCEL)
+    return made
 
 
 def viewed(language, resized):
@@ -102,16 +87,12 @@ def is_formed(at, number, fields):
     return (at, number) == (0, 1) and b"begin" in fields and b"bytes" not in fields
 
 
-def restored(incarnation, fields, formats=FORMATS, language=DEC):
-    """Returns a session as its checkpoint has it, and whether that was damaged: then the session is at its start."""
-    if not fields:
-        return Session(incarnation, formats=formats, language=language), False
+def restored(incarnation, fields, language=DEC):
+    """Returns a session as its checkpoint has it; at its start if there is none, or if it was damaged."""
     try:
-        made = Session(incarnation, *read_checkpoint(fields, formats), formats, language)
-        made.newest = format_of(fields[b"v"])
-        return made, False
+        return Session(incarnation, *read_checkpoint(fields), language) if fields else Session(incarnation, language=language)
     except Damaged:
-        return Session(incarnation, formats=formats, language=language), True
+        return Session(incarnation, language=language)
 
 
 def look_up(store, incarnation):
@@ -120,10 +101,14 @@ def look_up(store, incarnation):
         together.hgetall(key(incarnation, "checkpoint"))
         together.hmget(key(incarnation, "about"), "end", *DEC._fields)
         together.exists(key(incarnation, "bytes"))
-        fields, (end, *said), is_there = store.all_of(together)
+        fields, about, is_there = store.all_of(together)
+    wrong = next((each for each in (fields, about) if isinstance(each, Exception)), None)
+    if wrong:
+        raise Wrong(f"a key of the session is wrong: {wrong}")
+    end, *said = about
     if end is None or not is_there:
         raise Lost("the store no longer has this session")
-    return restored(incarnation, fields, language=language_of(*said))[0], number_of(end)
+    return restored(incarnation, fields, language_of(*said)), number_of(end)
 
 
 def play_on(store, session, end):
@@ -132,7 +117,7 @@ def play_on(store, session, end):
     while True:
         entries = store.xrange(key(session.incarnation, "bytes"), min=f"({last}", count=64)
         for entry_id, fields in entries:
-            session.play_entry(entry_id, fields, [])
+            session.play_entry(entry_id, fields)
             last = entry_id.decode()
         if not entries:
             break
@@ -140,15 +125,13 @@ def play_on(store, session, end):
         raise Trimmed(f"the bytes from {session.at} to {end} are gone")
 
 
-def as_it_is(store, incarnation, most=None):
-    """Returns a session as it is in the store now, without a worker. A worker may store a checkpoint and trim in between, so
-    what seems trimmed is read again as long as the checkpoint moves. Raises Long if more than `most` bytes are to be played."""
+def as_it_is(store, incarnation):
+    """Returns a session as it is in the store now. Its host may store a checkpoint and trim in between, so
+    what seems trimmed is read again as long as the checkpoint moves."""
     seen = -1
     while True:
         session, end = look_up(store, incarnation)
         begin = session.at
-        if most is not None and end - begin > most:
-            raise Long(f"{end - begin} bytes come after the checkpoint")
         try:
             play_on(store, session, end)
             return session

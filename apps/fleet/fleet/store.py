@@ -44,10 +44,6 @@ class Unfit(Exception):
     """This store cannot keep a fleet."""
 
 
-class AnotherRun(RedisError):
-    """The store was started anew, or is another one, since it was last asked. It may have lost what it acknowledged."""
-
-
 def is_for_now(error):
     """Returns whether an error is one that passes: the store is away, out of memory or disk, or starting."""
     if isinstance(error, (AuthenticationError, NoPermissionError)):
@@ -133,7 +129,7 @@ class Store(redis.Redis):
         self.away_since = None
         self.outages = 0  # how often the store was away
         self.connections = 0  # that were made
-        self.run_id, self.minds_runs = None, False
+        self.run_id = None
         self.password_file = self.user = None
         self.was_let_in = False  # a password was accepted once: if it isn't any more, it is being changed
         self.patience = None  # seconds that the store is waited for; None for ever
@@ -160,14 +156,8 @@ class Store(redis.Redis):
         run_id = facts.get(b"run_id")
         if self.run_id not in (None, run_id):
             log.warning("the store was started again, or is another one")
-            if self.minds_runs:
-                raise AnotherRun()
         self.run_id, self.was_let_in = run_id, True
         self.connections += 1
-
-    def accept_run(self):
-        """Goes on with the store as it is now: whoever calls this reads anew what it depends on."""
-        self.run_id = None
 
     def execute_command(self, *words, **options):
         return self.patiently(lambda: super(Store, self).execute_command(*words, **options))
@@ -328,11 +318,6 @@ class Store(redis.Redis):
         if facts.get("loading"):
             raise BusyLoadingError("the store reads its file")
         return facts
-
-    def generation(self):
-        """Returns what changes when the store may have lost something: its run, and how many keys it evicted."""
-        facts = self.facts()
-        return facts.get("run_id"), facts.get("evicted_keys")
 
     def examine(self, is_any_allowed=False):
         """Raises Unfit if the store forgets by design: a cluster, eviction, no append-only file. If it comes back later without such a

@@ -11,8 +11,8 @@ from vt220.keyboard import typed
 
 from . import keys
 from .keys import key
-from .operate import Sender, Typist
-from .session import as_it_is, viewed
+from .operate import Sender, Typist, about
+from .session import as_it_is, look_up, whole
 
 FRAME = 0.05
 UNKNOWN = 1000  # rows and columns of a window whose size isn't known
@@ -134,70 +134,77 @@ def written(row, line):
 
 
 class Viewer:
-    """A terminal of a viewer's own, which repaints and updates bring where the session's is."""
+    """A session as somebody sees it: its terminal, which plays the checkpoint and the bytes of the store, and a VT220 that shows it."""
+
+    COUNT = 64  # entries that are read at once
+    FAR = 1 << 16  # bytes that a checkpoint is ahead if it is taken instead of what comes before it
 
     def __init__(self, store, incarnation):
         self.store, self.incarnation = store, incarnation
-        self.terminal, self.last = vt220.Terminal(), "0-0"
-        self.by, self.step = None, 0
-        self.worker, self.fault, self.is_over, self.takes_input = "", "", False, False
-        self.language, self.is_known = keys.DEC, False  # known: the store has said how the session is
-        self.first, self.resized = "", ""  # the size with which it began, and the one of the screen that is shown if it was changed
+        self.session, self.last = None, "0-0"
+        self.language, self.terminal = keys.DEC, vt220.Terminal()  # what is shown: without what is unfinished
+        self.resized = ""  # the size that is shown if it was changed
+        self.has_host = self.is_over = self.takes_input = False
+        self.fault = ""
 
     def ask(self):
-        """Tells the worker that somebody looks, and learns how the session is. Call it each second."""
-        self.hear(self.store.run("watch", self.incarnation))
+        """Learns how the session is. Call it each second."""
+        found = about(self.store, [self.incarnation])
+        if not found:
+            self.is_over, self.fault = True, "Lost: the store no longer has this session"
+        else:
+            self.learn(found[0])
 
-    def hear(self, answer):
-        """Takes in what the store said to `watch`."""
-        if answer[0] in ("lost", b"lost"):
-            self.is_over, self.fault = True, self.fault or "Lost: the store no longer has this session"
-            return
-        self.worker, self.fault, self.is_over = keys.text(answer[1]), keys.shown(answer[2]), bool(answer[3])
-        self.takes_input = answer[5] == b"1"
-        if not self.is_known:
-            self.language, self.is_known = keys.language_of(*answer[6:9]), True
-            self.terminal, self.first = self.language.viewed(), self.language.screen
-        if order(answer[4]) < order(self.last):  # the stream began anew
-            self.last = "0-0"
+    def learn(self, facts):
+        self.has_host, self.is_over, self.takes_input = facts["state"] == "running", bool(facts["status"]), facts["input"]
+        self.fault = self.fault or facts["fault"]
+        if self.session and facts["size"] < self.session.at:  # the store went back
+            self.session = None
+
+    def begin(self):
+        """Begins at the checkpoint."""
+        self.session, _ = look_up(self.store, self.incarnation)
+        self.last = f"{self.session.at}-0"
 
     def follow(self, patience=FRAME):
         """Plays what came, or waits a little. Returns whether something did."""
-        came = self.store.xread({key(self.incarnation, "view"): self.last}, block=int(patience * 1000) or None)
+        came = self.store.read_streams(self.COUNT, self.streams(), patience)
         return any([self.take(entries) for _, entries in came])
 
-    def take(self, entries):
-        for self.last, fields in entries:
-            self.play(fields)
-        return bool(entries)
+    def streams(self):
+        if self.session is None:
+            self.begin()
+            self.show()
+        return {key(self.incarnation, "bytes").encode(): self.last.encode()}
 
-    def play(self, fields):
-        """A repaint leads there from anywhere; an update only from where the one before it led. Returns whether it was played."""
-        by, step, whole = fields.get(b"by"), keys.number(fields.get(b"step")), fields.get(b"repaint", fields.get(b"resized"))
-        if not self.is_known:
-            return False
-        if whole is not None:
-            self.fit(keys.text(fields.get(b"screen")))
-            self.terminal.feed(whole)
-        elif (by, step) == (self.by, self.step + 1):
-            self.terminal.feed(fields.get(b"update", b""))
-        else:
-            return False
-        self.by, self.step = by, step
+    def take(self, entries):
+        """Plays entries. If there are more of them than are read at once, a checkpoint may be far ahead."""
+        if len(entries) == self.COUNT:
+            ahead = keys.number(self.store.hget(key(self.incarnation, "checkpoint"), "at"), 0)
+            if ahead > self.session.at + self.FAR:
+                self.begin()
+                entries = []
+        for entry_id, fields in entries:
+            try:
+                self.session.play_entry(entry_id, dict(zip(fields[::2], fields[1::2])))
+            except keys.Trimmed:  # there is a newer checkpoint then
+                before = self.session.at
+                self.begin()
+                if self.session.at <= before:
+                    raise
+                break
+            self.last = keys.text(entry_id)
+        self.show()
         return True
 
-
-    def fit(self, resized):
-        """Takes another terminal if the session's size is another one than before."""
-        if resized != self.resized:
-            self.language, self.resized = keys.language_of(*self.language[:2], resized or self.first), resized
-            self.terminal = viewed(self.language, resized)
-
-
-def order(entry_id):
-    """Returns an id as numbers, which can be compared."""
-    words = entry_id.decode() if isinstance(entry_id, bytes) else entry_id
-    return tuple(int(part) for part in words.split("-"))
+    def show(self):
+        """Brings what is shown where the session is. Returns the update that led there, or None if it is another terminal."""
+        now, there = self.session, whole(self.session.terminal)
+        if self.resized == now.resized and self.language == now.language:
+            return self.terminal.update(there)
+        self.language, self.resized, self.terminal = now.language, now.resized, now.viewed()
+        self.terminal.feed(there.repaint("vt220"))
+        return None
 
 
 class Keyboard:
@@ -234,7 +241,7 @@ def state_line(viewer, keyboard):
         return f"fault: {viewer.fault}"
     if keyboard and keyboard.sender.fault:
         return f"not typed: {keyboard.sender.fault}"
-    return "" if viewer.worker else "no worker has this session: waiting"
+    return "" if viewer.has_host else "the host of this session is silent"
 
 
 def follow(store, incarnation, types=False):

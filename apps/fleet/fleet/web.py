@@ -25,7 +25,7 @@ from vt220.page import hashed
 
 from . import metrics
 from .gallery import Gallery
-from .operate import PAUSE as PAUSE_OF_KEYS, Typist, living_workers, parts
+from .operate import PAUSE as PAUSE_OF_KEYS, Typist, parts
 
 log = logging.getLogger("fleet.web")
 
@@ -148,13 +148,14 @@ class Page:
         return web.Response(text=self.text, content_type="text/html", headers=headers)
 
     async def health(self, _):
-        """Returns 200 if the store answers and a worker lives, otherwise 503 and which of both is not so."""
+        """Returns 200 if the store answers, otherwise 503."""
         problem = await asyncio.get_running_loop().run_in_executor(None, self.problem)
         return web.Response(status=503 if problem else 200, text=f"{problem or 'ok'}\n")
 
     def problem(self):
         try:
-            return "" if living_workers(self.asked) else "no worker lives"
+            self.asked.ping()
+            return ""
         except Exception as error:
             log.warning("the store can't be read: %s: %s", type(error).__name__, error)
             return "the store can't be read"

@@ -1,43 +1,46 @@
-"""What goes between the host daemon and the holder of a program: frames of a letter, a length and so many bytes, as apps/keep/frame.h has them.
+"""What goes between the host daemon and the keeper of a program: frames of a letter, a length and so many bytes, as apps/keep/frame.h has them.
 Unless a frame's line here says otherwise, it begins with a number.
 
-A holder sends STATE first. Once it was sent NAMED, it sends KNOWS, then BYTES and RESIZED in the order of their positions and, when all are sent,
-ENDED. A change of the size has a position, as if it was a byte. Older daemons pass over frames that they don't know.
+A keeper sends STATE first. The daemon says NAMED, and FROM: from which position on it wants bytes. Then the keeper sends BYTES and RESIZED in the order of
+their positions, checkpoints among them and, when all are sent, ENDED. FROM may come again, if the store went back. A change of the size has a position, as
+if it was a byte. What a daemon or a keeper doesn't know, it passes over.
 """
 import os
+import re
 import struct
 
 HEAD, NUMBER, ENTRY = struct.Struct("=cI"), struct.Struct("=Q"), struct.Struct("=BQQ")
-HELD = 1 << 20  # bytes that a daemon hasn't acknowledged; then the program is made to wait. As many acknowledged ones are kept
-LONGEST = 1 << 18  # of a frame of a holder
+LONGEST = 1 << 21  # of a frame of a keeper: the checkpoint of the largest screen is shorter
+WAITING = 8 << 20  # bytes of one keeper that wait for the store: it sends no more before they are stored
 MOST = 1 << 63  # no number of a state is so large. Redis refuses to read any stream if it is asked for an id of more than 64 bits
-# Of these frames; of those of a session whose size isn't a VT220's, which then has a word of its own; and of one whose size has changed
-VERSION, SIZED, RESIZING = "2", "3", "4"
-STREAMS = ("answers", "keys", "signals")  # an input has the number of its stream here
+VERSION = "5"  # of these frames
+STREAMS = ("keys", "signals")  # an input has the number of its stream here
 PLACE = "vt220-fleet/daemon"  # of a daemon's socket, in the runtime directory
+INCARNATION = re.compile("[0-9a-f]{16}")
 
-# Of a holder:
+# Of a keeper:
 STATE = b"S"  # no number: the words of State, each with a NUL after it
 BYTES = b"B"  # the number is the position after them
-KNOWS = b"V"  # the number is what the holder knows: 1, sizes that change. Older holders don't say it
 RESIZED = b"Z"  # the number is the position after the change, and the bytes are the size, as 120x40: columns and rows
+CHECKPOINT = b"P"  # the number is its position. The size if it was changed, a NUL, and what rebuilds the terminal there
+JUMP = b"J"  # a checkpoint; the keeper has the bytes before it no more
 TAKEN = b"W"  # the number is how many inputs of this daemon were written to the program
-OVER = b"C"  # the program itself has ended; others may still have its terminal
-ENDED = b"E"  # the number is the exit status, as a shell has it
+ENDED = b"E"  # the number is the position at the end, and the bytes are the exit status, as a shell has it
 
 # Of a daemon:
 NAMED = b"N"  # no number: the incarnation. A program that doesn't run yet begins now
-REFUSED = b"R"  # the number is the exit status, and the bytes say why. A program that runs is hung up on
+FROM = b"F"  # the store has the bytes up to the number
+REFUSED = b"R"  # the number is the exit status, and the bytes say why. A keeper whose program runs comes again
 KEPT = b"A"  # the store has the bytes up to the number
-INPUT = b"I"  # no number: an ENTRY's stream and id, and bytes for the program; a holder drops one whose id isn't after the last one of its stream
+INPUT = b"I"  # no number: an ENTRY's stream and id, and bytes for the program; a keeper drops one whose id isn't after the last one of its stream
 SIGNAL = b"X"  # likewise; the byte is the signal's number
-SIZE = b"Y"  # likewise; the bytes are the size. Only for a holder that knows sizes that change
-STOP = b"T"  # hang up on the program, and kill it if it doesn't end; 1: at once
-DONE = b"D"  # the end is in the store: the holder ends
+SIZE = b"Y"  # likewise; the bytes are the size
+STOP = b"T"  # hang up on the program, and kill it if it doesn't end
+DONE = b"D"  # the end is in the store: the keeper may end
 
 
 class Strange(Exception):
-    """What came isn't what a holder sends."""
+    """What came isn't what a keeper sends."""
 
 
 def framed(letter, data=b""):
@@ -69,23 +72,24 @@ class Reader:
 
 
 class State:
-    """What a holder has: its session, the bytes between two positions, and the last input of each stream."""
+    """What a keeper has: its session, the bytes between two positions, and the last input of each stream."""
 
     def __init__(self, data):
+        version, *words = data.decode("utf-8", "surrogateescape").split("\0")[:-1] or [""]
+        if version != VERSION:
+            raise Strange(f"a keeper of version {version[:9]!r}; this daemon knows {VERSION}")
         try:
-            version, name, incarnation, takes_input, encoding, terminal, *rest = data.decode("utf-8", "surrogateescape").split("\0")[:-1]
-            screen = [rest.pop(0)] if version in (SIZED, RESIZING) else []
-            numbers = [int(each) for each in rest[:8]]
-            if not all(0 <= number < MOST for number in numbers):
-                raise Strange("a number that no holder has")
+            self.name, self.incarnation, takes_input, *self.language = words[:6]
+            numbers = [int(each) for each in words[6:12]]
             self.base, self.end = numbers[:2]
             self.last = {stream: f"{numbers[2 + 2 * at]}-{numbers[3 + 2 * at]}" for at, stream in enumerate(STREAMS)}
         except (ValueError, IndexError):
-            raise Strange("no state of a holder") from None
-        if version not in (VERSION, SIZED, RESIZING):
-            raise Strange(f"a holder of version {version[:9]!r}; this daemon knows the versions {VERSION} to {RESIZING}")
-        self.name, self.incarnation, self.language = name, incarnation, (encoding, terminal, *screen)
-        self.takes_input, self.command = takes_input == "1", " ".join(rest[8:])
+            raise Strange("no state of a keeper") from None
+        if not all(0 <= number < MOST for number in numbers) or self.base > self.end:
+            raise Strange("a number that no keeper has")
+        if self.incarnation and not INCARNATION.fullmatch(self.incarnation):
+            raise Strange("no incarnation")
+        self.takes_input, self.command = takes_input == "1", " ".join(words[12:]).encode("utf-8", "replace").decode()
 
 
 def entry(stream, entry_id, data):

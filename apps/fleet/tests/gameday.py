@@ -5,27 +5,23 @@ import os
 import pathlib
 import re
 import subprocess
-import threading
-import time
 import urllib.error
 
 from prometheus_client import CollectorRegistry, generate_latest
 
 from harness import (
-    HERE, PATIENCE, PATIENT, Clock, Failing, Processes, Proxy, Source, begun, check, conf, configured, ending, fleet, free_port, keys,
-    launched, local, outlast, playing, program, replace, settings, stores, text_of, until, wait_for, worker,
+    HERE, PATIENCE, Clock, Proxy, Source, Told, another_daemon, begun, check, conf, configured, end_of, ending, fleet, free_port, keys, launched, local,
+    replace, stores, text_of, wait_for, written,
 )
 from operators import asked, metrics_at, state
+from sessions import ANSWERS
+from stores_faults import end_all
 from fleet import config, metrics
-from fleet.claims import Claims
-from fleet.daemon import Daemon
-from fleet.metrics import DaemonMetrics, PageMetrics, WholeFleet
+from fleet.metrics import PageMetrics, WholeFleet
 from fleet.operate import Typist
 from fleet.web import Page
-from fleet.worker import Worker
 
 ALERTS = os.path.join(HERE, "..", "alerts.yml")
-BUG = TypeError("a bug of this version")
 SAMPLES = 80  # of each phase, 15 seconds apart: no alert looks back further, or waits longer
 
 
@@ -63,7 +59,7 @@ class Day:
         self.targets = {"all": of_collector(self.whole)}
 
     def look(self, metric="", value=""):
-        """Notes what each target says, once a metric of the whole fleet has a value: a worker may be slow to show that it lives."""
+        """Notes what each target says, once a metric of the whole fleet has a value."""
         found = {}
 
         def is_so():
@@ -129,58 +125,9 @@ def day_of(alert, *labels):
     return decorate
 
 
-@day_of("FleetNoWorkers")
-def no_workers(machine, day):
-    """All are killed, and nobody is left to bury them."""
-    workers, source = Processes(machine, 2, "--lease", "1"), Source(machine.url, "played").send(b"x")
-    wait_for(lambda: state(source.store, "played")["lag"] == 0)
-    yield "fleet_workers{", "2.0"
-    for each in workers.all:
-        each.kill()
-        each.wait()
-    source.send(b"y")
-    yield "fleet_workers{", "0.0"
-    check(day.whole.problem() == "no worker lives", f"nor is the fleet well: {day.whole.problem()}")
-    check(state(source.store, "played")["state"] == "waiting", "its session waits")
-    listed = [line.split() for line in fleet(machine.url, "workers")[1].splitlines()]
-    check(len(listed) == 2 and all(words[3] == "silent" for words in listed), f"both are listed as silent: {listed}")
-    another = Processes(machine, 1, "--lease", "8")  # so it doesn't take itself for stopped on a busy machine
-    check(wait_for(lambda: state(source.store, "played")["lag"] == 0), "another one plays the session")
-    yield "fleet_workers{", "1.0"
-
-
-@day_of("FleetStandsStill")
-def a_session_stands_still(machine, day):
-    """Its host reads no reports."""
-    clock, (source, one) = replace(metrics, "time", Clock()), playing(machine.url, "stands still", b"x", lease=3600)
-    one.tell(list(one.kept.values()))
-    yield
-    source.send(b"\033[c" * 20000, piece=3000)
-    until(lambda: source.incarnation in one.choked, one)
-    day.whole.facts_of_store()
-    clock.now += 90
-    yield
-    source.listen()
-    check(until(lambda: len(source.got) == 20000 and not one.due, one), "a host that reads them goes on")
-    one.tell(list(one.kept.values()))
-    yield
-
-
-@day_of("FleetFormatMissing")
-def a_format_is_missing(machine, day):
-    old = Worker(stores.connect(machine.url), settings(lease=3600), formats=(2,))
-    yield
-    source = Source(machine.url, "newer", encoding="utf-8")
-    until(lambda: source.store.hlen(keys.FOREIGN) == 1, old)
-    yield
-    newer = worker(machine.url, lease=3600)
-    check(until(lambda: source.incarnation in newer.kept, newer, old), "a worker of the newer version takes it")
-    yield
-
-
 @day_of("FleetConnections")
 def connections_run_out(machine, day):
-    store, one = stores.connect(machine.url), lives(machine)
+    store = stores.connect(machine.url)
     yield
     others = [stores.connect(machine.url) for _ in range(8)]
     check(all(each.ping() for each in others), "others come")
@@ -222,41 +169,62 @@ def owners(place):
     return {file.stat().st_uid for file in [place, *place.iterdir()]}
 
 
-def a_backup_is_restored(machine, data):
-    """Hosts live on meanwhile, and the backup lacks what they sent after it. Its files are those of the user of Redis."""
-    source, one = playing(machine.url, "backup", data[:2000], lease=3600)
+def prepared(machine, content):
+    """Returns sessions, and makes the files of the store those of the user of Redis."""
+    with configured(machine, "[host]", "lease = 3"):
+        sessions = [Told(machine, f"day-{number}", content[number * 100 :]) for number in range(3)]
     place, user = pathlib.Path(machine.folder, "appendonlydir"), 10**6 if os.getuid() == 0 else os.getuid()
     for file in [place, *place.iterdir()]:
         os.chown(file, user, -1)
+    return sessions, place, user
+
+
+def stored(sessions):
+    """Waits until the store has all that sessions have written."""
+    return wait_for(lambda: all(end_of(each.store, each.incarnation) == len(each.read("sent")) for each in sessions))
+
+
+def a_backup_is_restored(machine, data):
+    """Programs live on. The daemon is restarted between the backup and the restore, and one session begins then: the backup has neither."""
+    sessions, place, user = prepared(machine, data)
+    for each in sessions:
+        each.go_on(4)
     run_of("Backup of the store", machine)
-    source.send(data[2000:] + b"\033[6n")
-    source.store.set("after-the-backup", 1)
+    with configured(machine, "[host]", "lease = 3"):
+        another_daemon(machine)
+        sessions.append(Told(machine, "begun-later", data))
+    for each in sessions:
+        each.type(b"after;")
+        each.go_on(4)
+    stored(sessions)
+    store = stores.connect(machine.url)
+    store.set("after-the-backup", 1)
     run_of("Restore of the store", machine)
     check(owners(place) == {user}, f"the files are those of the user of Redis: {owners(place)}")
-    check(not source.store.exists("after-the-backup"), "the store is the copy")
-    source.renew()
-    source.ends(one)
+    check(not store.exists("after-the-backup"), "the store is the copy")
+    check(stored(sessions), "what it lacks is sent again")
+    end_all(sessions)
 
 
 def a_store_is_upgraded(machine, data):
     """Debian has one version of Redis, which is also the oldest that has functions. So it writes the file in the form that all versions read, and
     is started again over this file alone."""
-    source, one = playing(machine.url, "upgrade", data[:2000], lease=3600)
+    sessions, place, _ = prepared(machine, data)
+    for each in sessions:
+        each.go_on(4)
     run_of("Upgrade of the store", machine)
-    place = os.path.join(machine.folder, "appendonlydir")
     files = [file for file in os.listdir(place) if ".base." in file]
     text = pathlib.Path(place, files[0]).read_bytes()
     check(len(files) == 1 and text.startswith(b"*") and b"FUNCTION" in text, f"the file has plain commands, and the functions: {files} {text[:20]}")
     machine.start()
     check(fleet(machine.url, "check-store")[0] == 0, "the store is fit")
-    source.send(data[2000:] + b"\033[6n")
-    source.ends(one)
+    end_all(sessions)
 
 
 @day_of("FleetTargetDown", {"instance": "one"})
 def a_target_is_down(machine, day):
     """`fleet metrics` ends, and that of another fleet doesn't."""
-    port, one = free_port(), lives(machine)
+    port = free_port()
     day.targets["one"] = of_port(port)
     for is_killed in (True, False):
         serves = ending(launched(machine, "metrics", f"127.0.0.1:{port}"))
@@ -268,67 +236,8 @@ def a_target_is_down(machine, day):
             yield
 
 
-@day_of("FleetUpgradeFails")
-def an_upgrade_fails(machine, day):
-    """A faulty worker fails on its first sessions, and the others go on with these. It is the last one, and then the earlier version is back."""
-    url, old = machine.url, worker(machine.url, lease=3600)
-    sources = [Source(url, f"upgraded-{number}").send(b"x") for number in range(20)]
-    until(lambda: len(old.kept) == 20 and not old.due, old)
-    old.note()
-    yield
-    new = Failing(url, BUG, lease=3600)
-    old.claims.release(list(old.kept)[:10])
-    old.read_anew()
-    for source in sources:
-        source.send(b"y\033[6n")
-    check(until(lambda: new.is_unfit, new), "it takes no more")
-    check(until(lambda: all(source.receive(0).reports() for source in sources), old, new), "the earlier version goes on with all")
-    check([source.fault() for source in sources] == [""] * 20, "none has a fault")
-    yield
-    listed = fleet(url, "workers")[1].splitlines()
-    check([line.split()[0] for line in listed if line.endswith("unfit")] == [new.claims.me], f"it is listed: {listed}")
-    old.leave()
-    for source in sources:
-        source.send(b"z")
-    new.turn(0.01)
-    check(not new.kept and [source.fault() for source in sources] == [""] * 20, "if it is the last one, they wait")
-    new.leave()
-    back = worker(url, lease=3600)
-    check(until(lambda: len(back.kept) == 20 and not back.due, back), "the earlier version takes them")
-    yield
-
-
-def an_error_is_taken_back(url, _):
-    """All workers that there are meet it, so it is the session's fault. `fleet retry` has a sound one go on."""
-    faulty = [Failing(url, BUG, lease=3600) for _ in range(2)]
-    source, sound = Source(url, "taken-back"), Source(url, "sound")
-    source.send(b"x\033[6n")
-    check(until(source.fault, *faulty), "it is a fault")
-    check(source.fault() == "TypeError: a bug of this version", source.fault())
-    check(sum(each.failures for each in faulty) == 1 and source.store.scard(source.part("failed")) == 2, "both tried it")
-    source.renew()
-    check(source.host.said_fault == source.fault(), "its host knows")
-    for each in faulty:
-        each.leave()
-    one = worker(url, lease=3600)
-    check(fleet(url, "retry", "sound")[0] == 6 and fleet(url, "retry", "nosuch")[0] == 3, "one without a fault, and none")
-    check(fleet(url, "retry", "taken-back")[0] == 0, "it is tried again")
-    check(until(lambda: source.receive(0).reports() and sound.incarnation in one.kept, one), "and goes on")
-    source.renew()
-    check(source.host.said_fault is None, "which its host learns")
-    source.host.fault = None
-    source.store.run("fail", source.name, source.incarnation, "WentBack: so")
-    check(fleet(url, "retry", "taken-back")[0] == 6, "one that its host gave up can't")
-
-
-def lives(machine):
-    """Has a worker live that plays nothing, so that no alert is there before the fault."""
-    return Claims(stores.connect(machine.url), 3600)
-
-
 @day_of("FleetStoreAway")
 def the_store_is_away(machine, _):
-    lives(machine)
     yield
     machine.kill()
     yield
@@ -336,12 +245,11 @@ def the_store_is_away(machine, _):
     yield
 
 
-@day_of("FleetReportsSlow")
+@day_of("FleetStoreSlow")
 def the_store_is_slow(machine, day):
     """Each ping takes longer than it should, by the clock of the metrics."""
     clock, store = replace(metrics, "time", Clock()), day.whole.store
     ping = store.ping
-    lives(machine)
     yield
     store.ping = lambda: setattr(clock, "now", clock.now + 0.7)
     yield
@@ -349,72 +257,52 @@ def the_store_is_slow(machine, day):
     yield
 
 
-@day_of("FleetSessionsWait")
-def sessions_wait(machine, _):
-    """The only worker is full."""
-    lives(machine)
-    yield
-    source = Source(machine.url, "waits")
-    source.store.zincrby(keys.WAITING, -60000, source.incarnation)
-    yield
-    more = worker(machine.url, lease=3600)
-    check(until(lambda: source.incarnation in more.kept, more), "one more worker takes it")
-    yield
-
-
 @day_of("FleetHostsSilent")
 def hosts_are_silent(machine, _):
     """A host daemon is killed, and the next one goes on with its programs."""
-    name, one, silent = "silent", lives(machine), 'fleet_states{state="no host",'
-    with configured(machine, *PATIENT, "[host]", "lease = 1"):
-        host, store, incarnation = begun(machine, name, ["sh", "-c", "echo on; read x; exit 3"], "--input")
-    one.take(16)
-    yield silent, "0.0"
-    machine.kill_daemon()
-    yield silent, "1.0"
-    machine.start_daemon()
-    check(wait_for(lambda: state(store, name)["state"] == "running"), "it has a host again")
+    silent = 'fleet_states{state="no host",'
+    with configured(machine, "[host]", "lease = 1"):
+        host, store, incarnation = begun(machine, "silent", ["sh", "-c", "echo on; read x; exit 3"], "--input")
+        yield silent, "0.0"
+        machine.kill_daemon()
+        yield silent, "1.0"
+        machine.start_daemon()
+    check(wait_for(lambda: state(store, "silent")["state"] == "running"), "it has a host again")
     yield silent, "0.0"
     Typist(store, incarnation).type(b"\r")
     check(host.wait(PATIENCE) == 3, f"and its program lives: {host.returncode}")
 
 
-FAULTS = {
-    "Wrong": lambda source: source.store.xadd(source.part("bytes"), {"v": keys.version(), "text": "x"}, id="9-0"),
-    "Version": lambda source: source.store.xadd(source.part("bytes"), {"bytes": "abc"}, id="3-0"),
-    "Trimmed": lambda source: source.send(b"gone").store.xtrim(source.part("bytes"), maxlen=0, approximate=False),
-    "Lost": lambda source: source.store.delete(source.part("bytes")),
-    "Forged": lambda source: (source.store.xadd(source.part("answers"), {"report": "x"}, id="99999-0"), source.send(b"\033[c")),
-}
-
-
-@day_of("FleetFaults", *({"fault": each} for each in FAULTS))
+@day_of("FleetFaults", {"fault": "Wrong"})
 def sessions_have_faults(machine, _):
-    """Of each kind, made in the store. An operator ends these sessions."""
-    one = worker(machine.url, lease=3600)
+    """Another program writes into the store. An operator ends the session."""
     yield
-    made = {fault: Source(machine.url, fault) for fault in FAULTS}
-    for fault, harm in FAULTS.items():
-        harm(made[fault])
-    check(until(lambda: all(source.fault().startswith(fault) for fault, source in made.items()), one), "each has its own")
+    made = Source(machine.url, "wrong")
+    made.store.hset(made.part("about"), "end", "x")
     yield
-    for fault in FAULTS:
-        check(fleet(machine.url, "end", "--force", "--keep", "0", fault)[0] == 0, f"{fault}: it is removed")
+    check(fleet(machine.url, "end", "--force", "--keep", "0", "wrong")[0] == 0, "it is removed")
     yield
+
+
+def of_daemon(machine, day, url=None):
+    """Starts the machine's daemon with metrics, as the target `one`. Returns its port."""
+    port = free_port()
+    machine.start_daemon("--metrics", f"127.0.0.1:{port}", url=url)
+    day.targets["one"] = of_port(port)
+    wait_for(of_port(port))
+    return port
 
 
 @day_of("FleetCutOff", {"instance": "one"})
-def a_worker_is_cut_off(machine, day):
-    """Its link ends, and is back."""
-    port, proxy = free_port(), Proxy(machine)
-    day.targets["one"], cut = of_port(port), Processes(machine, 1, "--metrics", f"127.0.0.1:{port}", url=proxy.url)
-    lives(machine)
+def a_daemon_is_cut_off(machine, day):
+    """Its link ends, and is back. Its program goes on meanwhile."""
+    proxy = Proxy(machine)
+    port = of_daemon(machine, day, proxy.url)
+    host, store, incarnation = begun(machine, "cut off", ["sh", "-c", ANSWERS], "--input")
 
     def is_away():
         return metrics_at(port)["fleet_store_is_away"]
 
-    wait_for(of_port(port))
-    wait_for(lambda: not is_away())
     yield
     proxy.process.kill()
     wait_for(is_away)
@@ -423,33 +311,52 @@ def a_worker_is_cut_off(machine, day):
     proxy.start()
     check(wait_for(lambda: not is_away()), "it reaches the store again")
     yield
+    Typist(store, incarnation).type(b"x\r")
+    check(wait_for(lambda: b"got x" in written(store, "cut off")) and host.poll() is None, "and so does its session")
 
 
-@day_of("FleetHostBehind")
+@day_of("FleetHostBehind", {"instance": "one"})
 def a_host_is_behind(machine, day):
-    """No worker plays a session, and its program writes more than may wait. The daemon is in this process."""
-    name, clock = "behind", replace(metrics, "time", Clock())
-    daemon = replace(machine, "daemon", Daemon(stores.connect(machine.url), config.Host(lease=3600), machine.where()["FLEET_DAEMON"]))
-    threading.Thread(target=daemon.serve, daemon=True).start()
-    day.targets["one"] = of_collector(DaemonMetrics(daemon))
-    lives(machine)
-    host = program(machine, name, ["sh", "-c", "read x; head -c 3000000 /dev/zero"], "--input")
-    wait_for(lambda: daemon.all() and daemon.all()[0].is_named)
-    [ran], clock.now = daemon.all(), time.monotonic()
+    """The store is full, and takes nothing."""
+    port = of_daemon(machine, day)
+    host, store, incarnation = begun(machine, "behind", ["sh", "-c", "echo on; read x; head -c 300000 /dev/zero; exit 3"], "--input")
     yield
-    Typist(daemon.store, ran.host.incarnation).type(b"\r")
-    wait_for(lambda: ran.host.is_waiting)
-    clock.now = ran.sends_since + 60
+    Typist(store, incarnation).type(b"\r")
+    store.config_set("maxmemory", "1mb")
+    wait_for(lambda: metrics_at(port)["fleet_host_lag_seconds"] > 0)
+    real = day.targets["one"]
+    day.targets["one"] = lambda: re.sub(r"^fleet_host_lag_seconds .*$", "fleet_host_lag_seconds 60.0", real(), flags=re.MULTILINE)
     yield
-    one = worker(machine.url, lease=3600)
-    check(outlast(host, lambda: one.turn(0.01) or one.counts["bytes"]) == 0, f"a worker plays it, so the program goes on: {host.returncode}")
+    day.targets["one"] = real
+    store.config_set("maxmemory", "0")
+    check(host.wait(PATIENCE) == 3, f"it goes on: {host.returncode}")
     yield
+
+
+@day_of("FleetRefused", {"instance": "one"})
+def a_session_is_refused(machine, day):
+    """While its daemon was away for longer than `lease` and `linger`, another machine took its name. Its program goes on."""
+    with configured(machine, "[host]", "lease = 1", "linger = 0"):
+        port = of_daemon(machine, day)
+        host, store, incarnation = begun(machine, "taken", ["sh", "-c", ANSWERS], "--input")
+        yield
+        machine.kill_daemon()
+        wait_for(lambda: not store.exists(keys.lease("taken")))
+        other = Source(machine.url, "taken")
+        machine.start_daemon("--metrics", f"127.0.0.1:{port}")
+        wait_for(of_port(port))
+        check(wait_for(lambda: metrics_at(port)["fleet_host_refused"] == 1), "it is refused")
+        yield
+        check(host.poll() is None, "its program goes on")
+        other.end(0)
+        check(wait_for(lambda: metrics_at(port)["fleet_host_refused"] == 0), "it is let in once the name is free")
+        yield
+    check(wait_for(lambda: fleet(machine.url, "text", "taken")[1].startswith("on\n")), "with its screen")
 
 
 @day_of("FleetPageRefuses", {"instance": "one"})
 def a_page_is_asked_without_its_token(machine, day):
     store = stores.connect(machine.url)
-    lives(machine)
     for guesses in (30, 0):
         page = Page(store, store, config.Web())  # each with another token
         day.targets["one"] = of_collector(PageMetrics(page))

@@ -1,4 +1,4 @@
-"""What the tests share: a count of what passed, a store, workers in this process, and hosts whose program is the test."""
+"""What the tests share: a count of what passed, a store, programs that are sessions, and sessions that a test writes into the store itself."""
 import contextlib
 import os
 import pathlib
@@ -6,17 +6,15 @@ import random
 import socket
 import subprocess
 import sys
-import threading
 
 sys.dont_write_bytecode = True
 HERE = os.path.dirname(os.path.abspath(__file__))
 sys.path.insert(0, os.path.join(HERE, ".."))
 
-from fleet import config, frames, keys, local, program as programs, session, store as stores
+from fleet import config, keys, local, program as programs, session, store as stores
 from fleet.host import Host
 from fleet.keys import key
-from fleet.operate import comes
-from fleet.worker import Worker
+from fleet.operate import Refused, Typist, comes
 import vt220
 
 ROOT = os.path.join(HERE, "..", "..", "..")
@@ -25,11 +23,11 @@ QUERIES = [b"\033[c", b"\033[5n", b"\033[6n", b"\033[>c", b"\033[?15n", b"\033[?
 
 # No test depends on how fast the machine is: whatever is waited for comes, or hangs. So every limit of the fleet is a long one, unless
 # a test is about its end, and then it sets a short one.
-PATIENCE = 300  # seconds until what is waited for counts as hanging
+PATIENCE = float(os.environ.get("FLEET_PATIENCE", 300))  # seconds until what is waited for counts as hanging
 PATIENT = ["[store]", "timeout = 60", f"give-up = {PATIENCE}"]
 stores.TIMEOUT = 60.0
-frames.WATCHED = frames.FORGET = 3600
-HOLDER = next(filter(os.path.exists, programs.HOLDERS), programs.HOLDERS[0])
+KEEPER = programs.keeper()
+TELLER = os.path.join(HERE, "teller.py")
 
 counts = {"case": "", "passed": 0, "failed": 0}  # of the cases that ran, with the name of the one that runs
 started = contextlib.ExitStack()  # what a case has started, which ends with it
@@ -46,15 +44,6 @@ def check(is_so, what):
 def children_of(pid):
     with open(f"/proc/{pid}/task/{pid}/children") as children:
         return [int(each) for each in children.read().split()]
-
-
-def outlast(process, progress):
-    """Waits until a process ends, for as long as something goes on. Returns its exit status; None if it hangs."""
-    before = -1
-    while process.poll() is None and progress() > before:
-        before = progress()
-        wait_for(lambda: progress() > before or process.poll() is not None)
-    return process.poll()
 
 
 def incarnation_of(store, name):
@@ -95,44 +84,9 @@ def wait_for(is_so, pause=0.02):
     return comes(is_so, PATIENCE, pause)
 
 
-def until(is_so, *workers):
-    """Turns of workers in this process until something is so. Returns whether it is."""
-
-    def is_so_after_a_turn():
-        for each in workers:
-            each.turn(patience=0.01)
-        return is_so()
-
-    return bool(is_so()) or wait_for(is_so_after_a_turn, 0 if workers else 0.02)
-
-
 def commands(store):
     """Returns how often each command was called, also inside functions, without the call that asks."""
     return {name: each["calls"] for name, each in store.info("commandstats").items() if name != "cmdstat_info"}
-
-
-def settings(**chosen):
-    made = config.Worker()
-    for name, value in ({"every": 1000, "lease": 0.4} | chosen).items():
-        setattr(made, name, value)
-    return made
-
-
-def worker(url, **chosen):
-    return Worker(stores.connect(url), settings(**chosen))
-
-
-class Failing(Worker):
-    """A worker in this process that raises an error when it plays certain bytes."""
-
-    def __init__(self, url, error, fatal=b"", **chosen):
-        super().__init__(stores.connect(url), settings(**chosen))
-        self.error, self.fatal = error, fatal
-
-    def play(self, session, budget):
-        if any(self.fatal in fields.get(b"bytes", b"") for _, fields in session.queue if b"bytes" in fields):
-            raise self.error
-        super().play(session, budget)
 
 
 def replace(thing, name, value):
@@ -152,115 +106,84 @@ class Clock:
 
 
 class Source:
-    """A host whose program is a test: it sends what it is told, and keeps what comes for the program."""
+    """A session that a test writes into the store itself, without a program."""
 
-    def __init__(self, url, name, **options):
-        self.store = stores.connect(url, **options.pop("connection", {}))
-        self.host = Host(self.store, name, **{"lease": 3600.0} | options)
+    def __init__(self, url, name, takes_input=False, lease=3600.0, **language):
+        self.store, self.name, self.sent = stores.connect(url), name, b""
+        self.host = Host(self.store, name, config.Host(lease=lease), keys.Language(**language), takes_input)
         self.host.register()
-        self.incarnation, self.name = self.host.incarnation, name
-        self.got = []
-        self.sent = b""
-        self.thread = None
+        self.incarnation = self.host.incarnation
 
     def send(self, data, piece=700):
         self.sent += data
         for at in range(0, len(data), piece):
-            self.host.send(data[at : at + piece])
+            self.host.append(data[at : at + piece])
+        return self
+
+    def resize(self, screen):
+        self.host.append(screen.encode(), "screen")
         return self
 
     def end(self, status=0):
-        self.host.end(status)
+        self.host.finish(status)
         return self
-
-    def listen(self):
-        """Receives in a thread of its own until stop()."""
-        self.is_over = threading.Event()
-        self.thread = threading.Thread(target=self.receive_on, daemon=True)
-        self.thread.start()
-        started.callback(self.stop)
-        return self
-
-    def receive_on(self):
-        while not self.is_over.is_set():
-            try:
-                self.got += self.host.receive(0.2)
-                self.host.renew_if_due()
-            except keys.Fault:
-                return
-
-    def receive(self, patience=0):
-        while more := self.host.receive(patience):
-            self.got += more
-        return self
-
-    def stop(self):
-        if self.thread:
-            self.is_over.set()
-            self.thread.join(PATIENCE)
-
-    def finish(self):
-        """Stops listening, and reads what is left. A session's last reports are in the store once its end is."""
-        self.stop()
-        return self.receive()
-
-    def reports(self):
-        return self.all_of("report")
 
     def keys(self):
-        return self.all_of("keys")
-
-    def all_of(self, wanted):
-        return b"".join(what for kind, what in self.got if kind == wanted)
-
-    def renew(self):
-        """Renews the lease, whether or not that is due."""
-        self.host.renewed = -1e9
-        self.host.renew_if_due()
-
-    def ends(self, *workers, status=0):
-        """Ends the session, if it hasn't been, and compares it with the program once it is played: by workers of this process or by others."""
-        if not self.host.is_ended:
-            self.end(status)
-        check(until(self.is_ended, *workers), f"it ends: {self.fault()}")
-        self.finish()
-        compare(self, status=b"%d" % status)
+        """Returns what was typed: no daemon takes it."""
+        return b"".join(fields[b"keys"] for _, fields in self.store.xrange(self.part("keys")))
 
     def part(self, name):
         return key(self.incarnation, name)
 
-    def about(self, field):
-        """Returns what the store has of the session in a field."""
-        return self.store.hget(self.part("about"), field)
 
-    def has_all_reports(self):
-        """Returns whether all reports to what it sent have come."""
-        return self.reports() == played(self.sent)[1]
+class Told:
+    """A program that writes bytes, asks for reports and reads keys, as a session. It notes all in files: what it wrote, what reports and what keys it read."""
 
-    def is_ended(self):
-        return bool(self.store.exists(self.part("ended")))
+    def __init__(self, machine, name, data, *words, steps=20, **options):
+        self.machine, self.name, self.place = machine, name, os.path.join(machine.folder, f"told-{name}")
+        os.mkdir(self.place)
+        pathlib.Path(self.place, "data").write_bytes(data)
+        self.store, self.steps = stores.connect(machine.url), steps
+        self.host = program(machine, name, [local.PYTHON, TELLER, self.place, str(steps)], "--input", *words, **options)
+        self.incarnation = incarnation_of(self.store, name)
+        check(wait_for(lambda: os.path.exists(os.path.join(self.place, "ready"))), f"{name} begins")
+        self.typist, self.typed = Typist(self.store, self.incarnation, PATIENCE), b""
 
-    def fault(self):
-        return (self.store.get(self.part("fault")) or b"").decode()
+    def read(self, what):
+        path = pathlib.Path(self.place, what)
+        return path.read_bytes() if path.exists() else b""
 
+    def type(self, word):
+        """Types, once the session has a host: its lease may have ended in an outage."""
 
-def end_all(sources, data, *workers):
-    """Ends sessions after some more bytes, and compares each with a terminal once it is played: by workers of this process or by others."""
-    for source in sources:
-        source.send(data).end(0)
-    check(until(lambda: all(source.is_ended() for source in sources), *workers), "all end")
-    for source in sources:
-        source.finish()
-        check(source.fault() == "", f"{source.name}: {source.fault()}")
-        check(source.has_all_reports(), f"{source.name}: each report once")
-        check(source.store.hget(source.part("ended"), "text") == played(source.sent)[0].text().encode(), f"{source.name}: text")
+        def is_typed():
+            try:
+                self.typist.type(word)
+            except Refused as refused:
+                return check("silent" in str(refused), f"{self.name}: {refused}") is None
+            return True
 
+        self.typed += word
+        check(wait_for(is_typed), f"{self.name} is typed into")
 
-def playing(url, name, data, **chosen):
-    """Returns a session and a worker of this process that has played its bytes."""
-    one, source = worker(url, **chosen), Source(url, name).send(data)
-    until(lambda: source.incarnation in one.kept and not one.due, one)
-    return source, one
+    def go_on(self, steps):
+        """Has it do so many steps more, and waits until it has done them."""
+        steps = min(self.steps, self.read("steps").count(b".") + steps)
+        pathlib.Path(self.place, "goal").write_text(str(steps))
+        return wait_for(lambda: self.read("steps").count(b".") >= steps or self.host.poll() is not None)
+
+    def hold(self, **language):
+        """Holds an ended session against what the program noted: its bytes, its screen, its reports, its keys and its status."""
+        sent, store = self.read("sent"), self.store
+        self.incarnation = incarnation_of(store, self.name)
+        check(self.host.wait(PATIENCE) == 7, f"{self.name}: its status: {self.host.returncode}")
+        check(store.hget(key(self.incarnation, "about"), "closed") == b"7", f"{self.name}: in the store: {store.hgetall(key(self.incarnation, 'about'))}")
+        terminal = vt220.Terminal(**language)
+        check(self.read("reports") == terminal.feed(sent), f"{self.name}: each report once")
+        check(self.read("keys") == self.typed, f"{self.name}: each key once, in order: {len(self.read('keys'))} of {len(self.typed)} bytes")
+        now = session.as_it_is(store, self.incarnation)
+        check(now.terminal.same_state(terminal) and now.at == len(sent), f"{self.name}: the screen, and the place {now.at} of {len(sent)}")
+        return b"".join(data for _, _, data in session.bytes_of(store, self.incarnation)) == sent
 
 
 def made_up(chance, pieces):
@@ -279,38 +202,6 @@ def wanted(word, data):
     return done.returncode, done.stdout
 
 
-def compare(source, status=b"0"):
-    """Holds an ended session against the program: its text, the reports that reached its program, and its repaint."""
-    data, (at, said) = source.sent, source.store.hmget(source.part("ended"), "at", "status")
-    check((at, said) == (b"%d" % len(data), status), f"place and status: {at} {said}")
-    check(source.reports() == wanted("reports", data)[1], f"reports at the program: {len(source.reports())} bytes")
-    check(source.incarnation.encode() not in source.store.smembers(keys.LIVE), "it no longer lives")
-    compare_screen(source, data)
-
-
-def compare_screen(source, data):
-    """Holds an ended session's text and its repaint against the program, which plays these bytes."""
-    text = wanted("text", data)[1]
-    check(source.store.hget(source.part("ended"), "text") == text, "text at the end")
-    now = session.as_it_is(source.store, source.incarnation)
-    check(now.at == len(data), "bytes")
-    check(now.terminal.text().encode() == text, "text from the checkpoint")
-    code, repaint = wanted("repaint", data)
-    if code == 3:
-        check(raises(vt220.Partial, now.terminal.repaint), "the repaint is refused")
-    else:
-        check(now.terminal.repaint() == repaint, "repaint")
-
-
-class Processes(local.Workers):
-    """Worker processes on a store, which may be reached through a proxy. They end with the case."""
-
-    def __init__(self, machine, count, *words, url=None):
-        super().__init__(0, machine.folder, url or machine.url, *words)
-        started.callback(self.stop)
-        self.all += [self.another() for _ in range(count)]
-
-
 def ending(process):
     """Has a process end with the case. Returns it."""
     started.callback(process.wait)
@@ -320,8 +211,8 @@ def ending(process):
 
 def launched(machine, *words, **options):
     """Starts a command of the fleet on a machine's store."""
-    words = [local.PYTHON, local.COMMAND, *words]
-    return subprocess.Popen(words, env=os.environ | machine.where(), **{"stdout": subprocess.DEVNULL, "stderr": subprocess.DEVNULL} | options)
+    words, where = [local.PYTHON, local.COMMAND, *words], machine.where() | {"KEEP_DIR": os.path.join(machine.folder, "keep")}
+    return subprocess.Popen(words, env=os.environ | where, **{"stdout": subprocess.DEVNULL, "stderr": subprocess.DEVNULL} | options)
 
 
 def fleet(url, *words, config=None, **where):
@@ -348,14 +239,14 @@ def free_port():
 
 
 def program(machine, name, command, *words, **options):
-    """Starts a program as a session of the machine's daemon, which is started if there is none. The process becomes the holder."""
+    """Starts a program as a session of the machine's daemon, which is started if there is none. The process becomes the keeper."""
     if not machine.daemon:
         machine.start_daemon()
     return launched(machine, "host", *words, name, *command, **options)
 
 
 def begun(machine, name, command, *words, says=b"on", **options):
-    """Starts a program as a session, and waits until it has written something. Returns its holder, the store, and its incarnation."""
+    """Starts a program as a session, and waits until it has written something. Returns its keeper, the store, and its incarnation."""
     host, store = program(machine, name, command, *words, **options), stores.connect(machine.url)
     check(wait_for(lambda: says in written(store, name)), f"the program of {name} runs")
     return host, store, incarnation_of(store, name)
@@ -377,23 +268,9 @@ def written(store, name):
 def seen(viewer):
     """Returns the text that a viewer shows, once it has played what there is."""
     viewer.ask()
-    viewer.follow(0)
+    while viewer.follow(0):
+        pass
     return viewer.terminal.text()
-
-
-def bury(one):
-    """Has the store take a worker of this process for dead, and all of its sessions wait."""
-    one.store.run("bury", one.claims.me, one.store.hget(keys.WORKERS, one.claims.me), 500)
-
-
-def owned(store):
-    """Returns how many sessions workers have."""
-    return sum(store.scard(keys.of(each.decode())) for each in store.hkeys(keys.WORKERS))
-
-
-def is_buried(store, process):
-    """Returns whether no worker in the store is this process."""
-    return all(int(each.decode().rsplit("-", 2)[1]) != process.pid for each in store.hkeys(keys.WORKERS))
 
 
 def conf(machine, name, *lines):

@@ -1,4 +1,4 @@
-"""What an operator does: list, kill, end, drain, type, look, export; exit statuses, configuration, metrics, logs."""
+"""What an operator does: list, kill, end, type, look, export; exit statuses, configuration, metrics."""
 import base64
 import glob
 import gzip
@@ -18,13 +18,13 @@ import urllib.error
 import urllib.request
 
 from harness import (
-    HERE, PATIENCE, PATIENT, PROGRAM, Processes, Proxy, Source, begun, check, children_of, commands, conf, configured, fleet,
-    fleet_bytes, free_port, key, keys, local, program, raises, stores, text_of, until, wait_for, wanted, worker, written,
+    HERE, PATIENCE, PATIENT, PROGRAM, Proxy, Source, another_daemon, begun, check, children_of, commands, conf, configured, fleet,
+    fleet_bytes, free_port, key, keys, local, program, raises, stores, text_of, wait_for, wanted, written,
 )
 import vt220
-from fleet import claims, config, host, metrics
+from fleet import config, metrics
 from fleet.config import Settings, Unclear
-from fleet.metrics import DaemonMetrics, PageMetrics, WholeFleet, WorkerMetrics, server
+from fleet.metrics import DaemonMetrics, PageMetrics, WholeFleet, server
 from fleet.operate import Typist, everything
 from fleet.web import Page
 from safety import UNITS
@@ -40,12 +40,12 @@ def is_there(pid):
 
 def run_leaves_nothing_when_it_is_killed(machine, _):
     """By a signal that it can't handle."""
-    words = [local.PYTHON, local.COMMAND, "run", "--workers", "2"]
+    words = [local.PYTHON, local.COMMAND, "run"]
     runs = subprocess.Popen(words, env=os.environ | {"TMPDIR": machine.folder}, stderr=subprocess.PIPE, text=True)
     url = next(found[1] for found in map(re.compile(r"export FLEET_REDIS=(\S+)").match, runs.stderr) if found)
-    check(wait_for(lambda: stores.connect(url).hlen(keys.WORKERS) == 2), "its workers live")
+    check(stores.connect(url).ping(), "its store lives")
     started = children_of(runs.pid)
-    check(len(started) == 4 and all(map(is_there, started)), f"a store, a host daemon and two workers: {started}")
+    check(len(started) == 2 and all(map(is_there, started)), f"a store and a host daemon: {started}")
     runs.kill()
     runs.wait()
     check(wait_for(lambda: not any(map(is_there, started))), "they end with it")
@@ -53,13 +53,11 @@ def run_leaves_nothing_when_it_is_killed(machine, _):
 
 def a_list_asks_little_of_sessions_that_ended(machine, _):
     """A store may have thousands of them."""
-    store, one = stores.connect(machine.url), worker(machine.url)
-    ended = [Source(machine.url, f"job-{number}").end(0) for number in range(60)]
-    until(lambda: all(source.is_ended() for source in ended), one)
-    lives, bad = Source(machine.url, "lives"), Source(machine.url, "bad")
-    store.set(bad.part("fault"), "Wrong: so")
-    store.srem(keys.LIVE, bad.incarnation)
-
+    store = stores.connect(machine.url)
+    for number in range(60):
+        Source(machine.url, f"job-{number}").end(0)
+    for name in ("lives", "bad"):
+        Source(machine.url, name)
     before = commands(store)["cmdstat_hmget"]
     status, out, _ = fleet(machine.url, "list")
     shown = sorted(line.split()[0] for line in out.splitlines())  # two that begin in one millisecond are in any order
@@ -78,37 +76,28 @@ def state(store, name):
 def list_tells_how_sessions_are(machine, data):
     url = machine.url
     store = stores.connect(url)
-    waiting = Source(url, "waits").send(b"abc")
-    check(state(store, "waits")["state"] == "waiting", "one that no worker has")
-    workers = Processes(machine, 1, "--lease", "1")
-    check(wait_for(lambda: state(store, "waits")["state"] == "running"), "one that runs")
-    check(state(store, "waits")["size"] == 3, "its size")
-    check(wait_for(lambda: state(store, "waits")["lag"] == 0), "its lag")
-    gone = Source(url, "gone", lease=0.3).send(b"x")
+    Source(url, "runs").send(b"abc")
+    check((state(store, "runs")["state"], state(store, "runs")["size"]) == ("running", 3), "one that runs, and its size")
+    Source(url, "gone", lease=0.01).send(b"x")
     check(wait_for(lambda: state(store, "gone")["state"] == "no host"), "one whose host is silent")
     Source(url, "over").end(3)
-    check(wait_for(lambda: state(store, "over")["state"] == "ended 3"), "one that ended")
+    check(state(store, "over")["state"] == "ended 3", "one that ended")
     bad = Source(url, "bad\u00e4 <b>&")
-    store.xadd(bad.part("bytes"), {"v": "9"}, id="5-0")
-    wait_for(lambda: store.hget(bad.part("about"), "owner") or bad.fault())
-    owner = store.hget(bad.part("about"), "owner")
-    store.publish(keys.wake(owner.decode() if owner else "nobody"), bad.incarnation)
-    check(wait_for(lambda: state(store, "bad\u00e4 <b>&")["state"] == "fault"), "one with a fault")
+    store.hset(bad.part("about"), "seen", "\033[31m")
+    check(state(store, "bad\u00e4 <b>&")["state"] == "fault", "one with a wrong field")
     status, out, said = fleet(url, "list", "--all")
     lines = out.splitlines()
-    check(status == 0 and lines[0].split() == "NAME STATE HOST WORKER LAG SIZE SCREEN LAST OUTPUT".split(), "a table")
-    check(len(lines) == 5 and "Version: " in said, f"a line for each, and the fault: {len(lines)} {said}")
+    check(status == 0 and lines[0].split() == "NAME STATE HOST SIZE SCREEN LAST OUTPUT".split(), "a table")
+    check(len(lines) == 5 and "Wrong: " in said and "\033" not in out + said, f"a line for each, and the fault: {len(lines)} {said}")
     check("over" not in fleet(url, "list")[1], "ended ones only with --all")
     listed = [json.loads(line) for line in fleet(url, "list", "--all", "--json")[1].splitlines()]
-    check({each["name"] for each in listed} == {"waits", "gone", "over", "bad\u00e4 <b>&"}, "JSON")
-    check(fleet(url, "workers")[1].split()[1:3] == ["2", "sessions"], fleet(url, "workers")[1])
+    check({each["name"] for each in listed} == {"runs", "gone", "over", "bad\u00e4 <b>&"}, "JSON")
 
 
 def kill_end_and_their_statuses(machine, data):
     url = machine.url
-    workers = Processes(machine, 1, "--lease", "1")
     host, store, _ = begun(machine, "runs", ["sh", "-c", "echo on; while read x; do echo got $x; done; exit 9"])
-    check(fleet(url, "host", "runs", "true")[0] == 5, "a second host of the name: 5")
+    check(program(machine, "runs", ["true"]).wait(PATIENCE) == 5, "a second host of the name: 5")
     check(fleet(url, "end", "runs")[0] == 6, "a session whose host lives isn't ended: 6")
     patiently = ("--patience", str(PATIENCE))
     check(fleet(url, "kill", *patiently, "runs")[0] == 0 and host.wait(PATIENCE) == 129, f"kill hangs up: {host.returncode}")
@@ -127,14 +116,13 @@ def kill_end_and_their_statuses(machine, data):
     check(fleet(url, "kill", "lost")[0] == 6, "nobody is there to pass a signal on: 6")
     incarnation = state(store, "lost")["incarnation"]
     check(fleet(url, "end", "--keep", "2h", "lost")[0] == 0, "it is ended")
-    check(wait_for(lambda: (state(store, "lost") or {}).get("state") == "ended ended"), "as ended by an operator")
-    check(all(0 < store.ttl(key(incarnation, part)) <= 7200 for part in ("about", "bytes", "ended")), "its keys stay two hours")
+    check(state(store, "lost")["state"] == "ended ended", "as ended by an operator")
+    check(all(0 < store.ttl(key(incarnation, part)) <= 7200 for part in ("about", "bytes")), "its keys stay two hours")
     check(fleet(url, "end", "--keep", "0", "lost")[0] == 0, "or go at once")
     check(store.keys(f"fleet:{incarnation}:*") == [key(incarnation, "about").encode()], "but for a note that it was ended")
     check(fleet(url, "text", "lost")[0] == 3 and fleet(url, "view", "nosuch")[0] == 3, "no such session: 3")
-    bad = Source(url, "bad")
-    store.set(bad.part("fault"), "Trimmed: so")
-    check(fleet(url, "view", "bad")[0] == 4, "a viewer of a session with a fault: 4")
+    machine.start_daemon()
+    check(wait_for(lambda: not machine.keepers()), "its program is hung up on by the next daemon")
     store.xtrim(Source(url, "cut").send(b"a").send(b"b").part("bytes"), maxlen=0)
     check(fleet(url, "text", "cut")[0] == 4, "text of one that has lost its bytes: 4")
 
@@ -150,42 +138,9 @@ def a_host_ends_also_without_a_store(machine, _):
     machine.start()
 
 
-def drain_hands_over(machine, data):
-    url = machine.url
-    sources = [Source(url, f"drain-{number}").send(b"abc") for number in range(100)]
-    store = sources[0].store
-    workers = Processes(machine, 1)
-    wait_for(lambda: all(source.about("owner") for source in sources[::9] + sources[-1:]))
-
-    def another_comes():
-        """Returns the name of the worker that is there. Another one is, too, then."""
-        [name] = store.hkeys(keys.WORKERS)
-        workers.all.append(workers.another())
-        wait_for(lambda: store.hlen(keys.WORKERS) == 2)
-        return name
-
-    def are_moved(last):
-        return wait_for(lambda: all(source.about("owner") not in (None, last) for source in sources))
-
-    first = another_comes()
-    check(fleet(url, "drain", "--patience", str(PATIENCE), first.decode()[:-2])[0] == 0, "it is done")
-    check(are_moved(first), "another has all")
-    check(workers.all[0].wait(PATIENCE) == 0, "the worker has ended with 0")
-    check(wait_for(lambda: all(source.about("played") == b"3" for source in sources)), "which goes on with each")
-    second = another_comes()
-    workers.all[1].terminate()
-    check(workers.all[1].wait(PATIENCE) == 0, "SIGTERM does the same")
-    check(are_moved(second), "another has all")
-    check(fleet(url, "drain", "nosuch")[0] == 3, "no such worker: 3")
-    [last] = [each for each in store.hkeys(keys.WORKERS) if each != second]
-    status, _, said = fleet(url, "drain", "--patience", str(PATIENCE), last.decode())
-    check(status == 0 and "100 sessions wait" in said, f"without another worker, they wait: {status} {said}")
-
-
 def viewers_type_in_order_and_once(machine, _):
     """Through a link that swallows answers: what is typed is there once, in order."""
     name, proxy = "type", Proxy(machine, 0.05)
-    workers = Processes(machine, 1)
     _, store, incarnation = begun(machine, name, ["sh", "-c", 'stty -echo; echo on; while read x; do echo "$x"; done'], "--input")
     typists = [Typist(stores.connect(proxy.url), incarnation) for _ in range(2)]
     for number in range(60):
@@ -235,8 +190,8 @@ class OnTerminal:
 
 def keys_have_the_form_that_the_program_asked_for(machine, _):
     """By the command and in a viewer, under LNM, DECCKM, DECKPAM and S8C1T. The bytes are those of the VT220's manual, chapter 3."""
-    name, url, workers = "modes", machine.url, Processes(machine, 1)
-    source = Source(url, name, takes_input=True).listen().send(b"\033[20h\033[?1h\033=\033 Gready")
+    name, url = "modes", machine.url
+    source = Source(url, name, takes_input=True).send(b"\033[20h\033[?1h\033=\033 Gready")
     wanted = b""
     for words, sent in (
         (["--enter", name, "œÿŒ¤é"], b"\xf7\xfd\xd7\xa8\xe9\r\n"),
@@ -260,16 +215,16 @@ def keys_have_the_form_that_the_program_asked_for(machine, _):
 
 
 def a_viewer_follows_and_types_on_a_terminal(machine, _):
-    name, workers = "view", Processes(machine, 1, "--lease", "1")
+    name = "view"
     command = ["sh", "-c", "printf '\\033[1mhello\\033[m'; while read x; do echo \"got $x\"; done; exit 3"]
     host, *_ = begun(machine, name, command, "--input", says=b"hello")
     types, looks = OnTerminal(machine.url, "view", "--type", name), OnTerminal(machine.url, "view", name)
     check(wait_for(lambda: types.has(b"\033[0;1mhello")), "it draws the session")
     os.write(types.master, b"by \xc3\xa4 viewer\r")
     check(wait_for(lambda: looks.shows("got by ä viewer")), "what one viewer types, the other sees")
-    workers.kill(0)
+    another_daemon(machine)
     os.write(types.master, b"after a kill\r")
-    check(wait_for(lambda: looks.shows("got after a kill")), "over the death of a worker, too")
+    check(wait_for(lambda: looks.shows("got after a kill")), "over the death of a daemon, too")
     os.write(types.master, b"\x1d")
     check(types.status() == 0, "Ctrl-] leaves")
     typed = fleet(machine.url, "type", name, "\x04")
@@ -291,13 +246,11 @@ def send_at_their_moments(source, *parts):
 
 def sessions_are_looked_at_and_exported(machine, data):
     name, url = "export", machine.url
-    one = worker(url)
     source = Source(url, name)
     send_at_their_moments(source, data[:2000], b"\x84\x9b7mC1\xe4", data[2000:])
     for when in ("live", "ended"):
         if when == "ended":
             source.end(0)
-            until(source.is_ended, one)
         sent = source.sent
         check(fleet(url, "text", name)[1].encode() == wanted("text", sent)[1], f"text, {when}")
         picture = subprocess.run([PROGRAM, "picture"], input=wanted("repaint", sent)[1], stdout=subprocess.PIPE).stdout
@@ -344,24 +297,6 @@ def check_ttyrec(data, sent):
     check(moments == sorted(moments) and set(moments) == {0, 150, 300}, f"at its pace: {set(moments)}")
 
 
-def metrics_and_logs(machine, data):
-    name, port = "metrics", free_port()
-    workers = Processes(machine, 1, "--metrics", f"127.0.0.1:{port}")
-    source = Source(machine.url, name).send(data)
-    wait_for(lambda: int(source.store.hget(source.part("about"), "played") or 0) > 4000)
-    # A worker counts the bytes that it plays, and the reports once the store has them.
-    reports, entries = wanted("reports", data)[1].count(b"\033["), 1 + -(-len(data) // 700)
-    sums = {"fleet_bytes_total": len(data), "fleet_reports_total": reports, "fleet_entries_total": entries}
-    check(wait_for(lambda: sums.items() <= metrics_at(port).items()), f"{sums}: {metrics_at(port)}")
-    wait_for(lambda: metrics_at(port)["fleet_report_seconds_count"] > 0)
-    found = metrics_at(port)
-    check(found["fleet_sessions"] == 1 and found["fleet_faults_total"] == 0 < found["fleet_store_connections_total"], str(found))
-    check(found["fleet_report_seconds_count"] > 0 == found['fleet_report_seconds_bucket{le="+Inf"}'] - found["fleet_report_seconds_count"], "latencies")
-    check(wait_for(lambda: asked(port, "healthz") == (200, "ok\n")), "it is well")
-    line = re.compile(r"\d{4}-\d\d-\d\d \d\d:\d\d:\d\d,\d{3} (INFO|WARNING|ERROR) ")
-    check(all(map(line.match, workers.said())), "logs have times")
-
-
 def asked(port, what):
     """Returns the status and the text of a page."""
     try:
@@ -386,12 +321,12 @@ def a_daemon_has_metrics(machine, _):
     check(wait_for(lambda: now()["fleet_host_bytes_total"] == 6), f"bytes: {now()}")
     before = now()
     wanted = {'fleet_host_programs{state="running"}': 1, 'fleet_host_programs{state="slowed"}': 0, 'fleet_host_programs{state="ended"}': 0}
-    wanted |= {"fleet_host_lag_bytes": 0, "fleet_host_unplayed_bytes": 6, "fleet_store_is_away": 0, "fleet_store_outages_total": 0}
+    wanted |= {"fleet_host_lag_bytes": 0, "fleet_host_refused": 0, "fleet_store_is_away": 0, "fleet_store_outages_total": 0}
     check(wanted.items() <= before.items() and before["fleet_store_connections_total"] > 0, str(before))
     check(asked(port, "healthz") == (200, "ok\n"), "it is well")
     machine.kill()
     open(steps[0], "w").close()
-    wanted = {'fleet_host_programs{state="slowed"}': 1, "fleet_host_lag_bytes": 7, "fleet_host_bytes_total": 6, "fleet_store_is_away": 1}
+    wanted = {'fleet_host_programs{state="running"}': 1, "fleet_host_bytes_total": 6, "fleet_store_is_away": 1}
     check(wait_for(lambda: wanted.items() <= now().items()), f"without a store: {now()}")
     # The host begins to send these bytes a moment after it has them.
     check(wait_for(lambda: now()["fleet_host_lag_seconds"] > 0), f"it is behind: {now()}")
@@ -405,11 +340,25 @@ def a_daemon_has_metrics(machine, _):
     open(steps[1], "w").close()
     check(wait_for(lambda: now()['fleet_host_programs{state="ended"}'] == 1), f"its program has ended: {now()}")
     machine.start()
-    check(host.wait(PATIENCE) == 3, f"and so does its holder: {host.returncode}")
+    check(host.wait(PATIENCE) == 3, f"and so does its keeper: {host.returncode}")
     check(wait_for(lambda: now()['fleet_host_programs{state="ended"}'] == 0) and now()["fleet_host_bytes_total"] == 13, f"the counts stay: {now()}")
     machine.kill_daemon()
     machine.start_daemon("--metrics", "127.0.0.1:99999")
     check(machine.daemon.wait(PATIENCE) == 2, "if there is no such address, the daemon ends")
+
+
+def the_install_of_the_readme_works(machine, _):
+    """The block that installs from the repository: its packages, what it builds, and the command."""
+    block = re.search(r"From the repository, on Debian.*\n\n((?:    .*\n)+)", text_of("README.md"))[1]
+    lines = [line.split("#")[0].strip() for line in block.splitlines()]
+    check([line.split()[0] for line in lines] == ["apt-get", "make", "ln"], f"three commands: {lines}")
+    known = text_of("../../tests/packages.txt").split()
+    check(all(each in known for each in lines[0].split()[2:]), "the tests need these packages, too")
+    root = os.path.join(HERE, "../../..")
+    check(subprocess.run(["make", "-n", *lines[1].split()[1:]], cwd=root, capture_output=True).returncode == 0, "what it builds can be built")
+    subprocess.run(["sh", "-c", lines[2].replace("/usr/local/bin", machine.folder)], cwd=root, check=True)
+    done = subprocess.run([os.path.join(machine.folder, "fleet"), "--version"], capture_output=True, text=True)
+    check(done.stdout.startswith("vt220-fleet "), f"and the command runs: {done}")
 
 
 def names_of(collector):
@@ -419,9 +368,10 @@ def names_of(collector):
 
 
 def alerts_and_documents_name_the_metrics_that_there_are(url, _):
-    store, source = stores.connect(url), Source(url, "one")
+    store = stores.connect(url)
+    Source(url, "one")
     of_daemon = DaemonMetrics(types.SimpleNamespace(store=store, all=list, totals=lambda: {"bytes": 0, "inputs": 0, "resizes": 0}))
-    known = set().union(*map(names_of, (WorkerMetrics(worker(url)), of_daemon, PageMetrics(Page(store, store, config.Web())), WholeFleet(store))))
+    known = set().union(*map(names_of, (of_daemon, PageMetrics(Page(store, store, config.Web())), WholeFleet(store))))
     texts = {file: text_of(file) for file in ("alerts.yml", "README.md", "RUNBOOK.md", "tests/gameday.py")}
     used = {re.sub(r"_bucket$", "", each) for each in re.findall(r"\bfleet_\w+", texts["alerts.yml"])}
     check(len(used) > 8 and used <= known, f"the alerts are of metrics that there are: {used - known}")
@@ -430,7 +380,7 @@ def alerts_and_documents_name_the_metrics_that_there_are(url, _):
     alerts = re.findall(r"- alert: (\w+)", texts["alerts.yml"])
     check(len(alerts) == len(set(alerts)) == texts["alerts.yml"].count("summary:"), f"each alert has a summary: {alerts}")
     pages = set(re.findall(r"^## (\w+)", texts["RUNBOOK.md"], re.MULTILINE))
-    faults = {each.__name__ for each in keys.Fault.__subclasses__()} | {host.Taken.__name__, "Poison", *alerts}
+    faults = {each.__name__ for each in keys.Fault.__subclasses__() if each.__module__ == keys.__name__} | set(alerts)
     judged = set(re.findall(r'^@day_of\("(\w+)"', texts["tests/gameday.py"], re.MULTILINE))
     check(judged == set(alerts), f"the game day has each alert: {judged ^ set(alerts)}")
     check(faults <= pages, f"the runbook has a page for each fault and each alert: {faults - pages}")
@@ -444,19 +394,17 @@ def metrics_of_the_whole_fleet(machine, _):
     port = served.server_address[1]
     with socket.create_connection(("127.0.0.1", port), PATIENCE) as silent:
         check(silent.recv(1) == b"", "a connection that asks nothing is closed")
-    check(asked(port, "healthz") == (503, "no worker lives\n"), "without a worker it isn't well")
-    Source(machine.url, "waits").send(b"abc")
+    Source(machine.url, "runs").send(b"abc")
     bad, gone = Source(machine.url, "bad"), Source(machine.url, "gone")
-    bad.store.set(bad.part("fault"), "Poison: so")
+    bad.store.hset(bad.part("about"), "end", "x")
     gone.store.delete(keys.lease("gone"))
-    claims.Claims(stores.connect(machine.url), 60)
+    Source(machine.url, "over").end(0)
+    check(asked(port, "healthz") == (200, "ok\n"), "it is well")
     whole.read = -1e9
-    check(asked(port, "healthz") == (200, "ok\n"), "with one it is")
     found = metrics_at(port)
-    wanted = {'fleet_states{state="waiting"}': 1, 'fleet_states{state="no host"}': 1, 'fleet_states{state="fault"}': 1, "fleet_workers": 1}
-    wanted |= {'fleet_session_faults{fault="Poison"}': 1, "fleet_lag_bytes": 3, "fleet_lag_most_bytes": 3, "fleet_store_up": 1}
-    check(wanted.items() <= found.items(), str(found))
-    check(found["fleet_waiting_seconds"] >= 0 < found["fleet_store_round_trip_seconds"], str(found))
+    wanted = {f'fleet_states{{state="{each}"}}': 1 for each in ("running", "no host", "fault", "ended")}
+    wanted |= {'fleet_session_faults{fault="Wrong"}': 1, "fleet_store_up": 1}
+    check(wanted.items() <= found.items() and found["fleet_store_round_trip_seconds"] > 0, str(found))
     machine.kill()
     whole.read, whole.store.patience = -1e9, 0.1
     check(asked(port, "healthz")[0] == 503 and "fleet_store_up 0.0" in asked(port, "metrics")[1], "without a store")
@@ -471,12 +419,12 @@ def the_configuration_is_read_and_checked(machine, _):
     wrong = {
         "[stroe]\n": "section",
         "[store]\nurn = x\n": "urn",
-        "[worker]\nlease = soon\n": "lease",
+        "[host]\nlease = soon\n": "lease",
         "x\n": "",
         "[host]\ninput = maybe\n": "input",
-        "[worker]\nlease = 0\n": "lease",
-        "[worker]\nevery = 0\n": "every",
-        "[worker]\nkeep = -5\n": "keep",
+        "[host]\nlease = 0\n": "lease",
+        "[host]\nevery = 0\n": "every",
+        "[host]\nkeep = -5\n": "keep",
         "[web]\nport = 99999\n": "port",
     }
     for number, (text, word) in enumerate(wrong.items()):
@@ -485,7 +433,7 @@ def the_configuration_is_read_and_checked(machine, _):
     check(fleet(url, "list", config="/nonexistent")[0] == 78, "a file that isn't there")
     quick = conf(machine, "quick", "[store]", "give-up = 1")
     check(fleet(f"unix://{machine.folder}/none", "list", config=quick)[0] == 69, "no store: 69")
-    for words in ("worker --lease 0", "worker --every x", "worker --keep -5", "worker --lease nan", "host --rate 0 x y", "web --port 99999", "end --keep -1 x"):
+    for words in ("daemon --keep -5", "daemon --retain nan", "web --port 99999", "end --keep -1 x", "kill --patience x y"):
         status, _, said = fleet(url, *words.split())
         check(status == 2 and words.split()[1] in said, f"a number that cannot be: {words}: {status} {said}")
     check(fleet(url, "nosuch")[0] == 2 and fleet(url, "host", "x")[0] == 78, "a wrong command line")

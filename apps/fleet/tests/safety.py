@@ -1,4 +1,5 @@
-"""Who may do what: the socket, passwords, TLS, users, the program's environment, and reports that are none."""
+"""Who may do what: the socket, passwords, TLS, users, the program's environment, and frames that no keeper sends."""
+import contextlib
 import os
 import random
 import shutil
@@ -10,11 +11,10 @@ import tempfile
 import types
 
 from harness import (
-    HERE, HOLDER, PATIENCE, PATIENT, Processes, Source, begun, check, conf, fleet, free_port, incarnation_of, key, keys, local,
-    played, program, raises, seen, stores, text_of, until, wait_for, worker, written,
+    HERE, KEEPER, PATIENCE, PATIENT, Source, Told, begun, check, conf, configured, ending, fleet, free_port, incarnation_of, key, keys, launched, local, played, program, raises,
+    seen, stores, text_of, wait_for, written,
 )
 from fleet import wire
-from fleet.host import REPORT, REPORT_LIMIT
 from fleet.operate import Typist
 from fleet.view import Viewer
 
@@ -25,55 +25,14 @@ def the_store_of_run_is_this_users_alone(machine, _):
 
 
 def the_program_learns_no_address(machine, _):
-    name, workers, store = "environment", Processes(machine, 1), stores.connect(machine.url)
+    name, store = "environment", stores.connect(machine.url)
     machine.start_daemon()
     reads = "env; cat /proc/$PPID/cmdline /proc/$PPID/environ | tr '\\0' '\\n'"
-    status, _, _ = fleet(machine.url, "host", name, "sh", "-c", reads, config=conf(machine, "conf"))
-    wait_for(lambda: store.exists(key(incarnation_of(store, name), "ended")))
+    status = program(machine, name, ["sh", "-c", reads]).wait(PATIENCE)
     said = written(store, name).decode()
     check(status == 0 and "TERM=vt220" in said, "the program ran")
     check("FLEET" not in said and "redis" not in said.lower(), "no variable and no argument has the address")
-    check(said.count("TERM=vt220") == 2, "neither of its own nor of its holder's")
-
-
-def only_reports_reach_the_program(url, _):
-    one = worker(url)
-    true = [
-        b"\033[?62;1;6c", b"\033[>1;10;0c", b"\033[0n", b"\033[24;132R", b"\033[?13n", b"\033[?27;1n", b"\x9b?62;1;6c",
-        b"\x9b1;1R",
-    ]
-    check(all(REPORT.fullmatch(each) and len(each) <= REPORT_LIMIT for each in true), "all reports of the profile have the form")
-    false = [
-        b"id -u > file\n", b"\033[1;1R\n", b"\033[1;1Rx", b"", b"\033[A", b"\033[11111;1R", b"\033[?62;1;6c\033[0n",
-        b"\n\033[0n",
-    ]
-    source = Source(url, "reports").send(b"abc")
-    ids = [f"0-{number + 1}" for number in range(len(false))] + ["2-5", "99999999-0"]
-    for entry_id, report in zip(ids, [*false, b"\033[9;9R", b"\033[9;9R"]):
-        source.store.xadd(source.part("answers"), {"v": keys.version(), "report": report}, id=entry_id)
-    source.receive()
-    check(source.got == [], f"nothing else is passed on: {source.got}")
-    source.send(b"\033[6n")
-    check(until(source.fault, one), "the worker finds a report that nothing asked for")
-    check(source.fault().startswith("Forged: a report at 99999999-0"), source.fault())
-
-
-def every_report_of_the_terminal_has_the_form(_, __):
-    import vt220
-
-    terminal, chance, made = vt220.Terminal(), random.Random(3), set()
-    asks = [
-        b"\033[c", b"\033Z", b"\033[>c", b"\033[5n", b"\033[6n", b"\033[?15n", b"\033[?26n", b"\x9a", b"\033 G",
-        b"\033 F", b"\033[?6h", b"\033[?3h", b"\033[?5n", b"\033[?25n", b"\033[0c",
-    ]
-    for _ in range(20000):
-        data = b"\033[%d;%dH" % (chance.randrange(30), chance.randrange(140)) + chance.choice(asks) + chance.choice(asks)
-        while data:
-            count, report = terminal.feed_until_report(data)
-            made |= {report} - {b""}
-            data = data[count:]
-    wrong = [each for each in made if not REPORT.fullmatch(each) or len(each) > REPORT_LIMIT]
-    check(len(made) > 1000 and not wrong, f"{len(made)} reports: {wrong[:5]}")
+    check("vt220-keep" in said, "neither of its own nor of its keeper's")
 
 
 def a_password_is_needed_and_read_from_a_file(machine, _):
@@ -89,33 +48,30 @@ def a_password_is_needed_and_read_from_a_file(machine, _):
     check(status == 69 and said.splitlines()[-1].startswith("fleet: /nowhere: "), f"with one that can't be read: {status} {said}")
 
 
-USERS = ("host", "worker", "viewer", "typist", "operator")
+USERS = ("host", "viewer", "typist", "operator")
 # What is typed before its line is sane again would stay there as it is, and make no line.
 PROGRAM_THAT_ASKS = r"""stty -echo raw; printf 'a\033[6n'; dd bs=1 count=6 2>/dev/null >/dev/null; stty sane; echo nswered
 while read x; do echo got $x; done"""
 
 
 def users_have_the_rights_that_they_need(machine, _):
-    """users.acl, as it is: host, worker, viewer, typist and operator do their work, and no other's."""
+    """users.acl, as it is: host, viewer, typist and operator do their work, and no other's."""
     acl = conf(machine, "users.acl", text_of("users.acl"))
     machine.kill()
     urls = {user: f"unix://{user}:{user.upper()}-PASSWORD@{machine.socket}" for user in USERS}
     machine.url = urls["operator"]
     machine.start("--aclfile", acl)
     check(fleet(urls["viewer"], "prepare-store")[0] == 69, "only an operator loads the functions")
-    status, _, said = fleet(urls["worker"], "worker")
-    check(status == 69 and "prepare-store" in said, f"without them a worker ends: {status} {said}")
     check(fleet(urls["operator"], "prepare-store")[0] == 0, "an operator loads them")
-    workers = Processes(machine, 1, "--lease", "1", "--retain", "1h", url=urls["worker"])
-    machine.start_daemon(url=urls["host"])
+    machine.start_daemon("--retain", "1h", url=urls["host"])
     host = program(machine, "roles", ["sh", "-c", PROGRAM_THAT_ASKS], "--input")
-    check(wait_for(lambda: fleet(urls["viewer"], "text", "roles")[1].startswith("answered")), "host, worker and viewer")
+    check(wait_for(lambda: fleet(urls["viewer"], "text", "roles")[1].startswith("answered")), "host and viewer")
     rights_of_commands(urls)
     machine.kill_daemon()
     machine.start_daemon(url=urls["viewer"])
     check(program(machine, "other", ["true"]).wait(PATIENCE) == 77, "a viewer is no host")
     machine.kill_daemon()
-    machine.start_daemon(url=urls["host"])
+    machine.start_daemon("--retain", "1h", url=urls["host"])
     rights_of_calls(urls)
     store = stores.connect(urls["operator"])
     incarnation = incarnation_of(store, "roles")
@@ -123,7 +79,6 @@ def users_have_the_rights_that_they_need(machine, _):
     check(wait_for(lambda: "got hello" in seen(viewer)), "a viewer follows")
     check(fleet(urls["operator"], "kill", "--patience", str(PATIENCE), "roles")[0] == 0, "an operator kills")
     check(host.wait(PATIENCE) == 129, f"and the host ends with it: {host.returncode}")
-    check(wait_for(lambda: store.exists(key(incarnation, "ended"))), "with an end")
     check(0 < store.ttl(key(incarnation, "bytes")) <= 3600, "whose keys stay for an hour")
 
 
@@ -140,10 +95,9 @@ def rights_of_commands(urls):
 def rights_of_calls(urls):
     spoilt = [("SET", f"fleet:{'a' * 16}:keys", "x"), ("SET", "fleet:lease:x:keys", "x"), ("XADD", "fleet:lease:0123456789:keys", "*", "a", "b")]
     denied = {
-        "host": [("FLUSHALL",), ("SET", "other", "x"), ("SET", "fleet:live", "x"), ("DEL", "fleet:all"), ("SADD", "fleet:of:x", "y")],
-        "worker": [("CONFIG", "GET", "*"), ("SET", "other", "x")],
-        "viewer": [("SET", "fleet:x:fault", "x"), ("XADD", "fleet:x:keys", "*", "a", "b")],
-        "typist": [("XADD", "fleet:x:answers", "*", "a", "b"), ("SET", "fleet:x:fault", "x"), *spoilt],
+        "host": [("FLUSHALL",), ("SET", "other", "x"), ("SET", "fleet:live", "x"), ("DEL", "fleet:all")],
+        "viewer": [("SET", "fleet:x:about", "x"), ("XADD", "fleet:x:keys", "*", "a", "b")],
+        "typist": [("XADD", "fleet:x:bytes", "*", "a", "b"), ("SET", "fleet:x:about", "x"), *spoilt],
         "operator": [("FLUSHALL",), ("CONFIG", "GET", "*")],
     }
     endless = ("while true do end", "#!lua name=fleet_x\nredis.register_function('x', function() while true do end end)")
@@ -155,13 +109,64 @@ def rights_of_calls(urls):
             check(raises(stores.NoPermissionError, call, *words), f"{user}: no {words[0]}")
 
 
-def state_of_holder(name="other", version=wire.VERSION, encoding="dec", numbers="0", screen=(), last="0"):
-    """Returns the state of a holder. `last` is the id of the last input of each stream, as its two numbers, and `numbers` are the two other ones."""
-    words = (version, name, "", "1", encoding, "vt220", *screen, *[numbers] * 2, *[last] * 6, "true")
+def state_of(name="other", incarnation="", version=wire.VERSION, encoding="dec", terminal="vt220", screen="80x24", base="0", end="0", last="0"):
+    """Returns the state of a keeper. `last` is the id of the last input of each stream, as its two numbers."""
+    words = (version, name, incarnation, "1", encoding, terminal, screen, base, end, *[last] * 4, "true")
     return wire.framed(wire.STATE, "".join(f"{word}\0" for word in words).encode("utf-8", "surrogateescape"))
 
 
-def what_is_no_holder_harms_no_session(machine, _):
+def sent_by_another(machine, *frames, user=65534):
+    """Sends frames to the daemon as another user, and returns the process, which has the connection until it is killed."""
+    code = "import socket, sys; s = socket.socket(socket.AF_UNIX); s.connect(sys.argv[1]); s.sendall(sys.stdin.buffer.read()); print(s.recv(9)[:1].decode(), flush=True); s.recv(1)"
+    as_user = ["setpriv", f"--reuid={user}", "--clear-groups"] if os.getuid() == 0 else []
+    made = ending(subprocess.Popen([*as_user, sys.executable, "-c", code, machine.where()["FLEET_DAEMON"]], stdin=subprocess.PIPE, stdout=subprocess.PIPE))
+    with contextlib.suppress(BrokenPipeError):
+        made.stdin.write(b"".join(frames))
+        made.stdin.close()
+    return made
+
+
+EXTREME = (0, 1, (1 << 31) - 1, 1 << 32, (1 << 53) + 1, (1 << 63) - 1, 1 << 63, (1 << 64) - 1)
+
+
+def well_formed(chance, names):
+    """Returns the frames of a keeper with extreme numbers, and names and incarnations of others among them."""
+    numbers = [chance.choice(EXTREME) for _ in range(3)]
+    incarnation = chance.choice(["", "0" * 16, "f" * 16, "ZZ", *names.values()])
+    state = state_of(chance.choice([*names, "new", "x" * 200]), incarnation, base=numbers[0], end=chance.choice([numbers[0], *EXTREME]), last=numbers[1])
+    letters = (wire.BYTES, wire.RESIZED, wire.CHECKPOINT, wire.JUMP, wire.TAKEN, wire.ENDED, b"?")
+    data = (b"", b"x", b"80x24", b"1x1", b"0", b"255", b"9" * 30, b"\0\033c", b"90x30\0\033c")
+    return [state, *(wire.packed(chance.choice(letters), chance.choice(EXTREME), chance.choice(data)) for _ in range(3))]
+
+
+def another_user_harms_no_session(machine, _):
+    """Well-formed frames with extreme numbers, names and incarnations of others, by another user, beside sessions that go on, and over restarts of the daemon."""
+    place, chance = machine.where()["FLEET_DAEMON"], random.Random(1)
+    with configured(machine, *PATIENT, "[host]", "lease = 3600"):
+        sessions = [Told(machine, f"victim-{number}", b"0123456789\r\n" * 40) for number in range(3)]
+        os.chmod(machine.folder, 0o711)
+        names = {each.name: each.incarnation for each in sessions}
+        for number in range(5):
+            others = [sent_by_another(machine, *well_formed(chance, names)) for _ in range(12)]
+            for each in sessions:
+                each.type(b"%d;" % number)
+                check(each.go_on(3), f"{number}: {each.name} goes on")
+                check(wait_for(lambda: each.read("keys") == each.typed), f"{number}: keys of {each.name} arrive")
+            machine.kill_daemon()
+            others += [sent_by_another(machine, state_of(each.name)) for each in sessions if local.is_listening(place)]
+            machine.start_daemon()
+            others += [sent_by_another(machine, state_of(each.name, chance.choice(["", each.incarnation])), wire.packed(wire.BYTES, 1, b"!")) for each in sessions]
+            for each in others:
+                each.kill()
+        for each in sessions:
+            check(incarnation_of(each.store, each.name) == names[each.name], "each is still itself")
+            each.go_on(each.steps)
+            each.type(b"q")
+        for each in sessions:
+            check(each.hold(), f"{each.name}: its log is whole")
+
+
+def what_is_no_keeper_harms_no_session(machine, _):
     """It is refused or left, and the daemon goes on."""
     host, store, incarnation = begun(machine, "good", ["sh", "-c", ANSWERS], "--input")
 
@@ -172,14 +177,12 @@ def what_is_no_holder_harms_no_session(machine, _):
         return made
 
     silent = [connected() for _ in range(50)]
-    too_long = wire.HEAD.pack(wire.STATE, wire.LONGEST + 1)
-    strange = [b"x" * 100, too_long, wire.framed(wire.STATE), wire.packed(wire.BYTES, 1, b"x"), state_of_holder(version="1"), state_of_holder("a\nb")]
-    strange += [state_of_holder("\udcff"), state_of_holder("x" * 300), state_of_holder(encoding="utf-7"), state_of_holder(numbers="x"), state_of_holder("good")]
-    strange += [state_of_holder(version=wire.SIZED), *(state_of_holder(version=wire.SIZED, screen=[each]) for each in ("1x24", "80x256", "x", "-80x24"))]
-    strange += [state_of_holder() + wire.packed(wire.RESIZED, *words) for words in ((2, b"90x30"), (1, b"1x24"), (1, b""), (1, b"\xff"))]
-    strange += [state_of_holder() + frame for frame in (wire.packed(wire.BYTES, 5, b"x"), wire.packed(wire.BYTES, 1 << 63, b"x"), wire.framed(wire.TAKEN))]
-    strange += [state_of_holder(f"large{each}", last=each) for each in (str(1 << 64), str(1 << 63), "-1", "9" * 300)]
-    strange += [state_of_holder(f"far{each}", numbers=each) for each in (str(1 << 63), "-1")]
+    strange = [b"x" * 100, wire.HEAD.pack(wire.STATE, wire.LONGEST + 1), wire.framed(wire.STATE), wire.packed(wire.BYTES, 1, b"x"), state_of(version="6")]
+    strange += [state_of(each) for each in ("a\nb", "\udcff", "x" * 300, "good")] + [state_of(encoding="utf-7"), state_of(incarnation="ZZ")]
+    strange += [state_of(screen=each) for each in ("1x24", "80x256", "x", "-80x24")]
+    strange += [state_of(f"wrong{at}", **each) for at, each in enumerate(({"base": 1 << 63}, {"base": -1}, {"base": 2, "end": 1}, {"last": 1 << 64}, {"last": "9" * 300}, {"last": "x"}))]
+    strange += [state_of(f"frame{at}") + each for at, each in enumerate((wire.packed(wire.RESIZED, 1, b"1x24"), wire.packed(wire.RESIZED, 0, b"90x30"), wire.packed(wire.BYTES, 5),
+                wire.packed(wire.BYTES, 1, b"xx"), wire.packed(wire.BYTES, 1 << 63, b"x"), wire.framed(wire.TAKEN), wire.packed(wire.ENDED, 0, b"x"), wire.packed(wire.JUMP, 1, b"1x1\0")))]
     for number, data in enumerate(strange):
         with connected() as made:
             made.sendall(data)
@@ -187,10 +190,6 @@ def what_is_no_holder_harms_no_session(machine, _):
             while wire.REFUSED not in answer and (part := made.recv(4096)):
                 answer += part
             check(wire.REFUSED in answer, f"{number} is refused: {data[:40]}")
-    chance = random.Random(1)
-    for _ in range(200):
-        with connected() as made:
-            made.sendall((state_of_holder() if chance.random() < 0.5 else b"") + chance.randbytes(chance.randrange(200)))
     Typist(store, incarnation).type(b"hello\r")
     check(wait_for(lambda: b"got hello" in written(store, "good")), "the session goes on")
     check(machine.daemon.poll() is None and host.poll() is None, "and so does the daemon")
@@ -198,9 +197,41 @@ def what_is_no_holder_harms_no_session(machine, _):
         each.close()
 
 
+def false_frames(chance):
+    """Returns what no daemon says, but for what ends a program."""
+    ids = [each for each in EXTREME if each < 1 << 63]
+    head = wire.ENTRY.pack(chance.choice((0, 1, 2, 255)), chance.choice(ids), chance.choice(ids))
+    frames = [wire.packed(chance.choice((wire.FROM, wire.KEPT, b"?")), chance.choice(EXTREME), b"x" * chance.randrange(3)) for _ in range(4)]
+    frames += [wire.framed(wire.SIGNAL, head + b"\0"), wire.framed(wire.SIZE, head + chance.choice((b"", b"1x1", b"90x30", b"999x999", b"2x2"))), wire.framed(wire.NAMED, b"0" * 16), wire.framed(chance.choice((wire.FROM, wire.KEPT)), b"short")]
+    return chance.sample(frames, len(frames)) + [chance.choice((b"", b"A", wire.HEAD.pack(b"I", 1 << 30), chance.randbytes(40)))]
+
+
+def what_is_no_daemon_harms_no_program(machine, _):
+    """The keeper leaves it, and comes again. The next daemon publishes the session."""
+    path, chance = machine.where()["FLEET_DAEMON"], random.Random(2)
+    with socket.socket(socket.AF_UNIX) as listener:
+        listener.bind(path)
+        listener.listen()
+        listener.settimeout(PATIENCE)
+        host = launched(machine, "host", "--input", "bold", "sh", "-c", ANSWERS)
+        for _ in range(40):
+            with listener.accept()[0] as link:
+                check(link.recv(1 << 16).startswith(wire.STATE), "it says its state")
+                with contextlib.suppress(ConnectionError):
+                    link.sendall(wire.framed(wire.NAMED, b"0" * 16) + wire.packed(wire.FROM) + b"".join(false_frames(chance)))
+                    link.shutdown(socket.SHUT_WR)
+                    while link.recv(1 << 16):
+                        pass
+    os.unlink(path)
+    machine.start_daemon()
+    check(wait_for(lambda: fleet(machine.url, "text", "bold")[1].startswith("on")) and host.poll() is None, "it goes on, and is published")
+    host.terminate()
+    check(host.wait(PATIENCE) == 129, f"and ends: {host.returncode}")
+
+
 ANSWERS = "stty -echo; echo on; while read x; do echo got $x; done"
 UNITS = os.path.join(HERE, "..", "systemd")
-ATTACK = r"""cat %s/*/password /proc/*/environ; %s %s -1 0 1 dec vt220 80x24 victim true; echo "status $?"; until [ -e %s/go ]; do sleep 0.1; done; [ "$(id -u)" -ne 0 ] && kill -9 -1; echo survived"""
+ATTACK = r"""cat %s/*/password /proc/*/environ; KEEP_DIR=$(mktemp -d) %s publish -- %s 0 1 4096 C dec vt220 80x24 victim true; echo "status $?"; until [ -e %s/go ]; do sleep 0.1; done; [ "$(id -u)" -ne 0 ] && kill -9 -1; echo survived"""
 
 
 class Units:
@@ -242,20 +273,20 @@ def a_session_reaches_no_other_and_no_password(machine, _):
     configuration = os.environ["FLEET_CONFIG"]
     os.chmod(configuration, 0o644)
     store = stores.connect(machine.url, conf(machine, "password", "secret"))
-    served = [units.start("daemon", "daemon"), units.start("worker@", "worker")]
+    served = [units.start("daemon", "daemon")]
     socket_of_daemon = os.path.join(units.place, "daemon", "socket")
     check(wait_for(lambda: local.is_listening(socket_of_daemon)), "the daemon listens")
     victim = units.start("host@", "host", "--input", "victim", "sh", "-c", ANSWERS, instance="victim")
     check(wait_for(lambda: b"on" in written(store, "victim")), "a session runs")
-    attack = ATTACK % (units.place, os.path.realpath(HOLDER), socket_of_daemon, units.place)
+    attack = ATTACK % (units.place, os.path.realpath(KEEPER), socket_of_daemon, units.place)
     attacker = units.start("host@", "host", "attacker", "sh", "-c", attack, instance="attacker")
     check(wait_for(lambda: b"status 5" in written(store, "attacker")), "it doesn't get another user's name")
     open(os.path.join(units.place, "go"), "w").close()
-    check(attacker.wait(PATIENCE) == -9, f"its holder ends with it: {attacker.returncode}")
+    check(attacker.wait(PATIENCE) == -9, f"its keeper ends with it: {attacker.returncode}")
     check(wait_for(lambda: store.hget(key(store.hget(keys.NAMES, "attacker").decode(), "about"), "closed") == b"lost"), "so its session is lost")
     said = written(store, "attacker")
     check(b"secret" not in said and b"denied" in said and b"survived" not in said, f"it reads no password: {said}")
-    check(all(each.poll() is None for each in (*served, victim)), "daemon, worker and the other session live")
+    check(all(each.poll() is None for each in (*served, victim)), "the daemon and the other session live")
     typist = Typist(store, incarnation_of(store, "victim"))
     typist.type(b"hello\r")
     check(wait_for(lambda: b"got hello" in written(store, "victim")), "and go on")
@@ -279,11 +310,7 @@ def tls_is_spoken(machine, data):
     machine.start(*words.split(), "--tls-auth-clients", "no")
     stores.connect(machine.url).config_set("requirepass", "pw")
     url = f"rediss://:pw@127.0.0.1:{port}?ssl_ca_certs={at}/cert"
-    one = worker(url)
     source = Source(url, name).send(data).end(0)
-    check(until(source.is_ended, one), "host and worker")
-    source.receive()
-    check(source.reports() == played(source.sent)[1], "reports")
     check(fleet(url, "text", name)[1] == played(source.sent)[0].text(), "the command")
     quick = conf(machine, "quick", "[store]", "timeout = 60", "give-up = 1")
     status, _, said = fleet(f"rediss://:pw@127.0.0.1:{port}", "check-store", config=quick)

@@ -1,36 +1,17 @@
-"""Faults of the store: away, silent, gone back, full, with another clock."""
+"""Faults of the store: away, silent, gone back, full, with another clock, failed over. Programs go on, and what the store lacks is sent again."""
 import os
 import re
 import signal
 import subprocess
-import threading
 import time
 
 from harness import (
-    HERE, PATIENCE, Processes, Proxy, Source, begun, check, commands, compare, conf, configured, end_all, end_of, ending, free_port,
-    incarnation_of, key, keys, outlast, played, playing, program, raises, seen, stores, until, wait_for, worker,
+    HERE, PATIENCE, Proxy, Source, Told, begun, check, conf, configured, end_of, ending, fleet, free_port, incarnation_of, key, keys, program, raises, session,
+    stores, wait_for, written,
 )
-from parts import ASKS
-from fleet.host import WAITING, WentBack
-from fleet.session import bytes_of
 from fleet.view import Viewer
-
-
-def half_open_connections_are_left(machine, data):
-    """All connections say nothing any more, in either direction, and stay open. New ones work."""
-    name, proxy = "half open", Proxy(machine)
-    stores.TIMEOUT, before = 2.0, stores.TIMEOUT
-    with configured(machine, "[store]", "timeout = 2"):
-        workers = Processes(machine, 1, "--lease", "1", url=proxy.url)
-    source = Source(proxy.url, name, connection={"socket_timeout": 2.0}).send(data).listen()
-    check(wait_for(source.has_all_reports), "it runs")
-    for _ in range(2):
-        proxy.signal(signal.SIGUSR1)
-        source.send(b"abc\033[6n")
-        check(wait_for(source.has_all_reports), "it goes on")
-    source.send(b"x")
-    source.ends()
-    stores.TIMEOUT = before
+from sessions import ANSWERS
+import vt220
 
 
 def cut_back(machine, is_enough):
@@ -47,165 +28,114 @@ def cut_back(machine, is_enough):
     machine.start()
 
 
-def a_store_that_went_back_is_noticed(machine, data):
-    """The end of its file is gone: bytes, reports and checkpoints that it had acknowledged."""
-    workers = Processes(machine, 2, "--every", "300", "--keep", "600")
-    sources = [Source(machine.url, f"back-{number}").send(data[:2000], piece=100).listen() for number in range(6)]
-    wait_for(lambda: all(source.has_all_reports() for source in sources))
+def told(machine, data, count=3, **options):
+    return [Told(machine, f"told-{number}", data[number * 300 :], **options) for number in range(count)]
+
+
+def end_all(sessions, is_whole=True):
+    """Has sessions go on to their ends, and holds them against what they noted."""
+    for each in sessions:
+        each.go_on(each.steps)
+        each.type(b"q")
+    for each in sessions:
+        check(each.hold() or not is_whole, f"{each.name}: its log is whole")
+
+
+def half_open_connections_are_left(machine, data):
+    """All connections say nothing any more, in either direction, and stay open. New ones work."""
+    proxy = Proxy(machine)
+    with configured(machine, "[store]", "timeout = 2", "[host]", "lease = 3600"):
+        machine.start_daemon(url=proxy.url)
+    sessions = told(machine, data)
+    for number in range(3):
+        proxy.signal(signal.SIGUSR1)
+        for each in sessions:
+            each.type(b"%d;" % number)
+            each.go_on(2)
+            check(wait_for(lambda: each.read("keys") == each.typed), "keys arrive")
+    end_all(sessions)
+
+
+def a_store_that_went_back_gets_what_it_lacks(machine, data):
+    """The end of its file is gone: bytes and checkpoints that it had acknowledged."""
+    with configured(machine, "[host]", "every = 300", "keep = 600", "lease = 3600"):
+        sessions = told(machine, data)
     for _ in range(3):
-        before = sum(source.host.rebuilt for source in sources)
-        for source in sources:
-            source.send(b"\033[6n" + data[2000:3000] + b"\033[c", piece=100)
-        wait_for(lambda: all(source.has_all_reports() for source in sources))
-        cut_back(machine, lambda gone: gone.count(b"bytes\r\n") > 40)
-        for source in sources:
-            source.send(b"abc\033[6n")
-        check(wait_for(lambda: all(source.has_all_reports() for source in sources)), "all reports, once")
-        check(sum(source.host.rebuilt for source in sources) > before, "bytes were gone, and were sent again")
-    end_all(sources, b"\030")
+        for each in sessions:
+            each.go_on(4)
+        wait_for(lambda: all(end_of(each.store, each.incarnation) == len(each.read("sent")) for each in sessions))
+        before = sum(end_of(each.store, each.incarnation) for each in sessions)
+        cut_back(machine, lambda gone: gone.count(b"bytes\r\n") > 10)
+        check(wait_for(lambda: sum(end_of(each.store, each.incarnation) for each in sessions) >= before), "what is gone is sent again")
+    end_all(sessions, False)  # the bytes before a checkpoint are trimmed
 
 
-def reports_that_the_store_lost_are_made_again(machine, _):
-    """The store went back past a report that the host hadn't read. The worker that had sent it lives, and is ahead of the store."""
-    source, one = playing(machine.url, "lost report", b"ab")
-    source.send(b"\033[6n")
-    until(lambda: source.store.xlen(source.part("answers")) == 1, one)
-    cut_back(machine, lambda gone: gone.count(b"bytes\r\n") > 1)
-    check(source.store.xlen(source.part("answers")) == 0, "it is gone")
-    source.send(b"cd\033[6n").end(0)
-    check(until(source.is_ended, one), "the session ends")
-    source.receive()
-    check(source.host.rebuilt == 1 and source.reports() == b"\033[1;3R\033[1;5R", f"both reports come: {source.got}")
-    compare(source)
+def an_empty_store_gets_all_that_is_held(machine, data):
+    """A FLUSHALL, and a store that was started on another directory. If more is gone than is held, a checkpoint takes its place."""
+    sessions = told(machine, data)
+    host, store, incarnation = begun(machine, "long", ["sh", "-c", "head -c 5000000 /dev/zero | tr '\\0' x; echo; echo end; " + ANSWERS], "--input", says=b"end")
+    store.flushall()
+    for each in sessions:
+        each.go_on(3)
+        wait_for(lambda: each.store.hget(keys.NAMES, each.name))
+    store.flushall()
+    check(wait_for(lambda: store.hget(keys.NAMES, "long") and session.as_it_is(store, incarnation_of(store, "long")).terminal.text().rstrip().endswith("end\non")), "its screen is there")
+    status, log, said = fleet(machine.url, "log", "long")
+    check(status == 0 and "no longer in the store" in said, f"and what its log lacks is said: {said}")
+    check(fleet(machine.url, "type", "--enter", "long", "more")[0] == 0, "it is typed into")
+    check(wait_for(lambda: b"got more" in written(store, "long")), "and goes on")
+    check(host.poll() is None, "no program was ended")
+    wait_for(lambda: all(each.store.hget(keys.NAMES, each.name) for each in sessions))
+    end_all(sessions)
 
 
-def what_cannot_be_rebuilt_is_a_named_fault(machine, data):
-    """The store lost more than the host can send again."""
-    source, one = playing(machine.url, "lost", data, keep=1000)
-    source.host.held.clear()
-    source.host.held_from = source.host.at
-    source.store.flushall()
-    check(raises(WentBack, source.send, b"x"), "the host says so")
-    check(source.fault().startswith("WentBack: the store lost the bytes from 0"), f"and the store: {source.fault()}")
-    until(lambda: not one.kept, one)
-    check(not one.kept, "no worker shows it")
-
-
-def a_store_without_persistence_is_refused_and_rebuilt(machine, data):
-    """It is started anew, and empty. Whoever allows that gets what hosts can send again."""
+def a_store_without_persistence_is_refused(machine, _):
+    """One that comes back without its file counts as away."""
+    host, store, _ = begun(machine, "file", ["sh", "-c", ANSWERS], "--input")
     machine.kill()
     machine.start("--appendonly", "no")
-    check(raises(stores.Unfit, stores.connect(machine.url).examine), "it is refused")
-    stores.connect(machine.url).examine(True)
-    source, one = playing(machine.url, "no persistence", data)
-    source.receive()
-    machine.kill()
-    machine.start("--appendonly", "no")
-    source.renew()
-    source.send(b"abc\033[6n")
-    source.ends(one)
-
-
-def a_store_that_comes_back_without_its_file_is_waited_for(machine, data):
-    """It was fit when host and worker began, and is started again by another configuration."""
-    source, one = playing(machine.url, "without its file", data)
-    for each in (one.store, source.store):
-        each.examine()
-    machine.kill()
-    machine.start("--appendonly", "no")
-    source.store.patience = 0.5
-    check(raises(stores.ConnectionError, source.store.ping), "it counts as away")
-    source.store.patience = None
+    other = stores.connect(machine.url)
+    check(raises(stores.Unfit, other.examine), "it is refused")
+    other.examine(True)
     machine.kill()
     machine.start()
-    source.send(b"abc\033[6n")
-    source.ends(one)
+    check(fleet(machine.url, "type", "--enter", "file", "x")[0] == 0, "it is back with its file")
+    check(wait_for(lambda: b"got x" in written(store, "file")), "and the session goes on")
 
 
-def refusals(store):
-    """Returns how many calls the store has refused since it was full."""
-    return int(store.info("errorstats").get("errorstat_OOM", "count=0").removeprefix("count="))
+def keys_that_are_gone_are_made_again(machine, data):
+    """Each of them alone, by whatever. A daemon that renews its leases finds it."""
+    store = stores.connect(machine.url)
+    store.config_set("maxmemory-policy", "allkeys-lru")
+    check(raises(stores.Unfit, store.examine), "a store that evicts is refused")
+    store.config_set("maxmemory-policy", "noeviction")
+    with configured(machine, "[host]", "lease = 1", "every = 300"):
+        [one] = told(machine, data, 1)
+        gone = [key(one.incarnation, part) for part in ("bytes", "about", "checkpoint")] + [keys.NAMES, keys.ALL, keys.LIVE, keys.lease(one.name)]
+        for number, each in enumerate(gone):
+            one.go_on(2)
+            store.delete(each)
+            check(wait_for(lambda: store.exists(each) or each.endswith("checkpoint")), f"{each} is there again")
+        for part in ("bytes", "about", "keys", "signals"):
+            store.delete(key(one.incarnation, part))
+            store.set(key(one.incarnation, part), "x")
+            one.go_on(1)
+            check(wait_for(lambda: store.type(key(one.incarnation, part)) != b"string"), f"what stands in place of {part} goes")
+        end_all([one])
 
 
 def a_full_store_is_waited_for(machine, data):
     """maxmemory, and no eviction: a flood beside a quiet session."""
     machine.kill()
-    machine.start("--maxmemory", "12mb", "--maxmemory-policy", "noeviction")
-    workers = Processes(machine, 2, "--lease", "1")
-    quiet = Source(machine.url, "quiet").send(data).listen()
-    host = program(machine, "flood", ["sh", "-c", "yes 0123456789012345678901234567890123456789 | head -c 20000000; exit 5"])
+    machine.start("--maxmemory", "6mb", "--maxmemory-policy", "noeviction")
+    [quiet] = told(machine, data, 1)
+    host = program(machine, "flood", ["sh", "-c", "yes 0123456789012345678901234567890123456789 | head -c 8000000; exit 5"])
     store = stores.connect(machine.url)
-    check(wait_for(lambda: refusals(store) > 20), "it is full, and refuses call after call")
-    check(host.poll() is None and all(each.poll() is None for each in workers.all), "host and workers wait")
-    sends = threading.Thread(target=lambda: quiet.send(b"abc\033[6n"), daemon=True)
-    sends.start()
+    check(wait_for(lambda: int(store.info("errorstats").get("errorstat_OOM", "count=0").removeprefix("count=")) > 5), "it is full, and refuses call after call")
+    check(quiet.go_on(3) and host.poll() is None, "programs go on, and the flood waits")
     store.config_set("maxmemory", "200mb")
-    incarnation = incarnation_of(store, "flood")
-    check(outlast(host, lambda: end_of(store, incarnation)) == 5, "the flood goes on to its end")
-    sends.join(PATIENCE)
-    check(wait_for(quiet.has_all_reports), "the quiet session goes on")
-    quiet.ends()
-
-
-def evicted_keys_are_named_or_sent_again(machine, data):
-    one = worker(machine.url)
-    machine_store = stores.connect(machine.url)
-    machine_store.config_set("maxmemory-policy", "allkeys-lru")
-    check(raises(stores.Unfit, machine_store.examine), "such a store is refused")
-    machine_store.config_set("maxmemory-policy", "noeviction")
-    for part in ("bytes", "about", "checkpoint", "answers"):
-        source = Source(machine.url, f"evicted {part}").send(data)
-        until(lambda: source.incarnation in one.kept and not one.due, one)
-        source.receive()
-        machine_store.delete(source.part(part))
-        one.read_anew()
-        source.host.renewed = 0.0
-        try:
-            source.host.renew_if_due()
-            source.send(b"abc\033[6n").end(0)
-            until(lambda: source.is_ended() or source.fault(), one)
-        except keys.Fault:
-            pass
-        if source.is_ended():
-            source.receive()
-            compare(source)
-        else:
-            check(source.fault().startswith(("Lost", "Trimmed", "Forged", "WentBack")), f"{part}: a named fault: {source.fault()}")
-    for part in (keys.WAITING, keys.WORKERS, keys.LIVE, keys.NAMES, keys.ALL):
-        source = Source(machine.url, f"evicted {part}").send(data)
-        until(lambda: source.incarnation in one.kept and not one.due, one)
-        machine_store.delete(part)
-        source.renew()
-        source.send(b"\033[6n").end(0)
-        check(until(source.is_ended, one), f"without {part} it goes on")
-        source.receive()
-        compare(source)
-
-
-def without_a_worker_bytes_wait_within_a_bound(machine, _):
-    host, store, incarnation = begun(machine, "backpressure", ["yes"], says=b"y")
-    wait_for(lambda: end_of(store, incarnation) >= WAITING)
-    asked = commands(store).get("cmdstat_hget", 0)
-    wait_for(lambda: commands(store).get("cmdstat_hget", 0) > asked + 50)  # the host waits, and asks again and again how far a worker has played
-    there = end_of(store, incarnation)
-    check(WAITING <= there <= WAITING + 65536, f"a mebibyte waits, and no more: {there}")
-    workers = Processes(machine, 1)
-    check(wait_for(lambda: end_of(store, incarnation) > 2 * WAITING), "with a worker it goes on")
-    host.terminate()
-    host.wait(PATIENCE)
-
-
-def a_host_ends_a_program_that_floods(machine, _):
-    """A worker plays meanwhile."""
-    workers, (host, store, incarnation) = Processes(machine, 1), begun(machine, "flooding", ["yes"], says=b"y")
-    wait_for(lambda: end_of(store, incarnation) > 2 * WAITING)
-    host.terminate()
-    check(host.wait(PATIENCE) == 128 + signal.SIGHUP, f"its host ends it: {host.returncode}")
-    check(wait_for(lambda: store.exists(key(incarnation, "ended"))), "with an end")
-    written = b"".join(data for _, _, data in bytes_of(store, incarnation))
-    check(written == (b"y\r\n" * len(written))[: len(written)], "what it wrote is there once, and nothing lacks")
-    ended = store.hmget(key(incarnation, "ended"), "at", "status")
-    check(ended == [b"%d" % len(written), b"129"], f"up to its end: {ended} of {len(written)}")
+    check(host.wait(PATIENCE) == 5, "the flood goes on to its end")
+    end_all([quiet])
 
 
 def shimmed(machine):
@@ -228,26 +158,26 @@ def shimmed(machine):
 
 
 def the_clock_may_jump(machine, data):
-    """Back an hour and forward two: workers die, viewers look, hosts hold their names."""
-    name, move = "clock", shimmed(machine)
-    store = stores.connect(machine.url)
-    workers = Processes(machine, 1, "--lease", "0.5")
-    source = Source(machine.url, name).send(data).listen()
-    viewer = Viewer(stores.connect(machine.url), source.incarnation)
+    """Back an hour and forward two, beside a viewer."""
+    move, store = shimmed(machine), stores.connect(machine.url)
+    with configured(machine, "[host]", "lease = 2"):
+        [one] = told(machine, data, 1)
+    viewer = Viewer(stores.connect(machine.url), one.incarnation)
     for seconds in (-3600, 3600, -3600, 7200):
         move(seconds)
         check(wait_for(lambda: abs(store.time()[0] - time.time() - seconds) < 60), "the clock jumped")
-        workers.kill(0)
-        source.send(b"abc\033[6n")
-        check(wait_for(source.has_all_reports), f"{seconds}: another worker goes on")
-        check(wait_for(lambda: seen(viewer) == played(source.sent)[0].text()), f"{seconds}: a viewer sees it")
-    source.renew()
-    source.send(b"\030")
-    source.ends()
+        one.go_on(3)
+        check(wait_for(lambda: end_of(store, one.incarnation) == len(one.read("sent"))), f"{seconds}: it goes on")
+        viewer.ask()
+        viewer.follow(0)
+        check(viewer.session.at > 0 and not viewer.fault, f"{seconds}: a viewer sees it")
+        check(wait_for(lambda: store.exists(keys.lease(one.name))), f"{seconds}: its lease is there again")
+    end_all([one])
 
 
-def a_failover_is_followed(machine, data):
-    """The store's address is that of a sentinel. The master is killed, and the replica takes its place."""
+def a_failover_to_a_replica_that_is_behind(machine, data):
+    """The store's address is that of a sentinel. The master is killed after its replica was cut off and the daemon was restarted: the replica has neither
+    this daemon nor the last bytes. No program is ended."""
     ports = [free_port() for _ in range(3)]
     machine.kill()
     machine.start("--port", str(ports[0]), "--repl-diskless-sync-delay", "0")
@@ -255,21 +185,34 @@ def a_failover_is_followed(machine, data):
     os.mkdir(replica)
     sentinel = conf(machine, "sentinel.conf", f"port {ports[2]}", f"sentinel monitor fleet 127.0.0.1 {ports[0]} 1", times)
     words = ["--port", str(ports[1]), "--dir", replica, "--replicaof", "127.0.0.1", str(ports[0])]
-    for each in (["redis-server", *words, "--appendonly", "yes", "--appendfsync", "always"], ["redis-server", sentinel, "--sentinel"]):
-        ending(subprocess.Popen(each, stdout=subprocess.DEVNULL))
+    copy = ending(subprocess.Popen(["redis-server", *words, "--appendonly", "yes", "--appendfsync", "always"], stdout=subprocess.DEVNULL))
+    ending(subprocess.Popen(["redis-server", sentinel, "--sentinel"], stdout=subprocess.DEVNULL))
     url = f"sentinel://127.0.0.1:{ports[2]}/fleet"
     asked, second = stores.connect(f"redis://127.0.0.1:{ports[2]}"), stores.connect(f"redis://127.0.0.1:{ports[1]}")
     check(raises(stores.Unfit, asked.examine), "a sentinel's own address is refused")
     check(raises(ValueError, stores.connect, "sentinel://127.0.0.1/fleet"), "so is an address that is none")
     wait_for(lambda: asked.execute_command("SENTINEL", "REPLICAS", "fleet"))
-    stores.connect(url).examine()
-    source, one = playing(url, "failover", data, lease=20)
-    wait_for(lambda: second.info("replication").get("master_link_status") == "up")
-    source.store.execute_command("WAIT", 1, 0)
+    with configured(machine, "[host]", "lease = 3"):
+        machine.start_daemon(url=url)
+        sessions = told(machine, data)
+        for each in sessions:
+            each.go_on(5)
+        wait_for(lambda: second.info("replication").get("master_link_status") == "up")
+        stores.connect(machine.url).execute_command("WAIT", 1, 0)
+        copy.send_signal(signal.SIGSTOP)
+        machine.kill_daemon()
+        machine.start_daemon(url=url)
+        for each in sessions:
+            each.go_on(5)
+            wait_for(lambda: end_of(each.store, each.incarnation) == len(each.read("sent")))
     machine.kill()
-    source.send(b"abc\033[6n")
-    source.ends(one)
-    check(source.store.info("replication")["role"] == "master" and second.info("replication")["role"] == "master", "on the new master")
+    copy.send_signal(signal.SIGCONT)
+    check(wait_for(lambda: second.info("replication")["role"] == "master"), "the replica takes its place")
+    for each in sessions:
+        each.store = second
+        each.typist.store = second
+        check(wait_for(lambda: end_of(second, each.incarnation) == len(each.read("sent"))), f"{each.name}: what it lacks is sent again")
+    end_all(sessions)
 
 
 def a_cluster_is_refused(machine, _):
@@ -282,38 +225,18 @@ def a_cluster_is_refused(machine, _):
     check(raises(stores.Unfit, stores.connect(machine.url).examine), "with a clear error")
 
 
-ASKS_LATER = 'while [ ! -e "$0" ]; do sleep 0.1; done; ' + ASKS
-
-
-def an_outage_of_ninety_seconds_is_waited_for(machine, data):
-    """Workers, a host with a program that waits for an answer, a host that sends, and a viewer."""
-    asks = os.path.join(machine.folder, "asks")
-    workers = Processes(machine, 2)
-    source = Source(machine.url, "sends").send(data).listen()
-    host, store, incarnation = begun(machine, "asks", ["sh", "-c", ASKS_LATER, asks], says=b"")
-    viewer = Viewer(stores.connect(machine.url), source.incarnation)
-    machine.kill()
-    open(asks, "w").close()
-    sends = threading.Thread(target=lambda: source.send(data + b"\033[6n").end(0), daemon=True)
-    sends.start()
-    looks = threading.Thread(target=lambda: until_over(viewer), daemon=True)
-    looks.start()
-    time.sleep(90)
-    check(host.poll() is None and all(each.poll() is None for each in workers.all), "host and workers wait")
-    machine.start()
-    check(host.wait(PATIENCE) == 3, "the program got its answer, and its host has its status")
-    check(wait_for(lambda: store.exists(key(incarnation, "ended"))), "it ends")
-    text = (store.hget(key(incarnation, "ended"), "text") or b"").decode()
-    check(" ".join(text.split()) == "ab 033 [ 1 ; 3 R", f"the answer: {text.split()}")
-    sends.join(PATIENCE)
-    check(wait_for(source.is_ended), "the other host went on")
-    looks.join(PATIENCE)
-    check(not looks.is_alive() and viewer.is_over, "and so did the viewer")
-    source.finish()
-    compare(source)
-
-
-def until_over(viewer):
-    while not viewer.is_over:
-        viewer.ask()
-        viewer.follow()
+def damaged_checkpoints_are_noticed(machine, data):
+    """One that was cut or changed isn't used. If the bytes before it are gone, this is a fault that is named."""
+    source = Source(machine.url, "damaged").send(data)
+    terminal = vt220.Terminal()
+    terminal.feed(data)
+    source.host.check(len(data), b"\033[1;1H" + terminal.repaint())
+    source.store.hset(source.part("checkpoint"), "repaint", "x")
+    check(session.as_it_is(source.store, source.incarnation).terminal.same_state(terminal), "the bytes before it are played")
+    source.store.xtrim(source.part("bytes"), maxlen=1, approximate=False)
+    check(fleet(machine.url, "text", "damaged")[0] == 4, "without them it is a fault: 4")
+    for name, fields, fault in (("wrong", {"v": keys.version(), "text": "x"}, "Wrong"), ("version", {"v": "999.1", "bytes": "abc"}, "Version")):
+        other = Source(machine.url, name)
+        other.store.xadd(other.part("bytes"), fields, id="3-0")
+        status, _, said = fleet(machine.url, "text", name)
+        check(status == 4 and f"fleet: {fault}: " in said, f"{name}: {status} {said}")

@@ -12,12 +12,11 @@ import aiohttp
 from yarl import URL
 
 from harness import (
-    PATIENCE, PATIENT, ROOT, Processes, Source, check, conf, ending, free_port, keys, launched, played, program, session, started,
+    PATIENCE, PATIENT, ROOT, Source, check, conf, ending, free_port, keys, launched, program, session, started,
     stores, wait_for, wanted,
 )
 from operators import asked, metrics_at
-from fleet import claims
-from fleet.gallery import Followed, Picture
+from fleet.gallery import Picture
 from fleet.web import UNKNOWN
 import vt220
 
@@ -109,7 +108,6 @@ def cursor_of(store, name):
 def real_sessions_in_the_browser(machine, _):
     store = stores.connect(machine.url)
     served = Served(machine, "--typing")
-    Processes(machine, 2)
     program(machine, "editor", ["vim", "-u", "NONE", "-i", "NONE", "-n"], "--input")
     program(machine, "top", ["top", "-d", "1"])
     program(machine, "flood", ["sh", "-c", "while :; do seq 1 100000; done"])
@@ -130,9 +128,8 @@ def real_sessions_in_the_browser(machine, _):
 def sessions_of_several_sizes_in_the_browser(machine, _):
     """Each has the size of its session: a large one, and then a VT220 in its place, and back."""
     served = Served(machine)
-    Processes(machine, 1)
-    large = Source(machine.url, "large", lease=600, screen="120x40").listen().send(b"first\r\n\033[40;100Hlast")
-    Source(machine.url, "usual", lease=600).listen().send(b"a VT220\033[24;80H*")
+    large = Source(machine.url, "large", lease=600, screen="120x40").send(b"first\r\n\033[40;100Hlast")
+    Source(machine.url, "usual", lease=600).send(b"a VT220\033[24;80H*")
     browser = Browser(served.url)
     check(wait_for(lambda: count(browser, "li") == 2), "both sessions are there")
     for number in range(2):
@@ -157,17 +154,16 @@ def looking_at(served, name):
 def a_session_that_is_resized_in_the_browser(machine, _):
     """To a larger size, and then to that of a VT220. Another page that comes later shows the same."""
     served = Served(machine)
-    Processes(machine, 1)
-    source = Source(machine.url, "resized", lease=600).listen().send(b"first")
+    source = Source(machine.url, "resized", lease=600).send(b"first")
     browser = looking_at(served, "resized")
     check(wait_for(lambda: [row.rstrip() for row in lines(browser)] == ["first", *[""] * 23]), f"24 rows: {lines(browser)[:2]}")
-    source.host.send(b"120x40", "screen")
+    source.resize("120x40")
     source.send(b"\033[40;117Hlast")
     large = ["first", *[""] * 38, " " * 116 + "last"]
     check(wait_for(lambda: [row.rstrip() for row in lines(browser)] == large), f"40 rows: {lines(browser)[:2]}")
     later = looking_at(served, "resized")
     check(wait_for(lambda: [row.rstrip() for row in lines(later)] == large), f"on another page: {lines(later)[:2]}")
-    source.host.send(b"80x24", "screen")
+    source.resize("80x24")
     source.send(b"\033[24;79Hup")
     small = [*[""] * 23, " " * 78 + "up"]
     for each in (browser, later):
@@ -294,14 +290,12 @@ def its_terminal_is_the_session_s(browser, source):
 
 
 def ended_and_faulty_sessions_are_shown(machine, data):
-    workers, served = Processes(machine, 1, "--lease", "1"), Served(machine)
+    served = Served(machine)
     done, bad = Source(machine.url, "done").send(data).end(7), Source(machine.url, "bad").send(b"ab")
     bad.store.xadd(bad.part("bytes"), {"v": "9", "bytes": "c"}, id="3-0")
-    Source(machine.url, "gone", lease=0.3).send(b"gone")
-    many = [Source(machine.url, f"many-{number:03}").send(b"Session %d" % number) for number in range(60)]
-    wait_for(lambda: done.is_ended() and all(source.store.hget(source.part("about"), "owner") for source in many))
-    owner = (bad.store.hget(bad.part("about"), "owner") or b"nobody").decode()
-    bad.store.publish(keys.wake(owner), bad.incarnation)
+    Source(machine.url, "gone", lease=0.01).send(b"gone")
+    for number in range(60):
+        Source(machine.url, f"many-{number:03}").send(b"Session %d" % number)
     browser = Browser(served.url, 900, 1000)
     check(wait_for(lambda: count(browser, "li") == 63), "all are there")
     facts = "[...document.querySelectorAll('li')].map(e => [e.querySelector('.name').textContent, e.querySelector('.how').textContent])"
@@ -348,32 +342,12 @@ def clients_are_led_where_a_session_is(_, data):
         tell(client, picture)
         check(client[0].same_state(shown), f"one that is told after {every} changes")
     check(picture.since(picture.number) is None, "nothing is left to be told")
-    shown.feed(b"\033[")
-    picture.replace(shown.copy(), USUAL)
-    tell(clients[1], picture)
-    check(clients[1][0].text() == shown.text(), "a screen inside a sequence is shown")
-
-
-def a_repaint_that_changes_nothing_is_not_sent(_, data):
-    """A worker that wasn't asked for some seconds sends one when it is asked again. The updates after it lead on."""
-    followed, shown = Followed(None, "x"), played(data)[0]
-    followed.is_known = True  # no store says that the session is of a VT220
-    frame = {b"by": b"one", b"step": b"0", b"repaint": shown.repaint()}
-    followed.play(frame)
-    number = followed.picture.number
-    followed.play(frame | {b"by": b"other"})
-    check(followed.picture.since(number) is None, "clients are told nothing")
-    before = shown.copy()
-    shown.feed(b"more")
-    update = before.update(shown)
-    followed.play({b"by": b"other", b"step": b"1", b"update": update})
-    check(base64.b64decode(followed.picture.since(number)["bytes"]) == update, "and then the update alone")
 
 
 def the_page_has_metrics(machine, _):
     port = free_port()
     served = Served(machine, "--typing", "--metrics", f"127.0.0.1:{port}")
-    source, now = Source(machine.url, "one", takes_input=True, lease=600).listen(), lambda: metrics_at(port)
+    source, now = Source(machine.url, "one", takes_input=True), lambda: metrics_at(port)
     live, keys_sent = f"http://127.0.0.1:{served.port}/live", json.dumps({"session": source.incarnation, "text": "typed"})
 
     async def ask():
@@ -392,20 +366,20 @@ def the_page_has_metrics(machine, _):
                     message = (await socket.receive(PATIENCE)).data
                     known, got = known | {each["session"] for each in json.loads(message).get("news", [])}, got + len(message)
                 await socket.send_str(keys_sent)
-                check(wait_for(lambda: source.got == [("keys", b"typed")]), "keys arrive")
+                check(wait_for(lambda: source.keys() == b"typed"), "keys arrive")
                 found = now()
                 wanted = {"fleet_page_clients": 1, "fleet_page_connections_total": 1, "fleet_page_sessions": 1, "fleet_page_received_bytes_total": len(keys_sent)}
                 check(wanted.items() <= found.items() and found["fleet_page_sent_bytes_total"] >= len(page) + got, str(found))
             check(wait_for(lambda: now()["fleet_page_clients"] == 0), "it has left")
 
     asyncio.run(ask())
-    check(asked(port, "healthz") == (503, "no worker lives\n"), "its health is served there, too")
+    check(asked(port, "healthz") == (200, "ok\n"), "its health is served there, too")
 
 
 def the_page_sends_the_keys_of_a_vt220(machine, _):
     """Under LNM, DECCKM and S8C1T. The bytes are those of the VT220's manual, chapter 3."""
-    workers, served = Processes(machine, 1), Served(machine, "--typing")
-    source = Source(machine.url, "keys", takes_input=True).listen().send(b"\033[20h\033[?1h\033 Gready")
+    served = Served(machine, "--typing")
+    source = Source(machine.url, "keys", takes_input=True).send(b"\033[20h\033[?1h\033 Gready")
     wanted = b""
     browser = Browser(served.url)
     check(wait_for(lambda: count(browser, "li") == 1), "the session is there")
@@ -519,9 +493,7 @@ def a_token_of_a_file_is_not_printed(machine, _):
             return json.loads((await connection.receive(PATIENCE)).data)
 
     check("typing" in asyncio.run(ask()), "its token opens the page")
-    check(asked(served.port, "healthz")[0] == 503, "without a worker the page isn't well")
-    claims.Claims(stores.connect(machine.url), 60)
-    check(asked(served.port, "healthz")[0] == 200, "with one it is, and tells that without the token")
+    check(asked(served.port, "healthz")[0] == 200, "it is well, and tells that without the token")
     machine.kill()
     check(asked(served.port, "healthz")[0] == 503, "without a store it isn't")
     machine.start()

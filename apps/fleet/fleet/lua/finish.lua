@@ -1,11 +1,10 @@
--- A host ends a session: NAME INCARNATION POSITION STATUS VERSION [HOST]
--- ok; or taken, lost, back. May be sent again.
+-- A host ends a session: NAME INCARNATION HOST POSITION STATUS VERSION RETAIN(ms, -1 for ever)
+-- ok; closed, lost, taken; or back, with the end there. May be sent again.
 local name, inc = ARGV[1], ARGV[2]
-local about = redis.call('HMGET', key(inc, 'about'), 'end', 'closed', 'host')
-if about[2] and (about[2] ~= ARGV[4] or not about[1]) then return {'taken', about[2]} end
-if not about[1] then return {'lost'} end
-if ARGV[6] and about[3] ~= ARGV[6] then return {'taken', about[3] or ''} end
-if tonumber(about[1]) ~= tonumber(ARGV[3]) then return {'back', about[1]} end
-close(inc, ARGV[4], ARGV[5])
+local there, answer = place_of(inc, ARGV[3])
+if not there and answer[1] == 'closed' and answer[2] == ARGV[5] then return {'ok'} end
+if not there then return answer end
+if there ~= tonumber(ARGV[4]) then return {'back', answer} end
+close(inc, ARGV[5], ARGV[6], ARGV[7])
 free_name(name, inc)
 return {'ok'}

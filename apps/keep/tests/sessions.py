@@ -1,8 +1,6 @@
 """What the tests of the session keeper share: sessions, windows of tmux, and clients that speak the protocol themselves."""
-import __main__
 import contextlib
 import fcntl
-import glob
 import os
 import pathlib
 import pty
@@ -12,48 +10,74 @@ import signal
 import socket
 import struct
 import subprocess
-import sys
 import tempfile
 import termios
 import time
 
-from sanitizers import sanitizers
-
-# Each test has two arguments or more, and its help is its own text.
-if sys.argv[1:] == ["--help"] or len(sys.argv) < 3:
-    print(__main__.__doc__, end="", file=sys.stdout if sys.argv[1:] == ["--help"] else sys.stderr)
-    sys.exit(0 if sys.argv[1:] == ["--help"] else 2)
-
 PATIENCE = 300  # seconds until what is waited for counts as hanging; no test depends on less
-passed = failed = 0
-faults = []
-ROOM = pathlib.Path(tempfile.mkdtemp(prefix="keep-"))
-KEEP = str(ROOM / "vt220-keep")
-PROGRAM = os.path.abspath(sys.argv[2])
+TOP = pathlib.Path(__file__).resolve().parents[3]
+PROGRAM = str(TOP / "crates/vt220/out/vt220")
+VERSION = re.search(r'^#define KEEP_VERSION "(.*?)"', (TOP / "apps/keep/keep.h").read_text(), re.M)[1]
+# The directory of the test that runs. It has two copies of the keeper that is tested.
+ROOM = pathlib.Path(tempfile.gettempdir()) / f"keeper-{os.getpid()}"
+KEEP, NEWER = str(ROOM / "vt220-keep"), str(ROOM / "newer")
 FOLDER = ROOM / "folder"
 BOOT = pathlib.Path("/proc/sys/kernel/random/boot_id").read_text().strip()
 SOCKETS = FOLDER / BOOT
+# A keeper's working directory. If a shell is passed to it as its new program, it finds this script there.
+SCRIPT = SOCKETS / "resume"
+FOUND = ROOM / "found"
 ENVIRONMENT = {name: value for name, value in os.environ.items() if name not in ("TMUX", "TMUX_PANE", "KEEP_KEY", "KEEP_SESSION", "KEEP_LINGER", "KEEP_PATIENCE")}
 ENVIRONMENT |= {"KEEP_DIR": str(FOLDER), "LC_ALL": "C", "SHELL": "/bin/sh", "HOME": str(ROOM), "PS1": "$ "}
 # Keepers and clients wait for each other as long as a test does. Where their own limit is tested, the test gives them a short one.
 ENVIRONMENT |= {"KEEP_LINGER": "86400", "KEEP_PATIENCE": str(PATIENCE)}
 SHORT = {"KEEP_PATIENCE": "1"}
-# What the sanitizers find in the programs of this test is in files whose names begin so.
-SANITIZERS = sanitizers(ROOM)
-ENVIRONMENT |= {name: re.sub("(?<=log_path=)[^:]*", rf"\g<0>.{ROOM.name}", os.environ.get(name, usual)) for name, usual in SANITIZERS.items()}
-FINDINGS = re.findall("log_path=([^:]*)", ":".join(ENVIRONMENT[name] for name in SANITIZERS))
-found = ""
+# The sanitizers write what they find to files. They don't look for leaks: a client that is ended while it does stays for ever. They keep no
+# freed memory, since tests measure the memory of keepers.
+ENVIRONMENT |= {"ASAN_OPTIONS": f"exitcode=99:detect_leaks=0:quarantine_size_mb=0:thread_local_quarantine_size_kb=0:log_path={FOUND}/asan",
+                "UBSAN_OPTIONS": f"exitcode=99:log_path={FOUND}/ubsan"}
+opened, hasty = [], set()  # what a test has open, and the sessions that have little patience
 
 
-def check(is_so, what):
-    global passed, failed
-    if is_so:
-        passed += 1
-    else:
-        failed += 1
-        faults.append(what)
-        print(f"failed: {what}", file=sys.stderr)
-    return is_so
+def begin(program):
+    """Makes the directory of a test of this keeper."""
+    ROOM.mkdir()
+    FOUND.mkdir()
+    for place, mode in ((ROOM, 0o755), (FOUND, 0o777)):  # other users run the keeper, too
+        place.chmod(mode)
+    for copy in (KEEP, NEWER):
+        shutil.copy(program, copy)
+
+
+def finish():
+    """Ends all that a test left, also sessions that the list leaves out, since their end was shown. Each session that is listed must end when it is
+    told to, no keeper may stay, and the sanitizers must have found nothing."""
+    for it in reversed([*opened]):
+        it.close()
+    for pid in running():
+        with contextlib.suppress(ProcessLookupError):
+            os.kill(pid, signal.SIGCONT)
+    refused = [name for name in rows() if name not in hasty and keep("kill", name).returncode != 0]
+    for each in SOCKETS.glob("*"):
+        keep("kill", each.name, env=ENVIRONMENT | SHORT)
+    tmux("kill-server")
+    is_clean, listed = until(lambda: not [*running()]), keep("list").stdout
+    found = "".join(file.read_text(errors="replace") for file in FOUND.iterdir())
+    for pid in running():
+        with contextlib.suppress(ProcessLookupError):
+            os.kill(pid, signal.SIGKILL)
+    hasty.clear()
+    shutil.rmtree(ROOM)
+    assert not found, f"the sanitizers found something:\n{found}"
+    assert (refused, listed) == ([], "") and is_clean, "each session ends, and no keeper is left"
+
+
+def running():
+    """The processes whose program is in the directory of the test."""
+    for link in pathlib.Path("/proc").glob("[0-9]*/exe"):
+        with contextlib.suppress(OSError):
+            if os.readlink(link).startswith(f"{ROOM}/"):
+                yield int(link.parent.name)
 
 
 def until(condition):
@@ -66,7 +90,7 @@ def until(condition):
 
 
 def wait(condition, what):
-    return check(until(condition), what)
+    assert until(condition), what
 
 
 def keep(*words, **more):
@@ -84,9 +108,13 @@ def lines(name):
     return text(name).splitlines()
 
 
+def repaint(name):
+    return keep("repaint", name, text=False).stdout
+
+
 def rows():
     """What `list --tsv` tells of the sessions, by their names."""
-    titles = ("name", "state", "rows", "columns", "attached", "pid", "began", "ended", "status", "words")
+    titles = ("name", "state", "rows", "columns", "attached", "pid", "began", "ended", "status", "words", "encoding", "terminal")
     found = (dict(zip(titles, line.split("\t"))) for line in keep("list", "--tsv").stdout.splitlines())
     return {it["name"]: it for it in found}
 
@@ -107,6 +135,10 @@ def attached(name):
     return line and line[1]
 
 
+def has_ended(name):
+    return row(name)["state"] == "ended"
+
+
 def parent(pid):
     return int(field(pid, 4))
 
@@ -124,6 +156,10 @@ def still(name):
 def keeper(name):
     """The pid of a session's keeper."""
     return parent(listed(name)[2])
+
+
+def program_of(pid):
+    return os.readlink(f"/proc/{pid}/exe")
 
 
 def field(pid, number):
@@ -147,38 +183,94 @@ def resident(pid):
     return int(pathlib.Path(f"/proc/{pid}/statm").read_text().split()[1]) * os.sysconf("SC_PAGESIZE")
 
 
-def new(name, *command, size=None, **settings):
+def new(*words, size=None, **settings):
     """Begins a session, of this size if one is given: as 120x40, columns and rows."""
     options = [f"--size={size}"] if size else []
-    return check(keep("new", *options, name, *command, env=ENVIRONMENT | settings).returncode == 0, f"new {name}")
+    done = keep("new", *options, *words, env=ENVIRONMENT | settings)
+    assert done.returncode == 0, f"new {words}: {done.stderr}"
+    if int((ENVIRONMENT | settings)["KEEP_PATIENCE"]) < PATIENCE:
+        hasty.add(words[0])
 
 
-def shell(name, script, **more):
-    return new(name, "sh", "-c", script, **more)
+def shell(name, script, *options, **more):
+    new(*options, name, "sh", "-c", script, **more)
+
+
+def reads(name, writes, *options, **more):
+    """Begins a program that writes this, as printf has it, and then stores what it reads. Returns the file."""
+    got = ROOM / f"got-{name}"
+    got.touch()
+    shell(name, f"stty raw -echo; printf '{writes}ready'; exec cat >{got}", *options, **more)
+    wait(lambda: "ready" in text(name), f"{name} reads")
+    return got
 
 
 def end(name):
-    check(keep("kill", name).returncode == 0 and row(name) is None, f"{name} ends")
+    assert keep("kill", name).returncode == 0 and row(name) is None, f"{name} ends"
 
 
-def end_hasty(name):
-    """Ends a session with little patience, which may not wait for what it is asked."""
-    wait(lambda: keep("kill", name) and row(name) is None, f"{name} ends")
+def replace(name, program=NEWER, **more):
+    return subprocess.run([program, "upgrade", name], **{"env": ENVIRONMENT, "capture_output": True, "text": True, "timeout": PATIENCE} | more)
 
 
-class Outer:
+def replaced(name, program=NEWER):
+    """The keeper becomes this program, and is still the same process."""
+    pid = keeper(name)
+    done = replace(name, program)
+    assert (done.returncode, done.stdout + done.stderr) == (0, ""), f"{name} becomes another program"
+    assert program_of(pid) == program and keeper(name) == pid, f"{name} is that program"
+
+
+def passed(name, program="/bin/sh"):
+    """What a keeper replies to whoever passes it this file as its new program."""
+    client = Raw(name, b"u", version=3)
+    client.upgrade(program)
+    return client.frame()
+
+
+def form_of(name):
+    """The form of the state that a keeper hands over to a new program."""
+    form = ROOM / "form"
+    SCRIPT.write_text(f"od -An -tu4 -j12 -N4 /proc/self/fd/$1 >{form}; exec {NEWER} resume \"$@\"\n")
+    assert passed(name) == (b"A", b""), f"{name} is handed over"
+    SCRIPT.unlink()
+    return int(form.read_text())
+
+
+def plays(played, *options):
+    """The text that the proved program shows of these bytes."""
+    return subprocess.run([PROGRAM, "text", *options], input=played, capture_output=True).stdout.decode()
+
+
+class Opened:
+    """What is closed at the end of a test, if the test doesn't."""
+
+    def __init__(self):
+        opened.append(self)
+
+    def close(self):
+        if self in opened:
+            opened.remove(self)
+            self.shut()
+
+
+class Outer(Opened):
     """A window of tmux in which a shell attaches to a session, and then says the status."""
 
     count = 0
 
     def __init__(self, name, columns=80, rows=24, settings="", words="attach", patience=None):
         """A client with little patience begins again if the keeper doesn't answer in time."""
+        super().__init__()
         Outer.count += 1
         attaching = f"{settings} {KEEP} {words} {name}"
         if patience is not None:
             attaching = f"until KEEP_PATIENCE={patience} {attaching}; do :; done"
         self.before, self.after = ROOM / f"before-{Outer.count}", ROOM / f"after-{Outer.count}"
         script = f"stty -g >{self.before}; echo BEFORE; {attaching}; echo \"status $?\"; stty -g >{self.after}; exec sleep infinity"
+        if not (ROOM / "tmux").exists():
+            (ROOM / "tmux.conf").write_text("set -g status off\nset -g default-size 80x24\nset -sg escape-time 0\n")
+            tmux("new-session", "-d", "-x", "80", "-y", "24", "sleep infinity")
         self.target = tmux("new-window", "-d", "-P", "-F", "#{pane_id}", "sh", "-c", script).strip()
         self.resize(columns, rows)
 
@@ -204,7 +296,7 @@ class Outer:
         def is_there():
             found[:] = pathlib.Path(f"/proc/{shell}/task/{shell}/children").read_text().split()
             with contextlib.suppress(FileNotFoundError):
-                return found and os.readlink(f"/proc/{found[0]}/exe") == KEEP
+                return found and program_of(found[0]) == KEEP
 
         wait(is_there, "a client runs")
         return int(found[0])
@@ -234,8 +326,12 @@ class Outer:
         return self.tells("alternate_on") == "1" and shown[:rows] == wanted
 
     def follows(self, name, what):
-        if not wait(lambda: self.shows(name), f"{what}: the outer terminal shows the screen"):
-            print(*self.shown(), "--", *lines(name), sep="\n", file=sys.stderr)
+        assert until(lambda: self.shows(name)), f"{what}: the outer terminal shows the screen: {self.shown()}, {lines(name)}"
+
+    def detach(self):
+        self.keys("C-\\")
+        wait(lambda: self.tells("alternate_on") == "0", "it detaches")
+        self.close()
 
     def is_left(self, what, *said):
         """Whether the outer terminal is as it was, with these lines on it."""
@@ -246,16 +342,13 @@ class Outer:
         self.is_back(lambda: [row for row in self.shown() if row][-len(said) :] == list(said), what, said)
 
     def is_back(self, shows, what, said):
-        if not wait(shows, f"{what}: it says {said}"):
-            print(*self.shown(), "--", keep("list").stdout, sep="\n", file=sys.stderr)
-        check(self.tells("alternate_on") == "0" and self.tells("cursor_flag") == "1", f"{what}: the screen and the cursor are back")
+        assert until(shows), f"{what}: it says {said}: {self.shown()}, {keep('list').stdout}"
+        assert self.tells("alternate_on") == "0" and self.tells("cursor_flag") == "1", f"{what}: the screen and the cursor are back"
         wait(lambda: self.after.exists() and self.after.read_text() == self.before.read_text(), f"{what}: the line is as it was")
         self.close()
 
-    def close(self):
+    def shut(self):
         tmux("kill-window", "-t", self.target)
-        for file in (self.before, self.after):
-            file.unlink(missing_ok=True)
 
 
 def tmux(*words):
@@ -281,10 +374,11 @@ def exactly(peer, count):
     return got
 
 
-class Raw:
+class Raw(Opened):
     """A client that speaks to the socket itself. It asks with a letter, or sends `first` as it is."""
 
     def __init__(self, name, letter, flags=0, first=None, version=1):
+        super().__init__()
         self.socket = socket.socket(socket.AF_UNIX)
         self.socket.settimeout(PATIENCE)
         self.hello = None
@@ -294,46 +388,50 @@ class Raw:
         if first is None:
             self.hello = self.frame()
 
-    def exactly(self, count):
-        return exactly(self.socket, count)
-
     def frame(self):
         with contextlib.suppress(ConnectionResetError):
-            head = self.exactly(5)
+            head = exactly(self.socket, 5)
             if len(head) == 5:
-                return head[:1], self.exactly(struct.unpack("=I", head[1:])[0])
+                return head[:1], exactly(self.socket, struct.unpack("=I", head[1:])[0])
         return b"", b""
+
+    def send(self, letter, content=b""):
+        self.socket.sendall(frame(letter, content))
 
     def keys(self, keys):
         for at in range(0, len(keys), 4096):
-            self.socket.sendall(frame(b"K", keys[at : at + 4096]))
+            self.send(b"K", keys[at : at + 4096])
 
     def upgrade(self, program):
-        """Passes a program for the keeper, which is an open file."""
-        socket.send_fds(self.socket, [frame(b"U")], [program])
+        """Passes a program for the keeper."""
+        file = os.open(program, os.O_RDONLY)
+        with contextlib.suppress(OSError):  # a keeper with little patience may have dropped this client
+            socket.send_fds(self.socket, [frame(b"U")], [file])
+        os.close(file)
 
     def window(self, columns, rows):
         """Tells its window, which has a client attached that knows sizes."""
-        self.socket.sendall(frame(b"W", struct.pack("=HH", rows, columns)))
+        self.send(b"W", struct.pack("=HH", rows, columns))
 
     def seen(self):
         with contextlib.suppress(OSError):
-            self.socket.sendall(frame(b"S"))
+            self.send(b"S")
 
     def size(self):
         """How many bytes wait in the socket."""
         return waiting(self.socket)
 
-    def close(self):
+    def shut(self):
         self.socket.close()
 
 
-class Terminal:
+class Terminal(Opened):
     """An outer terminal of its own, whose bytes can be looked at: a command runs on it."""
 
-    def __init__(self, *words, rows=24, columns=80, script=None, **environment):
+    def __init__(self, *words, rows=24, columns=80, script=None, shows=b"", **environment):
+        super().__init__()
         self.master, line = pty.openpty()
-        fcntl.ioctl(line, termios.TIOCSWINSZ, struct.pack("HHHH", rows, columns, 0, 0))
+        self.resize(columns, rows)
         os.set_blocking(self.master, False)
         self.got = b""
 
@@ -344,13 +442,11 @@ class Terminal:
         command = [KEEP, *words] if script is None else ["sh", "-c", script]
         self.process = subprocess.Popen(command, stdin=line, stdout=line, stderr=line, preexec_fn=own_line, env=ENVIRONMENT | environment)
         os.close(line)
+        assert self.shows(shows), f"a terminal shows {shows}: {self.got}"
 
     def read(self):
         with contextlib.suppress(BlockingIOError, OSError):
-            while True:
-                more = os.read(self.master, 65536)
-                if not more:
-                    break
+            while more := os.read(self.master, 65536):
                 self.got += more
         return self.got
 
@@ -368,67 +464,61 @@ class Terminal:
         until(lambda: self.read() is None or self.process.poll() is not None)
         return self.process.returncode
 
-    def close(self):
+    def shut(self):
         self.process.kill()
         self.process.wait()
         os.close(self.master)
 
 
-def findings():
-    """What the sanitizers have found, with the lines of the sources."""
-    files = [file for begin in FINDINGS for file in sorted(glob.glob(f"{glob.escape(begin)}.*"))]
-    return "".join(pathlib.Path(file).read_text(errors="replace") for file in files)
+# --- keepers that a test plays ---
 
 
-def sweep():
-    """Ends all that the tests left, also sessions that the list leaves out, since their end was shown. Keeps what the sanitizers found."""
-    global found
-    for each in SOCKETS.glob("*"):
-        with contextlib.suppress(Exception):
-            keep("kill", each.name)
-    wait(lambda: not any(programs_of_tests()), "no keeper is left")
-    found = findings()
-    shutil.rmtree(ROOM, ignore_errors=True)
+@contextlib.contextmanager
+def listening(name="peer"):
+    """A socket of this name, as that of a keeper."""
+    keep("list")  # makes the directory
+    (SOCKETS / name).unlink(missing_ok=True)
+    with socket.socket(socket.AF_UNIX) as peer:
+        peer.bind(str(SOCKETS / name))
+        peer.listen(64)
+        yield peer
+    (SOCKETS / name).unlink(missing_ok=True)
 
 
-def programs_of_tests():
-    """The processes whose program is in the directory of the tests."""
-    for link in pathlib.Path("/proc").glob("[0-9]*/exe"):
-        with contextlib.suppress(OSError):
-            if os.readlink(link).startswith(f"{ROOM}/"):
-                yield link
+def answered(word, hello, frames=b"", is_gone=False):
+    """The status of a command about a session whose keeper sends a hello and these frames, and what it says. The keeper may end then."""
+    return replied([word, "peer"], frame(b"H", hello) + frames, is_gone=is_gone)
 
 
-def report(title):
-    """What the sanitizers found, what failed, once more at the end, the last line, and the exit status."""
-    if found:
-        check(False, "the sanitizers found something:")
-        print(found, file=sys.stderr)
-    for what in faults:
-        print(f"failed: {what}", file=sys.stderr)
-    print(f"{title}: {passed} passed, {failed} failed")
-    sys.exit(failed != 0)
+def accepted(listener, asking):
+    """The next connection to a socket, or None if the command that is to connect has ended."""
+    listener.settimeout(0.1)
+    while asking.poll() is None:
+        with contextlib.suppress(TimeoutError):
+            return listener.accept()[0]
+    return None
 
 
-def run_tests(title, *tests):
-    """Runs the tests of a script, or those that its arguments name, beside a server of tmux. Ends with what failed."""
-    signal.signal(signal.SIGTERM, lambda *_: sys.exit(1))
-    shutil.copy(sys.argv[1], KEEP)
-    ROOM.chmod(0o755)
-    (ROOM / "tmux.conf").write_text("set -g status off\nset -g default-size 80x24\nset -sg escape-time 0\n")
-    tmux("new-session", "-d", "-x", "80", "-y", "24", "sleep infinity")
-    try:
-        for test in tests:
-            if len(sys.argv) > 3 and test.__name__ not in sys.argv[3:]:
-                continue
-            begun = time.monotonic()
-            try:
-                test()
-            except Exception as fault:  # a test that can't go on is a failure, and the next begins
-                check(False, f"{test.__name__}: {type(fault).__name__}: {fault}, line {fault.__traceback__.tb_next.tb_lineno if fault.__traceback__.tb_next else 0}")
-            print(f"{test.__name__}: {time.monotonic() - begun:.1f} s", file=sys.stderr)
-        check(keep("list").stdout == "", "no session is left")
-    finally:
-        tmux("kill-server")
-        sweep()
-    report(title)
+def replied(words, *replies, is_gone=False, **settings):
+    """The status of a command about a session whose keeper replies with these bytes, to a connection each, and what the command says. After
+    the last reply the keeper may end."""
+    others = []
+    with listening() as peer:
+        asking = subprocess.Popen([KEEP, *words], env=ENVIRONMENT | settings, stdin=subprocess.DEVNULL, stdout=subprocess.PIPE, stderr=subprocess.STDOUT, text=True)
+        for number, reply in enumerate(replies, 1):
+            while (other := accepted(peer, asking)) and not other.recv(8):  # it only looks whether somebody listens
+                other.close()
+            if not other:
+                break
+            others.append(other)
+            if is_gone and number == len(replies):
+                (SOCKETS / "peer").unlink()
+                peer.close()
+            with contextlib.suppress(BrokenPipeError):  # a command with little patience may have given up
+                other.sendall(reply)
+        if is_gone:
+            others[-1].close()
+        said = asking.communicate(timeout=PATIENCE)[0]
+    for it in others:
+        it.close()
+    return asking.returncode, said

@@ -1,23 +1,27 @@
-#!/usr/bin/env python3
-"""fuzz KEEP SECONDS [SEED]: sends random frames over the protocol, to a keeper and to clients, and checks that they survive them.
-It goes on until so many seconds are over and there have been many clients.
-
-Half of the processes are clients of a keeper: they send whole frames with changed letters, lengths and contents, halves of them,
-nothing, and an end at any point. The other half is a keeper that replies to the clients attach, text, list, send, rename and kill
-in that way. Build KEEP with the sanitizers: what they find is a failure, and is printed at the end.
-"""
+"""Random frames over the protocol, which a keeper and clients must survive, until the time is over. They are whole frames with changed letters, lengths
+and contents, halves of them, nothing, and an end at any point."""
 import random
 
-from harness import *
-import harness
+import pytest
+from sessions import *
 
-ASKS = b"adlgtrsxnu?"
+pytestmark = pytest.mark.parametrize("room", ["clang-sane"], indirect=True)
+ASKS = b"adlgtrsnu?"
 LETTERS = b"HPBARDEFKQNSGTLUCXVWYZz\0\xff"
 # The versions of the protocol, and the versions since which a keeper tells a client that types of the encoding and of the terminal.
-PROTOCOL = (pathlib.Path(__file__).parent.parent / "protocol.h").read_text()
+PROTOCOL = (TOP / "apps/keep/protocol.h").read_text()
 HIGHEST, ENCODING, TERMINAL = (int(re.search(rf"PROTOCOL_{name} = (\d+)", PROTOCOL)[1]) for name in ("HIGHEST", "ENCODING", "TERMINAL"))
 VERSIONS = range(1, HIGHEST + 1)
 MANY = 200  # clients of the keeper, at least
+COMMANDS = (["attach", "false"], ["attach", "false"], ["attach", "false"], ["attach", "-r", "false"], ["text", "false"], ["log", "false"], ["list"], ["list", "--tsv"],
+            ["send", "false", "Up", "é"], ["rename", "false", "other"], ["upgrade", "false"], ["kill", "false"], ["new", "-A", "false", "true"])
+
+
+@pytest.fixture
+def rng(pytestconfig):
+    seed = pytestconfig.getoption("--seed") or random.randrange(1 << 30)
+    print(f"--seed {seed}")
+    return random.Random(seed)
 
 
 def mangled(rng, frames):
@@ -62,13 +66,13 @@ def sequences(rng):
 
 def target():
     """The name of the keeper, which its clients may change."""
-    return next((name for name in os.listdir(SOCKETS) if name != "false"), "target")
+    return next(iter(os.listdir(SOCKETS)), "target")
 
 
 def runs(pid):
     """Whether a process runs. One that has ended has no program, even if nobody has waited for it."""
     with contextlib.suppress(OSError):
-        return os.readlink(f"/proc/{pid}/exe") != ""
+        return program_of(pid) != ""
     return False
 
 
@@ -89,7 +93,7 @@ def connected(pid):
 def to_keeper(rng, pid):
     """A client of a keeper, which may say anything."""
     peer = connected(pid)
-    ask = rng.choice(ASKS.replace(b"x", b""))
+    ask = rng.choice(ASKS)
     hello = bytearray(b"keep\1" + bytes([rng.choice(VERSIONS), ask, rng.randrange(4)]))
     if rng.randrange(8) == 0:
         hello[rng.randrange(8)] = rng.randrange(256)
@@ -125,81 +129,41 @@ def from_keeper(rng, peer):
     peer.close()
 
 
-def fuzz_keeper(rng, end):
+def test_to_keeper(rng, seconds):
     """At most 40 clients at a time, and now and then one that is honest."""
-    count, peers = 0, []
-    script = "stty raw -echo; while :; do dd bs=200 count=1 2>/dev/null; done"
-    check(keep("new", "target", "sh", "-c", script).returncode == 0, "the target")
+    count, peers, end = 0, [], time.monotonic() + seconds
+    shell("target", "stty raw -echo; while :; do dd bs=200 count=1 2>/dev/null; done")
     pid = keeper("target")
     while time.monotonic() < end or count < MANY:
-        try:
-            peers.append(to_keeper(rng, pid))
-        except OSError as fault:
-            check(False, f"the keeper is gone after {count} clients: {fault}")
-            return
+        peers.append(to_keeper(rng, pid))
         count += 1
         if len(peers) > 40 or rng.randrange(3) == 0:
             peers.pop(rng.randrange(len(peers))).close()
         if count % 200 == 0:
             # A client may have changed its name just then.
-            if not wait(lambda: keep("text", target()).returncode == 0, f"the keeper answers after {count} clients"):
-                break
+            wait(lambda: keep("text", target()).returncode == 0, f"the keeper answers after {count} clients")
     for peer in peers:
         peer.close()
-    check(wait(lambda: listed(target()), "the keeper is there") and keeper(target()) == pid, "it is the same process")
+    wait(lambda: listed(target()), "the keeper is there")
+    assert keeper(target()) == pid, "it is the same process"
     wait(lambda: len(os.listdir(f"/proc/{pid}/fd")) <= 8, "it has closed what it opened")
-    print(f"fuzz: {count} clients of the keeper", file=sys.stderr)
-    keep("kill", target())
 
 
-COMMANDS = (["attach", "false"], ["attach", "false"], ["attach", "false"], ["attach", "-r", "false"], ["text", "false"], ["log", "false"], ["list"], ["list", "--tsv"],
-            ["send", "false", "Up", "é"], ["rename", "false", "other"], ["upgrade", "false"], ["kill", "false"], ["new", "-A", "false", "true"])
-
-
-def fuzz_client(rng, end):
+def test_to_clients(rng, seconds):
     """Starts one client after another, each on a new terminal on which somebody types."""
-    listener = socket.socket(socket.AF_UNIX)
-    listener.bind(str(SOCKETS / "false"))
-    listener.listen(64)
-    listener.settimeout(0.02)
-    count = 0
-    while time.monotonic() < end:
-        client = Terminal(*rng.choice(COMMANDS), rows=rng.choice((1, 5, 24, 50)), columns=rng.choice((1, 30, 80, 140)))
-        deadline = time.monotonic() + PATIENCE
-        while client.process.poll() is None and time.monotonic() < deadline:
-            with contextlib.suppress(OSError):
-                from_keeper(rng, listener.accept()[0])
-            client.read()
-            with contextlib.suppress(OSError):
-                client.type(rng.choice((b"x", b"\033[A", b"\033[5;2~", b"\033[5~", "é".encode(), b"\x1c", rng.randbytes(9))))
-        status = client.process.poll()
-        fine = status is not None and status != 99 and (status >= 0 or -status in (signal.SIGINT, signal.SIGQUIT))  # ^C before it reads keys
-        if not check(fine, f"client {count}: {client.process.args} ended with {status}"):
-            print(client.read()[-2000:], file=sys.stderr)
-        client.close()
-        count += 1
-    listener.close()
-    (SOCKETS / "false").unlink(missing_ok=True)
-    print(f"fuzz: {count} clients of a false keeper", file=sys.stderr)
-
-
-def main():
-    shutil.copy(sys.argv[1], KEEP)
-    seconds, seed = float(sys.argv[2]), int(sys.argv[3]) if len(sys.argv) > 3 else random.randrange(1 << 30)
-    print(f"fuzz: seed {seed}", file=sys.stderr)
-    keep("list")
     end = time.monotonic() + seconds
-    child = os.fork()
-    if child == 0:
-        harness.passed = harness.failed = 0
-        fuzz_client(random.Random(seed + 1), end)
-        os._exit(harness.failed != 0)
-    try:
-        fuzz_keeper(random.Random(seed), end)
-        check(os.waitstatus_to_exitcode(os.waitpid(child, 0)[1]) == 0, "the clients survive a false keeper")
-    finally:
-        sweep()
-    report("fuzz")
-
-
-main()
+    with listening("false") as listener:
+        listener.settimeout(0.02)
+        while time.monotonic() < end:
+            client = Terminal(*rng.choice(COMMANDS), rows=rng.choice((1, 5, 24, 50)), columns=rng.choice((1, 30, 80, 140)))
+            deadline = time.monotonic() + PATIENCE
+            while client.process.poll() is None and time.monotonic() < deadline:
+                with contextlib.suppress(OSError):
+                    from_keeper(rng, listener.accept()[0])
+                client.read()
+                with contextlib.suppress(OSError):
+                    client.type(rng.choice((b"x", b"\033[A", b"\033[5;2~", b"\033[5~", "é".encode(), b"\x1c", rng.randbytes(9))))
+            status = client.process.poll()
+            fine = status is not None and status != 99 and (status >= 0 or -status in (signal.SIGINT, signal.SIGQUIT))  # ^C before it reads keys
+            assert fine, f"{client.process.args} ended with {status}: {client.read()[-2000:]}"
+            client.close()

@@ -1,14 +1,11 @@
-#!/usr/bin/env python3
-"""soak KEEP SECONDS: tests many sessions with many clients that attach, type and detach.
-
-There are 50 sessions of cat, with 4 clients each. All attach, type a line, and read what comes. Some detach and attach again, until the
-time is over. Each keeper must end with as many files as it began with, and with little more memory. Memory is measured after a first
-such round and after the last one, each time when all clients have gone.
-"""
+"""50 sessions of cat with 4 clients each, which attach, type a line, and read what comes. Some detach and attach again, until the time is over. Each keeper
+must end with as many files as it began with, and with little more memory. Memory is measured after a first such round and after the last
+one, each time when all clients have gone."""
 import random
 import selectors
 
-from harness import *
+import pytest
+from sessions import *
 
 SESSIONS, CLIENTS = 50, 4
 
@@ -28,7 +25,7 @@ class Crowd:
 
     def __init__(self, names, rng):
         self.selector, self.rng, self.names = selectors.DefaultSelector(), rng, names
-        self.clients, self.typed, self.read = [], 0, 0
+        self.clients, self.typed = [], 0
         for name in names * CLIENTS:
             self.come(name)
 
@@ -55,7 +52,7 @@ class Crowd:
             self.type(it)
         for key, _ in self.selector.select(0.02):
             with contextlib.suppress(BlockingIOError):
-                self.read += len(key.fileobj.recv(1 << 18))
+                key.fileobj.recv(1 << 18)
         if self.rng.randrange(3) == 0:
             it = self.rng.choice(self.clients)
             self.go(it)
@@ -77,35 +74,23 @@ def play(names, rng, seconds):
         wait(lambda: " of a soak" in text(name), f"{name} shows what was typed")
     crowd.leave()
     wait(lambda: all(it["attached"] == "0" for it in rows().values()), "all clients are gone")
-    return crowd
 
 
-def main():
-    shutil.copy(sys.argv[1], KEEP)
-    seconds, rng = float(sys.argv[2]), random.Random(1)
-    names = [f"soak-{n}" for n in range(SESSIONS)]
-    try:
-        for name in names:
-            new(name, "cat")
-        told = rows()
-        pids = [parent(told[name]["pid"]) for name in names]
-        wait(lambda: all(sleeps(pid) for pid in pids), "all keepers sleep before")
-        files = open_files(pids)
-        play(names, rng, seconds / 6)
-        wait(lambda: open_files(pids) == files, "each keeper has as many files open as before")
-        memory = memory_of(pids)
-        crowd = play(names, rng, seconds * 5 / 6)
-        wait(lambda: open_files(pids) == files, "and at the end")
-        memory_after = memory_of(pids)
-        # Each keeper has a log, whose buffer is at most twice as long.
-        logs = [2 * len(keep("log", name).stdout.encode()) // 1024 for name in names]
-        worst = max(after - before - log for before, after, log in zip(memory, memory_after, logs))
-        check(worst <= 64, f"no keeper's memory has grown by more than 64 KB beyond its log: {worst} KB")
-        print(f"soak: {crowd.typed} lines typed, {crowd.read} bytes read, {sum(memory)} KB of memory before and {sum(memory_after)} KB after, "
-              f"{sum(files)} files open", file=sys.stderr)
-    finally:
-        sweep()
-    report("soak")
-
-
-main()
+@pytest.mark.parametrize("room", ["gcc"], indirect=True)
+def test_many(seconds):
+    names, rng = [f"soak-{n}" for n in range(SESSIONS)], random.Random(1)
+    for name in names:
+        new(name, "cat")
+    told = rows()
+    pids = [parent(told[name]["pid"]) for name in names]
+    wait(lambda: all(sleeps(pid) for pid in pids), "all keepers sleep before")
+    files = open_files(pids)
+    play(names, rng, seconds / 6)
+    wait(lambda: open_files(pids) == files, "each keeper has as many files open as before")
+    memory = memory_of(pids)
+    play(names, rng, seconds * 5 / 6)
+    wait(lambda: open_files(pids) == files, "and at the end")
+    # Each keeper has a log, whose buffer is at most twice as long.
+    logs = [2 * len(keep("log", name).stdout.encode()) // 1024 for name in names]
+    worst = max(after - before - log for before, after, log in zip(memory, memory_of(pids), logs))
+    assert worst <= 64, f"no keeper's memory has grown by more than 64 KB beyond its log: {worst} KB"

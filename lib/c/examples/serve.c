@@ -8,8 +8,9 @@
 
 enum { CLIENTS = 2, CAN = 0x18 };
 
-/* A client. Its terminal is a VT220, since an update starts at one. */
+/* A client. If its terminal is a VT220, it gets updates. An xterm has both pages of the host's, and gets repaints, since no update leads to one. */
 typedef struct client {
+    uint32_t language;
     vt220 terminal; /* at the client's end */
     vt220 shown;    /* at the server's end: the state that `terminal` is in when it has played all that was sent */
     size_t sent;    /* how many bytes were sent */
@@ -60,14 +61,15 @@ static void close_server(server *s) {
     free(s->out);
 }
 
-/* Lets a client join, which gets the repaint of the page that is shown. Inside a sequence, such as a title whose end hasn't come, the host's
- * terminal has no repaint (VT220_PARTIAL), perhaps for ever. But a copy of it has, after CAN, which ends the sequence and does nothing else. */
-static uint32_t join(server *s) {
+/* Lets a client of a language join, which gets a repaint. Inside a sequence, such as a title whose end hasn't come, the host's terminal has none
+ * (VT220_PARTIAL), perhaps for ever. But a copy of it has, after CAN, which ends the sequence and does nothing else. */
+static uint32_t join(server *s, uint32_t language) {
     static const uint8_t can = CAN;
     client *c = &s->clients[s->count++];
+    c->language = language;
     size_t rows = vt220_rows(&s->host), columns = vt220_width(&s->host), len = 0;
-    uint32_t status = open_window(&c->terminal, VT220_BYTES, rows, columns); /* the client's part: the server tells it the size */
-    if (status == VT220_OK) status = open_window(&c->shown, VT220_BYTES, rows, columns);
+    uint32_t status = open_window(&c->terminal, language, rows, columns); /* the client's part: the server tells it the size */
+    if (status == VT220_OK) status = open_window(&c->shown, language, rows, columns);
     if (status == VT220_OK) status = vt220_copy(&c->shown, &s->host);
     if (status == VT220_OK && !vt220_is_between(&c->shown)) vt220_feed(&c->shown, &can, 1, NULL, 0, NULL);
     if (status == VT220_OK) status = vt220_repaint(&c->shown, &s->scratch, s->out, s->size, &len);
@@ -75,15 +77,20 @@ static uint32_t join(server *s) {
     return status;
 }
 
-/* Brings each client to what the host shows now. Inside a sequence there is no update, and nothing to show: a later one has it. */
+/* Brings a client to what the host shows now. */
+static uint32_t bring(server *s, client *c) {
+    size_t len;
+    uint32_t status;
+    if (c->language != VT220_XTERM) status = vt220_update(&c->shown, &s->host, &s->scratch, s->out, s->size, &len);
+    else if ((status = vt220_repaint(&s->host, &s->scratch, s->out, s->size, &len)) == VT220_OK) status = vt220_copy(&c->shown, &s->host);
+    if (status == VT220_OK) deliver(c, s->out, len);
+    return status;
+}
+
+/* Brings each client to what the host shows now. Inside a sequence there is no update and no repaint, and nothing to show: later ones have it. */
 static uint32_t update(server *s) {
     uint32_t status = VT220_OK;
-    for (size_t i = 0; status == VT220_OK && i < s->count; i++) {
-        client *c = &s->clients[i];
-        size_t len;
-        status = vt220_update(&c->shown, &s->host, &s->scratch, s->out, s->size, &len);
-        if (status == VT220_OK) deliver(c, s->out, len);
-    }
+    for (size_t i = 0; status == VT220_OK && i < s->count; i++) status = bring(s, &s->clients[i]);
     return status == VT220_PARTIAL ? VT220_OK : status;
 }
 
@@ -126,10 +133,10 @@ static uint32_t hear_text(server *s, const char *text) { return hear(s, (const u
 int main(void) {
     server s = {.out = NULL};
     uint32_t status = open_server(&s, 24, 80);
-    if (status == VT220_OK) status = tell(&s, "a client joins", join(&s));
+    if (status == VT220_OK) status = tell(&s, "a VT220 joins", join(&s, VT220_BYTES));
     if (status == VT220_OK) status = tell(&s, "the host writes a prompt", hear_text(&s, "$ make\r\n"));
     if (status == VT220_OK) status = tell(&s, "it begins a title", hear_text(&s, "\033[7mbuilding\033[m\033]0;a title"));
-    if (status == VT220_OK) status = tell(&s, "another client joins", join(&s));
+    if (status == VT220_OK) status = tell(&s, "an xterm joins", join(&s, VT220_XTERM));
     if (status == VT220_OK) status = tell(&s, "the title ends", hear_text(&s, " and its end\007\r\nbuilt\r\n$ "));
     if (status == VT220_OK) status = tell(&s, "the window is 40 by 120", change_size(&s, 40, 120));
     if (status == VT220_OK) status = tell(&s, "an editor begins", hear_text(&s, "vi\r\n\033[?1049h\033[40;1H~"));

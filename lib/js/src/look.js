@@ -1,6 +1,6 @@
 // look.js: what the element <vt220-player> consists of, and its style. A page sets the custom properties that begin with --vt220-.
 
-export const MARKUP = `
+const HTML = `
 <div id="stage"><div id="screen" role="group" tabindex="0" aria-label="Terminal screen"></div><div id="typed" hidden></div></div>
 <fieldset id="controls" role="none" disabled>
 <div class="bar timed">
@@ -36,6 +36,9 @@ export const MARKUP = `
 <kbd>0</kbd> to <kbd>9</kbd> to a tenth, <kbd>[</kbd> <kbd>]</kbd> to a marker. <kbd>&lt;</kbd> <kbd>&gt;</kbd> change the speed, <kbd>s</kbd> skips pauses, <kbd>+</kbd> <kbd>-</kbd> change the size of the text, <kbd>f</kbd> fills the display. <kbd>/</kbd> searches,
 <kbd>n</kbd> <kbd>N</kbd> go through what was found, <kbd>Esc</kbd> goes back to the screen, and <kbd>?</kbd> shows these keys.</p></details>
 `;
+
+// A page with the policy `require-trusted-types-for 'script'` takes markup from a policy of a name alone.
+export const MARKUP = globalThis.trustedTypes?.createPolicy("vt220-player", { createHTML: () => HTML }).createHTML("") ?? HTML;
 
 export const STYLE = `
 :host { --columns: 80; --rows: 24; display: block; container-type: inline-size; color-scheme: light dark; --ink: var(--vt220-ink, #1a1a1a); --ground: var(--vt220-ground, #ffffff); --line: var(--vt220-line, #767676); --accent: var(--vt220-accent, #0b57d0);

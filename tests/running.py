@@ -1,7 +1,7 @@
 """Runs suites side by side and adds up what they count.
 
-The last line that a suite prints to standard output is 'N passed, M failed', perhaps with a name before it, or the one of pytest. A suite has
-no standard input and no terminal. If it fails, all that it printed is shown.
+The last line that a suite prints to standard output is 'N passed, M failed', perhaps with a name before it, or the one of pytest, or it ends
+as node's test runner does (its reporter `spec`). A suite has no standard input and no terminal. If it fails, all that it printed is shown.
 """
 import concurrent.futures
 import dataclasses
@@ -18,6 +18,8 @@ TOP = pathlib.Path(__file__).resolve().parents[1]
 COUNT = re.compile(r"(?:.*[ :])?(?P<passed>\d+) passed, (?P<failed>\d+) failed")
 # pytest's line about tests that passed or failed. If there were none, or anything else became of one, its line is another: that is a fault.
 PYTEST = re.compile(r"(?:(?P<failed>\d+) failed, )?(?P<passed>\d+) passed(?:, \d+ warnings?)? in \S+s(?: \(\S+\))?")
+# node's last lines, and the tests that failed. As with pytest they are others, which is a fault, if a test was skipped or didn't end.
+NODE = re.compile(r"ℹ tests [1-9].*\nℹ suites .*\nℹ pass (?P<passed>\d+)\nℹ fail (?P<failed>\d+)\nℹ cancelled 0\nℹ skipped 0\nℹ todo 0\nℹ duration_ms .*(?:\n\n✖ failing tests:\n(?s:.*))?\Z")
 printing = threading.Lock()
 
 
@@ -55,7 +57,7 @@ def say(*words):
 def counted(suite, status, printed):
     """Returns how many checks passed and failed, and lines about a fault that isn't in these counts."""
     last = (printed.rstrip().splitlines() or [""])[-1]
-    found = COUNT.fullmatch(last.strip()) or PYTEST.fullmatch(last.strip())
+    found = COUNT.fullmatch(last.strip()) or PYTEST.fullmatch(last.strip()) or NODE.search(printed.rstrip())
     if not suite.counts:
         return (1, 0, "") if status == 0 else (0, 1, f"status {status}")
     if not found:

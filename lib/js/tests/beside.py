@@ -1,5 +1,10 @@
-"""Inputs beside the library for C: hashes(inputs) is what tests/hashes.mjs makes of them in JavaScript."""
+"""Inputs beside the library for C: hashes(inputs) is what hashes.test.mjs makes of them in JavaScript.
+
+    beside.py COUNT     prints so many inputs with their hashes, as JSON
+"""
+import base64
 import glob
+import json
 import os
 import random
 import sys
@@ -147,3 +152,13 @@ def hashes(data):
         made.append(hash_of([*ours, *theirs, vt220.shown(each.decode("utf-8", "replace")).encode(), typed(each, terminal.modes())]))
         last = terminal
     return made
+
+
+def hashed(count):
+    """Returns inputs, and the hashes of what the library for C makes of them, as JSON."""
+    made = inputs(count)
+    return json.dumps([[base64.b64encode(data).decode(), each] for data, each in zip(made, hashes(made))])
+
+
+if __name__ == "__main__":
+    print(hashed(int(sys.argv[1])))

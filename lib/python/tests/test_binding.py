@@ -1,4 +1,4 @@
-"""Tests the binding: threads, arguments, the version, and how the library is found. test_vt220.py plays the vectors."""
+"""Tests the binding: threads, arguments, the version, and how the library is found. test_vectors.py plays the vectors."""
 import copy
 import ctypes
 import ctypes.util

@@ -111,7 +111,7 @@ def test_a_format_is_detected_as_the_program_does(tmp_path, data, format):
     (tmp_path / "it").write_bytes(data)
     assert detect(data) == format
     done = subprocess.run([PROGRAM, "events", "--full", "--partial", "--quiet", "--format", "auto", tmp_path / "it"], capture_output=True)
-    assert (done.returncode == 7) == (format == "compressed"), done
+    assert (done.returncode == 7) == (format == "compressed" or data.startswith(b'{"version":')), done
 
 
 def test_what_is_wrong_is_said(tmp_path):

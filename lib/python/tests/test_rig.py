@@ -26,8 +26,7 @@ from vt220.rig import ENTER, F6, UP, Failure, Key, KeyboardLocked, Reports, Scre
 from vt220.screen import MASK, Place, Stored, difference, differing, renewed
 from vt220.watchdog import MARK
 
-sys.path.append(str(pathlib.Path(__file__).resolve().parents[2] / "rows"))
-from vectors import vectors  # noqa: E402
+from vectors import vectors
 
 # Writes the size of its window when it begins and whenever that changes.
 TELL_SIZE = str(pathlib.Path(__file__).resolve().parents[3] / "tests/tell-size")

@@ -1,5 +1,4 @@
 """Tests the rig with programs that have TERM=xterm-256color."""
-import pathlib
 import subprocess
 import sys
 
@@ -11,7 +10,6 @@ from vt220.keyboard import Key, alt, ctrl, shift, spelled, typed
 from vt220.page import template
 from vt220.rig import END, F5, HOME, LEFT, TAB, UP, Failure, Reports
 
-sys.path.insert(0, str(pathlib.Path(__file__).resolve().parents[2] / "rows"))
 import xterm_keys
 
 # A limit that only says that something hangs.

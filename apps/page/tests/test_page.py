@@ -1,6 +1,6 @@
-#!/usr/bin/env python3
-"""Tests the pages that apps/page/vt220-page writes, in Chromium and Firefox. The last line is 'N passed, M failed'."""
+"""Tests the pages that apps/page/vt220-page writes."""
 import base64
+import functools
 import gzip
 import json
 import os
@@ -10,18 +10,15 @@ import re
 import runpy
 import struct
 import subprocess
-import sys
 import tempfile
 
-sys.dont_write_bytecode = True
+import pytest
+import vt220
+from browsers import PATIENCE, until
+from recorded import RECORDINGS, SIZED, WIDENING, XTERM, cast, recordings, scripted, waits
+
 HERE = pathlib.Path(__file__).resolve().parent
 ROOT = HERE.parents[2]
-sys.path.insert(0, str(ROOT / "lib/js/tests"))
-import beside  # noqa: E402,F401
-import vt220  # noqa: E402
-from browsers import PATIENCE, Chromium, Firefox, until  # noqa: E402
-from recorded import RECORDINGS, SIZED, WIDENING, XTERM, cast, recordings, scripted, waits  # noqa: E402
-
 TOOL = HERE.parent / "vt220-page"
 PARTS = runpy.run_path(str(TOOL))
 BROKEN = 7  # the exit status if a recording breaks its format
@@ -45,16 +42,9 @@ READABLE = """(() => {
   screen.scrollLeft = 0;
   return isWhole && parseFloat(getComputedStyle(screen).fontSize) >= 12 && document.documentElement.scrollWidth <= innerWidth;
 })()"""
-passed = failed = 0
 
 
-def check(is_so, what):
-    global passed, failed
-    passed, failed = passed + bool(is_so), failed + (not is_so)
-    if not is_so:
-        print(f"failed: {what}", file=sys.stderr)
-
-
+@functools.cache
 def frames(seed=5):
     """Returns the recordings of bench as chunks with times in microseconds, with pauses of some seconds between them."""
     source, now, made = random.Random(seed), 0, []
@@ -93,6 +83,37 @@ class Work:
         return path
 
 
+@pytest.fixture(scope="session")
+def work():
+    with tempfile.TemporaryDirectory() as place:
+        yield Work(place)
+
+
+@pytest.fixture(scope="session")
+def url(work):
+    """The address of the page of a long recording."""
+    return work.page("long.ttyrec", ttyrec(frames()), "--title", "A <title> & more", "--marker", "2=two", "--marker", "20=</script>twenty").as_uri()
+
+
+@pytest.fixture
+def page(chromium):
+    return chromium
+
+
+@pytest.fixture
+def long(page, url):
+    """The page of a long recording, of which nothing comes onto the console."""
+    fresh(page, url)
+    yield
+    assert page.said == []
+
+
+@pytest.mark.usefixtures("long")
+def test_title(page):
+    assert page.evaluate("document.documentElement.dataset.state") == "ready" and page.evaluate("document.title") == "A <title> & more"
+    assert page.evaluate("root.getElementById('markers').textContent") == "0:02.0 two0:20.0 </script>twenty"
+
+
 # --- the times of recordings ---
 
 
@@ -101,7 +122,7 @@ def read(data, timing=None):
     return PARTS["Recording"](data, timing)
 
 
-def headings():
+def test_headings():
     """What the first line of a recording names, by the forms of asciinema and script."""
     plain = b'Script started on 2026-01-01 00:00:00+00:00 [TERM="vt220" TTY="/dev/pts/0" COLUMNS="132" LINES="24"]\n'
 
@@ -109,45 +130,45 @@ def headings():
         made = read(data)
         return made.terminal, made.size
 
-    check(named(scripted([])) == ("xterm", (100, 30)), "the first line of script under xterm")
-    check(named(plain) == ("vt220", (132, 24)), "the first line of script under vt220")
+    assert named(scripted([])) == ("xterm", (100, 30)), "the first line of script under xterm"
+    assert named(plain) == ("vt220", (132, 24)), "the first line of script under vt220"
     for version in (2, 3):
-        check(named(cast([], version)) == ("xterm", (100, 30)), f"the first line of a cast of version {version}")
-    check(named(b"\x1b[?1049h") == named(ttyrec(frames()[:1])) == (None, None), "bytes and a ttyrec name nothing")
+        assert named(cast([], version)) == ("xterm", (100, 30)), f"the first line of a cast of version {version}"
+    assert named(b"\x1b[?1049h") == named(ttyrec(frames()[:1])) == (None, None), "bytes and a ttyrec name nothing"
 
 
-def timings(place):
+def test_timings(tmp_path):
     """The times of recordings by script, in both forms of its timing file."""
     made = [(micros, data) for micros, data in frames(4)[:200]] + [(9 * 3600 * 10**6 + 3, b"\nScript done on the screen\n")]
-    wanted, timing = sized(made), pathlib.Path(place, "timing")
+    wanted, timing = sized(made), tmp_path / "timing"
 
     def timed(lines, session=scripted(made)):
         timing.write_text("\n".join(lines) + "\n")
         return read(session, timing)
 
     old = [f"{wait // 10**6}.{wait % 10**6:06} {len(data)}" for wait, data in waits(made)]
-    check(timed(old).chunks == wanted, "the times of script's old form")
-    check(timed(old[:7] + [""] + old[7:]).chunks[:9] == wanted[:9], "an empty line")
+    assert timed(old).chunks == wanted, "the times of script's old form"
+    assert timed(old[:7] + [""] + old[7:]).chunks[:9] == wanted[:9], "an empty line"
     facts = ["H 0.000000 START_TIME 2026-01-01", "H 0.000000 OUTPUT_LOG out", "H 0.250000 INPUT_LOG in"]
     later = [(micros + 250000, size) for micros, size in wanted]
-    check(timed(facts + [f"O {line}" for line in old]).chunks == later, "the times of script's new form")
+    assert timed(facts + [f"O {line}" for line in old]).chunks == later, "the times of script's new form"
     apart = facts + [f"O {old[0]}", "I 0.5 7", "S 0.25 SIGWINCH ROWS=24 COLS=80"] + [f"O {line}" for line in old[1:]]
-    check(timed(apart).chunks[1] == (made[1][0] + 1000000, len(made[1][1])), "input in another file, and a signal")
+    assert timed(apart).chunks[1] == (made[1][0] + 1000000, len(made[1][1])), "input in another file, and a signal"
     session = b'Script started on 2026-01-01\nabcINPUTdef\nScript done on 2026-01-01\n'
     both = timed(["O 0.5 3", "I 0.25 5", "O 0.25 3"], session)
-    check((both.chunks, both.content, both.texts(b"input")) == ([(500000, 3), (1000000, 3)], b"abcdef", [[0.75, "INPUT"]]), "input in the same file")
+    assert (both.chunks, both.content, both.texts(b"input")) == ([(500000, 3), (1000000, 3)], b"abcdef", [[0.75, "INPUT"]]), "input in the same file"
 
     def broken(lines, session):
         made = timed(lines, session)
         return made.chunks, made.broken
 
     end = session.rpartition(b"\nScript")[0]
-    check(broken(["0.5 3", "nothing"], session) == ([(500000, 3)], {"part": "timing", "at": 6}), "a timing file that is broken")
-    check(broken(["0.5 3", "0.5 9"], session) == ([(500000, 3)], {"part": "recording", "at": len(end)}), "a session that is too short")
-    check(broken(["0.5 3"], b"no session") == ([], {"part": "recording", "at": 0}), "no session")
+    assert broken(["0.5 3", "nothing"], session) == ([(500000, 3)], {"part": "timing", "at": 6}), "a timing file that is broken"
+    assert broken(["0.5 3", "0.5 9"], session) == ([(500000, 3)], {"part": "recording", "at": len(end)}), "a session that is too short"
+    assert broken(["0.5 3"], b"no session") == ([], {"part": "recording", "at": 0}), "no session"
 
 
-def markers(page, work):
+def test_markers(page, work):
     """The markers of a recording by asciinema, in both versions."""
     events = [(500000, "o", "one"), (1250000, "m", "first <b>"), (2000000, "o", "x"), (2000000, "m", ""), (3500000, "i", "typed"), (4000000, "m", "last"), (5000000, "o", "end")]
     for version in (2, 3):
@@ -157,51 +178,52 @@ def markers(page, work):
             last = micros
         page.go(work.page(f"marked-{version}.cast", "\n".join(lines).encode() + b"\n", "--marker", "3=mine", "--stop-at-markers", "--pause", "4").as_uri())
         page.wait(READY)
-        check(page.evaluate("page.player.markers") == [1.25, 2, 3, 4], f"the markers of version {version}")
-        check(page.evaluate("[...root.querySelectorAll('#markers button')].map((b) => b.textContent)") == ["0:01.2 first <b>", "0:02.0", "0:03.0 mine", "0:04.0 last"], "their names")
-        check(page.evaluate("page.line.length") == 7 and page.evaluate("page.player.longestPause") == 4, "the bytes of a recording with markers")
+        assert page.evaluate("page.player.markers") == [1.25, 2, 3, 4], f"the markers of version {version}"
+        assert page.evaluate("[...root.querySelectorAll('#markers button')].map((b) => b.textContent)") == ["0:01.2 first <b>", "0:02.0", "0:03.0 mine", "0:04.0 last"], "their names"
+        assert page.evaluate("page.line.length") == 7 and page.evaluate("page.player.longestPause") == 4, "the bytes of a recording with markers"
         stops = page.evaluate("(() => { const p = page.player, seen = []; for (const by of [1, 0.5, 5]) { p.play(); p.advance(by); seen.push(p.now, p.isPlaying); } return seen; })()")
-        check(stops == [1, True, 1.25, False, 2, False], f"it stops at each marker: {stops}")
+        assert stops == [1, True, 1.25, False, 2, False], f"it stops at each marker: {stops}"
 
 
-def times_of_script(page, work, made):
+def test_times_of_script(page, work):
     """A page of a recording by script with its timing file."""
+    made = frames()
     timing = work.place / "timing"
     timing.write_text("".join(f"{wait / 1e6:.6f} {len(data)}\n" for wait, data in waits(made)))
     page.go(work.page("script.typescript", scripted(made), "--timing", timing).as_uri())
     page.wait(READY)
     told = page.evaluate(NOTED)
-    check("columns" not in told and "Colours" in told and "9600" not in told, f"the notes of script: {told}")
-    check(page.evaluate("page.line.chunks") == len(made) and page.evaluate("page.line.duration") == made[-1][0] / 1e6, "the chunks of script")
+    assert "columns" not in told and "Colours" in told and "9600" not in told, f"the notes of script: {told}"
+    assert page.evaluate("page.line.chunks") == len(made) and page.evaluate("page.line.duration") == made[-1][0] / 1e6, "the chunks of script"
     moments(page, made, 20, **XTERM, **SIZED)
     page.go(work.page("script.typescript", scripted(made), "--timing", timing, "--terminal", "vt220").as_uri())
     page.wait(READY)
-    check("recorded for an xterm" in page.evaluate(NOTED), f"the notes of script for a VT220: {page.evaluate(NOTED)}")
+    assert "recorded for an xterm" in page.evaluate(NOTED), f"the notes of script for a VT220: {page.evaluate(NOTED)}"
     moments(page, made, 20, **SIZED)
 
 
-def times():
+def test_times():
     source = random.Random(9)
     made = [(micros, data) for micros, data in frames(3)[:300] if data.isascii()]
     made.insert(5, (made[4][0] + 1, b""))
     made.append((made[-1][0], b"at once"))
     made.append((made[-1][0] + 3 * 3600 * 10**6 + 7, b"hours later" + bytes(source.randrange(32, 127) for _ in range(5000))))
     wanted = sized((micros, data) for micros, data in made if data)
-    check(read(ttyrec(made)).chunks == wanted, "the times of a ttyrec")
+    assert read(ttyrec(made)).chunks == wanted, "the times of a ttyrec"
     for version in (2, 3):
-        check(read(cast(made, version)).chunks == wanted, f"the times of a cast, version {version}")
-        check(read(cast(made, version)[:-1]).chunks == wanted, f"the times of a cast without its last LF, version {version}")
-    check(read(ttyrec(made)[:-1]).broken == {"part": "recording", "at": len(ttyrec(made[:-1]))}, "a ttyrec that is cut")
+        assert read(cast(made, version)).chunks == wanted, f"the times of a cast, version {version}"
+        assert read(cast(made, version)[:-1]).chunks == wanted, f"the times of a cast without its last LF, version {version}"
+    assert read(ttyrec(made)[:-1]).broken == {"part": "recording", "at": len(ttyrec(made[:-1]))}, "a ttyrec that is cut"
     lines = cast(made[:3], 2)
-    check(read(lines + b"[nothing\n").broken == {"part": "recording", "at": len(lines)}, "a cast that is broken")
-    check(read(b'{"version": 1}\n').broken == {"part": "recording", "at": 0}, "a cast of version 1")
+    assert read(lines + b"[nothing\n").broken == {"part": "recording", "at": len(lines)}, "a cast that is broken"
+    assert read(b'{"version": 1}\n').broken == {"part": "recording", "at": 0}, "a cast of version 1"
     falling = ttyrec([(5000000, b"a"), (7000000, b"b"), (6000000, b"c")])
-    check(read(falling).chunks == [(0, 1), (2000000, 1), (2000000, 1)], "times that fall")
-    check(not read(b"\x1b[2Jtext").is_timed and not read(b"").is_timed, "bytes have no times")
+    assert read(falling).chunks == [(0, 1), (2000000, 1), (2000000, 1)], "times that fall"
+    assert not read(b"\x1b[2Jtext").is_timed and not read(b"").is_timed, "bytes have no times"
     # A backslash, TAB and LF, and bytes of both halves.
     plain = bytes(range(256)) + b"\\x41\t\n"
-    check(read(ttyrec([(5000000, plain)])).content == plain, "the bytes of a ttyrec")
-    check(read(b"\x1f\x8b\x08\0\0\0").content == b"", "a compressed file")
+    assert read(ttyrec([(5000000, plain)])).content == plain, "the bytes of a ttyrec"
+    assert read(b"\x1f\x8b\x08\0\0\0").content == b"", "a compressed file"
 
 
 # --- the player ---
@@ -214,7 +236,12 @@ def moments(page, made, count=200, **options):
         terminal = vt220.Terminal(**options)
         terminal.feed(b"".join(data for _, data in made[: at + 1]))
         shown = page.evaluate(f"page.player.go({made[at][0] / 1e6!r}), {SHOWN}")
-        check(shown == terminal.text(), f"the screen after chunk {at}")
+        assert shown == terminal.text(), f"the screen after chunk {at}"
+
+
+@pytest.mark.usefixtures("long")
+def test_moments(page):
+    moments(page, frames())
 
 
 def unwrapped(text, width):
@@ -242,88 +269,91 @@ def spans_of(made, needle, **options):
 FOUND = "page.player.spans.map((span) => [span.time, span.until === Infinity ? null : span.until, span.line])"
 
 
-def searches(page, made):
+@pytest.mark.usefixtures("long")
+def test_searches(page):
+    made = frames()
     for needle in ("bytes", "VT220", "zzqzz", "│"):
         spans = spans_of(made, needle)
         found = page.evaluate(f"page.search({needle!r}).then(() => {FOUND})")
-        check(found == spans, f"the times of {needle}: {len(found)} and {len(spans)}")
+        assert found == spans, f"the times of {needle}: {len(found)} and {len(spans)}"
         marked = page.evaluate("[...root.querySelectorAll('mark')].map((mark) => mark.textContent).join('').toLowerCase()")
         hits = unwrapped(page.evaluate(SHOWN), page.evaluate("page.line.terminal.width")).lower().count(needle.lower())
         is_shown = page.evaluate("page.player.spans[page.player.span]?.line === null")
-        check(marked == hits * needle.lower() and (hits > 0) == is_shown, f"{needle} is marked wherever it is")
+        assert marked == hits * needle.lower() and (hits > 0) == is_shown, f"{needle} is marked wherever it is"
         said = page.evaluate("root.getElementById('said').textContent")
-        check(said.startswith(f"{len(spans)} times" if len(spans) > 1 else "Once") if spans else said == "This text is never on the screen.", f"what is said of {needle}: {said}")
+        assert said.startswith(f"{len(spans)} times" if len(spans) > 1 else "Once") if spans else said == "This text is never on the screen.", f"what is said of {needle}: {said}"
     page.evaluate("page.search('')")
 
 
-def scrolled(page, work):
+def test_scrolled(page, work):
     """A search finds a line that comes and scrolls off within a chunk, goes to this chunk, and says so. So it finds each line of fast output."""
     texts = ["".join(f"line {i}\r\n" for i in range(first, first + 100)) for first in range(0, 1000, 100)]
     made = [(800000 * (i + 1), text.encode()) for i, text in enumerate(texts)]
     page.go(work.page("scrolled.cast", cast(made, 2, (80, 24))).as_uri())
     page.wait(READY)
     lost = page.evaluate("""(async () => { const lost = []; for (let i = 0; i < 1000; i++) if ((await page.searcher.search(`^line ${i} *$`, { expression: true })).length === 0) lost.push(i); return lost; })()""")
-    check(lost == [], f"lines that can't be found: {len(lost)} of 1000")
+    assert lost == [], f"lines that can't be found: {len(lost)} of 1000"
     page.evaluate("page.search('line 142')")
-    check([page.evaluate(NOW), page.evaluate(SAID)] == [1.6, "Once on the screen; this is number 1, in line 143, which scrolled past at 0:01.6."], f"what is said: {page.evaluate(SAID)}")
+    assert [page.evaluate(NOW), page.evaluate(SAID)] == [1.6, "Once on the screen; this is number 1, in line 143, which scrolled past at 0:01.6."], f"what is said: {page.evaluate(SAID)}"
 
 
-def keys(page):
+@pytest.mark.usefixtures("long")
+def test_keys(page):
     now = NOW
     page.evaluate("page.player.go(10), root.activeElement?.blur()")
     for key, text, wanted in [("ArrowRight", None, 15), ("ArrowLeft", None, 10), ("Home", None, 0), ("5", "5", "page.line.duration / 2"), ("End", None, "page.line.duration")]:
         page.press(key, text=text)
-        check(page.evaluate(f"Math.abs({now} - {wanted}) < 1e-6"), f"the key {key}")
+        assert page.evaluate(f"Math.abs({now} - {wanted}) < 1e-6"), f"the key {key}"
     page.evaluate("page.player.go(10)")
     before = page.evaluate(f"page.line.chunksAt({now})")
     page.press(".", text=".")
-    check(page.evaluate(f"page.line.chunksAt({now})") == before + 1, "the key .")
+    assert page.evaluate(f"page.line.chunksAt({now})") == before + 1, "the key ."
     page.press(",", text=",")
-    check(page.evaluate(f"page.line.chunksAt({now})") == before, "the key ,")
+    assert page.evaluate(f"page.line.chunksAt({now})") == before, "the key ,"
     page.press("]", text="]")
-    check(page.evaluate(now) == 20, "the key ]")
+    assert page.evaluate(now) == 20, "the key ]"
     page.press("[", text="[")
-    check(page.evaluate(now) == 2, "the key [")
+    assert page.evaluate(now) == 2, "the key ["
     page.press("]", "Digit6", "]", alt=True)
-    check(page.evaluate(now) == 20, "the key ] by Option and 6")
+    assert page.evaluate(now) == 20, "the key ] by Option and 6"
     page.press("[", "Digit5", "[", alt=True)
     for key in ("5", "n", "ArrowRight"):
         page.press(key, text=key if len(key) == 1 else None, alt=True)
-        check(page.evaluate(now) == 2, f"Alt+{key} is for the browser")
+        assert page.evaluate(now) == 2, f"Alt+{key} is for the browser"
     for key, speed in ((">", 2), ("<", 1)):
         page.press(key, text=key, shift=True)
-        check(page.evaluate("page.player.speed") == speed and page.evaluate("Number(root.getElementById('speed').value)") == speed, f"the key {key}")
+        assert page.evaluate("page.player.speed") == speed and page.evaluate("Number(root.getElementById('speed').value)") == speed, f"the key {key}"
     page.press("s", text="s")
-    check(page.evaluate("!page.player.skips"), "the key s")
+    assert page.evaluate("!page.player.skips"), "the key s"
     page.press("s", text="s")
     page.press("ArrowRight", shift=True)
-    check(page.evaluate(f"Math.abs({now} - 2 - page.line.duration / 10) < 1e-6"), "the key ArrowRight with Shift")
+    assert page.evaluate(f"Math.abs({now} - 2 - page.line.duration / 10) < 1e-6"), "the key ArrowRight with Shift"
     page.press("f", text="f")
     page.wait("document.fullscreenElement !== null")
-    check(page.evaluate(FITS), "it fits a full screen")
+    assert page.evaluate(FITS), "it fits a full screen"
     page.press("f", text="f")
     page.wait("document.fullscreenElement === null")
     page.press("/", text="/")
-    check(page.evaluate("root.activeElement.id") == "needle", "the key /")
+    assert page.evaluate("root.activeElement.id") == "needle", "the key /"
     for letter in "bytes":
         page.press(letter, text=letter)
     page.press("Enter", text="\r")
     page.wait("page.player.needle === 'bytes' && page.player.spans.length > 1")
     page.press("Escape")
-    check(page.evaluate("root.activeElement.id") == "screen", "the key Escape")
+    assert page.evaluate("root.activeElement.id") == "screen", "the key Escape"
     for is_open in (True, False):
         page.press("?", text="?", shift=True)
-        check(page.evaluate("root.getElementById('keys').open") == is_open, "the key ?")
+        assert page.evaluate("root.getElementById('keys').open") == is_open, "the key ?"
     spot = page.evaluate(now)
     page.press("n", text="n")
-    check(page.evaluate(now) != spot, "the key n")
+    assert page.evaluate(now) != spot, "the key n"
     page.press("N", text="N", shift=True)
-    check(page.evaluate("page.player.span") >= 0, "the key N")
+    assert page.evaluate("page.player.span") >= 0, "the key N"
     page.evaluate("page.search('')")
     page.press(" ", "Space", " ")
     page.wait(f"page.player.isPlaying && {now} > {spot}")
     page.press(" ", "Space", " ")
-    check(page.evaluate("!page.player.isPlaying && root.getElementById('play').textContent === 'Play'"), "the key Space")
+    assert page.evaluate("!page.player.isPlaying && root.getElementById('play').textContent === 'Play'"), "the key Space"
 
 
 # Notes what the player tells of, with the times.
@@ -339,7 +369,7 @@ def fresh(page, url):
     page.evaluate(LISTEN)
 
 
-def first_play(page, url):
+def test_first_play(page, url):
     """The first Play goes on from the place that was sought, whichever way led there."""
     ways = {
         "the bar": lambda: page.click("#time"),
@@ -355,10 +385,10 @@ def first_play(page, url):
         sought = page.evaluate(NOW)
         page.click("#play")
         played = page.evaluate(PLAYED)
-        check(played == [sought] and sought > 0, f"the first Play after {way} to {sought}: {played}")
+        assert played == [sought] and sought > 0, f"the first Play after {way} to {sought}: {played}"
 
 
-def quiet(page, url):
+def test_quiet(page, url):
     """A screen reader reads out nothing of what changes while a recording plays."""
     fresh(page, url)
     page.evaluate("""(() => { window.changed = new Set(); const note = (node) => { for (; node !== null; node = node.parentNode) if (node.id) changed.add(node.id); };
@@ -367,53 +397,55 @@ def quiet(page, url):
     page.wait("changed.has('clock') && changed.has('screen')")
     page.click("#play")
     live, changed = page.live(), set(page.evaluate("[...changed]"))
-    check("said" in live and not live & changed, f"what is read out: {live}, and what changes: {changed}")
+    assert "said" in live and not live & changed, f"what is read out: {live}, and what changes: {changed}"
 
 
-def reached(page):
+@pytest.mark.usefixtures("long")
+def test_reached(page):
     """Each control has the focus in turn."""
     page.evaluate("root.getElementById('screen').focus()")
     wanted, found = page.evaluate("[...root.querySelectorAll('button, input, select, summary')].map((e) => e.id || e.textContent)"), []
     for _ in wanted:
         page.press("Tab")
         found.append(page.evaluate("root.activeElement.id || root.activeElement.textContent.slice(0, 80)"))
-    check(found == wanted and len(wanted) > 15, f"the key Tab reaches each control: {found}")
+    assert found == wanted and len(wanted) > 15, f"the key Tab reaches each control: {found}"
 
 
-def mouse(page, work):
+@pytest.mark.usefixtures("long")
+def test_mouse(page, work):
     """Each control, by the mouse."""
     page.call("Browser.grantPermissions", permissions=["clipboardReadWrite", "clipboardSanitizedWrite"])
     page.call("Browser.setDownloadBehavior", behavior="allow", downloadPath=str(work.place / "saved"))
     page.call("Emulation.setFocusEmulationEnabled", enabled=True)
     page.click("#time")
-    check(page.evaluate(f"Math.abs({NOW} / page.line.duration - 0.5) < 0.02"), "a click on the bar")
+    assert page.evaluate(f"Math.abs({NOW} / page.line.duration - 0.5) < 0.02"), "a click on the bar"
     page.click("#time", 0.25)
-    check(page.evaluate(f"Math.abs({NOW} / page.line.duration - 0.25) < 0.02"), "another click on the bar")
+    assert page.evaluate(f"Math.abs({NOW} / page.line.duration - 0.25) < 0.02"), "another click on the bar"
     at = page.evaluate(f"page.line.chunksAt({NOW})")
     for button, by in (("forth", 1), ("forth", 2), ("back", 1)):
         page.click(f"#{button}")
-        check(page.evaluate(f"page.line.chunksAt({NOW})") == at + by, f"the button {button}")
+        assert page.evaluate(f"page.line.chunksAt({NOW})") == at + by, f"the button {button}"
     page.click("#markers button:nth-child(2)")
-    check(page.evaluate(NOW) == 20, "the button of a marker")
+    assert page.evaluate(NOW) == 20, "the button of a marker"
     page.click("#play")
     page.wait(f"page.player.isPlaying && {NOW} > 20 && root.getElementById('play').textContent === 'Pause'")
     page.click("#play")
-    check(page.evaluate("!page.player.isPlaying && root.getElementById('play').textContent === 'Play'"), "the button Pause")
+    assert page.evaluate("!page.player.isPlaying && root.getElementById('play').textContent === 'Play'"), "the button Pause"
     for is_on in (False, True):
         page.click("#skip")
-        check(page.evaluate("page.player.skips") == is_on, "the box of pauses")
+        assert page.evaluate("page.player.skips") == is_on, "the box of pauses"
     page.evaluate("root.getElementById('speed').focus()")
     for key, speed in (("ArrowDown", 2), ("ArrowDown", 4), ("ArrowUp", 2), ("ArrowUp", 1)):
         page.press(key)
-        check(page.evaluate("page.player.speed") == speed, f"the speed {speed}")
+        assert page.evaluate("page.player.speed") == speed, f"the speed {speed}"
     for button, wanted in (("copy", "page.text()"), ("link", "page.link()")):
         page.click(f"#{button}")
         page.wait(f"{SAID}.endsWith('is copied')")
-        check(page.evaluate("navigator.clipboard.readText()") == page.evaluate(wanted) != "", f"the button {button}")
+        assert page.evaluate("navigator.clipboard.readText()") == page.evaluate(wanted) != "", f"the button {button}"
         page.evaluate("page.say('')")
     page.click("#picture")
     saved = until(lambda: [file for file in (work.place / "saved").glob("*.svg") if file.read_text().endswith("</svg>\n")], "a picture")
-    check(saved[0].read_text() == page.evaluate("page.line.terminal.picture()") and saved[0].name == f"vt220-{round(page.evaluate(NOW), 6)}.svg", f"the picture {saved[0].name}")
+    assert saved[0].read_text() == page.evaluate("page.line.terminal.picture()") and saved[0].name == f"vt220-{round(page.evaluate(NOW), 6)}.svg", f"the picture {saved[0].name}"
     page.click("#needle")
     for letter in "bytes":
         page.press(letter, text=letter)
@@ -422,7 +454,7 @@ def mouse(page, work):
     for button, by in (("next", 1), ("next", 1), ("previous", -1)):
         before = page.evaluate("page.player.span")
         page.click(f"#{button}")
-        check(page.evaluate("(page.player.span - %d + page.player.spans.length) %% page.player.spans.length" % by) == before, f"the button {button}")
+        assert page.evaluate("(page.player.span - %d + page.player.spans.length) %% page.player.spans.length" % by) == before, f"the button {button}"
     spaces(page)
     clicks(page)
     selection(page)
@@ -434,12 +466,12 @@ def spaces(page):
         page.click(control)
         for is_playing in (True, False):
             page.press(" ", "Space", " ")
-            check(page.evaluate("page.player.isPlaying") == is_playing, f"Space after a click on {control}")
+            assert page.evaluate("page.player.isPlaying") == is_playing, f"Space after a click on {control}"
     page.evaluate("root.getElementById('speed').focus()")
     page.press("Tab")
     skips = page.evaluate("page.player.skips")
     page.press(" ", "Space", " ")
-    check(page.evaluate("[root.activeElement.id, page.player.skips, page.player.isPlaying]") == ["skip", not skips, False], "Space on a control that Tab reached")
+    assert page.evaluate("[root.activeElement.id, page.player.skips, page.player.isPlaying]") == ["skip", not skips, False], "Space on a control that Tab reached"
     page.press(" ", "Space", " ")
     page.click("#skip")
 
@@ -455,19 +487,20 @@ def clicks(page):
     place = f"#screen > div:nth-child({row})"
     for is_playing in (True, False):
         page.click(place)
-        check(page.evaluate("page.player.isPlaying") == is_playing, "a click on the screen")
+        assert page.evaluate("page.player.isPlaying") == is_playing, "a click on the screen"
     page.click(place, 0.01, to=0.5)
-    check(page.evaluate("!page.player.isPlaying && root.getSelection().toString().trim() !== ''"), "a drag selects")
+    assert page.evaluate("!page.player.isPlaying && root.getSelection().toString().trim() !== ''"), "a drag selects"
     page.click(place)
-    check(page.evaluate("!page.player.isPlaying && root.getSelection().isCollapsed"), "a click that ends a selection")
+    assert page.evaluate("!page.player.isPlaying && root.getSelection().isCollapsed"), "a click that ends a selection"
     for count in (1, 2):
         page.click(place, count=count)
-    check(page.evaluate("!page.player.isPlaying"), "a double click")
+    assert page.evaluate("!page.player.isPlaying"), "a double click"
     page.evaluate("root.getSelection().removeAllRanges()")
 
 
-def marked(page):
+def test_marked(page, url):
     """The bar has the spans of the search, and the markers, and nothing else."""
+    fresh(page, url)
     wrong = page.evaluate("""(async () => {
       await page.search("bytes");
       const canvas = root.getElementById("marks"), context = canvas.getContext("2d"), { duration } = page.line, half = canvas.height / 2;
@@ -480,15 +513,15 @@ def marked(page):
       for (const time of markers) if (!isDrawn(time, canvas.height - 1)) wrong.push(["no marker", time]);
       return middles(on).length > 0 && middles(off).length > 0 && markers.length > 0 && !isDrawn((markers[0] + markers[1]) / 2, canvas.height - 1) ? wrong : ["nothing to see"];
     })()""")
-    check(wrong == [], f"the bar has each span: {wrong}")
+    assert wrong == [], f"the bar has each span: {wrong}"
     page.evaluate("page.search('')")
-    check(page.evaluate("(() => { const c = root.getElementById('marks'); return c.getContext('2d').getImageData(0, 0, c.width, c.height / 2).data.every((value) => value === 0); })()"), "the bar without a search")
+    assert page.evaluate("(() => { const c = root.getElementById('marks'); return c.getContext('2d').getImageData(0, 0, c.width, c.height / 2).data.every((value) => value === 0); })()"), "the bar without a search"
 
 
 def selection(page):
     """The text of the screen can be selected. A row that doesn't change stays selected."""
     page.evaluate("root.getSelection().selectAllChildren(root.getElementById('screen'))")
-    check(page.evaluate("root.getSelection().toString().split('\\n').map((line) => line.trimEnd()).join('\\n').trimEnd()") == page.evaluate("page.text().trimEnd()"), "a selection of the screen")
+    assert page.evaluate("root.getSelection().toString().split('\\n').map((line) => line.trimEnd()).join('\\n').trimEnd()") == page.evaluate("page.text().trimEnd()"), "a selection of the screen"
     row = page.evaluate("""(() => { const { player, line, screen } = page; player.go(10);
       for (;;) {
         const rows = [...root.querySelectorAll("#screen > div")], before = rows.map((row) => row.firstChild);
@@ -501,19 +534,20 @@ def selection(page):
         } else player.step(1);
       }
     })()""")
-    check(row[0] == row[1] != "", f"what is selected: {row}")
+    assert row[0] == row[1] != "", f"what is selected: {row}"
     copy = """(() => { const copy = new ClipboardEvent("copy", { clipboardData: new DataTransfer(), bubbles: true, cancelable: true });
       root.querySelector("#screen > div").dispatchEvent(copy); return copy.clipboardData.getData("text/plain"); })()"""
     page.evaluate("root.getSelection().selectAllChildren(root.getElementById('screen'))")
-    check(page.evaluate(copy).rstrip("\n") == page.evaluate(SHOWN).rstrip("\n") != "", "a copy has no blanks at the ends of lines")
+    assert page.evaluate(copy).rstrip("\n") == page.evaluate(SHOWN).rstrip("\n") != "", "a copy has no blanks at the ends of lines"
     page.evaluate("root.getSelection().removeAllRanges(), navigator.clipboard.writeText = () => Promise.reject()")
     page.click("#copy")
     page.wait(f"{SAID}.includes('selected')")
-    check(page.evaluate(copy).rstrip("\n") == page.evaluate(SHOWN).rstrip("\n"), "text that can't be copied is selected")
+    assert page.evaluate(copy).rstrip("\n") == page.evaluate(SHOWN).rstrip("\n"), "text that can't be copied is selected"
     page.evaluate("root.getSelection().removeAllRanges(), delete navigator.clipboard.writeText")
 
 
-def playing(page):
+@pytest.mark.usefixtures("long")
+def test_playing(page):
     """The clock on the wall is that of the test."""
     run = "(() => {{ const p = page.player; p.pause(); p.speed = {speed}; p.skips = {skips}; p.loops = {loops}; p.now = {now}; p.isPlaying = true; p.advance({by}); const r = [p.now, p.isPlaying]; p.pause(); p.speed = 1; p.skips = true; p.loops = false; return r; }})()"
 
@@ -521,41 +555,43 @@ def playing(page):
         return page.evaluate(run.format(by=by, now=now, speed=speed, skips=skips, loops=loops))
 
     duration = page.evaluate("page.line.duration")
-    check(advanced(2, 3) == [5, True] and advanced(2, 3, speed=4) == [11, True], "the speed")
-    check(advanced(5, duration - 1) == [duration, False] and advanced(5, duration - 1, loops="true") == [0, True], "the end, and a loop")
+    assert advanced(2, 3) == [5, True] and advanced(2, 3, speed=4) == [11, True], "the speed"
+    assert advanced(5, duration - 1) == [duration, False] and advanced(5, duration - 1, loops="true") == [0, True], "the end, and a loop"
     gap = page.evaluate("(() => { for (let i = 1; i < page.line.chunks; i++) if (page.line.time(i) - page.line.time(i - 1) > 3) return [page.line.time(i - 1), page.line.time(i)]; })()")
-    check(advanced(1.1, gap[0], skips="true") == [gap[1], True] and advanced(0.9, gap[0], skips="true")[0] < gap[1], "pauses are skipped after a second")
+    assert advanced(1.1, gap[0], skips="true") == [gap[1], True] and advanced(0.9, gap[0], skips="true")[0] < gap[1], "pauses are skipped after a second"
 
 
-def safety(page, url):
+def test_safety(page, url):
+    fresh(page, url)
     page.evaluate("(() => { const made = document.createElement('script'); made.textContent = 'window.injected = 1'; document.body.append(made); })()")
-    check(page.evaluate("window.injected === undefined"), "an injected script is refused")
-    check(page.evaluate("fetch('https://example.com/').then(() => 'fetched', () => 'refused')") == "refused", "the network is refused")
-    check(page.evaluate("(() => { try { return localStorage.length } catch { return 0 } })()") == 0, "nothing is stored")
+    assert page.evaluate("window.injected === undefined"), "an injected script is refused"
+    assert page.evaluate("fetch('https://example.com/').then(() => 'fetched', () => 'refused')") == "refused", "the network is refused"
+    assert page.evaluate("(() => { try { return localStorage.length } catch { return 0 } })()") == 0, "nothing is stored"
 
 
-def looks(page):
+@pytest.mark.usefixtures("long")
+def test_looks(page):
     names = page.names()
     for role, name in [("group", "Terminal screen"), ("button", "Play"), ("slider", "Time"), ("searchbox", "Search all time"), ("button", "One chunk back"), ("button", "One chunk forth"),
                        ("button", "Previous time on the screen"), ("button", "Next time on the screen"), ("combobox", "Speed"), ("checkbox", "Skip pauses"), ("button", "Save picture"),
                        ("button", "Copy text"), ("button", "Copy link"), ("button", "Full screen"), ("group", "Markers"), ("status", None)]:
-        check(any(r == role and (name is None or (n or "").strip() == name) for r, n in names), f"the name {name} of the {role}")
+        assert any(r == role and (name is None or (n or "").strip() == name) for r, n in names), f"the name {name} of the {role}"
     for width, height in ((1000, 800), (667, 375), (640, 410), (375, 667), (320, 568)):
         page.size(width, height)
-        check(page.evaluate(READABLE), f"its text can be read in {width} times {height} pixels")
-        check(width < 640 or page.evaluate(FITS), f"it fits into {width} pixels")
+        assert page.evaluate(READABLE), f"its text can be read in {width} times {height} pixels"
+        assert width < 640 or page.evaluate(FITS), f"it fits into {width} pixels"
     page.size(1000, 820)
     grounds = []
     for scheme in ("light", "dark"):
         page.media(prefers_color_scheme=scheme)
         grounds.append(page.evaluate("getComputedStyle(document.body).backgroundColor"))
-    check(grounds[0] == "rgb(255, 255, 255)" and grounds[1] != grounds[0], "light and dark")
+    assert grounds[0] == "rgb(255, 255, 255)" and grounds[1] != grounds[0], "light and dark"
     page.media(media="print")
-    check(page.evaluate("getComputedStyle(root.querySelector('.bar')).display") == "none" and page.evaluate("getComputedStyle(root.getElementById('screen')).backgroundColor") == "rgb(255, 255, 255)", "a print")
+    assert page.evaluate("getComputedStyle(root.querySelector('.bar')).display") == "none" and page.evaluate("getComputedStyle(root.getElementById('screen')).backgroundColor") == "rgb(255, 255, 255)", "a print"
     page.media()
 
 
-def widths(page, work):
+def test_widths(page, work):
     """The page is as wide as the smallest text needs, up to the window, and larger if there is room."""
     for columns, rows in ((80, 24), (132, 24), (120, 40), (200, 50)):
         page.go(work.page("widths.cast", cast([(0, b"x" * columns)], 2, (columns, rows))).as_uri())
@@ -564,12 +600,12 @@ def widths(page, work):
             page.size(width, height)
             room, needed = width - 2 * 16, 12 * (columns * 0.602 + 1.5)  # the page has a rem at both sides
             fits, wide, size = page.evaluate(f"[{FITS}, root.getElementById('screen').offsetWidth, parseFloat(getComputedStyle(root.getElementById('screen')).fontSize)]")
-            check(fits if needed <= room else wide >= room, f"{columns}x{rows} in a window of {width}x{height}: {wide}, and {needed} is needed")
-            check(size > 15 or width < 2560, f"the text of {columns}x{rows} in a window of {width}x{height}: {size}")
+            assert fits if needed <= room else wide >= room, f"{columns}x{rows} in a window of {width}x{height}: {wide}, and {needed} is needed"
+            assert size > 15 or width < 2560, f"the text of {columns}x{rows} in a window of {width}x{height}: {size}"
     page.size(1000, 820)
 
 
-def phone(page, work):
+def test_phone(page, work):
     """On a phone the whole screen is shown after some presses of A-, and each press of A+ and A- changes the size."""
     page.size(375, 667)
     page.go(work.page("phone.raw", b"x" * 80).as_uri())
@@ -578,11 +614,11 @@ def phone(page, work):
     for button in ("larger", "smaller", "smaller", "smaller"):
         page.click(f"#{button}")
         sizes.append(page.evaluate("parseFloat(getComputedStyle(root.getElementById('screen')).fontSize)"))
-    check(sizes == [15, 12, 9, 6] and page.evaluate(FITS), f"the sizes of the text on a phone: {sizes}")
+    assert sizes == [15, 12, 9, 6] and page.evaluate(FITS), f"the sizes of the text on a phone: {sizes}"
     page.size(1000, 820)
 
 
-def reverse(page, work):
+def test_reverse(page, work):
     """Reverse video differs from blank cells in every way to show a page. Blank cells of both kinds are compared, and what is found."""
     data = b"\x1b[7m" + b" " * 40 + b"\x1b[m\r\n\r\n" + b"found" * 8 + b"\x1b[24;1H"
     screens = {"a screen": data, "a reversed screen": b"\x1b[?5h" + data}
@@ -594,162 +630,124 @@ def reverse(page, work):
         for media in ({}, {"forced_colors": "active"}, {"forced_colors": "active", "prefers_color_scheme": "dark"}, {"media": "print"}):
             page.media(**media)
             reversed_, blank = (page.pixels(row, 0.2) for row in rows)
-            check(reversed_ != blank, f"reverse video on {what} with {media}")
-            check(page.evaluate("['.r', 'mark'].every((each) => getComputedStyle(root.querySelector('#screen ' + each)).printColorAdjust === 'exact')"), f"reverse video on {what} in print")
+            assert reversed_ != blank, f"reverse video on {what} with {media}"
+            assert page.evaluate("['.r', 'mark'].every((each) => getComputedStyle(root.querySelector('#screen ' + each)).printColorAdjust === 'exact')"), f"reverse video on {what} in print"
         page.media()
 
 
-def links(page, url):
+def test_links(page, url):
     page.go(f"{url}#t=12.5")
     page.wait(READY)
-    check(page.evaluate("page.player.now") == 12.5 and page.evaluate("page.link()").endswith("#t=12.5"), "a link to a moment")
+    assert page.evaluate("page.player.now") == 12.5 and page.evaluate("page.link()").endswith("#t=12.5"), "a link to a moment"
     page.evaluate("location.hash = 't=3.25'")
     page.wait("page.player.now === 3.25")
     page.evaluate("location.hash = 't=0:00:24.5'")
     page.wait("page.player.now === 24.5")
     page.evaluate("location.hash = 'q=by%74es'")
     page.wait("page.player.needle === 'bytes' && page.player.span >= 0")
-    check(page.evaluate("page.link()").endswith("#q=bytes"), "a link to a search")
+    assert page.evaluate("page.link()").endswith("#q=bytes"), "a link to a search"
     for end in ("#q=100%", "#q=%E0%A4%A", "#t=soon"):
         fresh(page, url + end)
-        check(page.evaluate("document.documentElement.dataset.state") == "ready" and end in page.evaluate(SAID), f"the link {end}: {page.evaluate(SAID)}")
+        assert page.evaluate("document.documentElement.dataset.state") == "ready" and end in page.evaluate(SAID), f"the link {end}: {page.evaluate(SAID)}"
         page.click("#play")
-        check(page.evaluate(PLAYED) == [0], f"a page that was opened by the link {end} plays")
+        assert page.evaluate(PLAYED) == [0], f"a page that was opened by the link {end} plays"
     fresh(page, url + "#q=by%74es")
     page.wait("page.player.span >= 0")
     picture = page.evaluate("page.line.terminal.picture()")
     terminal = vt220.Terminal()
     terminal.feed(bytes(page.evaluate("[...page.line.terminal.repaint()]")))
-    check(picture == terminal.picture() and page.evaluate("page.text()") == terminal.text().rstrip() + "\n", "the picture and the text of a moment")
+    assert picture == terminal.picture() and page.evaluate("page.text()") == terminal.text().rstrip() + "\n", "the picture and the text of a moment"
 
 
-def in_chromium(work):
-    made = frames()
-    path = work.page("long.ttyrec", ttyrec(made), "--title", "A <title> & more", "--marker", "2=two", "--marker", "20=</script>twenty")
-    page = Chromium(path.as_uri())
-    page.wait(READY)
-    check(page.evaluate("document.documentElement.dataset.state") == "ready" and page.evaluate("document.title") == "A <title> & more", "the page begins")
-    check(page.evaluate("root.getElementById('markers').textContent") == "0:02.0 two0:20.0 </script>twenty", "the markers")
-    for part in (moments, searches):
-        part(page, made)
-    keys(page)
-    reached(page)
-    mouse(page, work)
-    playing(page)
-    looks(page)
-    first_play(page, path.as_uri())
-    quiet(page, path.as_uri())
-    check(page.said == [], f"nothing on the console: {page.said}")
-    marked(page)
-    safety(page, path.as_uri())
-    links(page, path.as_uri())
-    notes(page, work, made)
-    sizes(page, work)
-    loading(page, work)
-    damaged(page, work)
-    hits(page, work)
-    scrolled(page, work)
-    widths(page, work)
-    phone(page, work)
-    reverse(page, work)
-    markers(page, work)
-    times_of_script(page, work, made)
-    others(page, work)
-    of_keeper(page, work)
-    embedded(page, work)
-    alone(page, work)
-    page.close()
-
-
-def notes(page, work, made):
+def test_notes(page, long, work):
     """What a VT220 can't show is on the page; nothing is if there is nothing to say."""
-    check(page.evaluate(NOTED) == "", "no notes")
-    plain = [(micros, data) for micros, data in made[:50] if data.isascii()]
+    assert page.evaluate(NOTED) == "", "no notes"
+    plain = [(micros, data) for micros, data in frames()[:50] if data.isascii()]
     odd = cast(plain, 2, (300, 20)) + '[99, "o", "\\u001bc→ café €"]\n[oh\n'.encode()
     page.go(work.page("odd.cast", odd, "--poster", "0.5", "--start", "1", "--loop", "--speed", "4").as_uri())
     page.wait(READY)
     told = page.evaluate(NOTED)
     for part in ("300 columns and 20 rows", "Colours", "breaks its format at byte"):
-        check(part in told, f"the note of {part}: {told}")
-    check(page.evaluate("[page.player.now, page.player.speed, page.player.loops === Infinity]") == [0.5, 4, True], "poster, speed and loop")
+        assert part in told, f"the note of {part}: {told}"
+    assert page.evaluate("[page.player.now, page.player.speed, page.player.loops === Infinity]") == [0.5, 4, True], "poster, speed and loop"
     page.evaluate(f"{LISTEN}, page.toggle()")
-    check(page.evaluate(PLAYED) == [1], "it starts where it should")
+    assert page.evaluate(PLAYED) == [1], "it starts where it should"
     page.evaluate("page.player.pause()")  # it would begin again at its end
     page.evaluate("page.player.go(1e9)")
-    check(page.evaluate(SHOWN).startswith("> café ¤\n"), "characters that a VT220 hasn't are shown as similar ones")
+    assert page.evaluate(SHOWN).startswith("> café ¤\n"), "characters that a VT220 hasn't are shown as similar ones"
     for words, said in (["--encoding", "dec"], "look like UTF-8"), ([], "50 as a similar one"):
         page.go(work.page("plain.raw", "→ in UTF-8 ".encode() * 50 + b"\x1b[?3h\x1b[3;120Hwide", *words).as_uri())
         page.wait(READY)
         told = page.evaluate(NOTED)
-        check(said in told and "9600 baud" in told, f"the notes of bytes, {words}: {told}")
+        assert said in told and "9600 baud" in told, f"the notes of bytes, {words}: {told}"
     page.evaluate("page.player.go(1e9)")
-    check(page.evaluate("page.line.terminal.width") == 132 and page.evaluate(SHOWN).split("\n")[2].endswith("wide"), "132 columns")
-    check(page.evaluate(FITS), "132 columns fit")
+    assert page.evaluate("page.line.terminal.width") == 132 and page.evaluate(SHOWN).split("\n")[2].endswith("wide"), "132 columns"
+    assert page.evaluate(FITS), "132 columns fit"
     for words in [], ["--encoding", "utf-8"]:
         page.go(work.page("utf8.raw", "café".encode(), *words).as_uri())
         page.wait(READY)
         page.evaluate("page.player.go(1e9)")
         told = page.evaluate(NOTED)
-        check(page.evaluate(SHOWN).startswith("café\n") and "UTF-8" not in told and "9600 baud" in told, f"a program in UTF-8, {words}: {told}")
+        assert page.evaluate(SHOWN).startswith("café\n") and "UTF-8" not in told and "9600 baud" in told, f"a program in UTF-8, {words}: {told}"
     for data, text in ("café".encode(), "café ready"), (b"caf\xe9", "café ready"), (b"\xc3\xa9 \xe9", "Ã© é ready"):
         page.go(work.page("content.ttyrec", ttyrec([(0, data), (1500000, b" ready")])).as_uri())
         page.wait(READY)
         page.evaluate("page.player.go(1e9)")
-        check(page.evaluate(SHOWN).startswith(text + "\n") and page.evaluate(NOTED) == "", f"the content of a ttyrec decides on its encoding: {data}, {page.evaluate(NOTED)}")
+        assert page.evaluate(SHOWN).startswith(text + "\n") and page.evaluate(NOTED) == "", f"the content of a ttyrec decides on its encoding: {data}, {page.evaluate(NOTED)}"
     both = b"main\x1b[?1049h\x1b[2J\x1b[Hother" + b" " * 30 + b"\x1b[?1049l page \xe2\x80\x9cx\xe2\x80\x9d"
     page.go(work.page("xterm.raw", both, "--terminal", "xterm").as_uri())
     page.wait(READY)
     page.evaluate("page.player.go(1e9)")
     told = page.evaluate(NOTED)
-    check(page.evaluate(SHOWN).startswith('main page "x"\n') and "Colours" in told and "UTF-8" not in told, f"a program under TERM=xterm: {told}")
+    assert page.evaluate(SHOWN).startswith('main page "x"\n') and "Colours" in told and "UTF-8" not in told, f"a program under TERM=xterm: {told}"
     page.evaluate("page.player.go(0.06)")
-    check(page.evaluate(SHOWN).startswith("other\n"), "the alternate page in time")
+    assert page.evaluate(SHOWN).startswith("other\n"), "the alternate page in time"
 
 
-def reasons(work):
+def test_reasons(work):
     """What the program notes of a recording is on standard error, and its exit status is the program's. So is a fault of reading and of writing."""
     session, timing = work.place / "session", work.place / "wrong-timing"
     timing.write_text("no timing file\n")
     cut = cast([(0, b"one"), (10**6, b"two")], 2)[:-4]
     rows = [
-        (b"", [], 1, "it has no output to play", False), (cast([], 2), [], 1, "it has no output to play", False), (b'{"version": 9}\n[0.5, "o", "x"]\n', [], 1, "version 9", False),
+        (b"", [], 1, "it has no output to play", False), (cast([], 2), [], 1, "it has no output to play", False), (b'{"version": 9}\n[0.5, "o", "x"]\n', [], 7, "a version that isn't known", False),
         (cut, [], BROKEN, "is broken at byte", True), (cut[:9], [], 0, "", True), (ttyrec([(0, b"one")])[:-1], [], BROKEN, "is broken at byte", False), (b"\x1f\x8b\x08\0\0\0", [], BROKEN, "it looks like a file of gzip", False),
         (scripted([(0, b"one")]), ["--timing", timing], BROKEN, "a timing file has lines such as", False), (scripted([]), ["--timing", "missing"], 4, "missing: No such file or directory", False),
-        ("café".encode(), [], 0, "", True), ("café".encode() + b" " * 5000 + b"\xff", [], 0, "it looks like UTF-8: use --encoding utf-8", True), ("café\x1b[?1049h".encode(), [], 0, "use --terminal xterm", True),
+        ("café".encode(), [], 0, "", True), ("café".encode() + b" " * 5000 + b"\xff", [], 0, "", True), ("café\x1b[?1049h".encode(), [], 0, "use --terminal xterm", True),
     ]  # fmt: skip
     for data, words, status, said, has_page in rows:
         session.write_bytes(data)
         ran = subprocess.run([TOOL, session, *words], capture_output=True, text=True)
-        check(ran.returncode == status and said in ran.stderr and (said != "" or ran.stderr == "") and ("<title>" in ran.stdout) == has_page, f"{data[:30]} {words}: {ran.returncode}, {ran.stderr}")
-        check(all(line.startswith("vt220-page: ") for line in ran.stderr.splitlines()), f"who says it: {ran.stderr}")
+        assert ran.returncode == status and said in ran.stderr and (said != "" or ran.stderr == "") and ("<title>" in ran.stdout) == has_page, f"{data[:30]} {words}: {ran.returncode}, {ran.stderr}"
+        assert all(line.startswith("vt220-page: ") for line in ran.stderr.splitlines()), f"who says it: {ran.stderr}"
     session.write_bytes(b"one")
     for to, said in ((">/dev/full", "No space left on device"), (">&-", "Bad file descriptor")):
         ran = subprocess.run(["sh", "-c", f'"$1" "$2" {to}', "sh", TOOL, session], capture_output=True, text=True)
-        check((ran.returncode, ran.stderr) == (5, f"vt220-page: standard output: {said}\n"), f"{to}: {ran.returncode}, {ran.stderr}")
+        assert (ran.returncode, ran.stderr) == (5, f"vt220-page: standard output: {said}\n"), f"{to}: {ran.returncode}, {ran.stderr}"
     for place in (work.place / "none", work.place):
         ran = subprocess.run([TOOL, place], capture_output=True, text=True)
-        check(ran.returncode == 4 and ran.stderr.startswith(f"vt220-page: {place}: ") and ran.stderr.count("\n") == 1, f"{place}: {ran.stderr}")
+        assert ran.returncode == 4 and ran.stderr.startswith(f"vt220-page: {place}: ") and ran.stderr.count("\n") == 1, f"{place}: {ran.stderr}"
     ran = subprocess.run([TOOL, session], capture_output=True, text=True, env={**os.environ, "VT220_PAGE": ""})
-    check(ran.returncode == 1 and all(part in ran.stderr for part in ("the program vt220", "the template", "`make js` builds both")), f"without what it needs: {ran.stderr}")
+    assert ran.returncode == 1 and all(part in ran.stderr for part in ("the program vt220", "the template", "`make js` builds both")), f"without what it needs: {ran.stderr}"
 
 
-def hits(page, work):
+def test_hits(page, work):
     """Each hit of a row is marked, and one of them can be seen."""
     page.go(work.page("hits.raw", b"text text, and Text").as_uri() + "#q=text")
     page.wait(READY)
     page.wait("page.player.spans.length > 0")
     page.evaluate("page.player.go(1e9)")
-    check(page.evaluate("[...root.querySelectorAll('mark')].map((mark) => mark.textContent)") == ["text", "text", "Text"], "each hit of a row is marked")
+    assert page.evaluate("[...root.querySelectorAll('mark')].map((mark) => mark.textContent)") == ["text", "text", "Text"], "each hit of a row is marked"
     page.size(375, 667)
     page.go(work.page("right.raw", b"\x1b[1;70Hat the side").as_uri() + "#q=side")
     page.wait(READY)
     page.wait("root.querySelector('mark') !== null")
     sides = page.evaluate("['#screen', '#screen mark'].map((each) => root.querySelector(each).getBoundingClientRect().right)")
-    check(sides[1] <= sides[0], f"a narrow screen scrolls to a hit: {sides}")
+    assert sides[1] <= sides[0], f"a narrow screen scrolls to a hit: {sides}"
     page.size(1000, 820)
 
 
-def damaged(page, work):
+def test_damaged(page, work):
     """A page that can't begin says whether the browser or the recording is the reason."""
     path = work.page("whole.raw", b"text")
     broken = path.with_name("broken.html")
@@ -760,16 +758,16 @@ def damaged(page, work):
         page.go(broken.as_uri())
         page.wait(READY)
         said.append(page.evaluate(SAID).partition(" (")[0])
-    check(said == ["The recording is damaged."] * 2, f"what a damaged recording says: {said}")
+    assert said == ["The recording is damaged."] * 2, f"what a damaged recording says: {said}"
     for name in ("DecompressionStream", "WebAssembly"):
         script = page.call("Page.addScriptToEvaluateOnNewDocument", source=f"delete globalThis.{name}")["identifier"]
         page.go("about:blank")
         page.go(path.as_uri())
         page.wait(READY)
         page.call("Page.removeScriptToEvaluateOnNewDocument", identifier=script)
-        check(page.evaluate(SAID).startswith("This needs a browser of 2023") and name in page.evaluate(SAID), f"a browser without {name}: {page.evaluate(SAID)}")
+        assert page.evaluate(SAID).startswith("This needs a browser of 2023") and name in page.evaluate(SAID), f"a browser without {name}: {page.evaluate(SAID)}"
     usable = page.evaluate("[...root.querySelectorAll('button, input, select')].some((each) => !each.matches(':disabled'))")
-    check(not usable, "the controls of a page that can't begin")
+    assert not usable, "the controls of a page that can't begin"
 
 
 # Notes the order in which the page shows the screen, ends its first frame and adds notes, and how often the module is asked for a glyph.
@@ -804,7 +802,7 @@ def heights(page, path):
     return before, page.evaluate("root.getElementById('screen').offsetHeight")
 
 
-def sizes(page, work):
+def test_sizes(page, work):
     """A page has the size of the recording's window, and follows its changes. An option chooses another size."""
     lines = [[1, "o", "first"], [2, "r", "120x40"], [3, "o", "\033[40;118Hend"], [4, "r", "90x10"], [5, "o", "x"], [6, "r", "70x12"]]
     data = "\n".join(map(json.dumps, [{"version": 2, "width": 100, "height": 30, "env": {"TERM": "vt220"}}, *lines])).encode() + b"\n"
@@ -813,40 +811,40 @@ def sizes(page, work):
     terminal = vt220.Terminal("utf-8", rows=30, columns=100)
     for time, code, text in lines:
         terminal.feed(text.encode()) if code == "o" else terminal.resize(*map(int, reversed(text.split("x"))))
-        check(page.evaluate(f"page.player.go({time}), {SHOWN}") == terminal.text() and page.evaluate(FITS), f"the screen at {time}")
+        assert page.evaluate(f"page.player.go({time}), {SHOWN}") == terminal.text() and page.evaluate(FITS), f"the screen at {time}"
     picture = page.evaluate("page.line.terminal.picture()")
-    check(picture == terminal.picture() and page.evaluate("page.line.duration") == 6 and page.evaluate(NOTED) == "", "the picture of a screen that was resized")
-    check(page.evaluate("page.player.go(3), page.search('end').then(() => page.player.spans.map((span) => [span.time, span.until, span.row, span.column]))") == [[3, 4, 40, 118]], "a search")
+    assert picture == terminal.picture() and page.evaluate("page.line.duration") == 6 and page.evaluate(NOTED) == "", "the picture of a screen that was resized"
+    assert page.evaluate("page.player.go(3), page.search('end').then(() => page.player.spans.map((span) => [span.time, span.until, span.row, span.column]))") == [[3, 4, 40, 118]], "a search"
     page.go(work.page("sizes.cast", data, "--size", "132x24").as_uri())
     page.wait(READY)
-    check(page.evaluate("page.player.go(5), [page.line.terminal.rows, page.line.terminal.width]") == [24, 132] and "another size" in page.evaluate(NOTED), "an option chooses a size")
+    assert page.evaluate("page.player.go(5), [page.line.terminal.rows, page.line.terminal.width]") == [24, 132] and "another size" in page.evaluate(NOTED), "an option chooses a size"
     for size in ("1x24", "80x1", "256x24", "80x256", "80", "x", "80x24x2"):
         ran = subprocess.run([TOOL, work.place / "sizes.cast", "--size", size], capture_output=True, text=True)
-        check(ran.returncode == 2 and f"{size} isn't a size from 2x2 to 255x255" in ran.stderr, f"the size {size}: {ran.stderr}")
+        assert ran.returncode == 2 and f"{size} isn't a size from 2x2 to 255x255" in ran.stderr, f"the size {size}: {ran.stderr}"
 
 
-def loading(page, work):
+def test_loading(page, work):
     """Until its script runs, a page has the size that it has afterwards, says that it is loading, and has no control that can be used."""
     words = ["--encoding", "utf-8", "--poster", "9"]
     path = work.page("loading.raw", "café € “quoted” ".encode() * 300, *words)
     for size in (["--size", "120x40"], ["--size", "100x2"], ["--size", "132x24"]):
         before, after = heights(page, work.page("sized.raw", b"text", *size))
-        check(abs(after - before) <= 1, f"the height before and after of {size}: {before}, {after}")
+        assert abs(after - before) <= 1, f"the height before and after of {size}: {before}, {after}"
     before, _ = heights(page, path)
     page.go(path.with_name("half.html").as_uri())
-    check(page.evaluate("document.querySelector('vt220-player').innerText") == "Loading", "it says that it is loading")
-    check(page.evaluate("document.querySelector('button, input, select') === null"), "controls that can be used before")
+    assert page.evaluate("document.querySelector('vt220-player').innerText") == "Loading", "it says that it is loading"
+    assert page.evaluate("document.querySelector('button, input, select') === null"), "controls that can be used before"
     script = page.call("Page.addScriptToEvaluateOnNewDocument", source=ORDER)["identifier"]
     page.go(path.as_uri())
     page.wait(READY)
     told = page.evaluate(NOTED)
     page.call("Page.removeScriptToEvaluateOnNewDocument", identifier=script)
     after = page.evaluate("root.getElementById('screen').offsetHeight")
-    check(abs(after - before) <= 1 and page.evaluate(SAID) == "", f"the height before and after: {before}, {after}")
-    check(page.evaluate("[...root.querySelectorAll(':disabled')].length") == 0, "controls that can be used after")
-    check("900 as a similar one" in told, f"the note on characters: {told}")
-    check(page.evaluate("order") == ["screen", "frame", "note"], f"the note comes after the first frame: {page.evaluate('order')}")
-    check(page.evaluate("asked") <= 4, f"the module is asked once for each character: {page.evaluate('asked')} times")
+    assert abs(after - before) <= 1 and page.evaluate(SAID) == "", f"the height before and after: {before}, {after}"
+    assert page.evaluate("[...root.querySelectorAll(':disabled')].length") == 0, "controls that can be used after"
+    assert "900 as a similar one" in told, f"the note on characters: {told}"
+    assert page.evaluate("order") == ["screen", "frame", "note"], f"the note comes after the first frame: {page.evaluate('order')}"
+    assert page.evaluate("asked") <= 4, f"the module is asked once for each character: {page.evaluate('asked')} times"
 
 
 # --- recordings by other programs ---
@@ -861,61 +859,66 @@ def carried(path):
     return content, listed and [tuple(map(int, line.split())) for line in listed.decode().split("\n")]
 
 
-def readers(work):
+OTHERS = [pytest.param(*recording, id=f"{recording[0]}-{i}") for i, recording in enumerate(recordings())]
+
+
+@pytest.mark.parametrize("name, words, data, chunks, options", OTHERS)
+def test_readers(work, name, words, data, chunks, options):
     """The page of each of these has its bytes and times, which lead to the screen that tmux shows."""
-    for i, (name, words, data, chunks, options) in enumerate(recordings()):
-        content, listed = carried(work.page(f"other-{i}", data, *words))
-        own = [chunk for chunk in chunks if chunk != WIDENING]
-        check(listed == [(micros, len(data)) for micros, data in own if data], f"the chunks of the recording {name}, {i}")
-        check(content == b"".join(data for _, data in own), f"the bytes of the recording {name}, {i}")
-        terminal = vt220.Terminal(**options)
-        terminal.feed(b"".join(data for _, data in chunks))
-        check(terminal.text() == (RECORDINGS / f"{name}.screen").read_text(), f"the screen of the recording {name}, {i}")
+    content, listed = carried(work.page("other", data, *words))
+    own = [chunk for chunk in chunks if chunk != WIDENING]
+    assert listed == [(micros, len(data)) for micros, data in own if data], "its chunks"
+    assert content == b"".join(data for _, data in own), "its bytes"
+    terminal = vt220.Terminal(**options)
+    terminal.feed(b"".join(data for _, data in chunks))
+    assert terminal.text() == (RECORDINGS / f"{name}.screen").read_text(), "its screen"
+
+
+def test_text(work):
     narrow, wide = (carried(work.page(name, data, "--text"))[0] for name, data in (("narrow", b"one\ntwo \xe2\x94\x82\n" + b"x" * 80), ("wide", b"one\n" + b"x" * 81)))
-    check(narrow == b"one\r\ntwo \xe2\x94\x82\r\n" + b"x" * 80 and wide == b"\x1b[?3hone\r\n" + b"x" * 81, "lines of text")
+    assert narrow == b"one\r\ntwo \xe2\x94\x82\r\n" + b"x" * 80 and wide == b"\x1b[?3hone\r\n" + b"x" * 81, "lines of text"
     piped = subprocess.run([TOOL, "--text", "--title", "piped", "-"], input=b"one\n", capture_output=True, check=True).stdout
-    check(b"<title>piped</title>" in piped, "standard input")
+    assert b"<title>piped</title>" in piped, "standard input"
 
 
 def options_in(path):
     return json.loads(re.search(r'<script type="application/json">([^<]*)<', path.read_text())[1])["options"]
 
 
-def typed(work):
+def test_typed(work):
     """A page has what was typed only if that is asked for, of asciinema and of script."""
     rows = [[0.5, "o", "$ "], [1, "i", "l"], [1.25, "i", "é\\\x03\x1b[A\t"], [3, "o", "end"]]
     data = b'{"version": 2, "width": 80, "height": 24}\n' + b"".join(json.dumps(row).encode() + b"\n" for row in rows)
     plain, shown = (options_in(work.page("typed.cast", data, *words)) for words in ([], ["--keystrokes"]))
-    check((plain["inputs"], plain["keystrokes"]) == ([], False), f"what was typed isn't there: {plain}")
-    check((shown["inputs"], shown["keystrokes"]) == ([[1, "l"], [1.25, "é\\\x03\x1b[A\t"]], True), f"what was typed: {shown}")
+    assert (plain["inputs"], plain["keystrokes"]) == ([], False), f"what was typed isn't there: {plain}"
+    assert (shown["inputs"], shown["keystrokes"]) == ([[1, "l"], [1.25, "é\\\x03\x1b[A\t"]], True), f"what was typed: {shown}"
     words = (RECORDINGS / "script-both.typescript").read_bytes(), "--timing", RECORDINGS / "script-both.timing", "--keystrokes"
     inputs = options_in(work.page("typed.script", *words))["inputs"]
-    check([text for _, text in inputs] == ["printf '\\033[?3h\\033[2;101H'; echo right of 100\r", "head -n 3 notes\r", "exit\r"], f"what was typed under script: {inputs}")
-    check(options_in(work.page("typed.raw", b"bytes", "--keystrokes"))["inputs"] == [], "bytes of a program have no input")
+    assert [text for _, text in inputs] == ["printf '\\033[?3h\\033[2;101H'; echo right of 100\r", "head -n 3 notes\r", "exit\r"], f"what was typed under script: {inputs}"
+    assert options_in(work.page("typed.raw", b"bytes", "--keystrokes"))["inputs"] == [], "bytes of a program have no input"
 
 
-def others(page, work):
+@pytest.mark.parametrize("name, words, data, chunks, options", OTHERS)
+def test_others(page, work, name, words, data, chunks, options):
     """The pages of recordings by other programs, in the browser."""
-    for i, (name, words, data, chunks, options) in enumerate(recordings()):
-        page.go((work.place / f"other-{i}.html").as_uri())
-        page.wait(READY)
-        what = f"the recording {name}, {i}"
-        moments(page, chunks, 20, **options)
-        page.evaluate("page.player.go(1e9)")
-        check(page.evaluate(SHOWN) == (RECORDINGS / f"{name}.screen").read_text(), f"the end of {what}")
-        for needle in sorted({row[at : at + 6] for row in page.evaluate(SHOWN).split("\n")[::5] for at in (0, len(row) // 2)} - {""} | {"nowhere at all"}):
-            found = page.evaluate(f"page.search({needle!r}).then(() => {FOUND})")
-            check(found == spans_of(chunks, needle, **options), f"the times of {needle!r} in {what}: {found}")
-        page.evaluate("page.search(''), page.player.go(1e9)")
-        if name == "asciinema":
-            check("15 as a similar one, 3 as a mirrored question mark." in page.evaluate(NOTED), f"the characters without a glyph of {what}: {page.evaluate(NOTED)}")
-        if name == "asciinema-wide":
-            told = page.evaluate(NOTED)
-            check("columns" not in told and "Colours" in told and "lacks" not in told, f"the notes of {what}: {told}")
-            check(page.evaluate("page.player.longestPause") == 1.5 and page.evaluate("document.title") == "A wide window", f"the header of {what}")
+    page.go(work.page("other", data, *words).as_uri())
+    page.wait(READY)
+    moments(page, chunks, 20, **options)
+    page.evaluate("page.player.go(1e9)")
+    assert page.evaluate(SHOWN) == (RECORDINGS / f"{name}.screen").read_text(), "the end"
+    for needle in sorted({row[at : at + 6] for row in page.evaluate(SHOWN).split("\n")[::5] for at in (0, len(row) // 2)} - {""} | {"nowhere at all"}):
+        found = page.evaluate(f"page.search({needle!r}).then(() => {FOUND})")
+        assert found == spans_of(chunks, needle, **options), f"the times of {needle!r}: {found}"
+    page.evaluate("page.search(''), page.player.go(1e9)")
+    if name == "asciinema":
+        assert "15 as a similar one, 3 as a mirrored question mark." in page.evaluate(NOTED), f"the characters without a glyph: {page.evaluate(NOTED)}"
+    if name == "asciinema-wide":
+        told = page.evaluate(NOTED)
+        assert "columns" not in told and "Colours" in told and "lacks" not in told, f"the notes: {told}"
+        assert page.evaluate("page.player.longestPause") == 1.5 and page.evaluate("document.title") == "A wide window", "the header"
 
 
-def of_keeper(page, work):
+def test_of_keeper(page, work):
     """README's commands for a session of vt220-keep."""
     commands = re.findall(r"^\$ (vt220-keep new .*|vt220-keep log .*|apps/page/vt220-page --timing .*)$", (HERE.parent / "README.md").read_text(), re.M)
     place = work.place / "keep"
@@ -933,7 +936,7 @@ def of_keeper(page, work):
     page.go((place / "job.html").as_uri())
     page.wait(READY)
     page.evaluate("page.player.go(page.line.duration)")
-    check(page.evaluate(SHOWN).startswith("made by make\n") and page.evaluate(NOTED) == "", "a session of vt220-keep")
+    assert page.evaluate(SHOWN).startswith("made by make\n") and page.evaluate(NOTED) == "", "a session of vt220-keep"
     ran("vt220-keep new job sh -c 'printf \"\\033[?3h\"; seq 100; seq -s _ 40; read answer'")
     until(lambda: "_40" in ran("vt220-keep text job"), "the end of the text")
     ran(commands[2])
@@ -941,12 +944,12 @@ def of_keeper(page, work):
     page.go((place / "log.html").as_uri())
     page.wait(READY)
     page.evaluate("page.player.go(page.line.duration), page.search('57')")
-    check(page.evaluate("page.player.spans.length") == 1 and "9600 baud" in page.evaluate(NOTED) and page.evaluate("document.title") == "job", "the log of a session of vt220-keep")
+    assert page.evaluate("page.player.spans.length") == 1 and "9600 baud" in page.evaluate(NOTED) and page.evaluate("document.title") == "job", "the log of a session of vt220-keep"
     page.evaluate("page.player.go(page.line.duration)")
-    check(page.evaluate("page.line.terminal.width") == 132 and "_39_40\n" in page.evaluate(SHOWN), "a long line of a log")
+    assert page.evaluate("page.line.terminal.width") == 132 and "_39_40\n" in page.evaluate(SHOWN), "a long line of a log"
 
 
-def embedded(page, work):
+def test_embedded(page, work, url):
     """A page that embeds this one is told of events, and can ask for some."""
     outer = work.place / "outer.html"
     outer.write_text("<!doctype html><title>outer</title><script>window.events = []; addEventListener('message', (e) => events.push(e.data))</script>"
@@ -959,53 +962,33 @@ def embedded(page, work):
         page.evaluate(f"events.length = 0, {ask.replace('{}', asked)}")
         page.wait(f"events.some((told) => told.vt220 === '{event}')")
         told = page.evaluate(f"events.find((told) => told.vt220 === '{event}').time")
-        check(event != "play" or told == 5, f"the message {event}: {told}")
+        assert event != "play" or told == 5, f"the message {event}: {told}"
 
 
-def alone(page, work):
+def test_alone(page, work):
     """A page without controls, and with a loop of two turns."""
     page.go(work.page("alone.raw", b"alone" * 40, "--no-controls", "--loop", "2", "--start", "0:01").as_uri())
     page.wait(READY)
-    check(page.evaluate("[document.querySelector('main'), root].map(({ children }) => [...children].filter((e) => e.offsetHeight > 0).map((e) => e.id))") == [["players"], ["stage"]] and page.evaluate(FITS), "the screen alone")
-    check(page.evaluate("document.documentElement.scrollHeight <= innerHeight"), "the screen alone fits")
-    check(page.evaluate("page.options.start") == 1, "a time with a colon")
+    assert page.evaluate("[document.querySelector('main'), root].map(({ children }) => [...children].filter((e) => e.offsetHeight > 0).map((e) => e.id))") == [["players"], ["stage"]] and page.evaluate(FITS), "the screen alone"
+    assert page.evaluate("document.documentElement.scrollHeight <= innerHeight"), "the screen alone fits"
+    assert page.evaluate("page.options.start") == 1, "a time with a colon"
     ends = page.evaluate("(() => { const p = page.player, seen = []; p.play(); for (let i = 0; i < 3; i++) p.advance(9), seen.push(p.isPlaying, p.now); return seen; })()")
-    check(ends == [True, 0, True, 0, False, page.evaluate("page.line.duration")], f"two more turns: {ends}")
+    assert ends == [True, 0, True, 0, False, page.evaluate("page.line.duration")], f"two more turns: {ends}"
 
 
-def in_firefox(work):
-    made = frames()
-    page = Firefox((work.place / "long.ttyrec.html").as_uri() + "#t=30")
+def test_in_firefox(firefox, url):
+    made, page = frames(), firefox
+    page.go(url + "#t=30")
     page.wait(READY)
-    check(page.evaluate("document.documentElement.dataset.state") == "ready", "Firefox begins")
+    assert page.evaluate("document.documentElement.dataset.state") == "ready", "Firefox begins"
     for at in (10, 200, 400):
         terminal = vt220.Terminal()
         terminal.feed(b"".join(data for _, data in made[: at + 1]))
         page.evaluate(f"location.hash = 't={made[at][0] / 1e6!r}'")
         page.wait(f"{SHOWN} === {json.dumps(terminal.text())}")
-        check(True, f"Firefox: the screen after chunk {at}")
+        
     page.evaluate("location.hash = 'q=bytes'")
     page.wait("root.querySelectorAll('mark').length > 0")
-    check("on the screen" in page.evaluate("root.getElementById('said').textContent"), "Firefox: a search")
+    assert "on the screen" in page.evaluate("root.getElementById('said').textContent"), "Firefox: a search"
     page.evaluate("(() => { const made = document.createElement('script'); made.textContent = 'document.title = \"injected\"'; document.body.append(made); })()")
-    check(page.evaluate("document.title") == "A <title> & more", "Firefox: an injected script is refused")
-    page.close()
-
-
-def main():
-    times()
-    headings()
-    with tempfile.TemporaryDirectory() as place:
-        timings(place)
-        work = Work(place)
-        readers(work)
-        typed(work)
-        reasons(work)
-        in_chromium(work)
-        in_firefox(work)
-    print(f"{passed} passed, {failed} failed")
-    return failed > 0
-
-
-if __name__ == "__main__":
-    sys.exit(main())
+    assert page.evaluate("document.title") == "A <title> & more", "Firefox: an injected script is refused"

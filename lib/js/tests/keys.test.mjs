@@ -1,4 +1,9 @@
 // Tests what keys send, by the rows of lib/rows/keys.txt and xterm-keys.txt.
+import assert from "node:assert/strict";
+import { test } from "node:test";
+import { rows, vt220 } from "./package.mjs";
+
+const core = await vt220.load();
 const ERRORS = { "no key": "NO_KEY", "no character": "NO_CHARACTER" };
 const MODES = ["lnm", "decckm", "keypadApplication", "reports8bit"];
 
@@ -21,25 +26,25 @@ function sequenceOf(text, number, is8Bit) {
   return Array.from(sequence, (character) => character.charCodeAt(0).toString(16).padStart(2, "0").toUpperCase()).join(" ");
 }
 
-/** Checks the keys of an xterm. */
-export function keysOfAnXterm(core, table, check) {
-  const rows = table.split("\n").filter((line) => line !== "" && !line.startsWith("#")).map((line) => line.split("\t"));
-  const modifiers = rows.filter(([name]) => name === "modifiers").map(([, number, held]) => [number, held]);
-  const keys = rows.filter(([name]) => name !== "modifiers");
-  for (const [name, reset, set, held] of keys)
+/** Returns the fields of each row of a file. */
+const rowsOf = (file) => file.split("\n").filter((line) => line !== "" && !line.startsWith("#")).map((line) => line.split("\t"));
+
+const ofAnXterm = rowsOf(await rows("xterm-keys")), isModifiers = ([name]) => name === "modifiers";
+const modifiers = ofAnXterm.filter(isModifiers).map(([, number, held]) => [number, held]);
+for (const [name, reset, set, held] of ofAnXterm.filter((row) => !isModifiers(row)))
+  test(`the key ${name} of an xterm`, () => {
     for (const modes of [{}, { decckm: true }, { reports8bit: true }, { decckm: true, reports8bit: true }]) {
       const wanted = [[name, modes.decckm ? set : reset, ""], ...(held === "-" ? [] : modifiers.map(([number, prefix]) => [prefix + name, held, number]))];
-      for (const [key, text, number] of wanted)
-        check(`the key ${key} of an xterm`, sent(core, key, modes, { terminal: "xterm" }) === sequenceOf(text, number, modes.reports8bit));
+      for (const [key, text, number] of wanted) assert.equal(sent(core, key, modes, { terminal: "xterm" }), sequenceOf(text, number, modes.reports8bit), key);
     }
-  check("a character in UTF-8", sent(core, "€", {}, { encoding: "utf-8" }) === "E2 82 AC" && sent(core, "€", {}) === "NO_CHARACTER");
-}
+  });
 
-export function keys(core, table, check) {
-  for (const line of table.split("\n")) {
-    if (line === "" || line.startsWith("#")) continue;
-    const [marks, wanted, ...names] = line.split("\t");
-    for (const key of names)
-      for (const either of [false, true]) check(`the key ${key} under ${marks}`, sent(core, key, modesOf(marks, either)) === (ERRORS[wanted] ?? wanted));
-  }
-}
+test("a character in UTF-8", () => {
+  assert.equal(sent(core, "€", {}, { encoding: "utf-8" }), "E2 82 AC");
+  assert.equal(sent(core, "€", {}), "NO_CHARACTER");
+});
+
+for (const [marks, wanted, ...names] of rowsOf(await rows("keys")))
+  test(`the keys ${names.join(" ")} under ${marks}`, () => {
+    for (const key of names) for (const either of [false, true]) assert.equal(sent(core, key, modesOf(marks, either)), ERRORS[wanted] ?? wanted, key);
+  });

@@ -1,9 +1,6 @@
-#!/usr/bin/env python3
-"""check PLAY PROGRAM [TEST ..]: tests vt220-play on terminals of the rig, and on others whose bytes are looked at.
-
-PLAY is the built player, PROGRAM the proved program (crates/vt220/out/vt220), which says what the screen is at a moment. A test waits for what
-is on the screen, never for a time: what is to come by itself comes within milliseconds of the recording, and what isn't comes after hours.
-"""
+"""Tests vt220-play on terminals of the rig, and on others whose bytes are looked at. `make -f tests/Makefile player` builds the players, by both compilers
+with their sanitizers. The proved program says what the screen is at a moment. A test waits for what is on the screen, never for a time:
+what is to come by itself comes within milliseconds of the recording, and what isn't comes after hours."""
 import contextlib
 import fcntl
 import gzip
@@ -19,31 +16,33 @@ import tempfile
 import termios
 import time
 
+import pytest
+
 TOP = pathlib.Path(__file__).resolve().parents[3]
-sys.dont_write_bytecode = True
 sys.path.insert(0, str(TOP / "lib/python"))
-from vt220.rig import END, ENTER, ESCAPE, HOME, LEFT, RIGHT, run  # noqa: E402
+from vt220.rig import END, ENTER, ESCAPE, HOME, LEFT, RIGHT, run
 
-if sys.argv[1:] == ["--help"] or len(sys.argv) < 3:
-    print(__doc__, end="", file=sys.stdout if sys.argv[1:] == ["--help"] else sys.stderr)
-    sys.exit(0 if sys.argv[1:] == ["--help"] else 2)
-
-PLAY, PROGRAM = map(os.path.abspath, sys.argv[1:3])
+PROGRAM = str(TOP / "crates/vt220/out/vt220")
 PATIENCE = 300  # seconds until what is waited for counts as hanging; no test depends on less
-ROOM = pathlib.Path(tempfile.mkdtemp(prefix="play-"))
+KEPT = tempfile.TemporaryDirectory(prefix="play-")
+ROOM, FOUND = pathlib.Path(KEPT.name), pathlib.Path(KEPT.name) / "found"
+PLAY = str(ROOM / "vt220-play")  # the player that is tested
+os.environ |= {"ASAN_OPTIONS": f"exitcode=99:detect_leaks=0:log_path={FOUND}/asan", "UBSAN_OPTIONS": f"exitcode=99:log_path={FOUND}/ubsan"}
+opened = []  # terminals
 FAULTS = (signal.SIGSEGV, signal.SIGBUS, signal.SIGFPE, signal.SIGILL, signal.SIGABRT, signal.SIGTRAP, signal.SIGSYS)
 ENDINGS = (signal.SIGTERM, signal.SIGHUP, signal.SIGINT, signal.SIGQUIT, signal.SIGUSR1, signal.SIGALRM, signal.SIGPIPE)
-passed = failed = 0
 
 
-def check(is_so, what):
-    global passed, failed
-    if is_so:
-        passed += 1
-    else:
-        failed += 1
-        print(f"failed: {what}", file=sys.stderr)
-    return is_so
+@pytest.fixture(autouse=True, params=["gcc", "clang"])
+def player(request):
+    FOUND.mkdir(exist_ok=True)
+    pathlib.Path(PLAY).unlink(missing_ok=True)
+    os.symlink(TOP / f"out/tests/play.{request.param}-sane", PLAY)
+    yield
+    while opened:
+        opened.pop().close()
+    found = "".join(file.read_text(errors="replace") for file in FOUND.iterdir())
+    assert not found, f"the sanitizers found something:\n{found}"
 
 
 # --- recordings ---
@@ -66,9 +65,6 @@ def text_at(file, *words):
     return subprocess.run([PROGRAM, "text", "--format", "auto", "--quiet", *words, file], stdout=subprocess.PIPE, check=True).stdout.decode().split("\n")[:-1]
 
 
-# --- terminals ---
-
-
 def play(*words, rows=25, columns=80, before=""):
     """Plays on a terminal of the rig, an xterm, on which something is already. It has a row for the line below the screen."""
     return run("sh", "-c", f"printf %s '{before}'; exec \"$@\"", "sh", PLAY, *words, terminal="xterm", rows=rows, columns=columns, timeout=PATIENCE)
@@ -79,31 +75,30 @@ def draws(rig):
     rig.wait(lambda screen: rig.terminal.alternate())
 
 
+def wait(rig, is_shown, what):
+    try:
+        rig.wait(is_shown)
+    except AssertionError as fault:
+        raise AssertionError(f"{what}: {fault}") from None
+
+
 def shows(rig, rows, what):
     """Waits until the screen has these rows, below which may be a line."""
     rows = [*rows, *[""] * (24 - len(rows))]
-    try:
-        rig.wait(lambda screen: list(screen.rows[:24]) == rows)
-        check(True, what)
-    except AssertionError as fault:
-        check(False, f"{what}: {fault}")
+    wait(rig, lambda screen: list(screen.rows[:24]) == rows, what)
 
 
 def shows_all(rig, rows, length, what):
     """Waits until a terminal with more rows shows these, the line with the length below them, and nothing else. Without a length it is at the end."""
     said = f" / {length}, speed " if length else "at the end: "
-    is_shown = lambda shown: list(shown[: len(rows)]) == rows and said in shown[len(rows)] and not any(shown[len(rows) + 1 :])
-    try:
-        rig.wait(lambda screen: is_shown(screen.rows))
-        check(True, what)
-    except AssertionError as fault:
-        check(False, f"{what}: {fault}")
+    wait(rig, lambda screen: list(screen.rows[: len(rows)]) == rows and said in screen.rows[len(rows)] and not any(screen.rows[len(rows) + 1 :]), what)
 
 
 class Outer:
     """A terminal of any size, whose bytes are looked at."""
 
     def __init__(self, *words, rows=30, columns=80):
+        opened.append(self)
         self.master, line = pty.openpty()
         self.resize(rows, columns)
         self.got = b""
@@ -135,9 +130,9 @@ class Outer:
 
     def shows(self, wanted, what):
         """Waits for bytes, and drops what came up to them."""
-        is_so = check(self.until(lambda: wanted in self.read()), f"{what}: {self.got!r}")
+        assert self.until(lambda: wanted in self.read()), f"{what}: {self.got!r}"
         before, _, self.got = self.got.partition(wanted)
-        return before if is_so else b""
+        return before
 
     def type(self, keys):
         os.write(self.master, keys)
@@ -150,21 +145,18 @@ class Outer:
     def close(self):
         self.process.kill()
         self.process.wait()
-        os.close(self.master)
+        with contextlib.suppress(OSError):
+            os.close(self.master)
 
 
 def refused(words, status, *said, rows=24, columns=80):
     """Checks that the player refuses, in one line that has these words, and draws nothing."""
     outer = Outer(*words, rows=rows, columns=columns)
-    check(outer.status() == status, f"{words}: status {outer.process.returncode}, {outer.got!r}")
-    check(outer.got.count(b"\n") == 1 and b"\x1b" not in outer.got and all(word in outer.got.decode() for word in said), f"{words}: {outer.got!r}")
-    outer.close()
+    assert outer.status() == status, f"{words}: status {outer.process.returncode}, {outer.got!r}"
+    assert outer.got.count(b"\n") == 1 and b"\x1b" not in outer.got and all(word in outer.got.decode() for word in said), f"{words}: {outer.got!r}"
 
 
-# --- the tests ---
-
-
-def keys():
+def test_keys():
     """The keys that move."""
     with play(SLOW) as rig:
         shows(rig, ["one"], "it begins at the beginning")
@@ -173,10 +165,10 @@ def keys():
             (END, ["one", "two", "three", "four"], "the end"), (HOME, ["one"], "the beginning"), ("5", ["one", "two"], "the middle"),
             ("9", ["one", "two", "three"], "nine tenths"), ("[", ["one", "two"], "the marker before"), ("[", ["one"], "no marker before: the beginning"),
             ("]", ["one", "two"], "the next marker"), ("]", ["one", "two", "three", "four"], "no next marker: the end"), ("0", ["one"], "no tenth"),
-        ):  # fmt: skip
+        ):
             rig.keys(key)
             shows(rig, rows, what)
-        check(rig.last.cursor[:2] == (2, 1), "the cursor is where that of the recording is")
+        assert rig.last.cursor[:2] == (2, 1), "the cursor is where that of the recording is"
         rig.keys("q")
         rig.ended(0)
     near = cast("near.cast", (0, "a"), (8, "b"), (30000, "c"))
@@ -194,7 +186,7 @@ def keys():
         rig.ended(0)
 
 
-def pieces_of_keys():
+def test_pieces_of_keys():
     """A key whose bytes come apart."""
     with play(SLOW) as rig:
         rig.wait("one")
@@ -203,36 +195,40 @@ def pieces_of_keys():
         shows(rig, ["one", "two", "three", "four"], "the key End in two parts")
 
 
-def by_itself():
+def test_by_itself():
     """What comes without a key: at its speed, and up to the end."""
     quick = cast("quick.cast", *((i / 1000, f"{i}\r\n") for i in range(60)))
     with play(quick) as rig:
         shows(rig, [*map(str, range(37, 60))], "it plays up to the end, and stays")
         rig.keys(" ")
         shows(rig, [*map(str, range(37, 60))], "and plays again")
-    hours = cast("hours.cast", (0, "one\r\n"), (36000, "two"))
-    for option in ("--speed=1000000", "--pause=0", "--pause=0.01"):
-        with play(option, hours) as rig:
-            shows(rig, ["one", "two"], option)
     with play("--exit", quick, before="before\r\n") as rig:
         rig.ended(0)
-        check(list(rig.last.rows[:2]) == ["before", ""], "--exit ends it, and the screen is that of before")
+        assert list(rig.last.rows[:2]) == ["before", ""], "--exit ends it, and the screen is that of before"
 
 
-def moments():
-    """Where it begins and ends, as the proved program has it."""
-    for moment in ("10000", "2:46:40", "19999.5", "0", "10b", "7b", "event:2", "event:3", "marker:1", "20000", "99999"):
-        with play(f"--until={moment}", SLOW) as rig:
-            draws(rig)
-            rig.keys(END)
-            shows(rig, text_at(SLOW, "--until", moment), f"--until={moment}")
-    for moment, rows in (("10000", ["one", "two"]), ("15000.25", ["one", "two"]), ("event:4", ["one", "two", "three"]), ("marker:1", ["one", "two"]), ("6b", ["one", "two"]),
-                         ("99999", ["one", "two", "three", "four"])):  # fmt: skip
-        with play(f"--from={moment}", SLOW) as rig:
-            shows(rig, rows, f"--from={moment}")
+@pytest.mark.parametrize("option", ["--speed=1000000", "--pause=0", "--pause=0.01"])
+def test_waits(option):
+    with play(option, cast("hours.cast", (0, "one\r\n"), (36000, "two"))) as rig:
+        shows(rig, ["one", "two"], "it doesn't wait for hours")
 
 
-def searches():
+@pytest.mark.parametrize("moment", ["10000", "2:46:40", "19999.5", "0", "10b", "7b", "event:2", "event:3", "marker:1", "20000", "99999"])
+def test_until(moment):
+    """Where it ends, as the proved program has it."""
+    with play(f"--until={moment}", SLOW) as rig:
+        draws(rig)
+        rig.keys(END)
+        shows(rig, text_at(SLOW, "--until", moment), "the end")
+
+
+@pytest.mark.parametrize("moment, count", [("10000", 2), ("15000.25", 2), ("event:4", 3), ("marker:1", 2), ("6b", 2), ("99999", 4)])
+def test_from(moment, count):
+    with play(f"--from={moment}", SLOW) as rig:
+        shows(rig, ["one", "two", "three", "four"][:count], "where it begins")
+
+
+def test_searches():
     with play(SLOW) as rig:
         rig.wait("one")
         rig.keys("/thr")
@@ -258,7 +254,7 @@ def searches():
         for keys, rows, said in (
             ("/line 4242\r", last, "scrolled past: line 4242"), ("n", last, "scrolled past: line 4242"), ("/line 9999\r", last, "stopped 2:46:40"), ("/line 1\r", last, "scrolled past: line 1"),
             ("/\u0301\r", last, "not found"), (END, [""] * 24, "at the end"), ("/line 1\r", last, "scrolled past: line 1"), (END, [""] * 24, "at the end"), ("N", last, "scrolled past: line 1"),
-        ):  # fmt: skip
+        ):
             rig.keys(keys)
             rig.wait(text=said, row=25)
             shows(rig, rows, f"{keys!r}: {said}")
@@ -276,7 +272,7 @@ def searches():
             rig.wait("x")
             rig.keys("/" + wanted, ENTER)
             rig.wait("caf\u00e9")
-            check(True, f"a character is found by what is shown for it: {wanted}")
+            assert True, f"a character is found by what is shown for it: {wanted}"
 
 
 def finds(words, *lines, status=None, error=""):
@@ -284,10 +280,10 @@ def finds(words, *lines, status=None, error=""):
     done = subprocess.run([PLAY, *words], capture_output=True, text=True)
     printed = "".join(line.replace(" ", "\t", 3) + "\n" for line in lines)
     wanted = (status if status is not None else 0 if lines else 1, printed)
-    check((done.returncode, done.stdout) == wanted and error in done.stderr and bool(error) == bool(done.stderr), f"{words}: {done}")
+    assert (done.returncode, done.stdout) == wanted and error in done.stderr and bool(error) == bool(done.stderr), f"{words}: {done}"
 
 
-def places():
+def test_places():
     """The list of the times at which a text was on the screen, and of the lines with it that scrolled off."""
     finds(["--find=o", SLOW], "0.000000 - 1 1")
     finds(["--find", "four", SLOW], "30000.000000 - 4 1")
@@ -328,10 +324,10 @@ def places():
     finds(["--find=" + "x" * 2048, SLOW], status=2, error="at most 2047 bytes")
     with open("/dev/full", "w") as full_disk:
         done = subprocess.run([PLAY, "--find=one", SLOW], stdout=full_disk, stderr=subprocess.PIPE, text=True)
-    check(done.returncode == 2 and done.stderr.startswith("vt220-play: write failed: "), f"a full disk: {done}")
+    assert done.returncode == 2 and done.stderr.startswith("vt220-play: write failed: "), f"a full disk: {done}"
 
 
-def languages():
+def test_languages():
     """What the first line names decides, or an option."""
     paging = ((0, "main"), (0.01, "\x1b[?1049h\x1b[2J\x1b[5;5Hother"), (36000, "\x1b[?1049l"))
     for env, words in (({"TERM": "xterm-256color"}, []), ({}, []), ({"TERM": "vt220"}, ["--terminal=xterm"])):
@@ -350,7 +346,7 @@ def languages():
     refused([wide], 1, "132 columns are needed")
 
 
-def contents():
+def test_contents():
     """The content decides on UTF-8 if nothing else does: of bytes, of a ttyrec, and of script."""
     parts = b"caf\xc3\xa9 \xe2\x94", b"\x82 end"
     data = b"".join(parts)
@@ -369,20 +365,23 @@ def contents():
     for data, is_utf8 in (
         (b"\xc3\xa9", True), (b"\xc3\xa9\xe2\x94", True), (b"\xc3\xa9\xf0\x9f\x98\x80", True), (b"\xc3\xa9\xed\x9f\xbf\xf4\x8f\xbf\xbf", True), (b"caf\xc3", False), (b"\xc3\xa9\xe9 ", False),
         (b"\xc3\xa9\xc0\xaf", False), (b"\xc3\xa9\xe0\x80", False), (b"\xc3\xa9\xf0\x8f\xbf\xbf", False), (b"\xc3\xa9\xed\xa0\x80", False), (b"\xc3\xa9\xf4\x90\x80\x80", False), (b"\xc3\xa9\xa9", False),
-    ):  # fmt: skip
+    ):
         (ROOM / "encoded").write_bytes(data)
         done = subprocess.run([PLAY, "--find=\u00c3", str(ROOM / "encoded")], stdout=subprocess.DEVNULL, stderr=subprocess.DEVNULL)
-        check(done.returncode == int(is_utf8), f"{data} is UTF-8: {done.returncode}")
+        assert done.returncode == int(is_utf8), f"{data} is UTF-8: {done.returncode}"
 
 
-def recordings():
+@pytest.mark.parametrize("path", sorted((TOP / "tests/bench/recordings").rglob("*.raw")), ids=lambda path: path.stem)
+def test_recordings(path):
     """Real recordings, against the proved program."""
-    for path in sorted((TOP / "tests/bench/recordings").rglob("*.raw")):
-        encoding = "utf-8" if path.parent.name == "utf-8" else "dec"
-        with play(f"--encoding={encoding}", str(path), columns=132) as rig:
-            draws(rig)
-            rig.keys(END)
-            shows(rig, text_at(str(path), "--encoding", encoding), path.name)
+    encoding = "utf-8" if path.parent.name == "utf-8" else "dec"
+    with play(f"--encoding={encoding}", str(path), columns=132) as rig:
+        draws(rig)
+        rig.keys(END)
+        shows(rig, text_at(str(path), "--encoding", encoding), path.name)
+
+
+def test_version_1():
     one = ROOM / "one.cast"
     one.write_text(json.dumps({"version": 1, "width": 80, "height": 24, "stdout": [[0, "one\r\n"], [10000, "two"]]}, indent=1))
     with play(str(one)) as rig:
@@ -394,24 +393,36 @@ def recordings():
 def sized(name, **header):
     """Writes a recording in a window of 120x40, which changes. At 10000 seconds it does so before the output, and 300x300 is no size of a screen."""
     return cast(name, (0, "one\r\n\x1b[?1049h\x1b[40;118Hend"), (10000, "r", "90x10"), (10000, "two\x1b["), (20000, "r", "300x300"), (20000, "1;1Hthree"), (25000, "r", "255x50"),
-                (25000, "m", "large"), (30000, "\x1b[50;250Hfour"), (40000, "r", "80x24"), (41000, "r", "wide"), width=120, height=40, **header)  # fmt: skip
+                (25000, "m", "large"), (30000, "\x1b[50;250Hfour"), (40000, "r", "80x24"), (41000, "r", "wide"), width=120, height=40, **header)
 
 
-def sizes():
+SIZED_MOMENTS = ("0", "9999.5", "10000", "20000", "40000", "24b", "25b", "26b", "30b", "39b", "40b", "52b", *(f"event:{n}" for n in range(1, 11)), "marker:1")
+
+
+@pytest.mark.parametrize("env", [{}, {"env": {"TERM": "xterm"}}])
+def test_sizes(env):
     """A recording in a window that changes: as the proved program has it at each moment, whichever way a seek comes."""
-    for file in (sized("sized.cast"), sized("sized-xterm.cast", env={"TERM": "xterm"})):
-        with play(file, rows=51, columns=255) as rig:
-            for key, moment in ((".", "10000"), (".", "20000"), (".", "25000"), (".", "30000"), (".", "40000"), (",", "30000"), (",", "25000"), (",", "20000"), (HOME, "0"),
-                                (END, "40000"), ("3", "12000"), ("0", "0"), ("8", "32000"), ("[", "25000"), ("/three\r", "20000"), ("/four\r", "30000"), ("/end\r", "0")):  # fmt: skip
-                rig.keys(key)
-                shows_all(rig, text_at(file, "--until", moment), "11:06:40", f"{file}: {key!r} goes to {moment}")
-            rig.keys("q")
-            rig.ended(0)
-        for moment in ("0", "9999.5", "10000", "20000", "40000", "24b", "25b", "26b", "30b", "39b", "40b", "52b", *(f"event:{n}" for n in range(1, 11)), "marker:1"):
-            with play(f"--until={moment}", file, rows=51, columns=255) as rig:
-                draws(rig)
-                rig.keys(END)
-                shows_all(rig, text_at(file, "--until", moment), "", f"{file}: --until={moment}")
+    file = sized("sized.cast", **env)
+    with play(file, rows=51, columns=255) as rig:
+        for key, moment in ((".", "10000"), (".", "20000"), (".", "25000"), (".", "30000"), (".", "40000"), (",", "30000"), (",", "25000"), (",", "20000"), (HOME, "0"),
+                            (END, "40000"), ("3", "12000"), ("0", "0"), ("8", "32000"), ("[", "25000"), ("/three\r", "20000"), ("/four\r", "30000"), ("/end\r", "0")):
+            rig.keys(key)
+            shows_all(rig, text_at(file, "--until", moment), "11:06:40", f"{key!r} goes to {moment}")
+        rig.keys("q")
+        rig.ended(0)
+
+
+@pytest.mark.parametrize("env", [{}, {"env": {"TERM": "xterm"}}])
+@pytest.mark.parametrize("moment", SIZED_MOMENTS)
+def test_sizes_until(env, moment):
+    file = sized("sized.cast", **env)
+    with play(f"--until={moment}", file, rows=51, columns=255) as rig:
+        draws(rig)
+        rig.keys(END)
+        shows_all(rig, text_at(file, "--until", moment), "", "the end")
+
+
+def test_changes():
     file = sized("sized.cast")
     for option in ("80x24", "132x24", "100x30", "255x50"):
         with play(f"--size={option}", file, rows=51, columns=255) as rig:
@@ -422,8 +433,7 @@ def sizes():
         rig.keys(END)
         shows_all(rig, text_at(many), "5:33:20", "the first 1000 changes are carried out")
     outer = Outer(many, rows=30, columns=120)
-    check(b": 2 changes of its size aren't carried out\r\n" in outer.shows(b"one", "it plays"), "and a note tells of the others")
-    outer.close()
+    assert b": 2 changes of its size aren't carried out\r\n" in outer.shows(b"one", "it plays"), "and a note tells of the others"
     grows = cast("grows.cast", (0, "one"), (10000, "r", "100x30"), (20000, "two"))
     large = cast("large.cast", (0, "one"), width=120, height=40)
     refused([large], 1, "this terminal has 24 rows and 80 columns, and 40 rows and 120 columns are needed")
@@ -435,10 +445,9 @@ def sizes():
     outer.shows(b"one", "a terminal that becomes large enough")
     outer.type(b",")
     outer.shows(b"one", "and back")
-    outer.close()
 
 
-def scripts():
+def test_scripts():
     """A typescript with its times."""
     (ROOM / "typescript").write_bytes(b"Script started on 2026-11-24 10:00:00+00:00\nA\r\nB\r\n\nScript done on 2026-11-24 10:00:01+00:00\n")
     (ROOM / "timing").write_bytes(b"0.01 3\n9000 3\n")
@@ -454,7 +463,7 @@ def scripts():
         shows_all(rig, ["A", "B", *[""] * 8], "2:30:01", "a window that changes")
 
 
-def below():
+def test_below():
     """What a terminal with more rows shows below the screen, which is drawn in differences."""
     outer = Outer(SLOW)
     outer.shows(b"plays 0:00 / 8:20:00, speed 1", "the line below")
@@ -466,27 +475,29 @@ def below():
     outer.shows(b"speed 0.25", "and not more slowly than that")
     outer.type(b".")
     drawn = outer.shows(b"stopped 2:46:40 / 8:20:00, speed 0.25", "a step")
-    check(b"two" in drawn and b"one" not in drawn, f"only what changed is drawn: {drawn!r}")
+    assert b"two" in drawn and b"one" not in drawn, f"only what changed is drawn: {drawn!r}"
     outer.type(b"\x0c")
-    check(b"one" in outer.shows(b"stopped 2:46:40", "Ctrl-L"), "Ctrl-L draws everything")
+    assert b"one" in outer.shows(b"stopped 2:46:40", "Ctrl-L"), "Ctrl-L draws everything"
     outer.resize(20, 80)
     outer.shows(b"24 rows and 80 columns are needed", "a terminal that becomes too small")
     outer.resize(24, 80)
     outer.shows(b"two", "and large enough")
     outer.type(b"q")
-    check(outer.status() == 0, "q ends it")
-    outer.close()
+    assert outer.status() == 0, "q ends it"
+
+
+def test_bells():
     rings = cast("rings.cast", (0, "one"), (0.01, "\a"), (0.02, "\a"), (0.03, "two"), (36000, "\a"))
     with play(rings) as rig:
         shows(rig, ["onetwo"], "a recording with bells")
-        check(rig.terminal.bells() > 0, "they ring")
+        assert rig.terminal.bells() > 0, "they ring"
         rung = rig.terminal.bells()
         rig.keys(END, HOME, "/two", ENTER)
         shows(rig, ["onetwo"], "and are passed over")
-        check(rig.terminal.bells() == rung, "which rings none")
+        assert rig.terminal.bells() == rung, "which rings none"
 
 
-def covered():
+def test_covered():
     """On a terminal of as many rows as the recording, the line covers the last row for a while: after a key and at the end. Then the row is back."""
     file = cast("covered.cast", (0, "one\x1b[24;1Hlast-row\x1b[H"), (10000, "two\x1b[24;1Hnew-row "), (20000, "\x1b[24;1Hend-row"))
     outer = Outer(file, rows=24)
@@ -498,38 +509,37 @@ def covered():
     outer.type(b"?")
     outer.shows(b"q ends", "the keys")
     outer.type(b"q")
-    check(outer.status() == 0, "q ends it")
-    outer.close()
+    assert outer.status() == 0, "q ends it"
     outer = Outer(cast("soon.cast", (0, "one\x1b[24;1Hlast-row"), (0.01, "\x1b[H")), rows=24)
     for said in (b"last-row", b"; ? shows the keys, q ends it", b"last-row"):
         outer.shows(said, "the line at the end, which comes and goes by itself")
-    outer.close()
     with play(file, rows=24) as rig:
         rig.keys(".", END)
         shows(rig, ["two", *[""] * 22, "end-row"], "the screen is whole")
 
 
-def restored():
-    """However it ends, the screen, the cursor and the line are as they were."""
-    hidden = cast("hidden.cast", (0, "\x1b[?25lone"))
-    endings = [(f"{number.name}", lambda rig, number=number: os.kill(rig.process.pid, number), -number) for number in (*ENDINGS, *FAULTS)]
-    for name, end, status in [("q", lambda rig: rig.keys("q"), 0), *endings]:
-        with play(hidden, before="before") as rig:
-            rig.wait("one")
-            raw = termios.tcgetattr(rig.process.line)
-            check(not raw[3] & (termios.ICANON | termios.ECHO | termios.ISIG) and not rig.last.modes.dectcem, f"{name}: raw meanwhile, and the cursor hidden")
-            end(rig)
-            rig.ended(status)
-            check(list(rig.last.rows[:2]) == ["before", ""] and rig.last.modes.dectcem, f"{name}: the screen and the cursor are back")
-            now = termios.tcgetattr(rig.process.line)
-            check(now[3] & termios.ICANON and now[3] & termios.ECHO and now[3] & termios.ISIG and now[1] & termios.OPOST, f"{name}: the line is back")
+@pytest.mark.parametrize("number", [0, *ENDINGS, *FAULTS], ids=lambda number: number and number.name)
+def test_restored(number):
+    """However it ends, by a key or by a signal, the screen, the cursor and the line are as they were."""
+    with play(cast("hidden.cast", (0, "\x1b[?25lone")), before="before") as rig:
+        rig.wait("one")
+        raw = termios.tcgetattr(rig.process.line)
+        assert not raw[3] & (termios.ICANON | termios.ECHO | termios.ISIG) and not rig.last.modes.dectcem, "raw meanwhile, and the cursor hidden"
+        os.kill(rig.process.pid, number) if number else rig.keys("q")
+        rig.ended(-number)
+        assert list(rig.last.rows[:2]) == ["before", ""] and rig.last.modes.dectcem, "the screen and the cursor are back"
+        now = termios.tcgetattr(rig.process.line)
+        assert now[3] & termios.ICANON and now[3] & termios.ECHO and now[3] & termios.ISIG and now[1] & termios.OPOST, "the line is back"
+
+
+def test_closed():
     outer = Outer(SLOW)
     outer.shows(b"one", "it plays")
     os.close(outer.master)
-    check(outer.process.wait(PATIENCE) in (-signal.SIGHUP, 1), f"a terminal that closes ends it: {outer.process.returncode}")
+    assert outer.process.wait(PATIENCE) in (-signal.SIGHUP, 1), f"a terminal that closes ends it: {outer.process.returncode}"
 
 
-def stopped():
+def test_stopped():
     """Ctrl-Z stops it as other programs are stopped, and fg continues."""
     script = f"set -m; echo before; {PLAY} {SLOW}; echo stopped; fg >/dev/null; echo status $?"
     with run("bash", "-c", script, terminal="xterm", timeout=PATIENCE) as rig:
@@ -544,15 +554,15 @@ def stopped():
         rig.keys("q")
         rig.ended(0)
         shows(rig, ["before", *rig.last.rows[1:]], "the screen is back")
-        check("stopped" in rig.last.rows and "status 0" in rig.last.rows, f"it was stopped: {rig.last.rows[:8]}")
+        assert "stopped" in rig.last.rows and "status 0" in rig.last.rows, f"it was stopped: {rig.last.rows[:8]}"
 
 
-def refusals():
+def test_refusals():
     """What can't be played, in one line."""
     for name, data, said in (
         ("a.gz", gzip.compress(b"x" * 100), "compressed"), ("empty", b"", "no output"),
         ("nine.cast", b'{"version": 9}\n[0, "o", "x"]\n', "versions 1 to 3"),
-    ):  # fmt: skip
+    ):
         (ROOM / name).write_bytes(data)
         refused([str(ROOM / name)], 1, name, said)
     refused([str(ROOM / "none")], 1, "none", "No such file")
@@ -564,18 +574,18 @@ def refusals():
         ([], "FILE is missing"), ([SLOW, "x"], "'x'"), (["--wrong", SLOW], "--wrong"), (["--speed=0", SLOW], "--speed"), (["--speed=x", SLOW], "--speed"),
         (["--until=1x", SLOW], "1x"), (["--until=12:61", SLOW], "12:61"), (["--from=event:0", SLOW], "event:0"), (["--pause=-1", SLOW], "--pause"),
         (["--encoding=x", SLOW], "--encoding"), (["--size=1x24", SLOW], "--size is columns and rows, as 120x40: 2 to 255 columns and 2 to 255 rows, or auto, not '1x24'"), (["--terminal=xterm", "--encoding=dec", SLOW], "UTF-8"),
-    ):  # fmt: skip
+    ):
         refused(words, 2, said)
     for moment in ("event:9", "marker:2"):
         refused([f"--until={moment}", SLOW], 1, moment)
     done = subprocess.run([PLAY, SLOW], stdin=subprocess.DEVNULL, capture_output=True, text=True)
-    check(done.returncode == 2 and done.stderr == "vt220-play: it needs a terminal\n", f"no terminal: {done}")
+    assert done.returncode == 2 and done.stderr == "vt220-play: it needs a terminal\n", f"no terminal: {done}"
     for words, said in ((["--help"], "usage: vt220-play"), (["--version"], "vt220-play 0.")):
         done = subprocess.run([PLAY, *words], capture_output=True, text=True)
-        check(done.returncode == 0 and done.stdout.startswith(said), f"{words}: {done}")
+        assert done.returncode == 0 and done.stdout.startswith(said), f"{words}: {done}"
 
 
-def notes():
+def test_notes():
     """What is played in another way than it was recorded, in one line before it."""
     broken = ROOM / "broken.cast"
     broken.write_text('{"version": 2, "width": 120, "height": 40}\n[0, "o", "one"]\n[1, "o"\n')
@@ -584,27 +594,8 @@ def notes():
     for options, file, *said in (
         (["--size=80x24"], broken, "recorded at 120x40, played on 80x24", "breaks its format at byte"), ([], pathlib.Path(large), "recorded at 300x60, played on 80x24"),
         ([], ROOM / "plain", "no times"),
-    ):  # fmt: skip
+    ):
         outer = Outer(*options, str(file))
         before = outer.shows(b"one", f"{file.name} plays").decode()
-        check(before.startswith(f"vt220-play: {file}: ") and before.count("\n") == 1 and all(word in before for word in said), f"its note: {before!r}")
-        outer.close()
-
-
-def main():
-    for test in (keys, pieces_of_keys, by_itself, moments, searches, places, languages, contents, recordings, sizes, scripts, below, covered, restored, stopped, refusals, notes):
-        if len(sys.argv) > 3 and test.__name__ not in sys.argv[3:]:
-            continue
-        begun = time.monotonic()
-        try:
-            test()
-        except Exception as fault:  # a test that can't go on is a failure, and the next begins
-            where = fault.__traceback__.tb_next
-            check(False, f"{test.__name__}: {type(fault).__name__}: {fault}, line {where.tb_lineno if where else 0}")
-        print(f"{test.__name__}: {time.monotonic() - begun:.1f} s", file=sys.stderr)
-    print(f"player: {passed} passed, {failed} failed")
-    return failed != 0
-
-
-if __name__ == "__main__":
-    sys.exit(main())
+        assert before.startswith(f"vt220-play: {file}: ") and before.count("\n") == 1 and all(word in before for word in said), f"its note: {before!r}"
+    

@@ -1,9 +1,12 @@
-// What a terminal shows after each of many inputs, as hashes: tests/beside.py makes the same with the library for C.
+// Tests what a terminal shows after each of many inputs, as hashes: tests/beside.py makes the same with the library for C.
+import assert from "node:assert/strict";
+import { test } from "node:test";
+import { inputs, vt220 } from "./package.mjs";
 
 const CRC = Array.from({ length: 256 }, (_, byte) => Array.from({ length: 8 }).reduce((crc) => (crc >>> 1) ^ (crc & 1 ? 0xedb88320 : 0), byte));
 
 /** Returns the CRC-32 and the Adler-32 of parts of bytes, with the byte FF between two. */
-export function hash(parts) {
+function hash(parts) {
   let crc = -1, a = 1, b = 0;
   const add = (byte) => {
     crc = CRC[(crc ^ byte) & 255] ^ (crc >>> 8);
@@ -60,7 +63,7 @@ function resize(core, i) {
 }
 
 /** Yields the hash of each input. */
-export function* hashes({ Terminal }, core, inputs) {
+function* hashes({ Terminal }, core, inputs) {
   let last = new Terminal(core);
   for (const [i, input] of inputs.entries()) {
     resize(core, i);
@@ -86,3 +89,9 @@ export function* hashes({ Terminal }, core, inputs) {
   }
   resize(core, 1);
 }
+
+test("inputs, beside the library for C", async () => {
+  const all = await inputs(), mine = hashes(vt220, await vt220.load(), all.map(([input]) => Uint8Array.from(atob(input), (c) => c.charCodeAt(0))));
+  for (const [input, theirs] of all) assert.equal(mine.next().value, theirs, input.slice(0, 200));
+  assert(mine.next().done);
+});

@@ -284,7 +284,7 @@ def mutants():
     found, rule = [], ""
     for block in re.split(r"\n\n+", (TOP / "tests/model/mutants.txt").read_text().strip()):
         rule = " ".join(line[1:].strip() for line in block.split("\n") if line.startswith("#")) or rule
-        found.append((rule, "\n".join(line for line in block.split("\n") if line[:1] in "-+")))
+        found.append((rule, "\n".join(line for line in block.split("\n") if line[:1] in "-+ ")))
     return found
 
 

@@ -1,3 +1,4 @@
+mod Full
 pub mod Parting
 pub mod Lines
 pub mod Wholes

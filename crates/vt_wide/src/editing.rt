@@ -45,6 +45,8 @@ pub fn erase<C: Wide>(
     requires row { (1 ≤ row) × (row ≤ screen.old.size.rows) }
     requires columns { (1 ≤ from) × (from ≤ to) × (to ≤ screen.old.width) }
     ensures grid { screen.new ≡ erased C.wide C.cells.blank (erased_any C.cells selective empty) screen.old row from to }
+    ensures size { screen.new.size ≡ screen.old.size }
+    ensures width { screen.new.width ≡ screen.old.width }
     ensures sound { IsSoundGridOf C.cells.shown screen.new }
 {
     part(screen, row, from, selective, empty);
@@ -66,6 +68,8 @@ pub fn erase_span<C: Wide>(
     requires to { (row ≤ to_row) × (to_row ≤ screen.old.size.rows) × (1 ≤ to_col) × (to_col ≤ screen.old.width) }
     requires order { row ≡ to_row → col ≤ to_col }
     ensures grid { screen.new ≡ erased_span C.wide C.cells.blank (erased_any C.cells selective empty) screen.old row col to_row to_col }
+    ensures size { screen.new.size ≡ screen.old.size }
+    ensures width { screen.new.width ≡ screen.old.width }
     ensures sound { IsSoundGridOf C.cells.shown screen.new }
 {
     part(screen, row, col, selective, empty);
@@ -108,6 +112,8 @@ pub fn delete<C: Wide>(
     requires row { (1 ≤ row) × (row ≤ screen.old.size.rows) }
     requires columns { (1 ≤ col) × (col ≤ right) × (right ≤ screen.old.width) }
     ensures grid { screen.new ≡ deleted C.wide C.cells.blank empty screen.old row col right n }
+    ensures size { screen.new.size ≡ screen.old.size }
+    ensures width { screen.new.width ≡ screen.old.width }
     ensures sound { IsSoundGridOf C.cells.shown screen.new }
 {
     part(screen, row, col, false, empty);
@@ -118,6 +124,7 @@ pub fn delete<C: Wide>(
 }
 
 /// Moves the rows from `top` to `bottom` up by `n`, between two columns. A wide character that a margin parts becomes spaces. (IND, SU, DL)
+/// Speed: whole rows move by their numbers.
 pub fn move_up<C: Wide>(
     screen: &mut Screen<C>,
     top: usize,
@@ -130,14 +137,20 @@ pub fn move_up<C: Wide>(
     requires rows { (1 ≤ top) × (top ≤ bottom) × (bottom ≤ screen.old.size.rows) }
     requires columns { (1 ≤ left) × (left ≤ right) × (right ≤ screen.old.width) }
     ensures grid { screen.new ≡ moved_up C.wide C.cells.blank empty screen.old top bottom left right n }
+    ensures size { screen.new.size ≡ screen.old.size }
+    ensures width { screen.new.width ≡ screen.old.width }
     ensures sound { IsSoundGridOf C.cells.shown screen.new }
 {
+    if left == 1 && right == screen.width() {
+        return screen.scroll_up_with(top, bottom, n, empty);
+    }
     part_rows(screen, top, bottom, left);
     part_rows(screen, top, bottom, right + 1);
     screen.columns_up(top, bottom, left, right, n, empty);
 }
 
 /// Moves the rows from `top` to `bottom` down by `n`, between two columns. A wide character that a margin parts becomes spaces. (RI, SD, IL)
+/// Speed: whole rows move by their numbers.
 pub fn move_down<C: Wide>(
     screen: &mut Screen<C>,
     top: usize,
@@ -150,8 +163,13 @@ pub fn move_down<C: Wide>(
     requires rows { (1 ≤ top) × (top ≤ bottom) × (bottom ≤ screen.old.size.rows) }
     requires columns { (1 ≤ left) × (left ≤ right) × (right ≤ screen.old.width) }
     ensures grid { screen.new ≡ moved_down C.wide C.cells.blank empty screen.old top bottom left right n }
+    ensures size { screen.new.size ≡ screen.old.size }
+    ensures width { screen.new.width ≡ screen.old.width }
     ensures sound { IsSoundGridOf C.cells.shown screen.new }
 {
+    if left == 1 && right == screen.width() {
+        return screen.scroll_down_with(top, bottom, n, empty);
+    }
     part_rows(screen, top, bottom, left);
     part_rows(screen, top, bottom, right + 1);
     screen.columns_down(top, bottom, left, right, n, empty);

@@ -14,6 +14,8 @@ pub fn put<C: Wide>(screen: &mut Screen<C>, row: usize, col: usize, cell: C, emp
     requires row { (1 ≤ row) × (row ≤ screen.old.size.rows) }
     requires columns { (1 ≤ col) × (col + columns C.wide cell ≤ screen.old.width + 1) }
     ensures grid { screen.new ≡ written C.wide C.cells.blank empty screen.old row col cell }
+    ensures size { screen.new.size ≡ screen.old.size }
+    ensures width { screen.new.width ≡ screen.old.width }
     ensures sound { IsSoundGridOf C.cells.shown screen.new }
 {
     part(screen, row, col, false, empty);
@@ -39,6 +41,8 @@ pub fn put_inserting<C: Wide>(
     requires row { (1 ≤ row) × (row ≤ screen.old.size.rows) }
     requires columns { (1 ≤ col) × (col + columns C.wide cell ≤ right + 1) × (right ≤ screen.old.width) }
     ensures grid { screen.new ≡ written_inserting C.wide C.cells.blank empty screen.old row col right cell }
+    ensures size { screen.new.size ≡ screen.old.size }
+    ensures width { screen.new.width ≡ screen.old.width }
     ensures sound { IsSoundGridOf C.cells.shown screen.new }
 {
     let n = if cell.is_wide() { 2 } else { 1 };
@@ -60,6 +64,8 @@ pub fn put_bytes<C: Wide>(
     requires letters { All IsLetter bytes.now }
     requires columns { (1 ≤ col) × (col + length bytes.now ≤ screen.old.width + 1) }
     ensures grid { screen.new ≡ written_bytes C.wide C.cells.blank empty screen.old row col bytes.now pen }
+    ensures size { screen.new.size ≡ screen.old.size }
+    ensures width { screen.new.width ≡ screen.old.width }
     ensures sound { IsSoundGridOf C.cells.shown screen.new }
 {
     part(screen, row, col, false, empty);
@@ -89,6 +95,8 @@ pub fn join<C: Wide>(screen: &mut Screen<C>, row: usize, col: usize, mark: char)
     requires row { (1 ≤ row) × (row ≤ screen.old.size.rows) }
     requires column { (1 ≤ col) × (col ≤ screen.old.width) }
     ensures grid { screen.new ≡ joined C.wide C.cells.blank screen.old row col mark }
+    ensures size { screen.new.size ≡ screen.old.size }
+    ensures width { screen.new.width ≡ screen.old.width }
     ensures sound { IsSoundGridOf C.cells.shown screen.new }
 {
     let cell = screen.cell(row, col);

@@ -109,6 +109,17 @@ impl XtermCell {
         }
     }
 
+    /// Returns the character of this cell in the look of a pen, without its marks.
+    #[inline(always)]
+    pub fn in_look_of(self, pen: XtermCell) -> XtermCell
+        ensures { result ≡ written_cell pen.look self.character self.wide }
+    {
+        XtermCell {
+            text: self.text % CHARACTER + self.is_wide() as u64 * 0x8000_0000_0000_0000,
+            look: pen.look,
+        }
+    }
+
     /// Returns a space in the look of this cell.
     #[inline(always)]
     pub fn cleared(self) -> XtermCell

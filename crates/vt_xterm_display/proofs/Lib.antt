@@ -1,0 +1,2 @@
+mod Times
+mod Letters

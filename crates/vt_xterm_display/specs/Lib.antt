@@ -1,0 +1,11 @@
+pub mod State
+pub mod Sound
+pub mod Moving
+pub mod Tabs
+pub mod Rows
+pub mod Editing
+pub mod Writing
+pub mod Pages
+pub mod Resets
+pub mod Functions
+pub mod Session

@@ -1,0 +1,217 @@
+//! Writing characters and marks.
+ghost use Rattle.std.specs.Prelude.{◌≡◌, ◌≤◌, ◌⊎◌, ◌+◌, ◌-◌, ◌*◌, true, false};
+ghost use Rattle.vt_wide.specs.Edits.{columns, joined_column};
+ghost use Rattle.vt_xterm_cell.specs.Cells.{blank_cell};
+ghost use Rattle.vt_xterm_cell.specs.Wide.{xterm_wide};
+ghost use Rattle.vt_xterm_display.specs.State.{moved};
+ghost use Rattle.vt_xterm_display.specs.Moving.{last_reached};
+ghost use Rattle.vt_xterm_display.specs.Tabs.{times, is_pending};
+ghost use Rattle.vt_xterm_display.specs.Writing.{wrapped, after_wrap, room, advanced, put, put_if_room, write, print};
+ghost use Rattle.vt_xterm_display.specs.Writing.{mark, is_format, is_mark, write_character, cell_before, repeated, room_after_wrap};
+ghost use Rattle.vt_xterm_display.specs.Writing.{count_in, repeat};
+ghost use Rattle.vt_xterm_display.specs.Rows.{incoming};
+
+use crate::display::XtermDisplay;
+use crate::sides::Sides;
+use vt_term::Cursor;
+use vt_utf8::cells;
+use vt_wide::{Wide, join, joined_column, put, put_inserting};
+use vt_xterm_cell::XtermCell;
+
+/// Returns the number of columns of the character that begins with a cell.
+#[inline(always)]
+fn columns(cell: XtermCell) -> usize
+    ensures value { result ≡ columns xterm_wide cell }
+    ensures some { 1 ≤ result }
+    ensures few { result ≤ 2 }
+{
+    if cell.is_wide() { 2 } else { 1 }
+}
+
+/// Returns whether a character is one of format.
+fn is_format(c: char) -> bool
+    ensures { result ≡ is_format c }
+{
+    match c as u32 {
+        0x200B..=0x200F => true,
+        0x202A..=0x202E => true,
+        0x2060..=0x2064 => true,
+        0x2066..=0x206F => true,
+        0xFEFF => true,
+        0xFFF9..=0xFFFB => true,
+        _ => false,
+    }
+}
+
+/// Returns whether a character without a width is a mark.
+fn is_mark(c: char) -> bool
+    ensures { result ≡ is_mark c }
+{
+    c as u32 > 0x2FF && !is_format(c)
+}
+
+impl XtermDisplay {
+    /// Carries out a pending wrap: IND, and the left margin's column.
+    #[tactic(auto, unfolding(crate::specs::Writing::after_wrap))]
+    pub(crate) fn carry_out_wrap(&mut self)
+        ensures { self.new ≡ after_wrap self.old }
+    {
+        if self.is_pending() {
+            self.index();
+            self.place(self.shown.cursor.row, self.sides.left);
+        }
+    }
+
+    /// Returns the number of columns from the cursor to the last one that it reaches.
+    pub(crate) fn room(&self) -> usize
+        ensures room { result ≡ room self.now.sides self.now.shown }
+        ensures fits { self.now.shown.cursor.col + result ≡ last_reached self.now.sides self.now.shown + 1 }
+        ensures some { 1 ≤ result }
+    {
+        self.last_reached() - self.shown.cursor.col + 1
+    }
+
+    /// Moves the cursor right by `n`. From the last column that it reaches it doesn't go on, and under DECAWM a wrap is pending there.
+    pub(crate) fn advance(&mut self, n: usize)
+        requires some { 1 ≤ n }
+        requires few { n ≤ 500 }
+        ensures { self.new ≡ advanced n self.old }
+    {
+        let Cursor { row, col, .. } = self.shown.cursor;
+        let last = self.last_reached();
+        if col + n <= last {
+            self.place(row, col + n);
+            return;
+        }
+        let is_last = last == self.shown.screen.width();
+        self.shown.cursor = Cursor {
+            row,
+            col: last,
+            wrap: self.shown.modes.decawm && is_last,
+        };
+        self.waits = self.shown.modes.decawm && !is_last;
+    }
+
+    /// Writes a character that has room. Under IRM, between the margins, the cells at and after the cursor move right first.
+    #[tactic(auto, unfolding(crate::specs::Writing::put))]
+    fn put(&mut self, cell: XtermCell)
+        requires { self.old.shown.cursor.col + columns xterm_wide cell ≤ last_reached self.old.sides self.old.shown + 1 }
+        ensures { self.new ≡ put cell self.old }
+    {
+        let Cursor { row, col, .. } = self.shown.cursor;
+        let Sides { right, .. } = self.sides;
+        let empty = self.incoming();
+        let inserts = self.shown.modes.irm && self.is_between();
+        self.advance(columns(cell));
+        if inserts {
+            put_inserting(&mut self.shown.screen, row, col, right, cell, empty);
+        } else {
+            put(&mut self.shown.screen, row, col, cell, empty);
+        }
+    }
+
+    /// Writes the character that begins with a cell, if no wrap is pending. A wide one for which one column is left goes to the next line, and
+    /// without DECAWM isn't written.
+    #[tactic(auto, unfolding(crate::specs::Writing::put_if_room))]
+    fn put_if_room(&mut self, cell: XtermCell)
+        ensures { self.new ≡ put_if_room cell self.old }
+    {
+        if columns(cell) <= self.room() {
+            self.put(cell);
+        } else if self.shown.modes.decawm {
+            self.next_line();
+            self.put(cell);
+        }
+    }
+
+    /// Writes the character that begins with a cell, after a pending wrap.
+    #[tactic(auto, unfolding(crate::specs::Writing::write))]
+    pub fn write(&mut self, cell: XtermCell)
+        ensures { self.new ≡ write cell self.old }
+    {
+        self.carry_out_wrap();
+        self.put_if_room(cell);
+    }
+
+    /// Writes the glyph of a graphic byte, which is read through the sets.
+    pub fn print(&mut self, b: u8)
+        requires graphic { ((0x20 ≤ b) × (b ≤ 0x7E)) ⊎ (0xA0 ≤ b) }
+        ensures { self.new ≡ print b self.old }
+    {
+        if let Some(glyph) = self.shown.sets.read(b) {
+            let cell = self.shown.pen.written(glyph.to_char(), false);
+            self.write(cell);
+        }
+    }
+
+    /// Lets a mark join the character before the cursor, or under it in column 1 and if a wrap is pending.
+    fn mark(&mut self, c: char)
+        ensures { self.new ≡ mark c self.old }
+    {
+        let col = self.column_before();
+        let Cursor { row, .. } = self.shown.cursor;
+        join(&mut self.shown.screen, row, col, c);
+    }
+
+    /// Returns the column of the character that a mark joins.
+    fn column_before(&self) -> usize
+        ensures column { result ≡ joined_column xterm_wide blank_cell self.now.shown.grid self.now.shown.cursor.row self.now.shown.cursor.col
+            (is_pending self.now) }
+        ensures bounds { (1 ≤ result) × (result ≤ self.now.shown.grid.width) }
+    {
+        let Cursor { row, col, .. } = self.shown.cursor;
+        joined_column(&self.shown.screen, row, col, self.is_pending())
+    }
+
+    /// Writes a character beyond ASCII, or lets it join the one before. It uses up a single shift, unless it has no width.
+    #[tactic(auto, unfolding(vt_glyph::specs::Invocation::after_read))]
+    pub fn write_character(&mut self, c: char)
+        ensures { self.new ≡ write_character c self.old }
+    {
+        let width = cells(c);
+        if width > 0 {
+            let _ = self.shown.sets.read(0x20);
+            let cell = self.shown.pen.written(c, width == 2);
+            self.write(cell);
+        } else if is_mark(c) {
+            self.mark(c);
+        }
+    }
+
+    /// Returns the number of columns for REP: up to the last one that the cursor reaches, or between the margins if a wrap is pending.
+    fn room_after_wrap(&self) -> usize
+        ensures { result ≡ room_after_wrap self.now }
+    {
+        if self.is_pending() {
+            self.sides.right - self.sides.left + 1
+        } else {
+            self.room()
+        }
+    }
+
+    /// Writes the character that begins with a cell, so many times.
+    fn write_times(&mut self, cell: XtermCell, n: usize)
+        ensures { self.new ≡ times n (write cell) self.old }
+    {
+        for _ in 0..n {
+            self.write(cell);
+        }
+    }
+
+    /// Carries out REP: writes the character before the cursor `n` times, and not past the last column that the cursor reaches.
+    pub fn repeat(&mut self, n: u16)
+        ensures { self.new ≡ repeat n self.old }
+    {
+        if self.shown.cursor.col == 1 && !self.is_pending() {
+            return;
+        }
+        let before = self
+            .shown
+            .screen
+            .cell(self.shown.cursor.row, self.column_before());
+        let cell = before.in_look_of(self.shown.pen);
+        let room = self.room_after_wrap();
+        let count = if before.is_wide() { room / 2 } else { room };
+        self.write_times(cell, (n as usize).min(count));
+    }
+}

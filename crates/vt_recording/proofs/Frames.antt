@@ -1,20 +1,14 @@
 -- The frames of a recording by asciinema of version 1, one after another.
-use Rattle.std.proofs.Common.{◌≡◌, ◌+◌, ◌≤◌, ◌<◌, ◌++◌, ◌∷◌, ◌∙◌, [], ℕ, suc, List, length, drop, false, Option, Some, None, refl, sym, ap, subst, arith, append-nil, slice_index_or}
+use Rattle.std.proofs.Common.{◌≡◌, ◌+◌, ◌≤◌, ◌<◌, ◌++◌, ◌∷◌, ◌∙◌, ℕ, suc, List, length, drop, false, Option, Some, None, refl, sym, ap, subst, arith, append-nil, slice_index_or}
 use Rattle.std.proofs.lemmas.List.{drop_all}
 use Rattle.std.proofs.Math.Seq.{drop-cons}
 use Rattle.json.specs.Value.{value_view, items_view}
 use Rattle.json.specs.declared.value.Value.{Value}
-use Rattle.vt_recording.specs.declared.format.Encoding.{Encoding}
-use Rattle.vt_recording.specs.declared.format.Moment.{Moment}
 use Rattle.vt_recording.specs.declared.timeline.Event as declared
-use Rattle.vt_recording.specs.Moment.{micros_of}
-use Rattle.vt_recording.specs.Characters.{AreWritten}
-use Rattle.vt_recording.specs.Asciicast.{Cast, after, and_then, time_behind, heard_in, frame_of, cast_of_frames}
+use Rattle.vt_recording.specs.Asciicast.{time_behind, frame_of}
 use Rattle.vt_recording.specs.Timeline as timeline
-use Rattle.vt_recording.specs.Timeline.{Event, Timeline, told_in, frame_events}
+use Rattle.vt_recording.specs.Timeline.{Event, Timeline, in_recording, told_in, frame_events}
 use Rattle.vt_recording.specs.Gathered.{AreGathered}
-use Rattle.vt_recording.specs.Taken.{in_recording}
-use Rattle.vt_recording.proofs.Casts.{IsPlayed, after_both, nothing_heard}
 use Rattle.vt_recording.proofs.Fronts.{IsGathered, gathered_more, gathered_all, nothing_told}
 
 -- an item and those after it
@@ -22,59 +16,6 @@ pub item_at : {A : Type 0} (xs : List A) (i : ℕ) (x : A) → i < length xs →
 item_at xs i x l is =
     let next : suc i ≡ i + 1 = omega arith in
     drop-cons xs i x l ∙ ap (λ y. y ∷ drop (suc i) xs) (sym is) ∙ ap (λ n. x ∷ drop n xs) next
-
--- ---- the characters of frames
-
-module _ {A : Type 0} (encoding : Encoding) (until : Option Moment) (frames : List (Value A)) (clock i : ℕ) (whole : Cast) (bytes : List ℕ)
-    (n : ℕ) (p : IsPlayed encoding until whole (cast_of_frames (micros_of until) clock (items_view (drop i frames))) bytes n) where
-  -- the frame at this index and then the others
-  step : (frame : Value A) (time : Option ℕ) → drop i frames ≡ frame ∷ drop (i + 1) frames
-      → time ≡ time_behind false (frame_of (value_view frame)) 1 clock
-      → cast_of_frames (micros_of until) clock (items_view (drop i frames))
-      ≡ and_then time (heard_in false (frame_of (value_view frame)) 1 (micros_of until) clock) 0
-      (λ now. cast_of_frames (micros_of until) now (items_view (drop (i + 1) frames)))
-  unfolding cast_of_frames
-  step frame time e t = rw (t, e) refl
-
-  pub frame_played : (frame : Value A) (now : ℕ) (more : List ℕ) (m : ℕ) → drop i frames ≡ frame ∷ drop (i + 1) frames
-      → Some now ≡ time_behind false (frame_of (value_view frame)) 1 clock
-      → ((front : List ℕ) → AreWritten encoding until front bytes n
-      → AreWritten encoding until (front ++ heard_in false (frame_of (value_view frame)) 1 (micros_of until) clock) more m)
-      → IsPlayed encoding until whole (cast_of_frames (micros_of until) now (items_view (drop (i + 1) frames))) more m
-  frame_played frame now more m e t w = record {
-    front = p.front ++ heard_in false (frame_of (value_view frame)) 1 (micros_of until) clock;
-    ahead =
-        p.ahead ∙ ap (after p.front) (step frame (Some now) e t)
-        ∙ after_both p.front _ (cast_of_frames (micros_of until) now (items_view (drop (i + 1) frames)));
-    written = w p.front p.written;
-  }
-
-  -- nothing more comes
-  ended : (broken : Option ℕ) (more : List ℕ) (m : ℕ)
-      → cast_of_frames (micros_of until) clock (items_view (drop i frames)) ≡ record { characters = []; broken = broken }
-      → AreWritten encoding until p.front more m
-      → (whole.broken ≡ broken) × AreWritten encoding until whole.characters more m
-  ended broken more m e w =
-      let all = p.ahead ∙ ap (after p.front) e in
-      let front : whole.characters ≡ p.front = ap (λ (w : Cast). w.characters) all ∙ append-nil p.front in
-      (ap (λ (w : Cast). w.broken) all, rw front w)
-
-  pub frames_break : (frame : Value A) (more : List ℕ) (m : ℕ) → drop i frames ≡ frame ∷ drop (i + 1) frames
-      → None ≡ time_behind false (frame_of (value_view frame)) 1 clock
-      → ((front : List ℕ) → AreWritten encoding until front bytes n
-      → AreWritten encoding until (front ++ heard_in false (frame_of (value_view frame)) 1 (micros_of until) clock) more m)
-      → (whole.broken ≡ Some 0) × AreWritten encoding until whole.characters more m
-  frames_break frame more m e t w =
-      let none = nothing_heard false (frame_of (value_view frame)) 1 (micros_of until) clock t in
-      ended (Some 0) more m (step frame None e t) (rw (none, append-nil) at (w p.front p.written))
-
-  pub frames_end : length frames ≤ i → (whole.broken ≡ None) × AreWritten encoding until whole.characters bytes n
-  unfolding cast_of_frames
-  frames_end h =
-      ended None bytes n
-      (ap (λ (l : List (Value A)). cast_of_frames (micros_of until) clock (items_view l)) (drop_all i frames h)) p.written
-
--- ---- the events of frames
 
 module _ {A : Type 0} (frames : List (Value A)) (clock i : ℕ) where
   pub told : (frame : Value A) (time : Option ℕ) → drop i frames ≡ frame ∷ drop (i + 1) frames

@@ -8,14 +8,13 @@ use Rattle.json.specs.Json.{Items}
 use Rattle.vt_device.specs.declared.fault.Break.{Break}
 use Rattle.vt_recording.specs.declared.timeline.Event as declared
 use Rattle.vt_recording.specs.Lines.{lines_of, front_by, front_line}
-use Rattle.vt_recording.specs.Timeline.{Event, Timeline, after, ends_at, and_then, told_in, cast_events, cast_by, cast_from, asciicast, unless, told_by, timed_events}
+use Rattle.vt_recording.specs.Timeline.{Event, Timeline, in_recording, after, ends_at, and_then, told_in, cast_events, cast_by, cast_from, asciicast, unless, told_by, timed_events}
 use Rattle.vt_recording.specs.Timing.{Spot, break_in, spot_after, is_empty, step_in}
 use Rattle.vt_recording.specs.declared.timeline.Timeline as read
 use Rattle.vt_recording.specs.Gathered.{AreGathered, IsRead, mark_of, events_of, timeline_view}
 use Rattle.vt_recording.specs.Asciicast.{is_silent, event_in, time_behind, frames_in, json_text, start_of, version_in}
 use Rattle.vt_recording.specs.Asciicast as cast
-use Rattle.vt_recording.specs.Taken.{in_recording}
-use Rattle.vt_recording.proofs.Casts.{feed_at, cut_at, place, lines_cut, text_at}
+use Rattle.vt_recording.proofs.FirstLines.{feed_at, cut_at, place, lines_cut, text_at}
 
 -- ---- what is read of lines, at the first one: an empty line that ends the text changes nothing
 

@@ -7,12 +7,9 @@ mod Texts
 mod Lasts
 pub mod Marks
 mod Passing
-mod Casts
+mod FirstLines
 mod Fronts
 mod Frames
-mod Heard
-mod Sizing
-mod Replays
 mod Values
 mod Versions
 mod Changing

@@ -1,20 +1,17 @@
 -- The whole pieces at the front of a recording by ttyrec.
-use Rattle.std.proofs.Common.{◌≡◌, ℕ, ◌+◌, ◌-◌, ◌≤◌, ◌<◌, ◌++◌, ◌∷◌, map, List, [], length, take, drop, Option, Bool, true, false}
-use Rattle.std.proofs.Common.{cond, arith, refl, sym, ap, ◌∙◌, append-nil, append_assoc, length-drop}
+use Rattle.std.proofs.Common.{◌≡◌, ℕ, ◌+◌, ◌-◌, ◌≤◌, ◌<◌, ◌++◌, ◌∷◌, map, List, [], length, take, drop, Option}
+use Rattle.std.proofs.Common.{arith, refl, sym, ap, ◌∙◌, append_assoc, length-drop}
 use Rattle.std.specs.List.{All, flat_map}
 use Rattle.std.proofs.lemmas.List.{length-take, get_or-take, flat_map_more, map-append, length-take-le, take-append-drop}
-use Rattle.std.proofs.lemmas.List.Elements.{All-append, All-from_recursion, filter-append}
-use Rattle.std.proofs.lemmas.Grind.{flat_map-append}
+use Rattle.std.proofs.lemmas.List.Elements.{All-append, All-from_recursion}
 use Rattle.std.proofs.Math.Seq.{take-add}
 use Rattle.vt_recording.specs.declared.timeline.Event as declared
 use Rattle.vt_recording.specs.declared.timeline.EventKind.TheVariants.{Output}
 use Rattle.vt_recording.specs.declared.timeline.Timeline as read
-use Rattle.vt_recording.specs.Timeline.{Event, AreFrames, frame}
-use Rattle.vt_recording.specs.Asciicast.{in_time}
+use Rattle.vt_recording.specs.Timeline.{Event, AreFrames, frame, in_recording}
 use Rattle.vt_recording.specs.Seconds.{risen}
-use Rattle.vt_recording.specs.Taken.{in_recording}
 use Rattle.vt_recording.specs.Gathered.{AreGathered, IsRead}
-use Rattle.vt_recording.specs.Ttyrec.{Piece, Frame, IsWhole, EndsBefore, number_at, spelled, time_of, size_of, frames_after, due}
+use Rattle.vt_recording.specs.Ttyrec.{Piece, Frame, IsWhole, EndsBefore, number_at, spelled, time_of, size_of, frames_after}
 
 -- the time after frames
 unfoldable pub clock_after : (start clock : ℕ) → List Piece → ℕ
@@ -31,11 +28,6 @@ pub record Before (bytes : List ℕ) (at clock : ℕ) : Type 0 where
 abbrev frames_of : (bytes : List ℕ) → List Piece → List Frame
 frames_of bytes pieces = frames_after (time_of bytes) 0 pieces
 
--- these bytes of them are wanted
-pub record Front (until : Option ℕ) (bytes : List ℕ) (at clock : ℕ) (content : List ℕ) : Type 0 where
-  pub before : Before bytes at clock
-  pub wanted : content ≡ due until (frames_of bytes before.pieces)
-
 no_clock : (start : ℕ) → 0 ≡ clock_after start 0 []
 unfolding clock_after
 no_clock start = refl
@@ -47,10 +39,6 @@ before_first bytes = record {
   whole = All-from_recursion (λ p. IsWhole p) [] tt;
   clock_is = no_clock (time_of bytes);
 }
-
-pub front_first : (until : Option ℕ) (bytes content : List ℕ) → content ≡ [] → Front until bytes 0 0 content
-unfolding frames_after
-front_first until bytes content none = record { before = before_first bytes; wanted = none }
 
 -- a number within the front of some bytes
 number_in_front : (at n : ℕ) (xs : List ℕ) → at + 3 < n → number_at at (take n xs) ≡ number_at at xs
@@ -71,13 +59,6 @@ size_in_front xs = number_in_front 8 12 xs (omega arith)
 -- of one piece
 all_one : (p : Piece) → IsWhole p → All (λ q. IsWhole q) (p ∷ [])
 all_one p is = All-from_recursion (λ q. IsWhole q) (p ∷ []) (is, tt)
-
--- one frame more
-due_more : (until : Option ℕ) (frames : List Frame) (f : Frame) (is : Bool) → in_time until f.micros ≡ is
-    → due until (frames ++ f ∷ []) ≡ due until frames ++ cond is f.bytes []
-due_more until frames f true is =
-    rw (filter-append, flat_map-append, is) (ap (λ (l : List ℕ). due until frames ++ l) (append-nil f.bytes))
-due_more until frames f false is = rw (filter-append, flat_map-append, is) refl
 
 module _ (start : ℕ) (p : Piece) where
   clock_more : (clock : ℕ) (pieces : List Piece)
@@ -138,18 +119,6 @@ module _ (bytes : List ℕ) (at size : ℕ) (fits : 12 + size ≤ length (drop a
     frames_are =
         frames_more (time_of bytes) (piece_at bytes at size) 0 before.pieces
         ∙ ap (λ (t : ℕ). frames_of bytes before.pieces ++ record { micros = t; bytes = take size (drop (at + 12) bytes) } ∷ []) (sym later)
-
-  pub one_more : (until : Option ℕ) (content : List ℕ) (clock next : ℕ) (is : Bool) → size ≡ size_of (drop at bytes)
-      → next ≡ risen clock (time_of (drop at bytes) - time_of bytes) → in_time until next ≡ is
-      → Front until bytes at clock content
-      → Front until bytes (at + 12 + size) next (content ++ cond is (take size (drop (at + 12) bytes)) [])
-  one_more until content clock next is says rises wanted front = record {
-    before = before_more clock next says rises front.before;
-    wanted =
-        ap (λ (l : List ℕ). l ++ cond is (take size (drop (at + 12) bytes)) []) front.wanted
-        ∙ sym (due_more until (frames_of bytes front.before.pieces) (record { micros = next; bytes = take size (drop (at + 12) bytes) }) is wanted)
-        ∙ sym (ap (λ (l : List Frame). due until l) (frames_are clock next says rises front.before));
-  }
 
 -- these are the events of the pieces up to this place
 pub record Framed (bytes : List ℕ) (at clock : ℕ) (marks : List declared.Event) (text : List ℕ) : Type 0 where

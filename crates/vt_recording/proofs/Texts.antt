@@ -11,7 +11,7 @@ use Rattle.vt_recording.specs.Asciicast.{Event, is_text, document_in, event_of, 
 use Rattle.vt_recording.specs.Detection.{shows_utf8}
 use Rattle.vt_recording.proofs.Supplemental.{same}
 
-is_utf8 : (line : List ℕ) → IsUtf8 line → is_text line ≡ true
+pub is_utf8 : (line : List ℕ) → IsUtf8 line → is_text line ≡ true
 is_utf8 line u = same (utf8_valid_len line) (length line) (utf8_valid_len-IsUtf8 line u)
 
 pub document_is : (line text : List ℕ) (o : Option Json) → text ≡ line → IsUtf8 line → document text ≡ o

@@ -5,7 +5,7 @@ use Rattle.std.proofs.lemmas.List.{length-take-le, drop_all, drop-drop}
 use Rattle.std.proofs.lemmas.Bool.Decides.{nat_tests}
 use Rattle.vt_recording.specs.Lines.{lines_of, front_by, front_line}
 use Rattle.vt_recording.specs.Timing.{value_in, value_of}
-use Rattle.vt_recording.proofs.Casts.{feed_at, cut_at, place, lines_cut}
+use Rattle.vt_recording.proofs.FirstLines.{feed_at, cut_at, place, lines_cut}
 
 option_or-None : (value : Option (List ℕ)) → option_or value None ≡ value
 option_or-None None = refl

@@ -1,57 +1,47 @@
--- One character more among those that are written, and a text more.
-use Rattle.std.proofs.Common.{◌≡◌, ◌+◌, ◌-◌, ◌≤◌, ◌<◌, ◌++◌, ◌∷◌, ◌∙◌, [], ℕ, List, length, take, Bool, true, false, Option, Some, None, refl, sym, ap, arith, append-nil, length-append, nat_le, chars}
-use Rattle.std.specs.Prelude.{encode_utf8_all}
-use Rattle.std.specs.Str.{IsUtf8}
+-- One character more among those that are written, bytes more, and the content of an event more.
+use Rattle.std.proofs.Common.{◌≡◌, ◌+◌, ◌-◌, ◌≤◌, ◌<◌, ◌++◌, ◌∷◌, ◌∙◌, [], ℕ, List, length, take, Bool, true, false, Some, None, refl, sym, ap, subst, arith, append-nil, append_assoc, length-append, nat_le}
 use Rattle.std.proofs.Math.Seq.{take-append-add}
-use Rattle.std.proofs.lemmas.Str.{encodes-append, encodes-chars}
 use Rattle.std.proofs.lemmas.List.{length-take, take_all, take-append-le, length-map, map-append}
 use Rattle.std.proofs.lemmas.List.Elements.{filter-append}
 use Rattle.std.proofs.lemmas.Bool.Decides.{nat_tests}
-use Rattle.vt_recording.specs.declared.format.Moment.{Moment}
-use Rattle.vt_recording.specs.declared.format.Moment.TheVariants.{Micros, Bytes, Event, Marker}
-use Rattle.vt_recording.specs.declared.format.Encoding.TheVariants.{Dec, Utf8}
-use Rattle.vt_recording.specs.Moment.{cut, is_full, wanted_after}
-use Rattle.vt_recording.specs.Characters.{byte_of, AreConverted, AreWritten}
+use Rattle.vt_recording.specs.Characters.{byte_of, AreWritten}
+use Rattle.vt_recording.specs.Taken.{heard, all_heard}
+use Rattle.vt_recording.specs.Timeline.{Event}
 
--- not all n of them are there
-room_in : (n : ℕ) (front : List ℕ) → nat_le n (length (take n front)) ≡ false → length front < n
-room_in n front free =
-    let taken = length-take n front in
-    grind (arith, nat_tests, taken, free)
+module _ (most : ℕ) (front bytes : List ℕ) (n c : ℕ) (free : length bytes < most) (w : AreWritten true most front bytes n) where
+  few : length front < most
+  few =
+      let taken : length bytes ≡ length (take most front) = rw (w.bytes_are, length-map) refl in
+      let size = length-take most front in
+      grind (arith, nat_tests, taken, size, free)
 
-cut_one : (until : Option Moment) (front : List ℕ) (c : ℕ) → is_full until (length (cut until front)) ≡ false
-    → cut until (front ++ c ∷ []) ≡ cut until front ++ c ∷ []
-cut_one None front c free = refl
-cut_one (Some (Micros n)) front c free = refl
-cut_one (Some (Event n)) front c free = refl
-cut_one (Some (Marker n)) front c free = refl
-cut_one (Some (Bytes n)) front c free =
-    let room = room_in n front free in
-    let more : length (front ++ c ∷ []) ≤ n = rw length-append (omega (arith, room)) in
-    rw (take_all n (front ++ c ∷ []) more, take_all n front (omega (arith, room))) refl
+  longer : take most (front ++ c ∷ []) ≡ take most front ++ c ∷ []
+  longer =
+      let more : length (front ++ c ∷ []) ≤ most = rw length-append (omega (arith, few)) in
+      rw (take_all most (front ++ c ∷ []) more, take_all most front (omega (arith, few))) refl
 
-length_of : (until : Option Moment) (front bytes : List ℕ) (n : ℕ) → AreConverted (cut until front) bytes n
-    → length (cut until front) ≡ length bytes
-length_of until front bytes n w = rw (w.bytes_are, length-map) refl
-
-module _ (until : Option Moment) (front bytes : List ℕ) (n c : ℕ) (free : is_full until (length bytes) ≡ false)
-    (w : AreWritten Dec until front bytes n) where
-  longer : cut until (front ++ c ∷ []) ≡ cut until front ++ c ∷ []
-  longer = cut_one until front c (ap (is_full until) (length_of until front bytes n w) ∙ free)
-
-  pub pushed_byte : (b : ℕ) → byte_of c ≡ Some b → AreWritten Dec until (front ++ c ∷ []) (bytes ++ b ∷ []) n
+  pub pushed_byte : (b : ℕ) → byte_of c ≡ Some b → AreWritten true most (front ++ c ∷ []) (bytes ++ b ∷ []) n
   pushed_byte b is = rw longer (record {
     bytes_are = rw (w.bytes_are, map-append, is) refl;
     replaced_are = rw (w.replaced_are, filter-append, is, length-append) (omega arith);
   })
 
-  pub pushed_sub : byte_of c ≡ None → AreWritten Dec until (front ++ c ∷ []) (bytes ++ 0x1A ∷ []) (n + 1)
+  pub pushed_sub : byte_of c ≡ None → AreWritten true most (front ++ c ∷ []) (bytes ++ 0x1A ∷ []) (n + 1)
   pushed_sub is = rw longer (record {
     bytes_are = rw (w.bytes_are, map-append, is) refl;
     replaced_are = rw (w.replaced_are, filter-append, is, length-append) refl;
   })
 
--- ---- UTF-8
+-- all that is wanted is written
+pub pushed_none : (most : ℕ) (front bytes : List ℕ) (n c : ℕ) → most ≤ length bytes → AreWritten true most front bytes n
+    → AreWritten true most (front ++ c ∷ []) bytes n
+pushed_none most front bytes n c full w =
+    let taken : length bytes ≡ length (take most front) = rw (w.bytes_are, length-map) refl in
+    let size = length-take most front in
+    let enough : most ≤ length front = grind (arith, nat_tests, taken, size, full) in
+    rw (take-append-le most front (c ∷ []) enough) w
+
+-- ---- bytes
 
 -- the front of two lists, by whether the first one has so many
 take_two : (n : ℕ) (xs ys : List ℕ) (is : Bool) → nat_le n (length xs) ≡ is
@@ -67,18 +57,36 @@ take_two n xs ys false is =
     let parts : n ≡ length xs + (n - length xs) = omega (arith, large) in
     rw all (ap (λ k. take k (xs ++ ys)) parts ∙ take-append-add xs ys (n - length xs))
 
-cut_two : (until : Option Moment) (xs ys : List ℕ)
-    → cut until (xs ++ ys) ≡ cut until xs ++ wanted_after until (length (cut until xs)) ys
-cut_two None xs ys = refl
-cut_two (Some (Micros n)) xs ys = refl
-cut_two (Some (Event n)) xs ys = refl
-cut_two (Some (Marker n)) xs ys = refl
-cut_two (Some (Bytes n)) xs ys = take_two n xs ys _ refl
+pub pushed_bytes : (most : ℕ) (front bytes text more : List ℕ) (n m : ℕ) → AreWritten false most front bytes n
+    → more ≡ bytes ++ take (most - length bytes) text → m ≡ n
+    → AreWritten false most (front ++ text) more m
+pushed_bytes most front bytes text more n m w e same =
+    (e ∙ ap (λ (l : List ℕ). l ++ take (most - length l) text) w.0 ∙ sym (take_two most front text _ refl), same ∙ w.1)
 
-pub pushed_utf8 : (until : Option Moment) (front bytes text more : List ℕ) (n m : ℕ) → IsUtf8 text
-    → AreWritten Utf8 until front bytes n → more ≡ bytes ++ wanted_after until (length bytes) text → m ≡ n
-    → AreWritten Utf8 until (front ++ chars text) more m
-pushed_utf8 until front bytes text more n m u w e same =
-    let both : encode_utf8_all (front ++ chars text) ≡ encode_utf8_all front ++ text =
-    encodes-append front (chars text) ∙ ap (λ t. encode_utf8_all front ++ t) (encodes-chars text u) in
-    (rw (e, w.0, both) (sym (cut_two until (encode_utf8_all front) text)), same ∙ w.1)
+-- ---- the events before a place
+
+-- these bytes are of the events before the rest
+pub record IsWritten (characters : Bool) (most : ℕ) (whole rest bytes : List ℕ) (replaced : ℕ) : Type 0 where
+  pub front : List ℕ
+  pub ahead : front ++ rest ≡ whole
+  pub written : AreWritten characters most front bytes replaced
+
+pub event_written : (characters : Bool) (most : ℕ) (whole bytes more : List ℕ) (n m : ℕ) (e : Event) (here rest : List Event)
+    → here ≡ e ∷ rest → IsWritten characters most whole (all_heard characters here) bytes n
+    → ((front : List ℕ) → AreWritten characters most front bytes n
+    → AreWritten characters most (front ++ heard characters e.kind e.text) more m)
+    → IsWritten characters most whole (all_heard characters rest) more m
+event_written characters most whole bytes more n m e here rest is_next w add = record {
+  front = w.front ++ heard characters e.kind e.text;
+  ahead =
+      append_assoc w.front (heard characters e.kind e.text) (all_heard characters rest)
+      ∙ ap (λ (l : List Event). w.front ++ all_heard characters l) (sym is_next) ∙ w.ahead;
+  written = add w.front w.written;
+}
+
+pub none_written : (characters : Bool) (most : ℕ) (whole bytes : List ℕ) (n : ℕ) (here : List Event) → here ≡ []
+    → IsWritten characters most whole (all_heard characters here) bytes n → AreWritten characters most whole bytes n
+none_written characters most whole bytes n here none w =
+    let all : w.front ≡ whole =
+    sym (append-nil w.front) ∙ ap (λ (l : List Event). w.front ++ all_heard characters l) (sym none) ∙ w.ahead in
+    subst (λ (l : List ℕ). AreWritten characters most l bytes n) all w.written

@@ -1,16 +1,15 @@
 -- A recording by asciinema: a line with an object, and events, one a line, or one object with all of it. (the formats
 -- asciicast 2 and 3, and asciicast 1)
-use Rattle.std.specs.Prelude.{ℕ, ◌+◌, ◌∷◌, [], ◌++◌, ◌^◌, ◌-◌, ◌||◌, ◌&&◌, min, List, length, drop, Bool, true, false, cond, codes, chars}
-use Rattle.std.specs.Prelude.{Option, Some, None, is_some, option_map, option_and_then, nat_eq, nat_le, bytes_eq}
+use Rattle.std.specs.Prelude.{ℕ, ◌+◌, ◌∷◌, [], ◌^◌, ◌-◌, ◌||◌, ◌&&◌, min, List, length, drop, Bool, true, false, cond, codes}
+use Rattle.std.specs.Prelude.{Option, Some, None, is_some, option_map, option_and_then, nat_eq, bytes_eq}
 use Rattle.std.specs.List.{starts_with, prefix_len}
 use Rattle.std.specs.Str.Lossy.{utf8_valid_len}
 use Rattle.std.specs.Char.{is_ascii_whitespace}
 use Rattle.json.specs.Token.{Token}
 use Rattle.json.specs.Token as token
 use Rattle.json.specs.Lex.{tokens}
-use Rattle.json.specs.Json.{Json, array, Items, no_items, item, document}
+use Rattle.json.specs.Json.{Json, array, Items, document}
 use Rattle.json.specs.Find.{get, at as nth, as_number, as_str}
-use Rattle.vt_recording.specs.Lines.{lines_of}
 use Rattle.vt_recording.specs.Script.{begins_with}
 use Rattle.vt_recording.specs.Seconds.{micros_of_number, risen}
 
@@ -100,49 +99,11 @@ is_silent version line = nat_eq (length line) 0 || (nat_eq version 3 && starts_w
 abbrev pub clock_after : (version clock micros : ℕ) → ℕ
 clock_after version clock micros = cond (nat_eq version 2) (risen clock micros) (min (clock + micros) (2 ^ 64 - 1))
 
-abbrev pub in_time : (until : Option ℕ) → (time : ℕ) → Bool
-in_time None time = true
-in_time (Some until) time = nat_le time until
-
--- the code of output
-abbrev pub is_output : (code : List ℕ) → Bool
-is_output code = bytes_eq code (codes "o")
-
--- the characters of an event that are wanted
-abbrev pub heard : (until : Option ℕ) → (time : ℕ) → (output : Bool) → (text : List ℕ) → List ℕ
-heard until time output text = cond (output && in_time until time) (chars text) []
-
--- the characters that the host sent, and the byte at which the format is broken
-pub record Cast : Type 0 where
-  pub characters : List ℕ
-  pub broken : Option ℕ
-
-abbrev pub after : List ℕ → Cast → Cast
-after characters cast = record { characters = characters ++ cast.characters; broken = cast.broken }
-
 -- the time after a line, if that doesn't break the format
 abbrev pub time_behind : (silent : Bool) → Option Event → (version clock : ℕ) → Option ℕ
 time_behind true event version clock = Some clock
 time_behind false None version clock = None
 time_behind false (Some e) version clock = Some (clock_after version clock e.0)
-
--- the characters of a line
-abbrev pub heard_in : (silent : Bool) → Option Event → (version : ℕ) → (until : Option ℕ) → (clock : ℕ) → List ℕ
-heard_in true event version until clock = []
-heard_in false None version until clock = []
-heard_in false (Some e) version until clock = heard until (clock_after version clock e.0) (is_output e.1) e.2
-
--- characters and then the other lines, as a function of the time, unless the format is broken at this byte
-abbrev pub and_then : (time : Option ℕ) → List ℕ → (at : ℕ) → (ℕ → Cast) → Cast
-and_then None characters at rest = record { characters = []; broken = Some at }
-and_then (Some now) characters at rest = after characters (rest now)
-
-unfoldable pub cast_of : (version : ℕ) (until : Option ℕ) (clock at : ℕ) → List (List ℕ) → Cast
-cast_of version until clock at [] = record { characters = []; broken = None }
-cast_of version until clock at (line ∷ lines) =
-    and_then (time_behind (is_silent version line) (event_in line) version clock)
-    (heard_in (is_silent version line) (event_in line) version until clock) at
-    (λ now. cast_of version until now (at + (length line + 1)) lines)
 
 -- ---- version 1: one object, whose `stdout` is an array of frames
 
@@ -169,29 +130,3 @@ frames_of value = cond (names_one value) (option_and_then items_in (get (codes "
 -- the frames of a text
 abbrev pub frames_in : List ℕ → Option Items
 frames_in text = option_and_then frames_of (document_in text)
-
-unfoldable pub cast_of_frames : (until : Option ℕ) (clock : ℕ) → Items → Cast
-cast_of_frames until clock no_items = record { characters = []; broken = None }
-cast_of_frames until clock (item frame frames) =
-    and_then (time_behind false (frame_of frame) 1 clock) (heard_in false (frame_of frame) 1 until clock) 0
-    (λ now. cast_of_frames until now frames)
-
--- a recording of no version is broken at its first byte
-abbrev pub cast_by_frames : (until : Option ℕ) → Option Items → Cast
-cast_by_frames until None = record { characters = []; broken = Some 0 }
-cast_by_frames until (Some frames) = cast_of_frames until 0 frames
-
--- ---- all: the version is in the first line, or it is 1
-
-abbrev pub cast_by : (version : Option ℕ) → (frames : Option Items) → (until : Option ℕ) → (at : ℕ) → List (List ℕ) → Cast
-cast_by None frames until at lines = cast_by_frames until frames
-cast_by (Some version) frames until at lines = cast_of version until 0 at lines
-
--- the lines starting at a byte
-abbrev pub cast_from : (frames : Option Items) → (until : Option ℕ) → (start : ℕ) → List (List ℕ) → Cast
-cast_from frames until start [] = cast_by_frames until frames
-cast_from frames until start (header ∷ lines) = cast_by (version_in header) frames until (start + (length header + 1)) lines
-
--- a recording
-abbrev pub asciicast : (until : Option ℕ) → (bytes : List ℕ) → Cast
-asciicast until bytes = cast_from (frames_in (json_text bytes)) until (start_of bytes) (lines_of (json_text bytes))

@@ -1,17 +1,13 @@
 -- The changes of the window's size in a recording, each with its place in the content. (asciicast 2 and 3 of asciinema: `r` and
--- COLUMNSxROWS; script(1) of util-linux: SIGWINCH and ROWS=.. COLS=..; which of them come before a moment is this profile's)
-use Rattle.std.specs.Prelude.{ℕ, ◌+◌, ◌&&◌, List, [], ◌∷◌, ◌++◌, take, drop, codes, Bool, true, false, cond, nat_eq, nat_le}
+-- COLUMNSxROWS; script(1) of util-linux: SIGWINCH and ROWS=.. COLS=..; their places are this profile's)
+use Rattle.std.specs.Prelude.{ℕ, ◌+◌, List, [], ◌∷◌, ◌++◌, take, drop, codes, Bool, true, false, cond, nat_eq}
 use Rattle.std.specs.Prelude.{Option, Some, None, option_map, option_and_then}
 use Rattle.std.specs.List.{position}
-use Rattle.vt_recording.specs.declared.format.Moment.{Moment}
-use Rattle.vt_recording.specs.declared.format.Moment.TheVariants as moment
 use Rattle.vt_recording.specs.declared.timeline.EventKind.{EventKind}
 use Rattle.vt_recording.specs.declared.timeline.EventKind.TheVariants.{Output, Input, Marker, Size, Exit}
 use Rattle.vt_recording.specs.declared.changes.Window.{Window}
 use Rattle.vt_recording.specs.declared.changes.Change.{Change}
 use Rattle.vt_recording.specs.declared.reached.Passed.{Passed}
-use Rattle.vt_recording.specs.Asciicast.{in_time}
-use Rattle.vt_recording.specs.Moment.{micros_of}
 use Rattle.vt_recording.specs.Reached.{with_event}
 use Rattle.vt_recording.specs.Script.{stripped}
 use Rattle.vt_recording.specs.Seconds.{number}
@@ -44,15 +40,7 @@ window_as (Some rest) text = window_after (place 0x20 rest) rest
 abbrev pub window_in : List ℕ → Option Window
 window_in text = window_as (stripped (codes "ROWS=") text) text
 
--- ---- the changes before a moment
-
--- the moment comes before the next event: so many bytes of the content, events or markers have passed. A time is that of each event
-abbrev pub is_over : Option Moment → Passed → Bool
-is_over None p = false
-is_over (Some (moment.Micros n)) p = false
-is_over (Some (moment.Bytes n)) p = nat_le n p.content
-is_over (Some (moment.Event n)) p = nat_le n p.events
-is_over (Some (moment.Marker n)) p = nat_le n p.markers
+-- ---- the changes among events
 
 abbrev pub is_size : EventKind → Bool
 is_size Output = false
@@ -61,22 +49,16 @@ is_size Marker = false
 is_size Size = true
 is_size Exit = false
 
--- what passes with an event, unless it is later than the time
-abbrev pub passed_with : (characters : Bool) → Option Moment → Passed → Event → Passed
-passed_with characters until p e = cond (in_time (micros_of until) e.micros) (with_event characters p e) p
-
 -- a change after so much of the content
 abbrev pub change_to : (content : ℕ) → Option Window → List Change
 change_to content None = []
 change_to content (Some w) = record { place = content; window = w } ∷ []
 
--- an event of a size that isn't later than the time is a change. A text that is no size is none
-abbrev pub change_of : Option Moment → Passed → Event → List Change
-change_of until p e = cond (is_size e.kind && in_time (micros_of until) e.micros) (change_to p.content (window_in e.text)) []
+-- an event of a size is a change. A text that is no size is none
+abbrev pub change_of : Passed → EventKind → (text : List ℕ) → List Change
+change_of p kind text = cond (is_size kind) (change_to p.content (window_in text)) []
 
--- the changes among events, in their order. Their places are those in the content up to the moment
-unfoldable pub changes_in : (characters : Bool) → (until : Option Moment) → Passed → List Event → List Change
-changes_in characters until p [] = []
-changes_in characters until p (e ∷ events) =
-    cond (is_over until p) []
-    (change_of until p e ++ changes_in characters until (passed_with characters until p e) events)
+-- the changes among events, in their order, each with its place in the content
+unfoldable pub changes_in : (characters : Bool) → Passed → List Event → List Change
+changes_in characters p [] = []
+changes_in characters p (e ∷ events) = change_of p e.kind e.text ++ changes_in characters (with_event characters p e) events

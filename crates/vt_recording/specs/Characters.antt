@@ -1,14 +1,10 @@
--- The bytes of characters: in DEC's encoding those of ASCII and of DEC's supplemental set, otherwise UTF-8.
--- (EK-VT220-RM, chapter 2: the charts of the sets; RFC 3629: UTF-8. SUB for all other characters is this profile's.)
-use Rattle.std.specs.Prelude.{◌≡◌, ℕ, ◌+◌, ◌==◌, List, length, map, not, cond, nat_lt, Option, Some, None, option_map, unwrap_or, is_some, encode_utf8_all}
+-- The bytes of characters in DEC's encoding: those of ASCII and of DEC's supplemental set. (EK-VT220-RM, chapter 2: the charts of the
+-- sets. SUB for all other characters is this profile's.)
+use Rattle.std.specs.Prelude.{◌≡◌, ℕ, ◌+◌, ◌==◌, List, length, take, map, Bool, true, false, not, cond, nat_lt, Option, Some, None, option_map, unwrap_or, is_some}
 use Rattle.std.specs.List.{filter}
 use Rattle.vt_glyph.specs.declared.set.Set.TheVariants.{Supplemental}
 use Rattle.vt_glyph.specs.Tables.{substitute_glyph}
 use Rattle.vt_glyph.specs.Spell.{code_in}
-use Rattle.vt_recording.specs.declared.format.Encoding.{Encoding}
-use Rattle.vt_recording.specs.declared.format.Encoding.TheVariants.{Dec, Utf8}
-use Rattle.vt_recording.specs.declared.format.Moment.{Moment}
-use Rattle.vt_recording.specs.Moment.{cut}
 
 -- the byte that a character has, if it has one: U+2426 is shown in undefined places of the set, and has none
 abbrev pub byte_of : ℕ → Option ℕ
@@ -29,8 +25,7 @@ pub record AreConverted (characters bytes : List ℕ) (replaced : ℕ) : Type 0 
   pub bytes_are : bytes ≡ bytes_of characters
   pub replaced_are : replaced ≡ replaced_in characters
 
--- the bytes of characters in an encoding, up to a number of bytes, and how many characters have none. In UTF-8 all have
--- some
-abbrev pub AreWritten : Encoding → (until : Option Moment) → (characters bytes : List ℕ) → (replaced : ℕ) → Type 0
-AreWritten Dec until characters bytes replaced = AreConverted (cut until characters) bytes replaced
-AreWritten Utf8 until characters bytes replaced = (bytes ≡ cut until (encode_utf8_all characters)) × (replaced ≡ 0)
+-- the first characters or bytes of what was heard, up to a number of them, are these bytes, and so many characters have none
+abbrev pub AreWritten : (characters : Bool) → (most : ℕ) → (heard bytes : List ℕ) → (replaced : ℕ) → Type 0
+AreWritten true most heard bytes replaced = AreConverted (take most heard) bytes replaced
+AreWritten false most heard bytes replaced = (bytes ≡ take most heard) × (replaced ≡ 0)

@@ -8,7 +8,6 @@ pub mod Format
 pub mod Gathered
 pub mod Heading
 pub mod Lines
-pub mod Moment
 pub mod Reached
 pub mod Reading
 pub mod Script
@@ -18,4 +17,3 @@ pub mod Taken
 pub mod Timeline
 pub mod Timing
 pub mod Ttyrec
-pub mod Private

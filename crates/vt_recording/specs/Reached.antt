@@ -1,5 +1,5 @@
--- The events of a recording before a moment, and the content between two moments. (this profile; the bytes of UTF-8: RFC 3629)
-use Rattle.std.specs.Prelude.{◌≡◌, ℕ, ◌+◌, ◌&&◌, List, [], ◌∷◌, length, drop, Bool, true, false, not, cond, nat_le, nat_lt, Option, Some, None}
+-- The events of a recording before a moment, and up to one. (this profile; the bytes of UTF-8: RFC 3629)
+use Rattle.std.specs.Prelude.{ℕ, ◌+◌, ◌&&◌, List, [], ◌∷◌, length, take, Bool, true, false, not, cond, nat_le, nat_lt, Option, Some, None}
 use Rattle.std.specs.List.{filter}
 use Rattle.vt_recording.specs.declared.format.Format.{Format}
 use Rattle.vt_recording.specs.declared.format.Format.TheVariants.{Asciicast}
@@ -7,12 +7,10 @@ use Rattle.vt_recording.specs.declared.format.Encoding.{Encoding}
 use Rattle.vt_recording.specs.declared.format.Encoding.TheVariants.{Dec}
 use Rattle.vt_recording.specs.declared.format.Moment.{Moment}
 use Rattle.vt_recording.specs.declared.format.Moment.TheVariants as moment
-use Rattle.vt_device.specs.declared.fault.Break.{Break}
 use Rattle.vt_recording.specs.declared.timeline.EventKind.{EventKind}
 use Rattle.vt_recording.specs.declared.timeline.EventKind.TheVariants as kind
 use Rattle.vt_recording.specs.declared.reached.Passed.{Passed}
-use Rattle.vt_recording.specs.Taken.{IsTaken}
-use Rattle.vt_recording.specs.Timeline.{Event, Timeline, IsTimelineOf, is_output}
+use Rattle.vt_recording.specs.Timeline.{Event, is_output}
 
 -- ---- the bytes of the content that an event has
 
@@ -32,7 +30,7 @@ length_of false text = length text
 abbrev pub played : (characters : Bool) → Event → ℕ
 played characters e = cond (is_output e.kind) (length_of characters e.text) 0
 
--- ---- the events before a moment
+-- ---- what passes
 
 abbrev pub is_marker : EventKind → Bool
 is_marker kind.Output = false
@@ -59,54 +57,40 @@ is_reached (moment.Bytes n) p micros kind = nat_le n p.content
 is_reached (moment.Event n) p micros kind = nat_le n (p.events + 1)
 is_reached (moment.Marker n) p micros kind = is_marker kind && nat_le n (p.markers + 1)
 
--- what passes before the first event at the moment, or with that event. If there is no such event, all events pass
-unfoldable pub passed : (through characters : Bool) → Moment → Passed → List Event → Passed
-passed through characters m p [] = p
-passed through characters m p (e ∷ events) =
-    cond (is_reached m p e.micros e.kind) (cond through (with_event characters p e) p)
-    (passed through characters m (with_event characters p e) events)
+-- an event comes after the moment: it is later than the time, or so many bytes of the content, events or markers have passed
+abbrev pub is_over : Moment → Passed → (micros : ℕ) → Bool
+is_over (moment.Micros n) p micros = nat_lt n micros
+is_over (moment.Bytes n) p micros = nat_le n p.content
+is_over (moment.Event n) p micros = nat_le n p.events
+is_over (moment.Marker n) p micros = nat_le n p.markers
+
+-- an event doesn't pass any more: up to a moment if it comes after that, otherwise if it is at that. No moment is the end of all
+-- events, otherwise their beginning
+abbrev pub stops : (until : Bool) → Option Moment → Passed → (micros : ℕ) → EventKind → Bool
+stops true None p micros kind = false
+stops true (Some m) p micros kind = is_over m p micros
+stops false None p micros kind = true
+stops false (Some m) p micros kind = is_reached m p micros kind
+
+-- what passes before the first event that doesn't. If there is no such event, all events pass
+unfoldable pub passed : (until characters : Bool) → Option Moment → Passed → List Event → Passed
+passed until characters m p [] = p
+passed until characters m p (e ∷ events) =
+    cond (stops until m p e.micros e.kind) p (passed until characters m (with_event characters p e) events)
+
+-- the events that are due until a moment: the clock of a recording never falls, so they are the first ones
+abbrev pub due : (characters : Bool) → (until : Option Moment) → List Event → List Event
+due characters until events = take (passed true characters until nothing_passed events).events events
 
 -- ---- the content between two moments
 
--- a fact of the events of a recording
-pub record IsAmong (format : Format) (timing : Option (List ℕ)) (bytes : List ℕ) (Is : List Event → Type 0) : Type 0 where
-  pub timeline : Timeline
-  pub is_of : IsTimelineOf format timing bytes timeline
-  pub is : Is timeline.events
+-- the number of bytes of the content before a moment, or up to it
+abbrev pub content_at : Option Moment → Passed → ℕ
+content_at (Some (moment.Bytes n)) p = n
+content_at (Some (moment.Micros n)) p = p.content
+content_at (Some (moment.Event n)) p = p.content
+content_at (Some (moment.Marker n)) p = p.content
+content_at None p = p.content
 
--- the number of bytes of the content that come before a moment
-abbrev pub StartsAt : Option Moment → Format → Encoding → (timing : Option (List ℕ)) → (bytes : List ℕ) → (start : ℕ) → Type 0
-StartsAt None format encoding timing bytes start = start ≡ 0
-StartsAt (Some (moment.Bytes n)) format encoding timing bytes start = start ≡ n
-StartsAt (Some (moment.Micros n)) format encoding timing bytes start =
-    IsAmong format timing bytes
-    (λ events. start ≡ (passed false (has_characters format encoding) (moment.Micros n) nothing_passed events).content)
-StartsAt (Some (moment.Event n)) format encoding timing bytes start =
-    IsAmong format timing bytes
-    (λ events. start ≡ (passed false (has_characters format encoding) (moment.Event n) nothing_passed events).content)
-StartsAt (Some (moment.Marker n)) format encoding timing bytes start =
-    IsAmong format timing bytes
-    (λ events. start ≡ (passed false (has_characters format encoding) (moment.Marker n) nothing_passed events).content)
-
--- a moment as a time or a number of bytes: an event or a marker ends the content with its own bytes
-abbrev pub EndsBy : Option Moment → Format → Encoding → (timing : Option (List ℕ)) → (bytes : List ℕ) → (end : Option Moment) → Type 0
-EndsBy None format encoding timing bytes end = end ≡ None
-EndsBy (Some (moment.Bytes n)) format encoding timing bytes end = end ≡ Some (moment.Bytes n)
-EndsBy (Some (moment.Micros n)) format encoding timing bytes end = end ≡ Some (moment.Micros n)
-EndsBy (Some (moment.Event n)) format encoding timing bytes end =
-    IsAmong format timing bytes (λ events. end
-    ≡ Some (moment.Bytes (passed true (has_characters format encoding) (moment.Event n) nothing_passed events).content))
-EndsBy (Some (moment.Marker n)) format encoding timing bytes end =
-    IsAmong format timing bytes (λ events. end
-    ≡ Some (moment.Bytes (passed true (has_characters format encoding) (moment.Marker n) nothing_passed events).content))
-
--- the content up to a moment without what comes before another one
-pub record IsTakenBetween (format : Format) (encoding : Encoding) (from until : Option Moment) (timing : Option (List ℕ)) (bytes content : List ℕ)
-    (broken : Option Break) (replaced : ℕ) : Type 0 where
-  pub start : ℕ
-  pub starts : StartsAt from format encoding timing bytes start
-  pub end : Option Moment
-  pub ends : EndsBy until format encoding timing bytes end
-  pub whole : List ℕ
-  pub taken : IsTaken format encoding end timing bytes whole broken replaced
-  pub rest : content ≡ drop start whole
+abbrev pub place_of : (until characters : Bool) → Option Moment → List Event → ℕ
+place_of until characters m events = content_at m (passed until characters m nothing_passed events)

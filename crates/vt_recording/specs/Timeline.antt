@@ -1,27 +1,22 @@
 -- A recording as its events in turn, and the place at which it breaks its format. (asciicast 2 and 3 of asciinema: a line
 -- of a time, a code and a text; asciicast 1: a frame; ttyrec: the frame after a header; script(1) and scriptreplay(1) of util-linux: a line of the
 -- timing file)
-use Rattle.std.specs.Prelude.{◌≡◌, ℕ, ◌+◌, ◌&&◌, List, [], ◌∷◌, ◌++◌, length, take, drop, map, chars, codes, bytes_eq, Bool, true, false, cond}
-use Rattle.std.specs.Prelude.{Option, Some, None}
-use Rattle.std.specs.List.{All, filter, flat_map}
+use Rattle.std.specs.Prelude.{◌≡◌, ℕ, ◌+◌, List, [], ◌∷◌, ◌++◌, length, take, drop, map, codes, bytes_eq, Bool, true, false, cond}
+use Rattle.std.specs.Prelude.{Option, Some, None, option_map}
+use Rattle.std.specs.List.{All, flat_map}
 use Rattle.vt_recording.specs.declared.format.Format.{Format}
 use Rattle.vt_recording.specs.declared.format.Format.TheVariants as format
-use Rattle.vt_recording.specs.declared.format.Encoding.{Encoding}
-use Rattle.vt_recording.specs.declared.format.Moment.{Moment}
 use Rattle.vt_device.specs.declared.fault.Break.{Break}
+use Rattle.vt_device.specs.declared.fault.Part.TheVariants as part
 use Rattle.vt_recording.specs.declared.timeline.EventKind.{EventKind}
 use Rattle.vt_recording.specs.declared.timeline.EventKind.TheVariants.{Output, Input, Marker, Size, Exit}
 use Rattle.vt_recording.specs.Lines.{lines_of}
-use Rattle.vt_recording.specs.Moment.{micros_of, cut}
-use Rattle.vt_recording.specs.Characters.{AreWritten}
 use Rattle.vt_recording.specs.Script.{begins_with, first_line, EndsAt, IsOfScript}
 use Rattle.vt_recording.specs.Timing as timing
 use Rattle.vt_recording.specs.Timing.{Step, Spot}
 use Rattle.vt_recording.specs.Ttyrec.{Piece, Frame, IsWhole, EndsBefore, spelled, time_of, frames_after}
 use Rattle.json.specs.Json.{Items, no_items, item}
 use Rattle.vt_recording.specs.Asciicast as cast
-use Rattle.vt_recording.specs.Asciicast.{in_time}
-use Rattle.vt_recording.specs.Taken.{in_recording}
 
 -- ---- an event
 
@@ -35,6 +30,10 @@ pub record Timeline : Type 0 where
   pub events : List Event
   pub broken : Option Break
 
+-- the recording is broken at a byte
+abbrev pub in_recording : Option ℕ → Option Break
+in_recording at = option_map (λ n. record { part = part.Recording; at = n }) at
+
 abbrev pub after : List Event → Timeline → Timeline
 after events timeline = record { events = events ++ timeline.events; broken = timeline.broken }
 
@@ -45,37 +44,12 @@ abbrev pub event_if : Option EventKind → (micros : ℕ) → (text : List ℕ) 
 event_if None micros text = []
 event_if (Some kind) micros text = record { micros = micros; kind = kind; text = text } ∷ []
 
--- ---- what is read of events: the output up to a moment
-
 abbrev pub is_output : EventKind → Bool
 is_output Output = true
 is_output Input = false
 is_output Marker = false
 is_output Size = false
 is_output Exit = false
-
-abbrev pub is_heard : (until : Option ℕ) → Event → Bool
-is_heard until e = is_output e.kind && in_time until e.micros
-
-abbrev pub heard_by : (until : Option ℕ) → List Event → List Event
-heard_by until events = filter (λ e. is_heard until e) events
-
-abbrev pub bytes_by : (until : Option ℕ) → List Event → List ℕ
-bytes_by until events = flat_map (λ e. e.text) (heard_by until events)
-
-abbrev pub characters_by : (until : Option ℕ) → List Event → List ℕ
-characters_by until events = flat_map (λ e. chars e.text) (heard_by until events)
-
--- the content: only asciinema keeps characters
-abbrev pub IsContentOf : Format → Encoding → (until : Option Moment) → List Event → (content : List ℕ) → (replaced : ℕ) → Type 0
-IsContentOf format.Raw encoding until events content replaced =
-    (content ≡ cut until (bytes_by (micros_of until) events)) × (replaced ≡ 0)
-IsContentOf format.Script encoding until events content replaced =
-    (content ≡ cut until (bytes_by (micros_of until) events)) × (replaced ≡ 0)
-IsContentOf format.Ttyrec encoding until events content replaced =
-    (content ≡ cut until (bytes_by (micros_of until) events)) × (replaced ≡ 0)
-IsContentOf format.Asciicast encoding until events content replaced =
-    AreWritten encoding until (characters_by (micros_of until) events) content replaced
 
 -- ---- asciicast
 

@@ -1,17 +1,13 @@
 -- The timing file of script(1): one chunk of the recording a line. (script(1) and scriptreplay(1) of util-linux: the
 -- classic form, and the one with types)
-use Rattle.std.specs.Prelude.{◌≡◌, ℕ, ◌+◌, ◌-◌, ◌^◌, ◌&&◌, ◌||◌, ◌∷◌, [], ◌++◌, min, List, length, take, drop, Bool, true, false, cond, codes}
+use Rattle.std.specs.Prelude.{ℕ, ◌+◌, ◌-◌, ◌^◌, ◌||◌, ◌∷◌, [], min, List, length, take, drop, Bool, true, false, cond, codes}
 use Rattle.std.specs.Prelude.{Option, Some, None, option_map, option_and_then, nat_eq, nat_le, bytes_eq, not}
 use Rattle.std.specs.Option.{option_or}
 use Rattle.std.specs.List.{position}
 use Rattle.vt_device.specs.declared.fault.Break.{Break}
 use Rattle.vt_device.specs.declared.fault.Part.TheVariants as part
-use Rattle.vt_recording.specs.declared.format.Moment.{Moment}
-use Rattle.vt_recording.specs.Moment.{micros_of, cut}
-use Rattle.vt_recording.specs.Lines.{lines_of}
 use Rattle.vt_recording.specs.Seconds.{micros, number}
-use Rattle.vt_recording.specs.Asciicast.{in_time}
-use Rattle.vt_recording.specs.Script.{begins_with, stripped, EndsAt}
+use Rattle.vt_recording.specs.Script.{begins_with, stripped}
 
 -- ---- a line
 
@@ -97,58 +93,5 @@ spot_after true step spot = spot
 spot_after false None spot = spot
 spot_after false (Some s) spot = record { clock = later spot.clock s.0; place = spot.place + s.2 }
 
--- the bytes of a line that are wanted
-abbrev pub played_in : (empty : Bool) → Option Step → (session : List ℕ) → (until : Option ℕ) → Spot → List ℕ
-played_in true step session until spot = []
-played_in false None session until spot = []
-played_in false (Some s) session until spot =
-    cond (s.1 && in_time until (later spot.clock s.0)) (take s.2 (drop spot.place session)) []
-
--- the output, and what is broken
-pub record Replay : Type 0 where
-  pub content : List ℕ
-  pub broken : Option Break
-
-abbrev pub after : List ℕ → Replay → Replay
-after bytes replay = record { content = bytes ++ replay.content; broken = replay.broken }
-
-abbrev pub unless : Option Break → List ℕ → Replay → Replay
-unless None bytes replay = after bytes replay
-unless (Some place) bytes replay = record { content = []; broken = Some place }
-
 abbrev pub is_empty : List ℕ → Bool
 is_empty line = nat_eq (length line) 0
-
-unfoldable pub replay_of : (apart : Bool) (session : List ℕ) (stop : ℕ) (until : Option ℕ) (spot : Spot) (at : ℕ) → List (List ℕ) → Replay
-replay_of apart session stop until spot at [] = record { content = []; broken = None }
-replay_of apart session stop until spot at (line ∷ lines) =
-    unless (break_in (is_empty line) (step_in apart line) session spot.place stop at)
-    (played_in (is_empty line) (step_in apart line) session until spot)
-    (replay_of apart session stop until (spot_after (is_empty line) (step_in apart line) spot) (at + (length line + 1)) lines)
-
-abbrev pub start : Spot
-start = record { clock = 0; place = 0 }
-
--- all the lines
-abbrev pub replay : (session : List ℕ) (stop : ℕ) (until : Option ℕ) → List (List ℕ) → Replay
-replay session stop until lines = replay_of (is_apart lines) session stop until start 0 lines
-
--- ---- a recording with its timing file
-
--- what was taken: of the session, which is between the first line and the last one, what the timing file says. A
--- session that `script -a` appended ends it, too, and breaks nothing unless the counts go on there
-pub record IsReplayed (until : Option Moment) (body timing : List ℕ) (from : ℕ) (content : List ℕ)
-    (broken : Option Break) : Type 0 where
-  pub end : ℕ
-  pub ends : EndsAt body end
-  pub wanted : content
-      ≡ cut until (replay (take end body) (from + end) (micros_of until) (lines_of timing)).content
-  pub breaks : broken ≡ (replay (take end body) (from + end) (micros_of until) (lines_of timing)).broken
-
--- what was taken, by the place of the LF of the first line
-abbrev pub IsTimedAfter : Option ℕ → (until : Option Moment) → (bytes timing content : List ℕ)
-    → (broken : Option Break) → Type 0
-IsTimedAfter None until bytes timing content broken =
-    (content ≡ []) × (broken ≡ Some (record { part = part.Recording; at = 0 }))
-IsTimedAfter (Some line) until bytes timing content broken =
-    IsReplayed until (drop (line + 1) bytes) timing (line + 1) content broken

@@ -1,7 +1,5 @@
 -- A recording by ttyrec: frames, each after a header of 12 bytes. (the format of ttyrec)
 use Rattle.std.specs.Prelude.{◌≡◌, ℕ, ◌+◌, ◌-◌, ◌*◌, ◌<◌, ◌⊎◌, List, [], ◌∷◌, ◌++◌, length, slice_index, Option, Some, None}
-use Rattle.std.specs.List.{All, filter, flat_map}
-use Rattle.vt_recording.specs.Asciicast.{in_time}
 use Rattle.vt_recording.specs.Seconds.{risen}
 
 -- the number of 32 bits at a place, its lowest byte first
@@ -46,20 +44,7 @@ frames_after start clock (p ∷ pieces) =
     record { micros = risen clock (time_of p.header - start); bytes = p.bytes }
     ∷ frames_after start (risen clock (time_of p.header - start)) pieces
 
--- the content: the frames that are wanted, one after another
-abbrev pub due : (until : Option ℕ) → List Frame → List ℕ
-due until frames = flat_map (λ f. f.bytes) (filter (λ f. in_time until f.micros) frames)
-
 -- the end of the whole frames: the end of the bytes, or the beginning of a cut frame
 abbrev pub EndsBefore : (at : ℕ) → (rest : List ℕ) → (broken : Option ℕ) → Type 0
 EndsBefore at rest None = rest ≡ []
 EndsBefore at rest (Some n) = (n ≡ at) × (0 < length rest) × IsCut rest
-
--- what was taken: the content, and the byte at which the format is broken. The bytes begin with the first header.
-pub record IsOfTtyrec (until : Option ℕ) (bytes content : List ℕ) (broken : Option ℕ) : Type 0 where
-  pub pieces : List Piece
-  pub rest : List ℕ
-  pub joined : bytes ≡ flat_map (λ p. spelled p) pieces ++ rest
-  pub whole : All (λ p. IsWhole p) pieces
-  pub ends : EndsBefore (length (flat_map (λ p. spelled p) pieces)) rest broken
-  pub wanted : content ≡ due until (frames_after (time_of bytes) 0 pieces)

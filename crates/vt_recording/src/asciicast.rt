@@ -1,10 +1,8 @@
 //! A recording by asciinema.
-ghost use Rattle.std.specs.Prelude.{◌≡◌, ◌≤◌, ◌++◌, [], ℕ, List, length, IfOk, IfErr, option_map, OnOk, IfSome, IfNone, MatchOption};
-ghost use Rattle.json.specs.Lex.{tokens};
+ghost use Rattle.std.specs.Prelude.{◌≡◌, ◌≤◌, length, true, false, IfOk, option_map, MatchOption};
 ghost use Rattle.json.specs.Value.{value_view, items_view};
-ghost use Rattle.json.specs.Json.{document};
 ghost use Rattle.json.specs.Reads.{token_of};
-ghost use Rattle.vt_recording.specs.Asciicast.{trimmed, without_mark, json_text, version_of, document_in, version_in, event_of, event_in, is_silent, clock_after, in_time};
+ghost use Rattle.vt_recording.specs.Asciicast.{trimmed, without_mark, json_text, version_of, document_in, version_in, event_of, event_in, is_silent, clock_after};
 ghost use Rattle.vt_recording.specs.Asciicast.{begins_array, ends_array, number_in, string_in, event_from, is_text, frame_of, names_one, items_in, frames_of};
 ghost use Rattle.vt_recording.specs.Events.{event_view};
 
@@ -61,6 +59,16 @@ pub(crate) fn version_of(object: &Value<'_>) -> Option<u64>
         "3" => Some(3),
         _ => None,
     }
+}
+
+/// Returns a line as text, if it is UTF-8.
+pub(crate) fn text_in(line: &[u8]) -> Option<&str>
+    ensures { MatchOption result (is_text line.now ≡ false) (λ s. (is_text line.now ≡ true) × (s.now ≡ line.now)) }
+{
+    let Ok(text) = std::str::from_utf8(line) else {
+        return None;
+    };
+    Some(text)
 }
 
 /// Returns the JSON text that a line is, if it is one.
@@ -234,15 +242,5 @@ pub(crate) fn clock_after(version: u64, clock: u64, micros: u64) -> u64
         risen(clock, micros)
     } else {
         clock.saturating_add(micros)
-    }
-}
-
-/// Returns whether a time isn't after the moment.
-pub(crate) fn in_time(until: Option<u64>, time: u64) -> bool
-    ensures { result ≡ in_time until time }
-{
-    match until {
-        None => true,
-        Some(until) => time <= until,
     }
 }

@@ -1,217 +1,21 @@
-//! The content of a recording by asciinema.
-ghost use Rattle.std.specs.Prelude.{◌≡◌, ◌≤◌, ◌+◌, ◌++◌, [], ℕ, List, length, drop, false, true, option_map, IfOk, OnOk};
-ghost use Rattle.vt_recording.specs.Moment.{micros_of};
-ghost use Rattle.vt_recording.specs.Characters.{AreWritten};
+//! The events of a recording by asciinema.
+ghost use Rattle.std.specs.Prelude.{◌≡◌, ◌≤◌, ◌+◌, ◌++◌, [], List, length, drop, false, option_map, IfOk, OnOk};
 ghost use Rattle.vt_recording.specs.Lines.{lines_of};
 ghost use Rattle.json.specs.Value.{items_view};
-ghost use Rattle.vt_recording.specs.Asciicast.{is_silent, event_in, time_behind, heard_in, cast_of, cast_of_frames, cast_by_frames, frames_in, asciicast};
+ghost use Rattle.vt_recording.specs.Asciicast.{is_silent, event_in, time_behind, frames_in};
 ghost use Rattle.vt_recording.specs.Events.{event_view};
-ghost use Rattle.vt_recording.specs.Taken.{IsOfCast, in_recording};
 ghost use Rattle.vt_recording.specs.Timeline as timeline;
-ghost use Rattle.vt_recording.specs.Timeline.{kind_of, told_in, cast_events, frame_events, events_by_frames};
+ghost use Rattle.vt_recording.specs.Timeline.{in_recording, kind_of, told_in, cast_events, frame_events, events_by_frames};
 ghost use Rattle.vt_recording.specs.Gathered.{AreGathered, IsRead};
-ghost use Rattle.vt_recording.specs.Private.Sizes.{AreAhead, is_whole, sizes_in};
 
 use crate::asciicast::{
     Event, clock_after, document_in, event_in, frame_of, frames_of, is_silent, json_text,
     version_in,
 };
-use crate::changes::Change;
-use crate::format::{Encoding, Moment, Taken};
 use crate::lines::front_line;
-use crate::played::Played;
-use crate::taking::in_recording;
-use crate::timeline::{EventKind, Gathered, Timeline};
+use crate::timeline::{EventKind, Gathered, Timeline, in_recording};
 use json::{Scratch, Value};
 use std::alloc::{AllocError, Global};
-
-/// Plays an event, and returns the time after it. Returns `None` if there is none.
-fn play_event(
-    event: Option<Event<'_>>,
-    version: u64,
-    encoding: Encoding,
-    until: Option<Moment>,
-    clock: u64,
-    played: &mut Played,
-) -> Result<Option<u64>, AllocError>
-    requires { played.old.written.replaced ≤ length played.old.written.bytes.items }
-    ensures bound { OnOk result (played.new.written.replaced ≤ length played.new.written.bytes.items) }
-    ensures time { IfOk result (λ time. time ≡ time_behind false (option_map event_view event.entry) version clock) }
-    ensures written { OnOk result ((front : List ℕ)
-        → AreWritten encoding until front played.old.written.bytes.items played.old.written.replaced
-        → AreWritten encoding until (front ++ heard_in false (option_map event_view event.entry) version (micros_of until) clock)
-        played.new.written.bytes.items played.new.written.replaced) }
-    ensures sizes { OnOk result (is_whole encoding until ≡ true → AreAhead (micros_of until) played.old.changes.items
-        (length played.old.written.bytes.items) played.new.changes.items (length played.new.written.bytes.items)
-        (told_in false (option_map event_view event.entry) version clock)) }
-{
-    let Some(event) = event else {
-        return Ok(None);
-    };
-    let now = clock_after(version, clock, event.micros);
-    played.push_if(now, kind_of(event.code), event.text, encoding, until)?;
-    Ok(Some(now))
-}
-
-/// Plays the event of a line, and returns the time after it. Returns `None` if it isn't an event.
-fn play_line(
-    line: &[u8],
-    version: u64,
-    encoding: Encoding,
-    until: Option<Moment>,
-    clock: u64,
-    scratch: &mut Scratch,
-    played: &mut Played,
-) -> Result<Option<u64>, AllocError>
-    requires { played.old.written.replaced ≤ length played.old.written.bytes.items }
-    ensures bound { OnOk result (played.new.written.replaced ≤ length played.new.written.bytes.items) }
-    ensures time { IfOk result (λ time. time
-        ≡ time_behind (is_silent version line.now) (event_in line.now) version clock) }
-    ensures written { OnOk result ((front : List ℕ)
-        → AreWritten encoding until front played.old.written.bytes.items played.old.written.replaced
-        → AreWritten encoding until (front ++ heard_in (is_silent version line.now) (event_in line.now) version (micros_of until) clock)
-        played.new.written.bytes.items played.new.written.replaced) }
-    ensures sizes { OnOk result (is_whole encoding until ≡ true → AreAhead (micros_of until) played.old.changes.items
-        (length played.old.written.bytes.items) played.new.changes.items (length played.new.written.bytes.items)
-        (told_in (is_silent version line.now) (event_in line.now) version clock)) }
-{
-    if is_silent(version, line) {
-        return Ok(Some(clock));
-    }
-    let event = event_in(line, scratch)?;
-    play_event(event, version, encoding, until, clock, played)
-}
-
-/// Plays the events of the lines starting at an offset, and returns the offset of a line that isn't an event.
-fn play_lines(
-    bytes: &[u8],
-    from: usize,
-    version: u64,
-    encoding: Encoding,
-    until: Option<Moment>,
-    scratch: &mut Scratch,
-    played: &mut Played,
-) -> Result<Option<usize>, AllocError>
-    requires from_in_range { from ≤ length bytes.now + 1 }
-    requires no_bytes { played.old.written.bytes.items ≡ [] }
-    requires none_replaced { played.old.written.replaced ≡ 0 }
-    requires no_changes { played.old.changes.items ≡ [] }
-    ensures broken { IfOk result (λ broken. broken
-        ≡ (cast_of version (micros_of until) 0 from (lines_of (drop from bytes.now))).broken) }
-    ensures written { OnOk result
-        (AreWritten encoding until (cast_of version (micros_of until) 0 from (lines_of (drop from bytes.now))).characters
-        played.new.written.bytes.items played.new.written.replaced) }
-    ensures sizes { OnOk result (is_whole encoding until ≡ true → played.new.changes.items
-        ≡ sizes_in (micros_of until) 0 (cast_events version 0 from (lines_of (drop from bytes.now))).events) }
-{
-    let mut at = from;
-    let mut clock = 0;
-    while at < bytes.len() {
-        let line = front_line(&bytes[at..]);
-        match play_line(line, version, encoding, until, clock, scratch, played)? {
-            Some(now) => clock = now,
-            None => return Ok(Some(at)),
-        }
-        at += line.len() + 1;
-    }
-    Ok(None)
-}
-
-/// Plays frames of version 1, and returns 0 if there is one that isn't an event.
-fn play_frames(
-    frames: &[Value<'_>],
-    encoding: Encoding,
-    until: Option<Moment>,
-    played: &mut Played,
-) -> Result<Option<usize>, AllocError>
-    requires no_bytes { played.old.written.bytes.items ≡ [] }
-    requires none_replaced { played.old.written.replaced ≡ 0 }
-    requires no_changes { played.old.changes.items ≡ [] }
-    ensures broken { IfOk result (λ broken. broken ≡ (cast_of_frames (micros_of until) 0 (items_view frames.now)).broken) }
-    ensures written { OnOk result (AreWritten encoding until (cast_of_frames (micros_of until) 0 (items_view frames.now)).characters
-        played.new.written.bytes.items played.new.written.replaced) }
-    ensures sizes { OnOk result (is_whole encoding until ≡ true → played.new.changes.items
-        ≡ sizes_in (micros_of until) 0 (frame_events 0 (items_view frames.now)).events) }
-{
-    let mut clock = 0;
-    let mut i = 0;
-    while i < frames.len() {
-        match play_event(frame_of(&frames[i]), 1, encoding, until, clock, played)? {
-            Some(now) => clock = now,
-            None => return Ok(Some(0)),
-        }
-        i += 1;
-    }
-    Ok(None)
-}
-
-/// Plays a recording of version 1. Returns 0 if it isn't one, or has a frame that isn't an event.
-fn play_object(
-    alloc: Global,
-    text: &[u8],
-    encoding: Encoding,
-    until: Option<Moment>,
-    scratch: &mut Scratch,
-    played: &mut Played,
-) -> Result<Option<usize>, AllocError>
-    requires no_bytes { played.old.written.bytes.items ≡ [] }
-    requires none_replaced { played.old.written.replaced ≡ 0 }
-    requires no_changes { played.old.changes.items ≡ [] }
-    ensures broken { IfOk result (λ broken. broken ≡ (cast_by_frames (micros_of until) (frames_in text.now)).broken) }
-    ensures written { OnOk result (AreWritten encoding until (cast_by_frames (micros_of until) (frames_in text.now)).characters
-        played.new.written.bytes.items played.new.written.replaced) }
-    ensures sizes { OnOk result (is_whole encoding until ≡ true → played.new.changes.items
-        ≡ sizes_in (micros_of until) 0 (events_by_frames (frames_in text.now)).events) }
-{
-    let Some(object) = document_in(alloc, text, scratch)? else {
-        return Ok(Some(0));
-    };
-    match frames_of(&object) {
-        Some(frames) => play_frames(frames, encoding, until, played),
-        None => Ok(Some(0)),
-    }
-}
-
-/// The content of a recording by asciinema, and the changes of the window's size in it.
-#[derive(Drop)]
-pub(crate) struct PlayedCast {
-    /// The content.
-    pub(crate) taken: Taken,
-    /// The changes. They are all only if the content is all of the UTF-8.
-    pub(crate) changes: Vec<Change>,
-}
-
-/// Returns the content of the events up to `until`, in an encoding, and the changes among them.
-pub(crate) fn asciicast_played(
-    alloc: Global,
-    bytes: &[u8],
-    encoding: Encoding,
-    until: Option<Moment>,
-) -> Result<PlayedCast, AllocError>
-    ensures taken { IfOk result (λ t. IsOfCast (asciicast (micros_of until) bytes.now) encoding until t.taken.content.items t.taken.broken t.taken.replaced) }
-    ensures sizes { IfOk result (λ t. is_whole encoding until ≡ true → t.changes.items
-        ≡ sizes_in (micros_of until) 0 (timeline.asciicast bytes.now).events) }
-{
-    let mut scratch = Scratch::new(alloc);
-    let mut played = Played::with_capacity(alloc, bytes.len())?;
-    let text = json_text(bytes);
-    let header = front_line(text);
-    let Some(version) = version_in(alloc, header, &mut scratch)? else {
-        let broken = play_object(alloc, text, encoding, until, &mut scratch, &mut played)?;
-        return Ok(taken_of(played, broken));
-    };
-    let from = bytes.len() - text.len() + header.len() + 1;
-    let broken = play_lines(
-        bytes,
-        from,
-        version,
-        encoding,
-        until,
-        &mut scratch,
-        &mut played,
-    )?;
-    Ok(taken_of(played, broken))
-}
 
 /// Returns the kind of an event by its code.
 fn kind_of(code: &str) -> Option<EventKind>
@@ -353,23 +157,4 @@ pub(crate) fn asciicast_timeline(alloc: Global, bytes: &[u8]) -> Result<Timeline
     let from = bytes.len() - text.len() + header.len() + 1;
     let broken = gather_lines(bytes, from, version, &mut scratch, &mut gathered)?;
     Ok(gathered.timeline(in_recording(broken)))
-}
-
-/// Returns what was played, with the place of a break.
-fn taken_of(played: Played, broken: Option<usize>) -> PlayedCast
-    ensures content { result.taken.content.items ≡ played.written.bytes.items }
-    ensures broken { result.taken.broken ≡ in_recording broken }
-    ensures replaced { result.taken.replaced ≡ played.written.replaced }
-    ensures sizes { result.changes.items ≡ played.changes.items }
-{
-    let changes = played.changes;
-    let written = played.written;
-    PlayedCast {
-        taken: Taken {
-            content: written.bytes,
-            broken: in_recording(broken),
-            replaced: written.replaced,
-        },
-        changes,
-    }
 }

@@ -1,12 +1,10 @@
 //! The bytes of characters.
-ghost use Rattle.std.specs.Prelude.{◌≡◌, ◌≤◌, ◌++◌, ◌∷◌, [], ℕ, List, length, true, IfOk, OnOk, chars};
-ghost use Rattle.vt_recording.specs.Moment as moment;
-ghost use Rattle.vt_recording.specs.declared.format.Encoding.TheVariants.{Dec, Utf8};
+ghost use Rattle.std.specs.Prelude.{◌≡◌, ◌≤◌, ◌++◌, ◌∷◌, [], ℕ, List, length, true, false, IfOk, OnOk, chars};
 ghost use Rattle.vt_recording.specs.Characters.{byte_of, AreWritten};
-ghost use Rattle.vt_recording.specs.Private.Sizes.{is_whole};
+ghost use Rattle.vt_recording.specs.Taken.{spoken};
 
-use crate::format::{Encoding, Moment};
-use crate::moment::wanted_after;
+use crate::asciicast::text_in;
+use crate::lines::front;
 use std::alloc::{AllocError, Global};
 use vt_glyph::Set;
 
@@ -36,7 +34,7 @@ fn byte_of(c: char) -> Option<u8>
     None
 }
 
-/// The bytes of characters in an encoding, up to a moment.
+/// The content so far.
 #[derive(Drop)]
 pub(crate) struct Written {
     /// The bytes.
@@ -57,15 +55,15 @@ impl Written {
         })
     }
 
-    /// Appends the byte of a character, if it is wanted.
-    fn push(&mut self, c: char, until: Option<Moment>) -> Result<(), AllocError>
+    /// Appends the byte of a character, if there are fewer than `most`.
+    fn push(&mut self, most: usize, c: char) -> Result<(), AllocError>
         requires { self.old.replaced ≤ length self.old.bytes.items }
         ensures bound { self.new.replaced ≤ length self.new.bytes.items }
         ensures written { OnOk result ((front : List ℕ)
-            → AreWritten Dec until front self.old.bytes.items self.old.replaced
-            → AreWritten Dec until (front ++ c ∷ []) self.new.bytes.items self.new.replaced) }
+            → AreWritten true most front self.old.bytes.items self.old.replaced
+            → AreWritten true most (front ++ c ∷ []) self.new.bytes.items self.new.replaced) }
     {
-        if is_full(until, self.bytes.len()) {
+        if most <= self.bytes.len() {
             return Ok(());
         }
         match byte_of(c) {
@@ -78,63 +76,53 @@ impl Written {
         Ok(())
     }
 
-    /// Appends the bytes of a text's characters that are wanted.
-    fn push_converted(&mut self, text: &str, until: Option<Moment>) -> Result<(), AllocError>
+    /// Appends the bytes of a text's characters, up to `most`.
+    fn push_characters(&mut self, most: usize, text: &str) -> Result<(), AllocError>
         requires { self.old.replaced ≤ length self.old.bytes.items }
         ensures bound { self.new.replaced ≤ length self.new.bytes.items }
         ensures written { OnOk result ((front : List ℕ)
-            → AreWritten Dec until front self.old.bytes.items self.old.replaced
-            → AreWritten Dec until (front ++ chars text.now) self.new.bytes.items self.new.replaced) }
+            → AreWritten true most front self.old.bytes.items self.old.replaced
+            → AreWritten true most (front ++ chars text.now) self.new.bytes.items self.new.replaced) }
     {
         for c in text.chars() {
-            self.push(c, until)?;
+            self.push(most, c)?;
         }
         Ok(())
     }
 
-    /// Appends the UTF-8 of a text that is wanted.
-    fn push_utf8(&mut self, text: &str, until: Option<Moment>) -> Result<(), AllocError>
-        requires { self.old.replaced ≤ length self.old.bytes.items }
-        ensures bound { self.new.replaced ≤ length self.new.bytes.items }
+    /// Appends bytes, up to `most`.
+    fn push_bytes(&mut self, most: usize, text: &[u8]) -> Result<(), AllocError>
+        ensures replaced { self.new.replaced ≡ self.old.replaced }
+        ensures longer { length self.old.bytes.items ≤ length self.new.bytes.items }
         ensures written { OnOk result ((front : List ℕ)
-            → AreWritten Utf8 until front self.old.bytes.items self.old.replaced
-            → AreWritten Utf8 until (front ++ chars text.now) self.new.bytes.items self.new.replaced) }
-        ensures added { OnOk result (self.new.bytes.items
-            ≡ self.old.bytes.items ++ moment.wanted_after until (length self.old.bytes.items) text.now) }
+            → AreWritten false most front self.old.bytes.items self.old.replaced
+            → AreWritten false most (front ++ text.now) self.new.bytes.items self.new.replaced) }
     {
-        let wanted = wanted_after(until, self.bytes.len(), text.as_bytes());
+        let room = most.saturating_sub(self.bytes.len());
+        let wanted = front(room, text);
         self.bytes.extend_from_slice(wanted)?;
         Ok(())
     }
 
-    /// Appends the bytes of a text's characters in an encoding that are wanted.
+    /// Appends a text up to `most` bytes: those of its characters, or its own.
     pub(crate) fn push_text(
         &mut self,
-        text: &str,
-        encoding: Encoding,
-        until: Option<Moment>,
+        characters: bool,
+        most: usize,
+        text: &[u8],
     ) -> Result<(), AllocError>
         requires { self.old.replaced ≤ length self.old.bytes.items }
-        ensures bound { self.new.replaced ≤ length self.new.bytes.items }
+        ensures bound { OnOk result (self.new.replaced ≤ length self.new.bytes.items) }
         ensures written { OnOk result ((front : List ℕ)
-            → AreWritten encoding until front self.old.bytes.items self.old.replaced
-            → AreWritten encoding until (front ++ chars text.now) self.new.bytes.items self.new.replaced) }
-        ensures added { OnOk result (is_whole encoding until ≡ true → self.new.bytes.items ≡ self.old.bytes.items ++ text.now) }
+            → AreWritten characters most front self.old.bytes.items self.old.replaced
+            → AreWritten characters most (front ++ spoken characters text.now) self.new.bytes.items self.new.replaced) }
     {
-        match encoding {
-            Encoding::Dec => self.push_converted(text, until),
-            Encoding::Utf8 => self.push_utf8(text, until),
+        if !characters {
+            return self.push_bytes(most, text);
         }
-    }
-}
-
-/// Returns whether so many bytes are all that is wanted.
-fn is_full(until: Option<Moment>, count: usize) -> bool
-    ensures { result ≡ moment.is_full until count }
-{
-    match until {
-        Some(Moment::Bytes(most)) => most <= count as u64,
-        Some(Moment::Micros(_) | Moment::Event(_) | Moment::Marker(_)) => false,
-        None => false,
+        match text_in(text) {
+            Some(text) => self.push_characters(most, text),
+            None => Ok(()),
+        }
     }
 }

@@ -2,8 +2,6 @@
 ghost use Rattle.std.specs.Prelude.{◌≡◌};
 ghost use Rattle.vt_recording.specs.Format.{format_named, takes_timing, has_times, usual_encoding};
 
-use vt_device::Break;
-
 /// The format of a recording.
 #[derive(Clone, Copy, Debug, PartialEq, Eq)]
 pub enum Format {
@@ -101,8 +99,6 @@ pub struct Taken {
     /// The bytes that the host sent, up to the place at which the recording breaks its format. Of characters these are
     /// their bytes in an encoding.
     pub content: Vec<u8>,
-    /// The place at which the recording breaks its format, or `None`.
-    pub broken: Option<Break>,
     /// The number of characters that have no byte in the encoding `Dec`. SUB is in their place.
     pub replaced: u64,
 }

@@ -1,5 +1,5 @@
 //! The lines of a text.
-ghost use Rattle.std.specs.Prelude.{◌≡◌, ◌≤◌, drop, false, length, true, MatchOption};
+ghost use Rattle.std.specs.Prelude.{◌≡◌, ◌≤◌, take, drop, false, length, true, MatchOption};
 ghost use Rattle.vt_recording.specs.Lines.{front_line};
 ghost use Rattle.vt_recording.specs.Script.{begins_with};
 
@@ -25,6 +25,17 @@ pub(crate) fn stripped<'a>(words: &[u8], bytes: &'a [u8]) -> Option<&'a [u8]>
         Some(&bytes[words.len()..])
     } else {
         None
+    }
+}
+
+/// Returns the first `count` bytes, of which there may be fewer.
+pub(crate) fn front(count: usize, bytes: &[u8]) -> &[u8]
+    ensures { result.now ≡ take count bytes.now }
+{
+    if count < bytes.len() {
+        &bytes[..count]
+    } else {
+        bytes
     }
 }
 

@@ -1,15 +1,12 @@
-//! The events of a recording before a moment, and the content between two moments.
-ghost use Rattle.std.specs.Prelude.{◌≡◌, ◌≤◌, ◌<◌, ◌+◌, ◌∷◌, ◌^◌, ◌-◌, drop, length, option_map, true, IfOk, Some};
+//! The events of a recording before a moment, and up to one.
+ghost use Rattle.std.specs.Prelude.{◌≡◌, ◌≤◌, ◌<◌, ◌+◌, ◌∷◌, ◌^◌, drop, length, true, false};
 ghost use Rattle.vt_recording.specs.Timeline as timeline;
 ghost use Rattle.vt_recording.specs.Gathered.{events_of};
-ghost use Rattle.vt_recording.specs.Reached.{has_characters, continues, length_of, is_marker, nothing_passed, with_event, is_reached, passed};
-ghost use Rattle.vt_recording.specs.Reached.{IsAmong, StartsAt, EndsBy, IsTakenBetween};
+ghost use Rattle.vt_recording.specs.Reached as reached;
+ghost use Rattle.vt_recording.specs.Reached.{has_characters, continues, length_of, is_marker, nothing_passed, with_event, is_reached, is_over, stops, passed, content_at, place_of};
 
-use crate::format::{Encoding, Format, Moment, Taken};
-use crate::lines::behind;
-use crate::taking::{take_apart, timeline_of};
+use crate::format::{Encoding, Format, Moment};
 use crate::timeline::{Event, EventKind, Timeline};
-use std::alloc::{AllocError, Global};
 
 /// The part of a recording up to a moment, in numbers.
 #[derive(Clone, Copy, Debug, PartialEq, Eq)]
@@ -77,7 +74,7 @@ fn is_marker(kind: EventKind) -> bool
 }
 
 /// Returns whether an event is output.
-fn is_output(kind: EventKind) -> bool
+pub(crate) fn is_output(kind: EventKind) -> bool
     ensures { result ≡ timeline.is_output kind }
 {
     matches!(kind, EventKind::Output)
@@ -122,6 +119,47 @@ impl Passed {
             Moment::Marker(number) => is_marker(event.kind) && number <= self.markers + 1,
         }
     }
+
+    /// Returns whether an event of a time that comes after this is after a moment.
+    fn is_over(self, moment: Moment, micros: u64) -> bool
+        ensures { result ≡ is_over moment self micros }
+    {
+        match moment {
+            Moment::Micros(most) => most < micros,
+            Moment::Bytes(count) => count <= self.content,
+            Moment::Event(number) => number <= self.events,
+            Moment::Marker(number) => number <= self.markers,
+        }
+    }
+
+    /// Returns whether an event that comes after this doesn't pass: with `until` if it is after the moment, otherwise if it is at that.
+    fn stops(self, until: bool, moment: Option<Moment>, event: Event) -> bool
+        requires events { self.events + 1 < 2 ^ 64 }
+        requires markers { self.markers ≤ self.events }
+        ensures { result ≡ stops until moment self event.micros event.kind }
+    {
+        match moment {
+            None => !until,
+            Some(moment) => {
+                if until {
+                    self.is_over(moment, event.micros)
+                } else {
+                    self.is_reached(moment, event)
+                }
+            }
+        }
+    }
+
+    /// Returns the number of bytes of the content before a moment, or up to it, up to which this passes.
+    fn content_at(self, moment: Option<Moment>) -> u64
+        ensures { result ≡ content_at moment self }
+    {
+        match moment {
+            Some(Moment::Bytes(count)) => count,
+            Some(Moment::Micros(_) | Moment::Event(_) | Moment::Marker(_)) => self.content,
+            None => self.content,
+        }
+    }
 }
 
 /// Returns an event by its index.
@@ -132,142 +170,79 @@ pub(crate) fn event_at(events: &[Event], i: usize) -> Event
     events[i]
 }
 
-/// Returns what passes before the first event at a moment, by the marks of events and their bytes joined. With `through` that event
-/// passes, too. With `characters` the content has a byte for each character.
+/// Returns what passes before the first event at a moment. With `until` it is the first event after the moment. The events are given by
+/// their marks and their bytes joined.
 fn passed_in(
     events: &[Event],
     text: &[u8],
-    through: bool,
+    until: bool,
     characters: bool,
-    moment: Moment,
+    moment: Option<Moment>,
 ) -> Passed
-    ensures { result ≡ passed through characters moment nothing_passed (events_of events.now text.now) }
+    ensures value { result ≡ passed until characters moment nothing_passed (events_of events.now text.now) }
+    ensures few { result.events ≤ length events.now }
 {
     let mut so_far = NOTHING_PASSED;
     let mut at = 0;
     let mut i = 0;
     while i < events.len() {
         let event = event_at(events, i);
-        let end = at + event.length.min(text.len() - at);
-        let next = so_far.with_event(characters, event, &text[at..end]);
-        if so_far.is_reached(moment, event) {
-            return if through { next } else { so_far };
+        if so_far.stops(until, moment, event) {
+            return so_far;
         }
-        so_far = next;
+        let end = at + event.length.min(text.len() - at);
+        so_far = so_far.with_event(characters, event, &text[at..end]);
         at = end;
         i += 1;
     }
     so_far
 }
 
-/// Returns what passes of a recording before the first event at a moment. With `through` that event passes, too. If no event is at the
-/// moment or after it, all events pass.
+/// Returns what passes of a recording before the first event at a moment. If no event is at the moment or after it, all events pass.
+/// Without a moment none passes.
 pub fn passed_before(
     timeline: &Timeline,
     format: Format,
     encoding: Encoding,
-    moment: Moment,
-    through: bool,
+    moment: Option<Moment>,
 ) -> Passed
-    ensures { result ≡ passed through (has_characters format encoding) moment nothing_passed
+    ensures { result ≡ passed false (has_characters format encoding) moment nothing_passed
         (events_of timeline.now.events.items timeline.now.text.items) }
 {
     let characters = has_characters(format, encoding);
-    passed_in(
-        &timeline.events,
-        &timeline.text,
-        through,
-        characters,
-        moment,
-    )
+    passed_in(&timeline.events, &timeline.text, false, characters, moment)
 }
 
-/// Returns the number of bytes of the content that come before a moment.
-fn start_of(
-    alloc: Global,
-    bytes: &[u8],
-    timing: Option<&[u8]>,
-    format: Format,
-    encoding: Encoding,
-    from: Option<Moment>,
-) -> Result<u64, AllocError>
-    ensures { IfOk result (StartsAt from format encoding (option_map (λ b. b.now) timing.entry) bytes.now) }
-{
-    let Some(moment) = from else {
-        return Ok(0);
-    };
-    match moment {
-        Moment::Bytes(count) => Ok(count),
-        Moment::Micros(_) | Moment::Event(_) | Moment::Marker(_) => {
-            let timeline = timeline_of(alloc, bytes, timing, format)?;
-            Ok(passed_before(&timeline, format, encoding, moment, false).content)
-        }
-    }
-}
-
-/// Returns a moment as a time or a number of bytes.
-fn end_of(
-    alloc: Global,
-    bytes: &[u8],
-    timing: Option<&[u8]>,
+/// Returns the first events of a recording, which are due until a moment.
+///
+/// - A time: the events that aren't later.
+/// - A number of bytes: the events before the last of them.
+/// - An event or a marker: the events before it, and the event itself.
+///
+/// Without a moment these are all events. Their bytes are the first ones of the timeline's.
+pub fn due(
+    timeline: &Timeline,
     format: Format,
     encoding: Encoding,
     until: Option<Moment>,
-) -> Result<Option<Moment>, AllocError>
-    ensures { IfOk result (EndsBy until format encoding (option_map (λ b. b.now) timing.entry) bytes.now) }
+) -> &[Event]
+    ensures { events_of result.now timeline.now.text.items ≡ reached.due (has_characters format encoding) until
+        (events_of timeline.now.events.items timeline.now.text.items) }
 {
-    let Some(moment) = until else {
-        return Ok(None);
-    };
-    match moment {
-        Moment::Bytes(_) | Moment::Micros(_) => Ok(Some(moment)),
-        Moment::Event(_) | Moment::Marker(_) => {
-            let timeline = timeline_of(alloc, bytes, timing, format)?;
-            let end = passed_before(&timeline, format, encoding, moment, true).content;
-            Ok(Some(Moment::Bytes(end)))
-        }
-    }
+    let characters = has_characters(format, encoding);
+    let passed = passed_in(&timeline.events, &timeline.text, true, characters, until);
+    &timeline.events[..passed.events as usize]
 }
 
-/// Returns the bytes after the first `count`, of which there may be fewer.
-fn after_front(alloc: Global, count: u64, bytes: Vec<u8>) -> Result<Vec<u8>, AllocError>
-    ensures { IfOk result (λ v. v.items ≡ drop count bytes.items) }
+/// Returns the number of bytes of the content before a moment, or with `until` up to it.
+pub(crate) fn place_of(
+    timeline: &Timeline,
+    characters: bool,
+    until: bool,
+    moment: Option<Moment>,
+) -> u64
+    ensures { result ≡ place_of until characters moment (events_of timeline.now.events.items timeline.now.text.items) }
 {
-    if count == 0 {
-        return Ok(bytes);
-    }
-    Vec::from_slice(alloc, behind(count as usize, &bytes))
-}
-
-/// Returns the content of a recording between two moments, as `take_apart` does up to one. Either may be missing. Without `from`
-/// it begins with the first byte.
-///
-/// - A time: the content begins with the first event that isn't earlier, and ends with the last event that isn't later.
-/// - A number of bytes: with `from` so many bytes are left out. With `until` there are so many.
-/// - An event or a marker: with `from` what comes before it is left out. With `until` it is the last one. If there are
-///   fewer events or markers, all come before it.
-///
-/// The place of a break, and the number of characters without a byte, are those up to `until`. Returns `Err` if allocation
-/// fails.
-pub fn take_between(
-    alloc: Global,
-    bytes: &[u8],
-    timing: Option<&[u8]>,
-    format: Format,
-    encoding: Encoding,
-    from: Option<Moment>,
-    until: Option<Moment>,
-) -> Result<Taken, AllocError>
-    ensures { IfOk result (λ t. IsTakenBetween format encoding from until (option_map (λ b. b.now) timing.entry) bytes.now t.content.items t.broken t.replaced) }
-{
-    let start = start_of(alloc, bytes, timing, format, encoding, from)?;
-    let end = end_of(alloc, bytes, timing, format, encoding, until)?;
-    let taken = take_apart(alloc, bytes, timing, format, encoding, end)?;
-    let broken = taken.broken;
-    let replaced = taken.replaced;
-    Ok(Taken {
-        content: after_front(alloc, start, taken.content)?,
-        broken,
-        replaced,
-    })
+    let passed = passed_in(&timeline.events, &timeline.text, until, characters, moment);
+    passed.content_at(moment)
 }

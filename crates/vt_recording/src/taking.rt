@@ -1,76 +1,138 @@
-//! The content of a recording, and its events.
-ghost use Rattle.std.specs.Prelude.{◌≡◌, None, IfOk, option_map};
-ghost use Rattle.vt_recording.specs.Script.{IsOfScript};
-ghost use Rattle.vt_recording.specs.Ttyrec.{IsOfTtyrec};
-ghost use Rattle.vt_recording.specs.Taken.{IsTaken, IsShown, in_recording};
-ghost use Rattle.vt_recording.specs.Moment.{cut};
-ghost use Rattle.vt_recording.specs.Timeline.{IsTimelineOf, IsOfScriptBy, AreFrames};
-ghost use Rattle.vt_recording.specs.Gathered.{IsRead, timeline_view};
+//! The content of a recording, and the encoding that it shows.
+ghost use Rattle.std.specs.Prelude.{◌≡◌, ◌≤◌, ◌++◌, [], ℕ, List, length, drop, false, IfOk, OnOk};
+ghost use Rattle.vt_recording.specs.Characters.{AreWritten};
+ghost use Rattle.vt_recording.specs.Gathered.{events_of};
+ghost use Rattle.vt_recording.specs.Reached.{has_characters, place_of};
+ghost use Rattle.vt_recording.specs.Taken.{IsTaken, IsShown, heard, all_heard};
 
-use crate::asciicast::in_time;
-use crate::casting::{asciicast_played, asciicast_timeline};
+use crate::characters::Written;
 use crate::detection::shows_utf8;
 use crate::format::{Encoding, Format, Moment, Taken};
-use crate::moment::{cut, micros_of};
-use crate::script::session_in;
-use crate::seconds::risen;
-use crate::timeline::{EventKind, Gathered, Timeline, at_once};
-use crate::timing::{timed_content, timed_timeline};
-use crate::ttyrec::{HEADER, header_of, time_of};
+use crate::lines::behind;
+use crate::reached::{event_at, has_characters, is_output, place_of};
+use crate::timeline::{Event, EventKind, Timeline};
 use std::alloc::{AllocError, Global};
-use vt_device::{Break, Part};
 
-/// Returns the content of a recording up to a time or a number of bytes, and the place at which the recording breaks
-/// its format. The content is what came before that place. An event or a marker doesn't end it: `take_between` finds
-/// these. Only script(1) has a timing file. Only asciinema keeps characters: the content has their bytes in the
-/// encoding. A recording breaks its format:
-///
-/// - of script, at byte 0 if it has no first line
-/// - of script without a timing file, at the LF before the line between two sessions, if `script -a` appended a session
-/// - of script, at a line of the timing file that isn't one
-/// - of script, at the end of its first session if the timing file has more bytes
-/// - of ttyrec, at the first frame that is cut short
-/// - of asciinema, at byte 0 if the first line after a byte order mark and white space has no version and the whole isn't of version 1,
-///   at byte 0 at a frame of version 1 that is no event, and at a line that is no event
-///
-/// Returns `Err` if allocation fails.
-pub fn take_apart(
+/// Appends what an event with these bytes gives to the content.
+fn push_heard(
+    characters: bool,
+    most: usize,
+    kind: EventKind,
+    text: &[u8],
+    written: &mut Written,
+) -> Result<(), AllocError>
+    requires { written.old.replaced ≤ length written.old.bytes.items }
+    ensures bound { OnOk result (written.new.replaced ≤ length written.new.bytes.items) }
+    ensures written { OnOk result ((front : List ℕ)
+        → AreWritten characters most front written.old.bytes.items written.old.replaced
+        → AreWritten characters most (front ++ heard characters kind text.now) written.new.bytes.items written.new.replaced) }
+{
+    if is_output(kind) {
+        return written.push_text(characters, most, text);
+    }
+    Ok(())
+}
+
+/// Appends the content that events give, by their marks and their bytes joined.
+fn push_all_heard(
+    characters: bool,
+    most: usize,
+    events: &[Event],
+    text: &[u8],
+    written: &mut Written,
+) -> Result<(), AllocError>
+    requires none { AreWritten characters most [] written.old.bytes.items written.old.replaced }
+    requires bound { written.old.replaced ≤ length written.old.bytes.items }
+    ensures { OnOk result (AreWritten characters most (all_heard characters (events_of events.now text.now))
+        written.new.bytes.items written.new.replaced) }
+{
+    let mut at = 0;
+    let mut i = 0;
+    while i < events.len() {
+        let event = event_at(events, i);
+        let end = at + event.length.min(text.len() - at);
+        push_heard(characters, most, event.kind, &text[at..end], written)?;
+        at = end;
+        i += 1;
+    }
+    Ok(())
+}
+
+/// Returns the first bytes of the content, at most so many.
+fn front_of(
     alloc: Global,
-    bytes: &[u8],
-    timing: Option<&[u8]>,
+    timeline: &Timeline,
+    characters: bool,
+    most: usize,
+) -> Result<Written, AllocError>
+    ensures { IfOk result (λ w. AreWritten characters most
+        (all_heard characters (events_of timeline.now.events.items timeline.now.text.items)) w.bytes.items w.replaced) }
+{
+    let mut written = Written::with_capacity(alloc, most.min(timeline.text.len()))?;
+    push_all_heard(
+        characters,
+        most,
+        &timeline.events,
+        &timeline.text,
+        &mut written,
+    )?;
+    Ok(written)
+}
+
+/// Returns the bytes after the first `count`, of which there may be fewer.
+fn after_front(alloc: Global, count: u64, bytes: Vec<u8>) -> Result<Vec<u8>, AllocError>
+    ensures { IfOk result (λ v. v.items ≡ drop count bytes.items) }
+{
+    if count == 0 {
+        return Ok(bytes);
+    }
+    Vec::from_slice(alloc, behind(count as usize, &bytes))
+}
+
+/// Returns the content of a recording between two moments. Either may be missing: without `from` it begins with the first byte, and
+/// without `until` it ends with the last one. With the encoding `Dec` the content of a recording by asciinema has a byte for each
+/// character.
+///
+/// - A time: the content begins with the first event that isn't earlier, and ends with the last event that isn't later.
+/// - A number of bytes: with `from` so many bytes are left out. With `until` there are so many.
+/// - An event or a marker: with `from` what comes before it is left out. With `until` it is the last one. If there are
+///   fewer events or markers, all come before it.
+///
+/// The number of characters without a byte is that up to `until`. Returns `Err` if allocation fails.
+pub fn take_between(
+    alloc: Global,
+    timeline: &Timeline,
     format: Format,
     encoding: Encoding,
+    from: Option<Moment>,
     until: Option<Moment>,
 ) -> Result<Taken, AllocError>
-    ensures { IfOk result (λ t. IsTaken format encoding until (option_map (λ b. b.now) timing.entry) bytes.now t.content.items t.broken t.replaced) }
+    ensures { IfOk result (λ t. IsTaken (has_characters format encoding) from until
+        (events_of timeline.now.events.items timeline.now.text.items) t.content.items t.replaced) }
 {
-    match format {
-        Format::Raw => Ok(taken_of(raw_content(alloc, bytes)?, until)),
-        Format::Script => match timing {
-            Some(timing) => timed_content(alloc, bytes, timing, until),
-            None => Ok(taken_of(script_content(alloc, bytes)?, until)),
-        },
-        Format::Ttyrec => {
-            let whole = ttyrec_content(alloc, bytes, micros_of(until))?;
-            Ok(taken_of(whole, until))
-        }
-        Format::Asciicast => Ok(asciicast_played(alloc, bytes, encoding, until)?.taken),
-    }
+    let characters = has_characters(format, encoding);
+    let start = place_of(timeline, characters, false, from);
+    let end = place_of(timeline, characters, true, until);
+    let written = front_of(alloc, timeline, characters, end as usize)?;
+    let replaced = written.replaced;
+    Ok(Taken {
+        content: after_front(alloc, start, written.bytes)?,
+        replaced,
+    })
 }
 
 /// Returns the encoding that a recording shows: by script or ttyrec UTF-8 if its content is that, with a character beyond
 /// ASCII; by asciinema UTF-8. Raw bytes don't decide. Returns `Err` if allocation fails.
 pub fn encoding_of(
     alloc: Global,
-    bytes: &[u8],
-    timing: Option<&[u8]>,
+    timeline: &Timeline,
     format: Format,
 ) -> Result<Encoding, AllocError>
-    ensures { IfOk result (λ e. IsShown format (option_map (λ b. b.now) timing.entry) bytes.now e) }
+    ensures { IfOk result (λ e. IsShown format (events_of timeline.now.events.items timeline.now.text.items) e) }
 {
     match format {
         Format::Script | Format::Ttyrec => {
-            let taken = take_apart(alloc, bytes, timing, format, Encoding::Dec, None)?;
+            let taken = take_between(alloc, timeline, format, Encoding::Dec, None, None)?;
             Ok(if shows_utf8(&taken.content) {
                 Encoding::Utf8
             } else {
@@ -79,141 +141,4 @@ pub fn encoding_of(
         }
         _ => Ok(format.usual_encoding()),
     }
-}
-
-/// The content of a recording, and the offset at which it is broken.
-#[derive(Drop)]
-struct Whole {
-    content: Vec<u8>,
-    broken: Option<usize>,
-}
-
-/// Returns what is wanted up to a moment.
-fn taken_of(whole: Whole, until: Option<Moment>) -> Taken
-    ensures content { result.content.items ≡ cut until whole.content.items }
-    ensures broken { result.broken ≡ in_recording whole.broken }
-    ensures replaced { result.replaced ≡ 0 }
-{
-    Taken {
-        content: cut(until, whole.content),
-        broken: in_recording(whole.broken),
-        replaced: 0,
-    }
-}
-
-/// Returns the content of raw bytes: all of them.
-fn raw_content(alloc: Global, bytes: &[u8]) -> Result<Whole, AllocError>
-    ensures content { IfOk result (λ w. w.content.items ≡ bytes.now) }
-    ensures broken { IfOk result (λ w. w.broken ≡ None) }
-{
-    Ok(Whole {
-        content: Vec::from_slice(alloc, bytes)?,
-        broken: None,
-    })
-}
-
-/// Returns the place of an offset in the recording.
-pub(crate) fn in_recording(at: Option<usize>) -> Option<Break>
-    ensures { result ≡ in_recording at }
-{
-    match at {
-        Some(at) => Some(Break {
-            part: Part::Recording,
-            at: at as u64,
-        }),
-        None => None,
-    }
-}
-
-/// Returns the content between the first and the last line.
-fn script_content(alloc: Global, bytes: &[u8]) -> Result<Whole, AllocError>
-    ensures { IfOk result (λ t. IsOfScript bytes.now t.content.items t.broken) }
-{
-    let Some(session) = session_in(bytes) else {
-        return Ok(Whole {
-            content: Vec::new(alloc),
-            broken: Some(0),
-        });
-    };
-    Ok(Whole {
-        content: Vec::from_slice(alloc, session.output)?,
-        broken: session.joint,
-    })
-}
-
-/// Returns the content of the frames up to `until`.
-fn ttyrec_content(alloc: Global, bytes: &[u8], until: Option<u64>) -> Result<Whole, AllocError>
-    ensures { IfOk result (λ t. IsOfTtyrec until bytes.now t.content.items t.broken) }
-{
-    let mut content = Vec::with_capacity(alloc, bytes.len())?;
-    let mut clock = 0;
-    let mut at = 0;
-    while at < bytes.len() {
-        let Some(piece) = header_of(&bytes[at..]) else {
-            return Ok(Whole {
-                content,
-                broken: Some(at),
-            });
-        };
-        let from = at + HEADER;
-        at = from + piece.size;
-        clock = risen(clock, piece.time.saturating_sub(time_of(bytes)));
-        if in_time(until, clock) {
-            content.extend_from_slice(&bytes[from..at])?;
-        }
-    }
-    Ok(Whole {
-        content,
-        broken: None,
-    })
-}
-
-/// Returns the events of a recording, with the place at which it breaks its format, as `take_apart` does. Their times count from the
-/// beginning, and never fall: a time that is lower than one before it is that one. If the format has no times, all of the content comes at once. Returns `Err` if allocation fails.
-pub fn timeline_of(
-    alloc: Global,
-    bytes: &[u8],
-    timing: Option<&[u8]>,
-    format: Format,
-) -> Result<Timeline, AllocError>
-    ensures { IfOk result (λ t. IsTimelineOf format (option_map (λ b. b.now) timing.entry) bytes.now (timeline_view t)) }
-{
-    match format {
-        Format::Raw => at_once(alloc, bytes, None),
-        Format::Script => match timing {
-            Some(timing) => timed_timeline(alloc, bytes, timing),
-            None => script_timeline(alloc, bytes),
-        },
-        Format::Ttyrec => ttyrec_timeline(alloc, bytes),
-        Format::Asciicast => asciicast_timeline(alloc, bytes),
-    }
-}
-
-/// Returns the content between the first and the last line as one event.
-fn script_timeline(alloc: Global, bytes: &[u8]) -> Result<Timeline, AllocError>
-    ensures { IfOk result (λ t. IsRead (IsOfScriptBy None bytes.now) t) }
-{
-    match session_in(bytes) {
-        Some(session) => at_once(alloc, session.output, session.joint),
-        None => at_once(alloc, b"", Some(0)),
-    }
-}
-
-/// Returns the frames as events.
-fn ttyrec_timeline(alloc: Global, bytes: &[u8]) -> Result<Timeline, AllocError>
-    ensures { IfOk result (λ t. IsRead (AreFrames bytes.now) t) }
-{
-    let mut gathered = Gathered::with_capacity(alloc, bytes.len())?;
-    let mut clock = 0;
-    let mut at = 0;
-    while at < bytes.len() {
-        let Some(piece) = header_of(&bytes[at..]) else {
-            return Ok(gathered.timeline(in_recording(Some(at))));
-        };
-        let from = at + HEADER;
-        at = from + piece.size;
-        clock = risen(clock, piece.time.saturating_sub(time_of(bytes)));
-        gathered.push(clock, EventKind::Output, &bytes[from..at])?;
-    }
-    Ok(gathered.timeline(None))
 }

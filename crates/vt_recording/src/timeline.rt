@@ -1,11 +1,11 @@
 //! The events of a recording.
 ghost use Rattle.std.specs.Prelude.{◌≡◌, ◌++◌, ◌∷◌, [], List, IfOk, OnOk};
 ghost use Rattle.vt_recording.specs.Timeline as timeline;
+ghost use Rattle.vt_recording.specs.Timeline.{in_recording};
 ghost use Rattle.vt_recording.specs.Gathered.{AreGathered, IsRead};
 
-use crate::taking::in_recording;
 use std::alloc::{AllocError, Global};
-use vt_device::Break;
+use vt_device::{Break, Part};
 
 /// The kind of an event of a recording.
 #[derive(Clone, Copy, Debug, PartialEq, Eq)]
@@ -42,6 +42,19 @@ pub struct Timeline {
     pub text: Vec<u8>,
     /// The place at which the recording breaks its format, or `None`.
     pub broken: Option<Break>,
+}
+
+/// Returns the place of an offset in the recording.
+pub(crate) fn in_recording(at: Option<usize>) -> Option<Break>
+    ensures { result ≡ in_recording at }
+{
+    match at {
+        Some(at) => Some(Break {
+            part: Part::Recording,
+            at: at as u64,
+        }),
+        None => None,
+    }
 }
 
 /// The events that are gathered of a recording.

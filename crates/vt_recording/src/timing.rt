@@ -3,23 +3,17 @@ ghost use Rattle.std.specs.Prelude.{◌≡◌, ◌≤◌, ◌<◌, ◌+◌, ◌+
 ghost use Rattle.std.specs.List.{position};
 ghost use Rattle.vt_recording.specs.Script.{first_line};
 ghost use Rattle.vt_recording.specs.Lines.{lines_of};
-ghost use Rattle.vt_recording.specs.Moment.{micros_of};
-ghost use Rattle.vt_recording.specs.Timing.{space_in, chunk_in, note_in, input_in, step_in, break_in, spot_after, played_in};
-ghost use Rattle.vt_recording.specs.Timing.{is_empty, value_in, value_of, is_apart, replay};
-ghost use Rattle.vt_recording.specs.Timing.{IsTimedAfter};
-ghost use Rattle.vt_recording.specs.Steps.{step_view, spot_of, spot_in};
+ghost use Rattle.vt_recording.specs.Timing.{space_in, chunk_in, note_in, input_in, step_in, break_in, spot_after};
+ghost use Rattle.vt_recording.specs.Timing.{is_empty, value_in, value_of, is_apart};
+ghost use Rattle.vt_recording.specs.Steps.{step_view, spot_in};
 ghost use Rattle.vt_recording.specs.Timeline as timeline;
 ghost use Rattle.vt_recording.specs.Timeline.{signal_in, unheard_in, told_by, timed, IsTimedBy};
 ghost use Rattle.vt_recording.specs.Gathered.{AreGathered, IsRead};
 
-use crate::asciicast::in_time;
-use crate::format::{Moment, Taken};
 use crate::lines::{behind, front_line, stripped};
-use crate::moment::{cut, micros_of};
 use crate::script::session_in;
 use crate::seconds::{micros, number};
-use crate::taking::in_recording;
-use crate::timeline::{EventKind, Gathered, Timeline};
+use crate::timeline::{EventKind, Gathered, Timeline, in_recording};
 use std::alloc::{AllocError, Global};
 use vt_device::{Break, Part};
 
@@ -133,120 +127,6 @@ fn is_apart(timing: &[u8]) -> bool
         (Some(output), Some(input)) => output != input,
         _ => false,
     }
-}
-
-/// The output of a session so far.
-#[derive(Drop)]
-struct Replay {
-    /// The time, in microseconds.
-    clock: u64,
-    /// The number of bytes of the session that were taken.
-    place: usize,
-    /// The output.
-    content: Vec<u8>,
-}
-
-impl Replay {
-    /// Plays a line that begins at `at`, and returns its break. `is_apart` says whether input was recorded apart. `stop` is
-    /// the end of the session in its file.
-    fn play(
-        &mut self,
-        line: &[u8],
-        is_apart: bool,
-        session: &[u8],
-        until: Option<u64>,
-        stop: u64,
-        at: u64,
-    ) -> Result<Option<Break>, AllocError>
-        requires { self.old.place ≤ length session.now }
-        ensures breaks { IfOk result (λ b. b ≡ break_in (is_empty line.now) (step_in is_apart line.now) session.now self.old.place stop at) }
-        ensures content { IfOk result (λ b. IfNone b (self.new.content.items
-            ≡ self.old.content.items ++ played_in (is_empty line.now) (step_in is_apart line.now) session.now until (spot_of self.old))) }
-        ensures spot { IfOk result (λ b. IfNone b (spot_of self.new
-            ≡ spot_after (is_empty line.now) (step_in is_apart line.now) (spot_of self.old))) }
-        ensures within { IfOk result (λ b. IfNone b (self.new.place ≤ length session.now)) }
-        ensures kept { IfOk result (λ b. IfSome b (λ _. self.new.content.items ≡ self.old.content.items)) }
-    {
-        if line.is_empty() {
-            return Ok(None);
-        }
-        let Some(step) = step_in(is_apart, line) else {
-            return Ok(Some(Break {
-                part: Part::Timing,
-                at,
-            }));
-        };
-        if session.len() - self.place < step.count {
-            return Ok(Some(Break {
-                part: Part::Recording,
-                at: stop,
-            }));
-        }
-        let from = self.place;
-        self.clock = self.clock.saturating_add(step.micros);
-        self.place += step.count;
-        if step.is_output && in_time(until, self.clock) {
-            self.content.extend_from_slice(&session[from..self.place])?;
-        }
-        Ok(None)
-    }
-}
-
-/// Plays the lines of a timing file, and returns the first break.
-fn play_lines(
-    timing: &[u8],
-    session: &[u8],
-    until: Option<u64>,
-    stop: u64,
-    content: Vec<u8>,
-) -> Result<(Vec<u8>, Option<Break>), AllocError>
-    requires { content.items ≡ [] }
-    ensures content { IfOk result (λ r. r.0.items ≡ (replay session.now stop until (lines_of timing.now)).content) }
-    ensures broken { IfOk result (λ r. r.1 ≡ (replay session.now stop until (lines_of timing.now)).broken) }
-{
-    let is_apart = is_apart(timing);
-    let mut replay = Replay {
-        clock: 0,
-        place: 0,
-        content,
-    };
-    let mut at = 0;
-    while at < timing.len() {
-        let line = front_line(&timing[at..]);
-        if let Some(place) = replay.play(line, is_apart, session, until, stop, at as u64)? {
-            return Ok((replay.content, Some(place)));
-        }
-        at += line.len() + 1;
-    }
-    Ok((replay.content, None))
-}
-
-/// Returns the content that a timing file takes from a recording.
-pub(crate) fn timed_content(
-    alloc: Global,
-    bytes: &[u8],
-    timing: &[u8],
-    until: Option<Moment>,
-) -> Result<Taken, AllocError>
-    ensures taken { IfOk result (λ t. IsTimedAfter (first_line bytes.now) until bytes.now timing.now t.content.items t.broken) }
-    ensures replaced { IfOk result (λ t. t.replaced ≡ 0) }
-{
-    let Some(session) = session_in(bytes) else {
-        return Ok(Taken {
-            content: Vec::new(alloc),
-            broken: in_recording(Some(0)),
-            replaced: 0,
-        });
-    };
-    let output = session.output;
-    let content = Vec::with_capacity(alloc, output.len())?;
-    let stop = session.stop as u64;
-    let (content, broken) = play_lines(timing, output, micros_of(until), stop, content)?;
-    Ok(Taken {
-        content: cut(until, content),
-        broken,
-        replaced: 0,
-    })
 }
 
 /// Returns the text after a name in a line of a signal. The name ends with a space.

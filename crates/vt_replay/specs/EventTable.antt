@@ -1,11 +1,10 @@
 -- The table of a recording's events: a line for each. (this profile)
-use Rattle.std.specs.Prelude.{◌≡◌, ℕ, ◌+◌, ◌/◌, ◌%◌, ◌++◌, ◌∷◌, ◌&&◌, [], List, length, codes, decimal, Bool, true, false, not, cond, is_some, nat_le, nat_lt}
+use Rattle.std.specs.Prelude.{ℕ, ◌+◌, ◌/◌, ◌%◌, ◌++◌, ◌∷◌, ◌&&◌, [], List, length, codes, decimal, Bool, true, false, not, cond, nat_le}
 use Rattle.std.specs.Prelude.{Option, Some, None}
 use Rattle.vt_trace.specs.Lines.{shown}
 use Rattle.vt_recording.specs.declared.format.Format.{Format}
 use Rattle.vt_recording.specs.Format.{has_times}
 use Rattle.vt_recording.specs.declared.format.Moment.{Moment}
-use Rattle.vt_recording.specs.declared.format.Moment.TheVariants as moment
 use Rattle.vt_recording.specs.declared.format.Encoding.TheVariants.{Utf8}
 use Rattle.vt_device.specs.declared.fault.Break.{Break}
 use Rattle.vt_device.specs.declared.fault.Part.{Part}
@@ -13,11 +12,10 @@ use Rattle.vt_device.specs.declared.fault.Part.TheVariants.{Recording, Timing}
 use Rattle.vt_recording.specs.declared.format.TerminalType.{TerminalType}
 use Rattle.vt_recording.specs.declared.format.TerminalType.TheVariants.{Vt220, Xterm}
 use Rattle.vt_recording.specs.declared.heading.Heading.{Heading}
-use Rattle.vt_recording.specs.Heading.{heading_of}
 use Rattle.vt_recording.specs.declared.timeline.EventKind.{EventKind}
 use Rattle.vt_recording.specs.declared.timeline.EventKind.TheVariants.{Output, Input, Marker, Size, Exit}
-use Rattle.vt_recording.specs.Timeline.{Event, Timeline, IsTimelineOf, is_output}
-use Rattle.vt_recording.specs.Reached.{has_characters, nothing_passed, passed}
+use Rattle.vt_recording.specs.Timeline.{Event, Timeline, is_output}
+use Rattle.vt_recording.specs.Reached.{has_characters, nothing_passed, passed, due}
 
 abbrev pub kind_name : EventKind → List ℕ
 kind_name Output = codes "output"
@@ -83,60 +81,16 @@ break_line true (Some place) = codes "broken" ++ 0x09 ∷ (part_name place.part 
 abbrev pub place_after : (place : ℕ) → Event → ℕ
 place_after place e = cond (is_output e.kind) (place + length e.text) place
 
--- the event comes up to a time or a number of bytes: not after the time, or before the byte of the content
-abbrev pub is_listed : (until : Option Moment) → (place micros : ℕ) → Bool
-is_listed None place micros = true
-is_listed (Some (moment.Micros n)) place micros = nat_le micros n
-is_listed (Some (moment.Bytes n)) place micros = nat_lt place n
-is_listed (Some (moment.Event n)) place micros = true
-is_listed (Some (moment.Marker n)) place micros = true
+-- the lines of events, the first one that is asked for and those after it, by the index of an event and its place in the content
+unfoldable pub table : (timed full : Bool) → (first i place : ℕ) → List Event → List ℕ
+table timed full first i place [] = []
+table timed full first i place (e ∷ events) =
+    cond (nat_le first i) (event_line timed full place e) [] ++ table timed full first (i + 1) (place_after place e) events
 
--- the number of events before the first line, and the number up to the last one, if an event or a marker ends the table
-abbrev pub first_in : Format → (from : Option Moment) → List Event → ℕ
-first_in format None events = 0
-first_in format (Some m) events = (passed false (has_characters format Utf8) m nothing_passed events).events
-
-abbrev pub last_in : Format → (until : Option Moment) → List Event → Option ℕ
-last_in format None events = None
-last_in format (Some (moment.Micros n)) events = None
-last_in format (Some (moment.Bytes n)) events = None
-last_in format (Some (moment.Event n)) events =
-    Some (passed true (has_characters format Utf8) (moment.Event n) nothing_passed events).events
-last_in format (Some (moment.Marker n)) events =
-    Some (passed true (has_characters format Utf8) (moment.Marker n) nothing_passed events).events
-
-abbrev pub is_before : (last : Option ℕ) → (i : ℕ) → Bool
-is_before None i = true
-is_before (Some last) i = nat_lt i last
-
--- the event of this index is asked for
-abbrev pub is_asked : (first : ℕ) → (last : Option ℕ) → (i : ℕ) → Bool
-is_asked first last i = nat_le first i && is_before last i
-
--- the line of an event that is asked for and comes up to the moment, and the place after it
-abbrev pub listed : (timed full : Bool) → (until : Option Moment) → (asked : Bool) → (place : ℕ) → Event → List ℕ
-listed timed full until asked place e = cond (is_listed until place e.micros && asked) (event_line timed full place e) []
-
-abbrev pub place_then : (until : Option Moment) → (place : ℕ) → Event → ℕ
-place_then until place e = cond (is_listed until place e.micros) (place_after place e) place
-
-unfoldable pub table : (timed full : Bool) → (until : Option Moment) → (first : ℕ) → (last : Option ℕ) → (i place : ℕ) → List Event → List ℕ
-table timed full until first last i place [] = []
-table timed full until first last i place (e ∷ events) =
-    listed timed full until (is_asked first last i) place e ++ table timed full until first last (i + 1) (place_then until place e) events
-
--- the table of a recording between two moments, and where the recording breaks its format
-pub record IsTable (format : Format) (timed full : Bool) (from until : Option Moment) (timing : Option (List ℕ)) (bytes table_is : List ℕ)
-    (broken : Option Break) : Type 0 where
-  pub timeline : Timeline
-  pub is : IsTimelineOf format timing bytes timeline
-  pub lines : table_is
-      ≡ (heading_lines full (heading_of format bytes)
-      ++ table timed full until (first_in format from timeline.events) (last_in format until timeline.events) 0 0 timeline.events)
-      ++ break_line full timeline.broken
-  pub breaks : broken ≡ timeline.broken
-
-abbrev pub IsTableTaken : Format → (full : Bool) → (from until : Option Moment) → (timing : Option (List ℕ)) → (bytes content : List ℕ)
-    → (broken : Option Break) → (replaced : ℕ) → Type 0
-IsTableTaken format full from until timing bytes content broken replaced =
-    IsTable format (has_times format (is_some timing)) full from until timing bytes content broken × (replaced ≡ 0)
+-- the table of a recording's events between two moments
+abbrev pub event_table : Format → (timed full : Bool) → (from until : Option Moment) → Heading → Timeline → List ℕ
+event_table format timed full from until heading t =
+    let characters = has_characters format Utf8 in
+    (heading_lines full heading
+    ++ table (has_times format timed) full (passed false characters from nothing_passed t.events).events 0 0 (due characters until t.events))
+    ++ break_line full t.broken

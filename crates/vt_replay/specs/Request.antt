@@ -13,8 +13,10 @@ use Rattle.vt_recording.specs.declared.detection.Detected.TheVariants.{Recording
 use Rattle.vt_recording.specs.Detection.{detected}
 use Rattle.vt_device.specs.declared.fault.Break.{Break}
 use Rattle.vt_recording.specs.Heading.{heading_of}
-use Rattle.vt_recording.specs.Taken.{IsShown}
-use Rattle.vt_recording.specs.Reached.{IsTakenBetween, IsAmong, has_characters, nothing_passed}
+use Rattle.vt_recording.specs.declared.heading.Heading.{Heading}
+use Rattle.vt_recording.specs.Timeline.{Event, Timeline, IsTimelineOf}
+use Rattle.vt_recording.specs.Taken.{IsShown, IsTaken}
+use Rattle.vt_recording.specs.Reached.{has_characters, nothing_passed, due}
 use Rattle.vt_recording.specs.Changes.{changes_in}
 use Rattle.vt_replay.specs.declared.resized.Resize.{Resize}
 use Rattle.vt_device.specs.declared.fault.Fault.{Fault}
@@ -24,7 +26,7 @@ use Rattle.vt_replay.specs.declared.requests.Outcome.{Outcome}
 use Rattle.vt_replay.specs.declared.host.Host.{Host}
 use Rattle.vt_replay.specs.Host.{host_for, plain_host, opening}
 use Rattle.vt_replay.specs.Words.{WordTable}
-use Rattle.vt_replay.specs.EventTable.{IsTableTaken}
+use Rattle.vt_replay.specs.EventTable.{event_table}
 use Rattle.vt_replay.specs.Resizes.{carried_out}
 use Rattle.vt_cli.specs.declared.what.Word.{Word}
 use Rattle.vt_cli.specs.declared.what.Word.TheVariants.{Replay, Log, Trace, Events}
@@ -97,37 +99,39 @@ keeps_size r format =
 -- ---- what is taken out of a recording
 
 -- what is taken out of a recording for a word: the table of its events, or its content
-abbrev pub IsTakenBy : Word → Request → Format → Host → (timing : Option (List ℕ)) → (bytes content : List ℕ)
-    → (broken : Option Break) → (replaced : ℕ) → Type 0
-IsTakenBy Events r format host timing bytes content broken replaced =
-    IsTableTaken format r.full r.from r.until timing bytes content broken replaced
-IsTakenBy word r format host timing bytes content broken replaced =
-    IsTakenBetween format host.encoding r.from r.until timing bytes content broken replaced
+abbrev pub IsTakenBy : Word → Request → Format → (timed : Bool) → Host → Heading → Timeline → (content : List ℕ) → (replaced : ℕ) → Type 0
+IsTakenBy Events r format timed host heading t content replaced =
+    (content ≡ event_table format timed r.full r.from r.until heading t) × (replaced ≡ 0)
+IsTakenBy word r format timed host heading t content replaced =
+    IsTaken (has_characters format host.encoding) r.from r.until t.events content replaced
 
 -- ---- what is played of a recording
 
--- no change comes between the bytes that are played: the screen keeps its size, or the changes are carried out in what is made of the
--- whole recording
-abbrev pub plays_one_size : Request → Format → Bool
-plays_one_size r format = takes_whole r.word || keeps_size r format
+-- the first changes among the events that are due, if the screen doesn't keep its size
+abbrev pub resizes_for : (kept : Bool) → Request → Format → Host → List Event → List Resize
+resizes_for true r format host events = []
+resizes_for false r format host events =
+    let characters = has_characters format host.encoding in
+    carried_out (length (opening r.word host)) (changes_in characters nothing_passed (due characters r.until events))
 
--- the first changes that a recording has up to the moment
-abbrev pub AreResizes : (none : Bool) → Request → Format → (timing : Option (List ℕ)) → (bytes : List ℕ) → Host → (resizes : List Resize) → Type 0
-AreResizes true r format timing bytes host resizes = resizes ≡ []
-AreResizes false r format timing bytes host resizes =
-    IsAmong format timing bytes (λ events. resizes
-    ≡ carried_out (length (opening r.word host)) (changes_in (has_characters format host.encoding) r.until nothing_passed events))
+-- what is played of a recording's events on a terminal: the opening and the content, and the changes of the size
+pub record IsArranged (r : Request) (format : Format) (timed : Bool) (host : Host) (heading : Heading) (t : Timeline) (resizes : List Resize)
+    (bytes : List ℕ) (replaced : ℕ) : Type 0 where
+  pub content : List ℕ
+  pub taken : IsTakenBy r.word r format timed host heading t content replaced
+  pub joined : bytes ≡ opening r.word host ++ content
+  pub resized : resizes ≡ resizes_for (keeps_size r format) r format host t.events
 
--- what is played of a recording: the opening and the content, and the changes of the size
+-- what is played of a recording
 pub record IsPrepared (r : Request) (format : Format) (timing : Option (List ℕ)) (b : List ℕ) (host : Host) (resizes : List Resize)
     (bytes : List ℕ) (broken : Option Break) (replaced : ℕ) : Type 0 where
+  pub timeline : Timeline
+  pub is_of : IsTimelineOf format timing b timeline
+  pub breaks : broken ≡ timeline.broken
   pub shown : Encoding
-  pub shows : IsShown format timing b shown
+  pub shows : IsShown format timeline.events shown
   pub host_is : host ≡ host_for r shown (heading_of format b)
-  pub content : List ℕ
-  pub taken : IsTakenBy r.word r format host timing b content broken replaced
-  pub joined : bytes ≡ opening r.word host ++ content
-  pub resized : AreResizes (plays_one_size r format) r format timing b host resizes
+  pub arranged : IsArranged r format (is_some timing) host (heading_of format b) timeline resizes bytes replaced
 
 -- the input was read whole and taken apart, and the word was carried out on what is played of it
 pub record IsTakenApart (o : Outcome) (r : Request) (format : Format) (timing : Option (List ℕ)) (b w : List ℕ) (f : Flags) : Type 0 where

@@ -1,18 +1,16 @@
 //! The table of a recording's events.
-ghost use Rattle.std.specs.Prelude.{◌≡◌, ◌+◌, ◌≤◌, ◌<◌, ◌^◌, ◌++◌, ◌∷◌, length, drop, decimal, option_map, IfOk, OnOk};
+ghost use Rattle.std.specs.Prelude.{◌≡◌, ◌+◌, ◌≤◌, ◌<◌, ◌^◌, ◌++◌, ◌∷◌, [], length, drop, decimal, cond, nat_le, IfOk, OnOk};
 ghost use Rattle.vt_trace.specs.Lines.{shown};
 ghost use Rattle.vt_recording.specs.Timeline.{is_output};
 ghost use Rattle.vt_recording.specs.Gathered.{events_of};
-ghost use Rattle.vt_replay.specs.EventTable.{kind_name, digit, six_digits, time_column, text_column, event_line, is_listed, listed, place_then, table, IsTableTaken};
-ghost use Rattle.vt_replay.specs.EventTable.{first_in, last_in, is_before, is_asked};
+ghost use Rattle.vt_recording.specs.Gathered.{timeline_view};
+ghost use Rattle.vt_replay.specs.EventTable.{kind_name, digit, six_digits, time_column, text_column, event_line, place_after, table, event_table};
 ghost use Rattle.vt_replay.specs.EventTable.{terminal_line, window_line, heading_lines, part_name, break_line};
 
 use itoa::Buffer;
 use std::alloc::{AllocError, Global};
 use vt_cli::{Encoding, Format, Moment, TerminalType};
-use vt_recording::{
-    Break, Event, EventKind, Heading, Part, Taken, Timeline, heading_of, passed_before, timeline_of,
-};
+use vt_recording::{Break, Event, EventKind, Heading, Part, Taken, Timeline, due, passed_before};
 use vt_trace::push_shown;
 
 /// Returns the name of a kind of event.
@@ -105,12 +103,8 @@ struct Listing {
     timed: bool,
     /// Whether the bytes of output are there, too.
     full: bool,
-    /// The time or the number of bytes up to which events are listed.
-    until: Option<Moment>,
     /// The number of events before the first line.
     first: u64,
-    /// The number of events up to the last line, if an event or a marker ends the table.
-    last: Option<u64>,
 }
 
 /// Appends the line of an event with these bytes, which comes at a place in the content.
@@ -136,62 +130,34 @@ fn push_line(
     Ok(())
 }
 
-/// Returns whether an event comes up to a moment.
-fn is_listed(until: Option<Moment>, place: u64, micros: u64) -> bool
-    ensures { result ≡ is_listed until place micros }
-{
-    match until {
-        None => true,
-        Some(Moment::Micros(most)) => micros <= most,
-        Some(Moment::Bytes(most)) => place < most,
-        Some(Moment::Event(_) | Moment::Marker(_)) => true,
-    }
-}
-
-/// Returns whether an index is less than `last`, if there is such a number.
-fn is_before(last: Option<u64>, i: u64) -> bool
-    ensures { result ≡ is_before last i }
-{
-    match last {
-        None => true,
-        Some(last) => i < last,
-    }
-}
-
-/// Returns whether the event of an index is asked for.
-fn is_asked(first: u64, last: Option<u64>, i: u64) -> bool
-    ensures { result ≡ is_asked first last i }
-{
-    first <= i && is_before(last, i)
-}
-
-/// Appends the line of an event with these bytes, if it is asked for and comes up to a moment. Returns the place after
-/// the event.
+/// Appends the line of an event with these bytes, if its index isn't before that of the first line.
 fn push_listed(
     listing: Listing,
-    asked: bool,
+    i: u64,
     place: u64,
     event: Event,
     text: &[u8],
     out: &mut Vec<u8>,
-) -> Result<u64, AllocError>
-    requires { place + length text.now < 2 ^ 64 }
-    ensures items { OnOk result (out.new.items ≡ out.old.items
-        ++ listed listing.timed listing.full listing.until asked place (record { micros = event.micros; kind = event.kind; text = text.now })) }
-    ensures place { IfOk result (λ then.
-        then ≡ place_then listing.until place (record { micros = event.micros; kind = event.kind; text = text.now })) }
-    ensures counted { IfOk result (λ then. then ≤ place + length text.now) }
+) -> Result<(), AllocError>
+    ensures { OnOk result (out.new.items ≡ out.old.items ++ cond (nat_le listing.first i)
+        (event_line listing.timed listing.full place (record { micros = event.micros; kind = event.kind; text = text.now })) []) }
 {
-    if !is_listed(listing.until, place, event.micros) {
-        return Ok(place);
+    if listing.first <= i {
+        return push_line(listing, place, event, text, out);
     }
-    if asked {
-        push_line(listing, place, event, text, out)?;
-    }
+    Ok(())
+}
+
+/// Returns the place in the content after an event with these bytes.
+fn place_after(place: u64, event: Event, text: &[u8]) -> u64
+    requires { place + length text.now < 2 ^ 64 }
+    ensures value { result ≡ place_after place (record { micros = event.micros; kind = event.kind; text = text.now }) }
+    ensures counted { result ≤ place + length text.now }
+{
     if is_output(event.kind) {
-        Ok(place + text.len() as u64)
+        place + text.len() as u64
     } else {
-        Ok(place)
+        place
     }
 }
 
@@ -211,7 +177,7 @@ fn push_table(
     out: &mut Vec<u8>,
 ) -> Result<(), AllocError>
     ensures { OnOk result (out.new.items ≡ out.old.items
-        ++ table listing.timed listing.full listing.until listing.first listing.last 0 0 (events_of events.now text.now)) }
+        ++ table listing.timed listing.full listing.first 0 0 (events_of events.now text.now)) }
 {
     let mut place = 0;
     let mut at = 0;
@@ -219,35 +185,12 @@ fn push_table(
     while i < events.len() {
         let event = event_at(events, i);
         let end = at + event.length.min(text.len() - at);
-        let asked = is_asked(listing.first, listing.last, i as u64);
-        place = push_listed(listing, asked, place, event, &text[at..end], out)?;
+        push_listed(listing, i as u64, place, event, &text[at..end], out)?;
+        place = place_after(place, event, &text[at..end]);
         at = end;
         i += 1;
     }
     Ok(())
-}
-
-/// Returns how many events come before the first line.
-fn first_in(timeline: &Timeline, format: Format, from: Option<Moment>) -> u64
-    ensures { result ≡ first_in format from (events_of timeline.now.events.items timeline.now.text.items) }
-{
-    match from {
-        None => 0,
-        Some(moment) => passed_before(timeline, format, Encoding::Utf8, moment, false).events,
-    }
-}
-
-/// Returns how many events come up to an event or a marker, if the moment is one.
-fn last_in(timeline: &Timeline, format: Format, until: Option<Moment>) -> Option<u64>
-    ensures { result ≡ last_in format until (events_of timeline.now.events.items timeline.now.text.items) }
-{
-    let moment = until?;
-    match moment {
-        Moment::Micros(_) | Moment::Bytes(_) => None,
-        Moment::Event(_) | Moment::Marker(_) => {
-            Some(passed_before(timeline, format, Encoding::Utf8, moment, true).events)
-        }
-    }
 }
 
 /// Appends the line of the terminal that a recording names, if it does.
@@ -323,36 +266,31 @@ fn push_break(full: bool, broken: Option<Break>, out: &mut Vec<u8>) -> Result<()
     Ok(())
 }
 
-/// Returns the table of a recording's events between two moments instead of its content. A full table begins with the
-/// heading of the recording, and has the bytes of output. It ends with the place at which the recording breaks its
-/// format.
+/// Returns the table of a recording's events between two moments instead of its content. A full table begins with the heading of the
+/// recording, and has the bytes of output. It ends with the place at which the recording breaks its format.
 pub(crate) fn events_taken(
     alloc: Global,
-    bytes: &[u8],
-    timing: Option<&[u8]>,
+    timeline: &Timeline,
+    heading: Heading,
     format: Format,
+    timed: bool,
     full: bool,
     from: Option<Moment>,
     until: Option<Moment>,
 ) -> Result<Taken, AllocError>
-    ensures { IfOk result (λ t. IsTableTaken format full from until (option_map (λ b. b.now) timing.entry) bytes.now t.content.items t.broken t.replaced) }
+    ensures { IfOk result (λ t. (t.content.items ≡ event_table format timed full from until heading (timeline_view timeline.now))
+        × (t.replaced ≡ 0)) }
 {
-    let heading = heading_of(alloc, bytes, format)?;
-    let timeline = timeline_of(alloc, bytes, timing, format)?;
-    let listing = Listing {
-        timed: format.has_times(timing.is_some()),
-        full,
-        until,
-        first: first_in(&timeline, format, from),
-        last: last_in(&timeline, format, until),
-    };
+    let timed = format.has_times(timed);
+    let first = passed_before(timeline, format, Encoding::Utf8, from).events;
+    let listing = Listing { timed, full, first };
+    let events = due(timeline, format, Encoding::Utf8, until);
     let mut lines = Vec::new(alloc);
     push_heading(full, heading, &mut lines)?;
-    push_table(listing, &timeline.events, &timeline.text, &mut lines)?;
+    push_table(listing, events, &timeline.text, &mut lines)?;
     push_break(full, timeline.broken, &mut lines)?;
     Ok(Taken {
         content: lines,
-        broken: timeline.broken,
         replaced: 0,
     })
 }

@@ -6,7 +6,9 @@ ghost use Rattle.vt_device.specs.Runs.{Moves};
 ghost use Rattle.vt_device.specs.Writing.{Gives};
 ghost use Rattle.vt_screen.specs.Sizes.{IsSize};
 ghost use Rattle.vt_replay.specs.Words.{WordTable};
-ghost use Rattle.vt_replay.specs.Request.{asks_wide, is_streamed, takes_whole, needs_whole, has_sizes, changes_size, keeps_size, plays_one_size, AreResizes, format_of, lacks_times, ended_of, IsStreamed, IsTakenBy, IsPrepared, IsPlayed, OutcomeTable};
+ghost use Rattle.vt_recording.specs.Gathered.{events_of, timeline_view};
+ghost use Rattle.vt_recording.specs.Heading.{heading_of};
+ghost use Rattle.vt_replay.specs.Request.{asks_wide, is_streamed, takes_whole, needs_whole, has_sizes, changes_size, keeps_size, resizes_for, format_of, lacks_times, ended_of, IsStreamed, IsTakenBy, IsArranged, IsPrepared, IsPlayed, OutcomeTable};
 ghost use Rattle.vt_replay.specs.Host.{opening};
 
 use crate::changes::carried_out;
@@ -23,8 +25,8 @@ use std::io::{Read, Write};
 use vt_cli::{Format, Moment, Request, Word};
 use vt_device::{Source, Watched};
 use vt_recording::{
-    Break, Content, Detected, Fault, Taken, detect, encoding_of, heading_of, read_recording,
-    take_between, take_with_changes,
+    Break, Content, Detected, Fault, Heading, Taken, Timeline, changes_of, detect, encoding_of,
+    heading_of, read_recording, take_between, timeline_of,
 };
 
 /// The greatest limit of an input, which is that of what is made of one.
@@ -274,72 +276,77 @@ pub fn keeps_size(request: &Request, format: Format) -> bool
         || !has_sizes(format)
 }
 
-/// Returns whether no change comes between the bytes that are played of a recording.
-fn plays_one_size(request: &Request, format: Format) -> bool
-    ensures { result ≡ plays_one_size request.now format }
-{
-    takes_whole(request.word) || keeps_size(request, format)
-}
-
 /// Takes out of a recording what the word of a request needs: the table of its events, or its content.
 fn taken_for(
     alloc: Global,
-    bytes: &[u8],
-    timing: Option<&[u8]>,
+    timeline: &Timeline,
+    heading: Heading,
     format: Format,
+    timed: bool,
     host: Host,
     request: &Request,
 ) -> Result<Taken, AllocError>
-    ensures { IfOk result (λ t. IsTakenBy request.now.word request.now format host (option_map (λ b. b.now) timing.entry) bytes.now t.content.items t.broken t.replaced) }
+    ensures { IfOk result (λ t. IsTakenBy request.now.word request.now format timed host heading (timeline_view timeline.now) t.content.items t.replaced) }
 {
     let (from, until) = (request.from, request.until);
     match request.word {
-        Word::Events => events_taken(alloc, bytes, timing, format, request.full, from, until),
+        Word::Events => {
+            let full = request.full;
+            events_taken(alloc, timeline, heading, format, timed, full, from, until)
+        }
         Word::Replay(_) | Word::Log | Word::Trace | Word::Content => {
-            take_between(alloc, bytes, timing, format, host.encoding, from, until)
+            take_between(alloc, timeline, format, host.encoding, from, until)
         }
     }
 }
 
-/// What a request needs of a recording.
-#[derive(Drop)]
-struct Needed {
-    /// What the word needs.
-    taken: Taken,
-    /// The changes of the screen's size.
-    resizes: Vec<Resize>,
-}
-
-/// Takes out of a recording what a request needs.
-fn needed_for(
+/// Returns the changes of the screen's size that a request carries out.
+fn resizes_for(
     alloc: Global,
-    bytes: &[u8],
-    timing: Option<&[u8]>,
+    timeline: &Timeline,
     format: Format,
     host: Host,
     request: &Request,
-) -> Result<Needed, AllocError>
-    ensures taken { IfOk result (λ n. IsTakenBy request.now.word request.now format host (option_map (λ b. b.now) timing.entry) bytes.now n.taken.content.items n.taken.broken n.taken.replaced) }
-    ensures resizes { IfOk result (λ n. AreResizes (plays_one_size request.now format) request.now format (option_map (λ b. b.now) timing.entry) bytes.now host n.resizes.items) }
-    ensures sizes { IfOk result (λ n. All (λ r. IsSize r.size) n.resizes.items) }
+) -> Result<Vec<Resize>, AllocError>
+    ensures resizes { IfOk result (λ r. r.items ≡ resizes_for (keeps_size request.now format) request.now format host
+        (events_of timeline.now.events.items timeline.now.text.items)) }
+    ensures sizes { IfOk result (λ r. All (λ r. IsSize r.size) r.items) }
 {
-    if plays_one_size(request, format) {
-        let taken = taken_for(alloc, bytes, timing, format, host, request)?;
-        return Ok(Needed {
-            taken,
-            resizes: Vec::new(alloc),
-        });
+    if keeps_size(request, format) {
+        return Ok(Vec::new(alloc));
     }
-    let found = take_with_changes(alloc, bytes, timing, format, host.encoding, request.until)?;
-    let before = opening(request.word, host).len();
-    let resizes = carried_out(alloc, before, &found.changes)?;
-    Ok(Needed {
-        taken: found.taken,
+    let changes = changes_of(alloc, timeline, format, host.encoding, request.until)?;
+    carried_out(alloc, opening(request.word, host).len(), &changes)
+}
+
+/// Arranges what is played of a recording's events on a terminal. Returns `Err` if allocation fails.
+fn arrange(
+    alloc: Global,
+    timeline: &Timeline,
+    heading: Heading,
+    format: Format,
+    timed: bool,
+    host: Host,
+    request: &Request,
+) -> Result<Prepared, AllocError>
+    requires { IsSize host.size }
+    ensures host { IfOk result (λ p. p.host ≡ host) }
+    ensures broken { IfOk result (λ p. p.broken ≡ timeline.now.broken) }
+    ensures arranged { IfOk result (λ p. IsArranged request.now format timed host heading (timeline_view timeline.now) p.resizes.items p.bytes.items p.replaced) }
+{
+    let resizes = resizes_for(alloc, timeline, format, host, request)?;
+    let taken = taken_for(alloc, timeline, heading, format, timed, host, request)?;
+    let replaced = taken.replaced;
+    Ok(Prepared {
+        host,
         resizes,
+        bytes: opened(alloc, opening(request.word, host), taken.content)?,
+        broken: timeline.broken,
+        replaced,
     })
 }
 
-/// Takes a recording apart as a request asks for it. Returns `Err` if allocation fails.
+/// Reads a recording, and arranges what a request plays of it. Returns `Err` if allocation fails.
 fn prepare(
     alloc: Global,
     bytes: &[u8],
@@ -349,19 +356,12 @@ fn prepare(
 ) -> Result<Prepared, AllocError>
     ensures { IfOk result (λ p. IsPrepared request.now format (option_map (λ t. t.now) timing.entry) bytes.now p.host p.resizes.items p.bytes.items p.broken p.replaced) }
 {
-    let shown = encoding_of(alloc, bytes, timing, format)?;
-    let host = host_for(request, shown, heading_of(alloc, bytes, format)?);
-    let needed = needed_for(alloc, bytes, timing, format, host, request)?;
-    let broken = needed.taken.broken;
-    let replaced = needed.taken.replaced;
-    let resizes = needed.resizes;
-    Ok(Prepared {
-        host,
-        resizes,
-        bytes: opened(alloc, opening(request.word, host), needed.taken.content)?,
-        broken,
-        replaced,
-    })
+    let heading = heading_of(alloc, bytes, format)?;
+    let timeline = timeline_of(alloc, bytes, timing, format)?;
+    let host = host_for(request, encoding_of(alloc, &timeline, format)?, heading);
+    let timed = timing.is_some();
+    let prepared = arrange(alloc, &timeline, heading, format, timed, host, request)?;
+    Ok(prepared)
 }
 
 /// Returns bytes after an opening. Returns `Err` if allocation fails.

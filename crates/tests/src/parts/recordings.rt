@@ -1,18 +1,17 @@
 //! Readers of recordings, and what the program can't show of one.
 use crate::rows::holds;
 use std::alloc::{AllocError, Global};
-use vt_recording::laws::content;
 use vt_recording::{
     Content, Encoding, Fault, Format, Moment, Source, Watched, json_text, read_recording,
-    take_apart,
+    take_between, timeline_of,
 };
 
 /// Returns whether raw bytes, which have no times, are content up to whatever time.
 fn has_no_times(alloc: Global) -> Result<bool, AllocError> {
-    content();
     let until = Some(Moment::Micros(0));
-    let taken = take_apart(alloc, b"a\r\nb", None, Format::Raw, Encoding::Dec, until)?;
-    Ok(taken.content.as_slice() == b"a\r\nb".as_slice() && taken.broken.is_none())
+    let timeline = timeline_of(alloc, b"a\r\nb", None, Format::Raw)?;
+    let taken = take_between(alloc, &timeline, Format::Raw, Encoding::Dec, None, until)?;
+    Ok(taken.content.as_slice() == b"a\r\nb".as_slice() && timeline.broken.is_none())
 }
 
 #[test]

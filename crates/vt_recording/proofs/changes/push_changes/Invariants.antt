@@ -7,11 +7,11 @@ use Rattle.vt_recording.proofs.changes.push_changes.Given as goal
 abbrev pub invariant-loop-i : goal.invariant-loop-i
 invariant-loop-i l = record {
   within : l.at ≤ length l.text;
-  events : l.so_far.events ≤ l.i;
+  events : l.so_far.events ≡ l.i;
   markers : l.so_far.markers ≤ l.so_far.events;
   content : l.so_far.content ≤ l.at;
-  ahead : l.changes.items ++ changes_in l.characters l.until l.so_far (events_of (drop l.i l.events) (drop l.at l.text))
-      ≡ l.fn.changes.items ++ changes_in l.characters l.until nothing_passed (events_of l.events l.text);
+  ahead : l.changes.items ++ changes_in l.characters l.so_far (events_of (drop l.i l.events) (drop l.at l.text))
+      ≡ l.fn.changes.items ++ changes_in l.characters nothing_passed (events_of l.events l.text);
 }
 
 abbrev pub decreases-loop-i : goal.decreases-loop-i

@@ -7,10 +7,8 @@ abbrev pub invariant-loop-i : goal.invariant-loop-i
 invariant-loop-i l = record {
   counted : l.place ≤ l.at;
   within : l.at ≤ length l.text;
-  ahead : l.out.items
-      ++ table l.listing.timed l.listing.full l.listing.until l.listing.first l.listing.last l.i l.place (events_of (drop l.i l.events) (drop l.at l.text))
-      ≡ l.fn.out.items
-      ++ table l.listing.timed l.listing.full l.listing.until l.listing.first l.listing.last 0 0 (events_of l.events l.text);
+  ahead : l.out.items ++ table l.listing.timed l.listing.full l.listing.first l.i l.place (events_of (drop l.i l.events) (drop l.at l.text))
+      ≡ l.fn.out.items ++ table l.listing.timed l.listing.full l.listing.first 0 0 (events_of l.events l.text);
 }
 
 abbrev pub decreases-loop-i : goal.decreases-loop-i

@@ -1,2 +1,0 @@
--- Definitions that only private contracts cite. No public clause does, and no reader has to believe it.
-pub mod Sizes

@@ -22,12 +22,8 @@ TAKEN, FAULT, NONE, REFUSED, UNFIT, DENIED, CONFIGURATION = 5, 4, 3, 6, 69, 77, 
 
 
 def option(read, name):
-    """Returns a reader of an option's number, which is within its bounds. A number of bytes may be all."""
-
-    def number(word):
-        return word if name == "keep" and word == "all" and read is int else within(name, read(word))
-
-    return explained(number)
+    """Returns a reader of an option's number, which is within its bounds."""
+    return explained(lambda word: within(name, read(word)))
 
 
 def explained(read):
@@ -43,10 +39,10 @@ def explained(read):
 
 
 def override(chosen, words, *names):
-    """Replaces settings by the options that were given. A number of bytes may be all."""
+    """Replaces settings by the options that were given."""
     for name in names:
         if getattr(words, name) is not None:
-            setattr(chosen, name, None if getattr(words, name) == "all" else getattr(words, name))
+            setattr(chosen, name, getattr(words, name))
 
 
 def do_run(words, settings):
@@ -65,10 +61,8 @@ def do_daemon(words, settings):
     fleet.program.hide()
     store = settings.connect(waits=True, is_examined=True)
     daemon = fleet.daemon.Daemon(store, settings.host, fleet.wire.path_of(settings.host))
-    override(settings.host, words, "keep", "retain")
-    address = words.metrics or settings.host.metrics
-    if address:
-        fleet.metrics.serve(fleet.metrics.DaemonMetrics(daemon), address)
+    if settings.host.metrics:
+        fleet.metrics.serve(fleet.metrics.DaemonMetrics(daemon), settings.host.metrics)
     for ends in ENDS:  # the programs stay with their keepers
         signal.signal(ends, lambda *_: os._exit(0))
     daemon.serve()
@@ -103,13 +97,9 @@ def do_view(store, incarnation, words):
 
 @of_session
 def do_screen(store, incarnation, words):
-    """Writes the screen as text, as bytes for another terminal, or as a picture."""
-    session = fleet.session.as_it_is(store, incarnation)
-    if words.word == "text":
-        sys.stdout.write(session.terminal.text())
-    else:
-        repaint = session.terminal.repaint("vt220")
-        sys.stdout.buffer.write(fleet.export.picture(repaint, session.language.screen) if words.word == "picture" else repaint)
+    """Writes the screen as text, or as bytes for another terminal."""
+    terminal = fleet.session.as_it_is(store, incarnation).terminal
+    sys.stdout.buffer.write(terminal.text().encode() if words.word == "text" else terminal.repaint("vt220"))
 
 
 @of_session
@@ -167,7 +157,7 @@ def do_metrics(words, settings):
 
 
 def do_web(words, settings):
-    override(settings.web, words, "address", "port", "typing", "metrics")
+    override(settings.web, words, "address", "port", "typing")
     asked = settings.connect()
     asked.patience = min(asked.patience, HEALTH)
     return fleet.web.serve(settings.connect(waits=True), asked, settings.web)
@@ -176,16 +166,13 @@ def do_web(words, settings):
 # What several commands have, for `add`.
 NAME = "name", {}
 JSON = "--json", {"action": "store_true", "help": "prints a line of JSON for each"}
-METRICS = "--metrics", {"metavar": "HOST:PORT", "help": "serves metrics for Prometheus at this address"}
 PATIENCE = "--patience", {"type": option(seconds, "patience"), "default": 10, "help": "the longest wait, such as 30s (10s)"}
 
 
 def add_hosts(add):
     each = add("run", do_run, "starts a store and a host daemon on this machine, until Ctrl-C or the end of COMMAND")
     each.add_argument("command", nargs=argparse.REMAINDER)
-    each = add("daemon", do_daemon, "publishes all sessions of this machine, and alone knows the store there; the next daemon goes on with them", METRICS)
-    each.add_argument("--keep", type=option(int, "keep"), help="bytes before a checkpoint that stay in the store: a number, or all (all)")
-    each.add_argument("--retain", type=option(seconds, "retain"), help="how long an ended session stays in the store, such as 7d (for ever)")
+    add("daemon", do_daemon, "publishes all sessions of this machine, and alone knows the store there; the next daemon goes on with them")
     each = add("host", do_host, "runs a command on a pseudo-terminal, as a session of this machine's daemon", NAME)
     each.add_argument("--input", action="store_true", help="allows viewers to type")
     each.add_argument("--encoding", choices=CHOICES["encoding"], help="what the command writes: the VT220's own bytes, or UTF-8 (dec)")
@@ -199,7 +186,6 @@ def add_viewers(add):
     each = add("view", do_view, "follows a session on this terminal", NAME)
     each.add_argument("--type", action="store_true", help="sends keys to the session; Ctrl-] ends the view")
     add("text", do_screen, "prints the screen as text", NAME)
-    add("picture", do_screen, "writes the screen as SVG", NAME)
     add("repaint", do_screen, "writes bytes that leave a terminal in the session's state", NAME)
     add("log", do_log, "writes the bytes that the session's program wrote", NAME)
     each = add("export", do_export, "writes a recording with its times, as asciicast 2 or ttyrec, or a page that plays it", NAME)
@@ -209,7 +195,7 @@ def add_viewers(add):
     each = add("type", do_type, "types into a session, as on a terminal; gives up if the program reads nothing for ten seconds", NAME)
     each.add_argument("--enter", action="store_true", help="sends Return after the text")
     each.add_argument("text", nargs="?", help="the text; without it, standard input")
-    each = add("web", do_web, "serves a page with live pictures of all sessions", METRICS)
+    each = add("web", do_web, "serves a page with live pictures of all sessions")
     each.add_argument("--address", help="the address on which it listens (127.0.0.1)")
     each.add_argument("--port", type=option(int, "port"), help="the port on which it listens (8220)")
     each.add_argument("--typing", action="store_true", default=None, help="allows the page to type, if the session's host does")

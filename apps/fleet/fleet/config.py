@@ -28,7 +28,7 @@ class Beyond(ValueError):
 class Store:
     url: str = ""
     password_file: str = ""
-    unsafe: bool = False
+    replicas: int = 0
     timeout: float = 5.0
     give_up: float = 10.0
 
@@ -55,7 +55,6 @@ class Web:
     port: int = 8220
     token_file: str = ""
     typing: bool = False
-    metrics: str = ""
 
 
 SECTIONS = {"store": Store, "host": Host, "web": Web}
@@ -154,7 +153,7 @@ class Settings:
         """Returns the store. If `waits` is true, its calls wait for ever, otherwise at most give-up seconds. If `is_examined` is true, it can
         keep a fleet. The password is from its file, so that it is on no command line and in no environment. FLEET_USER names its user."""
         store = connect(self.store.url, self.store.password_file, os.environ.get("FLEET_USER"), socket_timeout=self.store.timeout)
-        store.patience = None if waits else self.store.give_up
+        store.patience, store.replicas = None if waits else self.store.give_up, self.store.replicas
         if is_examined:
-            store.examine(self.store.unsafe)
+            store.examine()
         return store

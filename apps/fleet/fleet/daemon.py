@@ -85,7 +85,7 @@ def listening(path):
     made = socket.socket(socket.AF_UNIX)
     made.bind(path)
     os.chmod(path, 0o666)
-    made.listen(128)
+    made.listen(socket.SOMAXCONN)  # all keepers of a machine may come at once
     return made
 
 
@@ -250,10 +250,15 @@ class Daemon:
         programs = {stream: (program, last) for program in self.all() for stream, last in program.streams().items()}
         streams = {self.wakes: b"0-0"} | {stream: last for stream, (_, last) in programs.items()}
         try:
-            came = self.store.read_streams(COUNT, streams, min(BEAT, self.chosen.lease / 3))
+            came, read = self.store.read_streams(COUNT, streams, min(BEAT, self.chosen.lease / 3)), streams
         except ResponseError as error:
             log.error("the streams can't be read at once: %s", error)
-            came = [each for stream, last in streams.items() for each in self.read_one(stream, last)]
+            alone = {stream: self.read_one(stream, last) for stream, last in streams.items()}
+            read = [stream for stream, found in alone.items() if found is not None]
+            came = [each for stream in read for each in alone[stream]]
+            time.sleep(0.2)
+        for program, _ in (programs[stream] for stream in read if stream in programs):
+            program.read_at = time.monotonic()
         for stream, entries in came:
             try:
                 if stream == self.wakes:
@@ -264,13 +269,13 @@ class Daemon:
                 log.exception("what came in %s", stream)
 
     def read_one(self, stream, last):
-        """Returns what came in a stream, without waiting. What somebody wrote in its place is removed."""
+        """Returns what came in a stream, without waiting; None if it can't be read. What somebody wrote in its place is removed."""
         try:
             return self.store.read_streams(COUNT, {stream: last})
         except ResponseError as error:
             if is_of_session(error):
                 self.shared.ask("DEL", stream)
-            return []
+            return None
 
     def renew_on(self):
         while True:

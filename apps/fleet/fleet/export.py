@@ -1,23 +1,13 @@
 """What a session wrote, for other programs: its bytes, or a recording with the moments, as asciicast 2, ttyrec or a page that plays it."""
 import itertools
-import os
 import struct
-import subprocess
 
 import vt220.cast
 import vt220.page
 from vt220.process import TERMS
 
 from .keys import DEC, key, language_of, length, number, text
-from .session import bytes_of, events_of, first_screen
-
-PROGRAM = os.path.join(os.path.dirname(os.path.abspath(__file__)), "..", "..", "..", "crates", "vt220", "out", "vt220")
-
-
-def program():
-    """Returns the path of the vt220 program: VT220_PROGRAM's, this repository's, else the one on the path."""
-    named = os.environ.get("VT220_PROGRAM")
-    return named or (PROGRAM if os.path.exists(PROGRAM) else "vt220")
+from .session import events_of, first_screen
 
 
 def log(store, incarnation, out):
@@ -52,8 +42,8 @@ def asciicast(store, incarnation, title, out):
 
 def ttyrec(store, incarnation, _title, out):
     """Writes a ttyrec: frames of seconds, microseconds, length and bytes. It has no title, and no sizes."""
-    for _, moment, data in bytes_of(store, incarnation):
-        out.write(struct.pack("<III", moment // 1000, moment % 1000 * 1000, len(data)) + data)
+    for _, moment, code, data in events_of(store, incarnation):
+        out.write(struct.pack("<III", moment // 1000, moment % 1000 * 1000, len(data)) + data if code == "o" else b"")
 
 
 def page(store, incarnation, title, out):
@@ -69,9 +59,3 @@ def page(store, incarnation, title, out):
             content += data
     options = {"encoding": written.encoding, "terminal": written.terminal, **(written.size() if written.screen != DEC.screen else {})}
     out.write(vt220.page.page(bytes(content), chunks, title, changes=changes, **options).encode())
-
-
-def picture(repaint, screen):
-    """Returns a repaint of a screen as SVG, as the vt220 program draws it."""
-    options = [] if screen == DEC.screen else ["--size", screen]
-    return subprocess.run([program(), "picture", *options], input=repaint, stdout=subprocess.PIPE, check=True).stdout

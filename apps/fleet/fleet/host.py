@@ -5,10 +5,10 @@ import secrets
 from . import keys
 from .config import is_screen
 from .keys import key
-from .store import ResponseError, is_of_session
 
 KEYS = 4096  # bytes of one thing that a viewer types
 KNOWN_SIGNALS = (b"1", b"2", b"9", b"15")
+VIEWERS = 256  # the latest viewers whose numbers are known
 
 
 def birth(pid):
@@ -62,6 +62,8 @@ class Host:
         self.at = 0  # the position up to which the store has all
         self.registered = 0  # how often
         self.last = dict.fromkeys(("keys", "signals"), b"0-0")  # the last entry of each stream that was read
+        self.kept = dict(self.last)  # and the last one that the keeper has
+        self.numbers = {}  # (stream, viewer) -> the number of the last thing that was read
 
     def part(self, name):
         return key(self.incarnation, name)
@@ -84,9 +86,10 @@ class Host:
 
     def register(self):
         """Takes the name, and learns how much the store has."""
-        words = self.milliseconds("lease"), self.milliseconds("linger"), keys.version()
-        fields = [word for pair in self.about.items() for word in pair]
-        self.at = int(self.ask("register", self.name, self.incarnation, self.user, *words, *fields)[1])
+        words = [self.milliseconds("lease"), self.milliseconds("linger"), keys.version()]
+        words += [ids[stream] for stream in self.last for ids in (self.last, self.kept)]
+        words += [word for pair in self.about.items() for word in pair]
+        self.at = int(self.ask("register", self.name, self.incarnation, self.user, *words)[1])
         self.registered += 1
 
     def append(self, data, field="bytes"):
@@ -108,16 +111,9 @@ class Host:
     # What comes for the program.
 
     def adopt(self, last):
-        """Takes in the last inputs that the keeper took. The host before may have ended before it removed them."""
-        for stream, entry_id in last.items():
-            self.last[stream] = entry_id.encode()
-            moment, number = entry_id.split("-")
-            try:
-                self.store.ask("XTRIM", self.part(stream), "MINID", f"{moment}-{int(number) + 1}")
-            except ResponseError as error:  # what somebody wrote in its place
-                if not is_of_session(error):
-                    raise
-                self.store.ask("DEL", self.part(stream))
+        """Takes in the last inputs that the keeper took, before the session is registered."""
+        self.last = {stream: entry_id.encode() for stream, entry_id in last.items()}
+        self.kept = dict(self.last)
 
     def streams(self, names):
         return {self.part(name).encode(): self.last[name] for name in names}
@@ -126,9 +122,9 @@ class Host:
         """Yields what of a stream is for the program, as (kind, stream, id, what). What isn't for it is removed."""
         name = part.decode().rpartition(":")[2]
         for entry_id, fields in entries:
-            self.last[name] = entry_id
-            found = self.read_entry(name, dict(zip(fields[::2], fields[1::2])))
-            if found:
+            self.last[name], fields = entry_id, dict(zip(fields[::2], fields[1::2]))
+            found = self.read_entry(name, fields)
+            if found and self.is_new((name, fields.get(b"by")), keys.number(fields.get(b"n"), 0)):
                 yield found[0], name, entry_id, found[1]
             else:
                 self.store.post("XDEL", part, entry_id)
@@ -141,3 +137,11 @@ class Host:
             return ("signal", int(fields[b"signal"])) if fields.get(b"signal") in KNOWN_SIGNALS else None
         takes = b"keys" in fields and self.takes_input and len(fields[b"keys"]) <= KEYS
         return ("keys", fields[b"keys"]) if takes else None
+
+    def is_new(self, viewer, number):
+        """Returns whether a viewer's thing wasn't read before. A store that went back has forgotten it, and the viewer may send it again."""
+        before = self.numbers.pop(viewer, 0)
+        self.numbers[viewer] = max(before, number)
+        if len(self.numbers) > VIEWERS:
+            del self.numbers[next(iter(self.numbers))]
+        return number > before or not number

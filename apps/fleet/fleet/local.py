@@ -49,11 +49,14 @@ class LocalStore:
         self.start()
 
     def start(self, *more):
+        self.launch(*more)
+        connect(self.url).ping()
+
+    def launch(self, *more):
         words = ["--port", "0", "--unixsocket", self.socket, "--unixsocketperm", "700", "--dir", self.folder, "--save", ""]
         words += ["--appendonly", "yes", "--appendfsync", "always", *self.options, *more]
         with open(os.path.join(self.folder, "log"), "ab") as log:
             self.server = subprocess.Popen([*self.under, "redis-server", *words], stdout=log, stderr=log, preexec_fn=self.before)
-        connect(self.url).ping()
 
     def kill(self):
         self.server.kill()

@@ -1,4 +1,4 @@
-"""Metrics in Prometheus's text form, of a host daemon, the page and the whole fleet; and /healthz, which is 200 or 503."""
+"""Metrics in Prometheus's text form, of a host daemon and the whole fleet; and /healthz, which is 200 or 503."""
 import collections
 import threading
 import time
@@ -58,6 +58,7 @@ class DaemonMetrics:
         programs, totals, now = self.daemon.all(), self.daemon.totals(), time.monotonic()
         yield gauge("host_lag_bytes", "Bytes of its programs that the store doesn't have", sum(each.waiting for each in programs))
         yield gauge("host_lag_seconds", "Seconds for which the same bytes of a program are being sent, at most", max((now - since for each in programs if (since := each.sends_since) is not None), default=0))
+        yield gauge("host_unread_seconds", "Seconds for which keys and signals for a program weren't looked for, at most", max((now - each.read_at for each in programs if each.streams()), default=0))
         yield gauge("host_refused", "Its programs that aren't in the store, since another one has the name or the session", sum(not each.is_named for each in programs))
         yield counter("host_bytes", "Bytes of its programs that the store has taken from this daemon", totals["bytes"])
         yield counter("host_inputs", "Keys that its programs were given", totals["inputs"])
@@ -68,26 +69,6 @@ class DaemonMetrics:
     def problem(self):
         """Returns why this daemon isn't well, or nothing."""
         return "the store is away" if self.daemon.store.away_since is not None else ""
-
-
-class PageMetrics:
-    """Those of the page."""
-
-    def __init__(self, page):
-        self.page = page
-
-    def collect(self):
-        page = self.page
-        yield gauge("page_clients", "Browsers that are connected", page.gallery.clients)
-        yield gauge("page_sessions", "Sessions that the page shows", len(page.gallery.followed))
-        yield counter("page_connections", "Connections of browsers that were let in", page.connections)
-        yield counter("page_sent_bytes", "Bytes of pages and messages that were sent", page.sent)
-        yield counter("page_received_bytes", "Bytes of messages that came", page.received)
-        yield counted(CounterMetricFamily, "page_refused", "Connections that were refused, by why: without the token, or the origin is another page's", "why", page.refused)
-        yield from of_store(page.store)
-
-    def problem(self):
-        return self.page.problem()
 
 
 class WholeFleet:

@@ -132,22 +132,35 @@ class Typist:
 
     def __init__(self, store, incarnation, patience=PATIENCE):
         self.store, self.incarnation, self.patience = store, incarnation, patience
-        self.me, self.number = keys.new_id(), 1
+        self.me, self.number, self.lacks = keys.new_id(), 1, False  # whether replicas lack the last thing
 
     def offer(self, field, value):
-        """Sends one thing. Returns whether there was room for it. Raises Refused if it can't be sent at all."""
-        answer = self.store.run("type", self.incarnation, self.me, self.number, self.LIMIT, field, value)[0]
+        """Sends one thing. Returns whether there was room for it, and so many replicas have it as the configuration says. Raises Refused if it can't
+        be sent at all."""
+        call = self.store.call_of("type", self.incarnation, self.me, self.number, self.LIMIT, field, value)
+        waits = [("WAIT", self.store.replicas, 1000)] if self.store.replicas else []
+        answers = self.store.run_all([call, *waits])
+        for wrong in (each for each in answers if isinstance(each, Exception)):
+            raise wrong
+        answer = keys.text(answers[0][0])
         if answer in REFUSALS:
             raise Refused(REFUSALS[answer])
-        self.number += answer == "ok"
-        return answer == "ok"
+        self.lacks = answer == "ok" and answers[-1] < self.store.replicas if waits else False
+        self.number += (is_there := answer == "ok" and not self.lacks)
+        return is_there
 
     def send(self, field, value):
         if not comes(lambda: self.offer(field, value), self.patience, PAUSE):
-            raise self.unread()
+            raise self.give_up()
+
+    def give_up(self):
+        """Returns why a thing isn't sent. What replicas lack is there, so the next thing has another number."""
+        self.number += self.lacks
+        return self.unread()
 
     def unread(self):
-        return Refused(f"the program read none of what was typed for {self.patience:g} s")
+        why = f"fewer than {self.store.replicas} replicas have" if self.lacks else "the program read none of"
+        return Refused(f"{why} what was typed for {self.patience:g} s")
 
     def type(self, data):
         for part in parts(data):

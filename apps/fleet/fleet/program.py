@@ -122,12 +122,14 @@ class Program(threading.Thread):
         super().__init__(daemon=True)
         self.fleet, self.link, self.state, self.before = daemon, link, state, before
         self.host = Host(daemon.shared, state.name, daemon.chosen, state.language, state.takes_input, state.command, state.incarnation, daemon.me, user_of(link.user))
+        self.host.adopt(state.last)
         self.came, self.ahead = queue.SimpleQueue(), []  # what the keeper said for the store: (what, position, ..); and what was put back
         self.waiting = 0  # bytes of it
         self.is_named = self.is_gone = self.is_left = self.is_over = False
         self.given = self.taken = self.resizes = self.stored = 0  # inputs that the keeper was sent, and that the program has read; and what was stored
         self.unread, self.lock = [], threading.Lock()  # inputs that the program may not have read: (stream, id)
         self.sends_since = None  # since when the same bytes are being sent
+        self.read_at = time.monotonic()  # when what comes for the program was last read
 
     # What the keeper says.
 
@@ -178,6 +180,7 @@ class Program(threading.Thread):
             was_choked, count = len(self.unread) >= CHOKED, max(0, number - self.taken)
             read, self.unread, self.taken = self.unread[:count], self.unread[count:], self.taken + count
         for stream, entry_id in read:
+            self.host.kept[stream] = entry_id
             self.fleet.shared.post("XDEL", self.host.part(stream), entry_id)
         if was_choked and len(self.unread) < CHOKED:
             self.fleet.wake()
@@ -253,8 +256,6 @@ class Program(threading.Thread):
         """Has the keeper send what the store lacks, and passes on what comes for the program."""
         if self.host.at > self.state.end and self.host.registered == 1:
             raise Closed("the store has more bytes than the program wrote")
-        if not self.is_named:
-            self.host.adopt(self.state.last)
         self.drop_stale()
         self.link.say(wire.framed(wire.NAMED, self.host.incarnation.encode()) + wire.packed(wire.FROM, self.host.at))
         self.is_named = True
@@ -375,6 +376,7 @@ class Program(threading.Thread):
         for kind, stream, entry_id, what in self.host.read_entries(part, entries):
             if stream == "signals":
                 letter, data = (wire.SIGNAL, bytes([what])) if kind == "signal" else (wire.SIZE, what)
+                self.host.kept[stream] = entry_id
                 self.link.say(wire.framed(letter, wire.entry(stream, entry_id, data)))
                 self.fleet.shared.post("XDEL", part, entry_id)
                 continue

@@ -97,18 +97,14 @@ def restored(incarnation, fields, language=DEC):
 
 def look_up(store, incarnation):
     """Returns a session as its checkpoint has it, and the position where its bytes end. Raises Lost if the store has lost it."""
-    with store.pipeline(transaction=True) as together:
-        together.hgetall(key(incarnation, "checkpoint"))
-        together.hmget(key(incarnation, "about"), "end", *DEC._fields)
-        together.exists(key(incarnation, "bytes"))
-        fields, about, is_there = store.all_of(together)
-    wrong = next((each for each in (fields, about) if isinstance(each, Exception)), None)
-    if wrong:
+    about = ("HMGET", key(incarnation, "about"), "end", *DEC._fields)
+    fields, about, is_there = answers = store.run_all([("HGETALL", key(incarnation, "checkpoint")), about, ("EXISTS", key(incarnation, "bytes"))])
+    for wrong in (each for each in answers if isinstance(each, Exception)):
         raise Wrong(f"a key of the session is wrong: {wrong}")
     end, *said = about
     if end is None or not is_there:
         raise Lost("the store no longer has this session")
-    return restored(incarnation, fields, language_of(*said)), number_of(end)
+    return restored(incarnation, dict(zip(fields[::2], fields[1::2])), language_of(*said)), number_of(end)
 
 
 def play_on(store, session, end):
@@ -158,11 +154,6 @@ def events_of(store, incarnation):
         if field in fields:
             latest = max(latest, number_of(fields.get(b"t"), 0))
             yield position(entry_id), latest, code, fields[field]
-
-
-def bytes_of(store, incarnation):
-    """Yields (position, moment in milliseconds, bytes) for all that the program wrote and the store still has."""
-    return ((at, moment, data) for at, moment, code, data in events_of(store, incarnation) if code == "o")
 
 
 def first_screen(store, incarnation, language, resized):

@@ -122,6 +122,7 @@ class Store(redis.Redis):
     """Redis. Whatever is called waits until the store answers, for any time. So all that is written must bear being written
     twice."""
 
+    replicas = 0  # that must have what a viewer typed before it counts as typed
     had_functions = False  # they were there once: if they aren't any more, the store lost them
 
     def __init__(self, *words, **options):
@@ -190,16 +191,6 @@ class Store(redis.Redis):
             self.outages += 1
             log.warning("the store is away: %s: %s", type(error).__name__, error)
         return since
-
-    def all_of(self, together):
-        """Runs a pipeline, as often as it takes. Returns the answers, errors among them."""
-        commands = list(together.command_stack)
-
-        def once():
-            together.command_stack = list(commands)
-            return self.sound(together.execute(raise_on_error=False))
-
-        return self.patiently(once)
 
     def sound(self, answers):
         """Returns answers, errors among them. Raises those errors that concern the store and no single command."""
@@ -319,7 +310,7 @@ class Store(redis.Redis):
             raise BusyLoadingError("the store reads its file")
         return facts
 
-    def examine(self, is_any_allowed=False):
+    def examine(self):
         """Raises Unfit if the store forgets by design: a cluster, eviction, no append-only file. If it comes back later without such a
         file, it counts as away."""
         facts = self.patiently(self.facts_when_loaded)
@@ -327,14 +318,11 @@ class Store(redis.Redis):
             raise Unfit("this store is a Redis Cluster, which the fleet doesn't support: give each fleet a store of its own")
         if facts.get("redis_mode") == "sentinel":
             raise Unfit("this is a sentinel: the address is sentinel://HOST:PORT,HOST:PORT/MASTER")
-        policy, is_kept = facts.get("maxmemory_policy", "noeviction"), facts.get("aof_enabled") == 1
-        found = [] if policy == "noeviction" else [f"maxmemory-policy is {policy}: the store drops keys when it is full"]
-        found += [] if is_kept else [UNSAFE]
-        if found and not is_any_allowed:
-            raise Unfit("; ".join(found) + ". Mend that, or set unsafe = yes in the configuration's [store]")
-        for each in found:
-            log.warning("unsafe store: %s", each)
-        self.is_to_keep = not is_any_allowed
+        if (policy := facts.get("maxmemory_policy", "noeviction")) != "noeviction":
+            raise Unfit(f"maxmemory-policy is {policy}: the store drops keys when it is full")
+        if facts.get("aof_enabled") != 1:
+            raise Unfit(UNSAFE)
+        self.is_to_keep = True
 
 
 def connections(facts):

@@ -20,64 +20,39 @@ LEAVE = b"\x1d"  # Ctrl-], as telnet has it
 
 
 class Drawing:
-    """Draws a terminal on today's terminals. Only what changed is drawn. A window that is smaller shows the part with the cursor, and its last row says
-    which part that is."""
+    """Draws a terminal on today's terminals. Only what changed is drawn. A window that is smaller shows the part with the cursor."""
 
     def __init__(self, out):
         self.out, self.terminal, self.shown = out, None, None  # the terminal that is drawn, and what is on the screen: None for anything else
         self.window = window_of(out)
         self.top = self.left = 0  # how many rows and columns are above and left of the part
-        self.line, self.said = "", (vt220.ROWS + 1, "")  # what is to be said, and the row and the line that are below the part
 
     def draw(self, terminal):
-        self.terminal = terminal
-        rows, columns = self.find_part(terminal)
-        part = terminal if self.has_all(terminal, rows, columns) else self.part_of(terminal, rows, columns)
-        drawn, is_erased = self.way_to(part)
-        said = self.last_line(terminal, rows, columns)
-        if is_erased:
-            self.said = said[0], ""
-        elif said[0] != self.said[0] and self.said[1]:
-            self.say(written(self.said[0], ""))
-        self.say(drawn.decode())
+        self.terminal, part = terminal, self.part_of(terminal)
+        self.say(self.way_to(part).decode())
         self.shown = part if part is not terminal else terminal.copy()
-        if said[1] != self.said[1]:
-            self.say(written(*said))
-        self.said = said
 
     def note(self, line):
-        """Says something below the screen."""
-        self.line = line
-        if self.terminal:
-            self.draw(self.terminal)
-        else:
-            self.said = min(vt220.ROWS + 1, self.window[0]), line[: min(80, self.window[1])]
-            self.say(written(*self.said))
+        """Says something in the window's title."""
+        self.say(("\a" if line else "") + f"\033]2;{line}\033\\")
 
     def fit(self):
         """Draws all again if the window has another size than before."""
         window = window_of(self.out)
         if window != self.window:
             self.window, self.shown = window, None
-            self.note(self.line)
+            if self.terminal:
+                self.draw(self.terminal)
 
-    def find_part(self, terminal):
-        """Moves the part no further than needed to have the cursor in it. Returns how many rows and columns the window has for the part."""
-        rows, columns = self.window
-        if rows > 1 and (not self.has_all(terminal, rows, columns) or self.line and terminal.rows() == rows):
-            rows -= 1
-        cursor = terminal.cursor()
+    def part_of(self, terminal):
+        """Returns a terminal that has the part alone, in its upper left corner. It has moved no further than needed to have the cursor in it. All after the
+        part are spaces that look blank, and vt220_draw writes nothing where a screen is blank: on a reverse screen they have the attribute."""
+        (rows, columns), cursor, modes, width = self.window, terminal.cursor(), terminal.modes(), terminal.width()
         self.top = panned(self.top, rows, terminal.rows(), cursor.row, 0)
-        self.left = panned(self.left, columns, terminal.width(), cursor.col, columns // 2)
-        return rows, columns
-
-    def has_all(self, terminal, rows, columns):
-        return terminal.rows() <= rows and terminal.width() <= columns
-
-    def part_of(self, terminal, rows, columns):
-        """Returns a terminal that has the part alone, in its upper left corner. All after that are spaces that look blank, and vt220_draw writes nothing
-        where a screen is blank: on a reverse screen they have the attribute."""
-        part, cursor, modes, width = terminal.copy(), terminal.cursor(), terminal.modes(), terminal.width()
+        self.left = panned(self.left, columns, width, cursor.col, columns // 2)
+        if terminal.rows() <= rows and width <= columns:
+            return terminal
+        part = terminal.copy()
         change = f"\030\033[!p\033[{7 if modes.decscnm else 0}m" + (f"\033[1;1H\033[{self.top}M" if self.top else "")
         for row in range(1, terminal.rows() + 1):
             kept = columns if row <= rows else 0
@@ -88,20 +63,12 @@ class Drawing:
         return part
 
     def way_to(self, part):
-        """Returns bytes that lead from what is shown to a part, and whether they erase what was there."""
+        """Returns bytes that lead from what is shown to a part."""
         is_other = self.shown is None or (self.shown.rows(), self.shown.width()) != (part.rows(), part.width())
         try:
-            return part.draw(None if is_other else self.shown), is_other
+            return part.draw(None if is_other else self.shown)
         except vt220.OtherSize:  # one that was resized to a VT220's size
-            return part.draw(), True
-
-    def last_line(self, terminal, rows, columns):
-        """Returns the row below the part, and what is said there. There is nothing if the window has no such row."""
-        row, said = min(rows, terminal.rows()) + 1, [self.line] if self.line else []
-        if not self.has_all(terminal, rows, columns):
-            bottom, right = min(self.top + rows, terminal.rows()), min(self.left + columns, terminal.width())
-            said.append(f"rows {self.top + 1}-{bottom} of {terminal.rows()}, columns {self.left + 1}-{right} of {terminal.width()}")
-        return row, "; ".join(said)[: min(columns, max(80, terminal.width()))] if row <= self.window[0] else ""
+            return part.draw()
 
     def say(self, words):
         self.out.write(words)
@@ -126,11 +93,6 @@ def panned(first, shown, most, cursor, step):
     if cursor > first + shown:
         first = cursor - shown + step
     return min(first, most - shown)
-
-
-def written(row, line):
-    """Returns what writes a line at a row, and leaves the cursor where it was."""
-    return f"\0337\033[{row};1H\033[0m\033[K{line}\0338"
 
 
 class Viewer:

@@ -23,7 +23,6 @@ from aiohttp import WSMsgType, web
 from vt220.keyboard import spelled
 from vt220.page import hashed
 
-from . import metrics
 from .gallery import Gallery
 from .operate import PAUSE as PAUSE_OF_KEYS, Typist, parts
 
@@ -98,7 +97,7 @@ class Typing:
         end = loop.time() + self.typist.patience
         while not await loop.run_in_executor(self.page.threads, self.typist.offer, "keys", data):
             if loop.time() > end:
-                raise self.typist.unread()
+                raise self.typist.give_up()
             await asyncio.sleep(PAUSE_OF_KEYS)
 
     def cancel(self):
@@ -119,8 +118,6 @@ class Page:
         self.gallery = Gallery(store, self.changed)
         self.loop, self.events = None, set()
         self.threads = ThreadPoolExecutor(16)  # typing waits for the store
-        self.connections = self.sent = self.received = 0  # of browsers; and bytes
-        self.refused = {"token": 0, "origin": 0}
 
     def changed(self):
         if self.loop:
@@ -132,9 +129,7 @@ class Page:
             given = json.loads(said)["token"].encode("utf-8", "replace")
         except (AttributeError, KeyError, TypeError, ValueError):
             given = b""
-        is_right = hmac.compare_digest(given, self.token.encode())
-        self.refused["token"] += not is_right
-        return is_right
+        return hmac.compare_digest(given, self.token.encode())
 
     async def index(self, _):
         headers = {
@@ -144,7 +139,6 @@ class Page:
             "X-Content-Type-Options": "nosniff",
             "X-Frame-Options": "DENY",
         }
-        self.sent += len(self.text.encode())
         return web.Response(text=self.text, content_type="text/html", headers=headers)
 
     async def health(self, _):
@@ -164,7 +158,6 @@ class Page:
         """A client's connection: first the token comes; then what changed goes there, and keys come from there."""
         origin = request.headers.get("Origin")
         if origin and urlsplit(origin).netloc != request.host:
-            self.refused["origin"] += 1
             raise web.HTTPForbidden(text="Another page's.\n")
         socket = web.WebSocketResponse(heartbeat=20, max_msg_size=65536)
         await socket.prepare(request)
@@ -175,7 +168,7 @@ class Page:
         if not self.admits(first):
             await socket.close(code=UNKNOWN)
             return socket
-        event, self.gallery.clients, self.connections = asyncio.Event(), self.gallery.clients + 1, self.connections + 1
+        event, self.gallery.clients = asyncio.Event(), self.gallery.clients + 1
         self.events.add(event)
         event.set()
         sender = asyncio.ensure_future(self.send(socket, event))
@@ -198,7 +191,6 @@ class Page:
             order = news.get("order", order)
             if news.get("news") or "order" in news or first:
                 text, first = json.dumps(news | first), {}
-                self.sent += len(text)
                 await socket.send_str(text)
             await asyncio.sleep(PAUSE)
 
@@ -208,7 +200,6 @@ class Page:
             async for message in socket:
                 if message.type != WSMsgType.TEXT:
                     break
-                self.received += len(message.data.encode())
                 try:
                     self.hear(json.loads(message.data), socket, typed)
                 except Exception as error:
@@ -245,8 +236,6 @@ class Page:
 def serve(store, asked, settings):
     """Serves the page until Ctrl-C."""
     page = Page(store, asked, settings)
-    if settings.metrics:
-        metrics.serve(metrics.PageMetrics(page), settings.metrics)
     where = f"[{settings.address}]" if ":" in settings.address else settings.address
     # What a service prints is in the journal, which others may read. So a token of a file is never printed.
     address = f"http://{where}:{settings.port}/"

@@ -1,27 +1,18 @@
-/* Another clock for a store: the two calls by which Redis asks for the time of day are moved by the seconds in the file that CLOCK_FILE names.
- * For LD_PRELOAD. */
+/* Another clock for a store: the two calls by which Redis asks for the time of day are moved by the seconds in the file that CLOCK_FILE names. For LD_PRELOAD. */
 #include <stdio.h>
 #include <stdlib.h>
 #include <sys/time.h>
 #include <time.h>
 
-static long moved(void) {
-    long by = 0;
-    const char *path = getenv("CLOCK_FILE");
-    FILE *file = path ? fopen(path, "r") : NULL;
-    if (file) {
-        if (fscanf(file, "%ld", &by) != 1) by = 0;
-        fclose(file);
-    }
-    return by;
-}
-
 int gettimeofday(struct timeval *restrict at, void *restrict zone) {
     struct timespec now;
+    long moved = 0;
+    FILE *file = fopen(getenv("CLOCK_FILE"), "r");
     (void)zone;
+    if (file && fscanf(file, "%ld", &moved) != 1) moved = 0;
+    if (file) fclose(file);
     clock_gettime(CLOCK_REALTIME, &now);
-    at->tv_sec = now.tv_sec + moved();
-    at->tv_usec = now.tv_nsec / 1000;
+    *at = (struct timeval){now.tv_sec + moved, now.tv_nsec / 1000};
     return 0;
 }
 

@@ -1,11 +1,18 @@
-"""What the tests share: a count of what passed, a store, programs that are sessions, and sessions that a test writes into the store itself."""
+"""What the tests share: a store, programs that are sessions, and sessions that a test writes into the store itself."""
 import contextlib
 import os
 import pathlib
+import pty
 import random
+import re
+import resource
+import select
 import socket
 import subprocess
 import sys
+import termios
+import urllib.error
+import urllib.request
 
 sys.dont_write_bytecode = True
 HERE = os.path.dirname(os.path.abspath(__file__))
@@ -14,7 +21,7 @@ sys.path.insert(0, os.path.join(HERE, ".."))
 from fleet import config, keys, local, program as programs, session, store as stores
 from fleet.host import Host
 from fleet.keys import key
-from fleet.operate import Refused, Typist, comes
+from fleet.operate import Refused, Typist, comes, everything
 import vt220
 
 ROOT = os.path.join(HERE, "..", "..", "..")
@@ -26,19 +33,14 @@ QUERIES = [b"\033[c", b"\033[5n", b"\033[6n", b"\033[>c", b"\033[?15n", b"\033[?
 PATIENCE = float(os.environ.get("FLEET_PATIENCE", 300))  # seconds until what is waited for counts as hanging
 PATIENT = ["[store]", "timeout = 60", f"give-up = {PATIENCE}"]
 stores.TIMEOUT = 60.0
+local.LocalStore.under = ("env", "--ignore-signal=XFSZ")  # a file that may grow no more is an error then
 KEEPER = programs.keeper()
 TELLER = os.path.join(HERE, "teller.py")
 
-counts = {"case": "", "passed": 0, "failed": 0}  # of the cases that ran, with the name of the one that runs
-started = contextlib.ExitStack()  # what a case has started, which ends with it
+ANSWERS = "stty -echo; echo on; while read x; do echo got $x; done; exit 9"  # a program
+
+started = contextlib.ExitStack()  # what a test has started, which ends with it
 ports = []  # sockets that hold ports as long as this process lives
-
-
-def check(is_so, what):
-    counts["passed" if is_so else "failed"] += 1
-    if not is_so:
-        print(f"failed: {counts['case']}: {what}", file=sys.stderr, flush=True)
-    return bool(is_so)
 
 
 def children_of(pid):
@@ -71,29 +73,15 @@ def played(data):
     return terminal, terminal.feed(data)
 
 
-def raises(fault, call, *arguments):
-    try:
-        call(*arguments)
-    except fault:
-        return True
-    return False
-
-
 def wait_for(is_so, pause=0.02):
-    """Waits until something is so. Returns whether it is."""
-    return comes(is_so, PATIENCE, pause)
+    """Waits until something is so, and fails if it never is."""
+    assert comes(is_so, PATIENCE, pause), "what is waited for doesn't come"
+    return True
 
 
 def commands(store):
     """Returns how often each command was called, also inside functions, without the call that asks."""
     return {name: each["calls"] for name, each in store.info("commandstats").items() if name != "cmdstat_info"}
-
-
-def replace(thing, name, value):
-    """Gives something another attribute until the case ends. Returns it."""
-    started.callback(setattr, thing, name, getattr(thing, name))
-    setattr(thing, name, value)
-    return value
 
 
 class Clock:
@@ -139,15 +127,22 @@ class Source:
 class Told:
     """A program that writes bytes, asks for reports and reads keys, as a session. It notes all in files: what it wrote, what reports and what keys it read."""
 
-    def __init__(self, machine, name, data, *words, steps=20, **options):
+    def __init__(self, machine, name, data, *words, steps=20, waits=True, **options):
         self.machine, self.name, self.place = machine, name, os.path.join(machine.folder, f"told-{name}")
         os.mkdir(self.place)
         pathlib.Path(self.place, "data").write_bytes(data)
-        self.store, self.steps = stores.connect(machine.url), steps
+        os.mkfifo(os.path.join(self.place, "goal"))
+        self.goals = os.open(os.path.join(self.place, "goal"), os.O_RDWR)  # it holds what the program hasn't read
+        started.callback(os.close, self.goals)
+        self.store, self.steps, self.goal, self.typed = stores.connect(machine.url), steps, 0, b""
         self.host = program(machine, name, [local.PYTHON, TELLER, self.place, str(steps)], "--input", *words, **options)
-        self.incarnation = incarnation_of(self.store, name)
-        check(wait_for(lambda: os.path.exists(os.path.join(self.place, "ready"))), f"{name} begins")
-        self.typist, self.typed = Typist(self.store, self.incarnation, PATIENCE), b""
+        if waits:
+            self.begin()
+
+    def begin(self):
+        self.incarnation = incarnation_of(self.store, self.name)
+        wait_for(lambda: os.path.exists(os.path.join(self.place, "ready")))
+        self.typist = Typist(self.store, self.incarnation, PATIENCE)
 
     def read(self, what):
         path = pathlib.Path(self.place, what)
@@ -160,30 +155,38 @@ class Told:
             try:
                 self.typist.type(word)
             except Refused as refused:
-                return check("silent" in str(refused), f"{self.name}: {refused}") is None
+                assert "silent" in str(refused), f"{self.name}: {refused}"
+                return False
             return True
 
         self.typed += word
-        check(wait_for(is_typed), f"{self.name} is typed into")
+        wait_for(is_typed)
+
+    def aim(self, steps):
+        """Has it do so many steps more."""
+        self.goal = min(self.steps, self.goal + steps)
+        os.write(self.goals, b"%d\n" % self.goal)
+
+    def arrives(self):
+        """Waits until it has done its steps."""
+        return wait_for(lambda: self.read("steps").count(b".") >= self.goal or self.host.poll() is not None)
 
     def go_on(self, steps):
-        """Has it do so many steps more, and waits until it has done them."""
-        steps = min(self.steps, self.read("steps").count(b".") + steps)
-        pathlib.Path(self.place, "goal").write_text(str(steps))
-        return wait_for(lambda: self.read("steps").count(b".") >= steps or self.host.poll() is not None)
+        self.aim(steps)
+        return self.arrives()
 
     def hold(self, **language):
         """Holds an ended session against what the program noted: its bytes, its screen, its reports, its keys and its status."""
         sent, store = self.read("sent"), self.store
         self.incarnation = incarnation_of(store, self.name)
-        check(self.host.wait(PATIENCE) == 7, f"{self.name}: its status: {self.host.returncode}")
-        check(store.hget(key(self.incarnation, "about"), "closed") == b"7", f"{self.name}: in the store: {store.hgetall(key(self.incarnation, 'about'))}")
+        assert self.host.wait(PATIENCE) == 7, f"{self.name}: its status: {self.host.returncode}"
+        assert store.hget(key(self.incarnation, "about"), "closed") == b"7", f"{self.name}: in the store: {store.hgetall(key(self.incarnation, 'about'))}"
         terminal = vt220.Terminal(**language)
-        check(self.read("reports") == terminal.feed(sent), f"{self.name}: each report once")
-        check(self.read("keys") == self.typed, f"{self.name}: each key once, in order: {len(self.read('keys'))} of {len(self.typed)} bytes")
+        assert self.read("reports") == terminal.feed(sent), f"{self.name}: each report once"
+        assert self.read("keys") == self.typed, f"{self.name}: each key once, in order: {len(self.read('keys'))} of {len(self.typed)} bytes"
         now = session.as_it_is(store, self.incarnation)
-        check(now.terminal.same_state(terminal) and now.at == len(sent), f"{self.name}: the screen, and the place {now.at} of {len(sent)}")
-        return b"".join(data for _, _, data in session.bytes_of(store, self.incarnation)) == sent
+        assert now.terminal.same_state(terminal) and now.at == len(sent), f"{self.name}: the screen, and the place {now.at} of {len(sent)}"
+        return b"".join(data for _, _, code, data in session.events_of(store, self.incarnation) if code == "o") == sent
 
 
 def made_up(chance, pieces):
@@ -248,7 +251,7 @@ def program(machine, name, command, *words, **options):
 def begun(machine, name, command, *words, says=b"on", **options):
     """Starts a program as a session, and waits until it has written something. Returns its keeper, the store, and its incarnation."""
     host, store = program(machine, name, command, *words, **options), stores.connect(machine.url)
-    check(wait_for(lambda: says in written(store, name)), f"the program of {name} runs")
+    wait_for(lambda: says in written(store, name))
     return host, store, incarnation_of(store, name)
 
 
@@ -292,9 +295,112 @@ def configured(machine, *lines):
         os.environ.pop("FLEET_CONFIG") if before is None else os.environ.update(FLEET_CONFIG=before)
 
 
-def report():
-    print(f"{counts['passed']} passed, {counts['failed']} failed", flush=True)
-    return 1 if counts["failed"] else 0
+def state(store, name):
+    return next((each for each in everything(store) if each["name"] == name), None)
+
+
+class OnTerminal:
+    """The command on a terminal of its own, and what it drew there."""
+
+    def __init__(self, url, *words, window=(0, 0)):
+        self.child, self.master = pty.fork()
+        if self.child == 0:
+            termios.tcsetwinsize(0, window)  # its rows and columns
+            os.execve(local.COMMAND, [local.COMMAND, *words], os.environ | {"FLEET_REDIS": url, "TERM": "xterm"})
+        self.drawn = b""
+
+    def has(self, wanted):
+        while select.select([self.master], [], [], 0.02)[0]:
+            try:
+                self.drawn += os.read(self.master, 65536)
+            except OSError:
+                break
+        return wanted in self.drawn
+
+    def shows(self, text):
+        """Returns whether an xterm shows a text after what was drawn, which has no spaces where spaces were."""
+        self.has(b"")
+        screen = vt220.Terminal(terminal="xterm")
+        screen.feed(self.drawn)
+        return text in screen.text()
+
+    def status(self):
+        wait_for(lambda: self.has(b"\033[?1049l"))
+        return os.waitstatus_to_exitcode(os.waitpid(self.child, 0)[1])
+
+
+def asked(port, what):
+    """Returns the status and the text of a page."""
+    try:
+        with urllib.request.urlopen(f"http://127.0.0.1:{port}/{what}", timeout=PATIENCE) as answer:
+            return answer.status, answer.read().decode()
+    except urllib.error.HTTPError as refused:
+        return refused.code, refused.read().decode()
+
+
+def metrics_at(port):
+    """Returns the metrics of a process, by their names with labels."""
+    lines = (line.rsplit(" ", 1) for line in asked(port, "metrics")[1].splitlines() if not line.startswith("#"))
+    return {name: float(value) for name, value in lines}
+
+
+def file_of(machine):
+    """Returns the path of the file to which a machine's store appends."""
+    return next(pathlib.Path(machine.folder, "appendonlydir").glob("*.incr.aof"))
+
+
+def cut_back(machine, is_enough):
+    """Kills the store, drops changes at the end of its file until something is no longer there, and starts it again."""
+    machine.kill()
+    whole = file_of(machine).read_bytes()
+    commands = [m.start() for m in re.finditer(rb"\*1\r\n\$5\r\nMULTI\r\n", whole)]
+    file_of(machine).write_bytes(whole[: next((at for at in reversed(commands) if is_enough(whole[at:])), commands[0])])
+    machine.start()
+
+
+def end_all(sessions, is_whole=True):
+    """Has sessions go on to their ends, and holds them against what they noted."""
+    for each in sessions:
+        each.go_on(each.steps)
+        each.type(b"q")
+    for each in sessions:
+        assert each.hold() or not is_whole, f"{each.name}: its log is whole"
+
+
+def fill_disk(machine):
+    """Has the file of a machine's store grow no more, as on a full disk. Waits until the store has ended, which it does at the next write."""
+    resource.prlimit(machine.server.pid, resource.RLIMIT_FSIZE, (file_of(machine).stat().st_size + 100, resource.RLIM_INFINITY))
+    store = stores.connect(machine.url)
+    store.patience = 0
+    with contextlib.suppress(stores.ConnectionError):
+        while True:
+            store.append("filler", "x" * 100)
+    machine.server.wait()
+
+
+def shimmed(machine):
+    """Starts the machine's store with a clock that a file moves."""
+    library, file = os.path.join(machine.folder, "clock.so"), os.path.join(machine.folder, "clock")
+    subprocess.run(["gcc", "-O2", "-shared", "-fPIC", "-o", library, os.path.join(HERE, "clock.c")], check=True)
+    machine.kill()
+    os.environ.update(LD_PRELOAD=library, CLOCK_FILE=file)
+    try:
+        machine.start()
+    finally:
+        del os.environ["LD_PRELOAD"], os.environ["CLOCK_FILE"]
+
+    def move(seconds):
+        with open(file + ".new", "w") as moved:
+            moved.write(str(seconds))
+        os.replace(file + ".new", file)
+
+    return move
+
+
+def proportional(pid):
+    """Returns the memory of a process in bytes: of what it shares its part."""
+    with open(f"/proc/{pid}/smaps_rollup") as said:
+        return next(int(line.split()[1]) * 1024 for line in said if line.startswith("Pss:"))
 
 
 class Proxy:

@@ -13,5 +13,5 @@ if number <= tonumber(redis.call('GET', typed) or 0) then return {'ok'} end
 local stream = key(inc, ARGV[5] == 'keys' and 'keys' or 'signals')
 if redis.call('XLEN', stream) >= limit then return {'full'} end
 redis.call('SET', typed, ARGV[3], 'PX', 86400000)
-redis.call('XADD', stream, '*', 't', moment(), 'by', viewer, ARGV[5], ARGV[6])
+redis.call('XADD', stream, '*', 't', moment(), 'by', viewer, 'n', ARGV[3], ARGV[5], ARGV[6])
 return {'ok'}

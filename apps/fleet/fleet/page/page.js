@@ -79,7 +79,7 @@ function describe(session) {
   const facts = session.facts;
   $("title").textContent = facts.name;
   $("screen").setAttribute("label", "Screen of " + facts.name);
-  $("state").textContent = facts.fault || `${facts.state}${facts.worker ? " at " + facts.worker : ""}, host ${facts.host}`;
+  $("state").textContent = facts.fault || `${facts.state}, host ${facts.host}`;
   $("type").hidden = !(mayType && facts.input && facts.state === "running");
   $("announcing").hidden = false;
   if ($("type").hidden) setTyping(false);

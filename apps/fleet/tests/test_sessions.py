@@ -8,20 +8,20 @@ import random
 import signal
 import subprocess
 
+import pytest
+
 from harness import (
-    KEEPER, PATIENCE, PROGRAM, QUERIES, Source, Told, another_daemon, begun, check, commands, configured, end_of, fleet, fleet_bytes, incarnation_of, key,
-    keys, made_up, program, raises, recordings, seen, session, stores, wait_for, written,
+    ANSWERS, KEEPER, PATIENCE, PROGRAM, QUERIES, Source, Told, another_daemon, begun, commands, configured, end_of, fleet, fleet_bytes, incarnation_of, key, keys, made_up,
+    program, proportional, recordings, seen, session, stores, vt220, wait_for, written,
 )
 from fleet import export
 from fleet.operate import Refused, Typist
 from fleet.view import Viewer
-import vt220
 
-seed = 1
 WIDE = "Größe 漢字 e\u0301 \u00e9\r\n".encode()
 
 
-def of_languages():
+def of_languages(seed):
     """Yields a name, the options of `host`, those of a terminal, and bytes of each kind of session."""
     chance, pieces = random.Random(seed), recordings()
     yield "dec", [], {}, made_up(chance, pieces)
@@ -32,11 +32,11 @@ def of_languages():
     yield "deccolm", [], {}, b"\033[?3h\033[1;130Hwide\033[c" + made_up(chance, pieces) + b"\033[?3l" + b"\033P" + b"q" * 9000
 
 
-def each_language_is_told_whole(machine, _):
+def test_each_language_is_told_whole(machine, seed):
     """Bytes that are cut anywhere, with checkpoints between them, while daemons are killed."""
     with configured(machine, "[host]", "every = 300", "lease = 3600"):
         machine.start_daemon()
-        all_of_them = [(Told(machine, name, data, *words), terminal) for name, words, terminal, data in of_languages()]
+        all_of_them = [(Told(machine, name, data, *words), terminal) for name, words, terminal, data in of_languages(seed)]
         for number in range(4):
             for told, _ in all_of_them:
                 told.type(b"%d;" % number)
@@ -44,48 +44,45 @@ def each_language_is_told_whole(machine, _):
             another_daemon(machine)
         for told, terminal in all_of_them:
             told.type(b"q")
-            check(told.hold(**terminal), f"{told.name}: the log")
+            assert told.hold(**terminal), f"{told.name}: the log"
             at = int(told.store.hget(key(told.incarnation, "checkpoint"), "at") or 0)
-            check(at > 0 or len(told.read("sent")) < 900, f"{told.name}: with a checkpoint")
+            assert at > 0 or len(told.read("sent")) < 900, f"{told.name}: with a checkpoint"
 
 
-def statuses_are_those_of_a_shell(machine, _):
+def test_statuses_are_those_of_a_shell(machine):
     for command, status in ((["true"], 0), (["sh", "-c", "exit 3"], 3), (["sh", "-c", "kill -9 $$"], 137), (["nosuchcommand"], 127), (["/etc/passwd"], 126), (["sh", "-c", "exit 4", "caf\udce9"], 4)):
         name = f"status-{status}"
-        check(program(machine, name, command).wait(PATIENCE) == status, f"{command}: {status}")
+        assert program(machine, name, command).wait(PATIENCE) == status, f"{command}: {status}"
         store = stores.connect(machine.url)
-        check(store.hget(key(incarnation_of(store, name), "about"), "closed") == b"%d" % status, "as in the store")
-    check("nosuchcommand: No such file" in fleet(machine.url, "text", "status-127")[1], "why it doesn't run is on its screen")
+        assert store.hget(key(incarnation_of(store, name), "about"), "closed") == b"%d" % status, "as in the store"
+    assert "nosuchcommand: No such file" in fleet(machine.url, "text", "status-127")[1], "why it doesn't run is on its screen"
 
 
-ANSWERS = "stty -echo; echo on; while read x; do echo got $x; done; exit 9"
-
-
-def names_are_used_once(machine, _):
+def test_names_are_used_once(machine):
     host, store, first = begun(machine, "name", ["sh", "-c", ANSWERS], "--input")
-    check(program(machine, "name", ["true"]).wait(PATIENCE) == 5, "a second host of the name: 5")
+    assert program(machine, "name", ["true"]).wait(PATIENCE) == 5, "a second host of the name: 5"
     os.kill(host.pid, signal.SIGKILL)
-    check(wait_for(lambda: store.hget(key(first, "about"), "closed") == b"lost"), "if the keeper is killed, the session is lost")
-    check(program(machine, "name", ["true"]).wait(PATIENCE) == 0, "and the name is free")
-    check(incarnation_of(store, "name") != first, "for another session")
-    check(fleet(machine.url, "text", f"@{first}")[1].startswith("on\n"), "the first one is still there")
-    check(fleet(machine.url, "host", "x", config=None, FLEET_DAEMON="/nonexistent")[0] == 78, "no command: 78")
+    wait_for(lambda: store.hget(key(first, "about"), "closed") == b"lost")  # if the keeper is killed, the session is lost
+    assert program(machine, "name", ["true"]).wait(PATIENCE) == 0, "and the name is free"
+    assert incarnation_of(store, "name") != first, "for another session"
+    assert fleet(machine.url, "text", f"@{first}")[1].startswith("on\n"), "the first one is still there"
+    assert fleet(machine.url, "host", "x", config=None, FLEET_DAEMON="/nonexistent")[0] == 78, "no command: 78"
     status, _, said = fleet(machine.url, "host", "x", "true", FLEET_DAEMON="/nonexistent", KEEP_DIR=os.path.join(machine.folder, "keep"))
-    check(status == 69 and "no host daemon" in said, f"no daemon: {status} {said}")
+    assert status == 69 and "no host daemon" in said, f"no daemon: {status} {said}"
 
 
-def a_daemon_that_died_with_a_keeper_is_followed(machine, _):
+def test_a_daemon_that_died_with_a_keeper_is_followed(machine):
     """Nobody renews the lease. The next session of the name waits for its end."""
     with configured(machine, "[store]", "timeout = 60", "[host]", "lease = 1"):
         host, store, first = begun(machine, "both", ["sh", "-c", ANSWERS])
         machine.kill_daemon()
         os.kill(host.pid, signal.SIGKILL)
         machine.start_daemon()
-        check(program(machine, "both", ["true"]).wait(PATIENCE) == 0, "it begins")
-    check(store.hget(key(first, "about"), "closed") == b"lost", "and the one before is lost")
+        assert program(machine, "both", ["true"]).wait(PATIENCE) == 0, "it begins"
+    assert store.hget(key(first, "about"), "closed") == b"lost", "and the one before is lost"
 
 
-def a_session_outlives_its_daemon_and_its_keeper_s_program(machine, _):
+def test_a_session_outlives_its_daemon_and_its_keeper_s_program(machine):
     """Keys that are typed meanwhile arrive once. `vt220-keep upgrade` replaces the keeper's program."""
     host, store, incarnation = begun(machine, "lives", ["sh", "-c", ANSWERS], "--input")
     typist, wanted_lines = Typist(store, incarnation, PATIENCE), b"on"
@@ -95,16 +92,16 @@ def a_session_outlives_its_daemon_and_its_keeper_s_program(machine, _):
             another_daemon(machine)
         else:
             done = subprocess.run([KEEPER, "upgrade", "lives"], env=os.environ | {"KEEP_DIR": os.path.join(machine.folder, "keep")}, capture_output=True)
-            check(done.returncode == 0, f"it is upgraded: {done.stderr}")
+            assert done.returncode == 0, f"it is upgraded: {done.stderr}"
         typist.type(b"b%d\r" % number)
         wanted_lines += b"\r\ngot a%d\r\ngot b%d" % (number, number)
-        check(wait_for(lambda: written(store, "lives").strip() == wanted_lines), f"{number}: each line once: {written(store, 'lives')}")
-    check(wait_for(lambda: store.xlen(key(incarnation, "keys")) == 0), "what the program has isn't in the store")
+        wait_for(lambda: written(store, "lives").strip() == wanted_lines)
+    wait_for(lambda: store.xlen(key(incarnation, "keys")) == 0)  # what the program has isn't in the store
     typist.type(b"\x04")
-    check(host.wait(PATIENCE) == 9, "it ends")
+    assert host.wait(PATIENCE) == 9, "it ends"
 
 
-def on_this_machine_it_is_a_keeper_s(machine, _):
+def test_on_this_machine_it_is_a_keeper_s(machine):
     """Also while the store is away: text, keys and reports. What was written meanwhile is published afterwards."""
     asks = r"""stty -echo raw; printf 'a\033[6n'; dd bs=1 count=6 2>/dev/null >/dev/null; stty sane -echo; echo nswered; while read x; do echo got $x; done; exit 9"""
     host, store, incarnation = begun(machine, "here & there", ["sh", "-c", asks], says=b"nswered")
@@ -113,65 +110,65 @@ def on_this_machine_it_is_a_keeper_s(machine, _):
     def text():
         return subprocess.run([KEEPER, "text", "here___there"], **keep).stdout
 
-    check(text().startswith("answered\n"), f"its text: {text()}")
+    assert text().startswith("answered\n"), f"its text: {text()}"
     machine.kill()
     subprocess.run([KEEPER, "send", "here___there", "local", "Enter"], **keep)
-    check(wait_for(lambda: "got local" in text()), "it goes on without a store")
+    wait_for(lambda: "got local" in text())  # it goes on without a store
     machine.start()
-    check(wait_for(lambda: b"got local" in written(store, "here & there")), "and is published")
-    check(fleet(machine.url, "type", "here & there", "x")[0] == 6, "viewers type only with --input: 6")
+    wait_for(lambda: b"got local" in written(store, "here & there"))  # and is published
+    assert fleet(machine.url, "type", "here & there", "x")[0] == 6, "viewers type only with --input: 6"
     subprocess.run([KEEPER, "kill", "here___there"], **keep)
-    check(host.wait(PATIENCE) == 129, "it is ended here")
-    check(wait_for(lambda: store.hget(key(incarnation, "about"), "closed") == b"129"), "and there")
+    assert host.wait(PATIENCE) == 129, "it is ended here"
+    wait_for(lambda: store.hget(key(incarnation, "about"), "closed") == b"129")  # and there
 
 
-def a_program_is_resized(machine, _):
+def test_a_program_is_resized(machine):
     """From 2x2 on. The program's terminal has the size, and so have readers and recordings."""
     host, store, incarnation = begun(machine, "sized", ["sh", "-c", "echo on; while read x; do stty size; done"], "--input")
     typist, sizes = Typist(store, incarnation, PATIENCE), ["40x10", "255x255", "2x2", "80x24", "120x40"]
     for screen in sizes:
-        check(fleet(machine.url, "resize", "--patience", str(PATIENCE), "sized", screen)[0] == 0, f"{screen}")
+        assert fleet(machine.url, "resize", "--patience", str(PATIENCE), "sized", screen)[0] == 0, f"{screen}"
         typist.type(b"\r")
         columns, rows = screen.split("x")
-        check(wait_for(lambda: written(store, "sized").rstrip().endswith(f"{rows} {columns}".encode())), f"{screen}: the program's: {written(store, 'sized')[-20:]}")
+        wait_for(lambda: written(store, "sized").rstrip().endswith(f"{rows} {columns}".encode()))
         now = session.as_it_is(store, incarnation)
-        check(now.language.screen == screen and now.terminal.rows() == int(rows), "a reader's")
+        assert now.language.screen == screen and now.terminal.rows() == int(rows), "a reader's"
     for wrong in ("1x24", "256x24", "80", "80x24x2"):
-        check(fleet(machine.url, "resize", "sized", wrong)[0] == 2, f"{wrong} is refused at once")
-    check(raises(Refused, Typist(store, Source(machine.url, "none", lease=3600).end().incarnation).resize, "90x30"), "one that has ended has no size")
+        assert fleet(machine.url, "resize", "sized", wrong)[0] == 2, f"{wrong} is refused at once"
+    pytest.raises(Refused, Typist(store, Source(machine.url, "none").end().incarnation).resize, "90x30")
     out = io.BytesIO()
     export.asciicast(store, incarnation, "sized", out)
     head, *events = map(json.loads, out.getvalue().splitlines())
-    check([event[2] for event in events if event[1] == "r"] == sizes and (head["width"], head["height"]) == (80, 24), f"a recording's: {head}")
+    assert [event[2] for event in events if event[1] == "r"] == sizes and (head["width"], head["height"]) == (80, 24), f"a recording's: {head}"
     text = subprocess.run([PROGRAM, "text", "--format", "asciicast"], input=out.getvalue(), capture_output=True).stdout.decode()
-    check(text == session.as_it_is(store, incarnation).terminal.text(), "and the program plays it so")
+    assert text == session.as_it_is(store, incarnation).terminal.text(), "and the program plays it so"
     host.terminate()
-    check(host.wait(PATIENCE) == 129, "SIGTERM hangs up")
+    assert host.wait(PATIENCE) == 129, "SIGTERM hangs up"
 
 
-def viewers_see_what_there_is(machine, data):
+def test_viewers_see_what_there_is(machine, data):
     """From the beginning, in the midst, through a flood and over a change of the size."""
     source = Source(machine.url, "seen").send(data[:3000])
     first = Viewer(source.store, source.incarnation)
-    check(seen(first) == vt_of(source.sent).text(), "from the beginning")
+    assert seen(first) == vt_of(source.sent).text(), "from the beginning"
     source.send(data[3000:] + b"\033[")
     late = Viewer(source.store, source.incarnation)
     for each in (first, late):
-        check(seen(each) == vt_of(source.sent + b"\030").text(), "inside a sequence")
+        assert seen(each) == vt_of(source.sent + b"\030").text(), "inside a sequence"
     source.send(b"1;1Hend")
     source.resize("90x30").send(b"\033[30;90H*")
     whole = vt_of(source.sent[:-9])
     whole.resize(rows=30, columns=90)
     whole.feed(b"\033[30;90H*")
     for each in (first, late, Viewer(source.store, source.incarnation)):
-        check(seen(each) == whole.text(), "in another size")
+        assert seen(each) == whole.text(), "in another size"
     host, store, incarnation = begun(machine, "flood", ["sh", "-c", "seq 1 400000; echo end; read x"], "--input", says=b"1")
     viewer = Viewer(store, incarnation)
-    check(wait_for(lambda: "\nend\n" in seen(viewer)), "through a flood")
+    wait_for(lambda: "\nend\n" in seen(viewer))  # through a flood
     Typist(store, incarnation).type(b"\r")
-    check(host.wait(PATIENCE) == 1 or host.returncode == 0, "which ends")
+    assert host.wait(PATIENCE) == 1 or host.returncode == 0, "which ends"
     log = fleet_bytes(machine.url, "log", "flood")[1]
-    check(log == b"".join(b"%d\r\n" % number for number in range(1, 400001)) + b"end\r\n\r\n", f"its log is whole: {len(log)}")
+    assert log == b"".join(b"%d\r\n" % number for number in range(1, 400001)) + b"end\r\n\r\n", f"its log is whole: {len(log)}"
 
 
 def vt_of(data):
@@ -180,15 +177,15 @@ def vt_of(data):
     return terminal
 
 
-def a_signal_reaches_a_program_that_reads_nothing(machine, _):
+def test_a_signal_reaches_a_program_that_reads_nothing(machine):
     host, store, incarnation = begun(machine, "deaf", ["sh", "-c", "stty raw; echo on; exec sleep infinity"], "--input")
     typist = Typist(store, incarnation, 2)
-    check(raises(Refused, typist.type, b"x" * 1_000_000), "it takes only so much")
-    check(fleet(machine.url, "kill", "--signal", "TERM", "--patience", str(PATIENCE), "deaf")[0] == 0, "a signal")
-    check(host.wait(PATIENCE) == 143, f"arrives: {host.returncode}")
+    pytest.raises(Refused, typist.type, b"x" * 1_000_000)
+    assert fleet(machine.url, "kill", "--signal", "TERM", "--patience", str(PATIENCE), "deaf")[0] == 0, "a signal"
+    assert host.wait(PATIENCE) == 143, f"arrives: {host.returncode}"
 
 
-def a_large_screen_writes_no_more_than_its_bytes(machine, _):
+def test_a_large_screen_writes_no_more_than_its_bytes(machine):
     """A checkpoint of 255x255 with attributes has a megabyte and a half. It comes after as many bytes."""
     picture = b"".join(b"\033[0;%dm%c" % ((1, 4, 5, 7)[cell % 4], 65 + cell % 26) for cell in range(65025))
     path = pathlib.Path(machine.folder, "picture")
@@ -196,14 +193,14 @@ def a_large_screen_writes_no_more_than_its_bytes(machine, _):
     store = stores.connect(machine.url)
     before = store.info("persistence")["aof_current_size"]
     host = program(machine, "cells", ["sh", "-c", f"stty -opost; cat {path}"], "--size", "255x255")
-    check(host.wait(PATIENCE) == 0, "it is written")
+    assert host.wait(PATIENCE) == 0, "it is written"
     wrote = store.info("persistence")["aof_current_size"] - before
     found = store.hgetall(key(incarnation_of(store, "cells"), "checkpoint"))
-    check(int(found[b"length"]) > 100_000, f"with a checkpoint of {found[b'length']} bytes")
-    check(wrote <= 3 * len(picture) * 6, f"bytes of the store for each of the program: {wrote / len(picture) / 6:.2f}")
+    assert int(found[b"length"]) > 100_000, f"with a checkpoint of {found[b'length']} bytes"
+    assert wrote <= 3 * len(picture) * 6, f"bytes of the store for each of the program: {wrote / len(picture) / 6:.2f}"
 
 
-def only_so_much_waits_for_the_store(machine, _):
+def test_only_so_much_waits_for_the_store(machine):
     """The program waits then, and goes on."""
     host, store, incarnation = begun(machine, "waits", ["sh", "-c", "echo on; read x; head -c 9000000 /dev/zero | tr '\\0' x; exit 3"], "--input")
     proxy_size = end_of(store, incarnation)
@@ -211,44 +208,38 @@ def only_so_much_waits_for_the_store(machine, _):
     wait_for(lambda: end_of(store, incarnation) > proxy_size)
     machine.kill()
     machine.start()
-    check(host.wait(PATIENCE) == 3, "it ends")
-    check(wait_for(lambda: written(store, "waits").count(b"x") == 9000000), "and all is there")
+    assert host.wait(PATIENCE) == 3, "it ends"
+    wait_for(lambda: written(store, "waits").count(b"x") == 9000000)  # and all is there
 
 
-def bytes_before_a_checkpoint_go(machine, _):
+def test_bytes_before_a_checkpoint_go(machine):
     with configured(machine, "[host]", "every = 500", "keep = 1000", "retain = 1h"):
         host, store, incarnation = begun(machine, "kept", ["sh", "-c", "seq 1 5000; echo on"])
-        check(host.wait(PATIENCE) == 0, "it ends")
+        assert host.wait(PATIENCE) == 0, "it ends"
     first, at = store.xrange(key(incarnation, "bytes"), count=1)[0][0], int(store.hget(key(incarnation, "checkpoint"), "at"))
-    check(at - 1000 <= int(first.split(b"-")[0]) <= at - 1000 + 16384, f"the first entry that is kept ends at {first}, and the checkpoint is at {at}")
+    assert at - 1000 <= int(first.split(b"-")[0]) <= at - 1000 + 16384, f"the first entry that is kept ends at {first}, and the checkpoint is at {at}"
     status, _, said = fleet_bytes(machine.url, "log", "kept")
-    check(status == 0 and b"no longer in the store" in said, f"the log says so: {said}")
-    check(fleet(machine.url, "text", "kept")[1].rstrip().endswith("on"), "the screen is there")
-    check(0 < store.ttl(key(incarnation, "bytes")) <= 3600, "its keys stay for an hour")
+    assert status == 0 and b"no longer in the store" in said, f"the log says so: {said}"
+    assert fleet(machine.url, "text", "kept")[1].rstrip().endswith("on"), "the screen is there"
+    assert 0 < store.ttl(key(incarnation, "bytes")) <= 3600, "its keys stay for an hour"
 
 
-def many_sessions_cost_little(machine, _):
+def test_many_sessions_cost_little(machine):
     """Their leases are renewed with one call, and each keeper is small."""
     sessions = 20
     hosts = [program(machine, f"idle-{number}", ["sleep", "infinity"]) for number in range(sessions)]
     store = stores.connect(machine.url)
-    check(wait_for(lambda: store.scard(keys.LIVE) == sessions), "all begin")
+    wait_for(lambda: store.scard(keys.LIVE) == sessions)  # all begin
     store.config_resetstat()
-    check(wait_for(lambda: commands(store).get("cmdstat_set", 0) >= 2 * sessions), "leases are renewed")
+    wait_for(lambda: commands(store).get("cmdstat_set", 0) >= 2 * sessions)  # leases are renewed
     calls = commands(store)
-    check(calls["cmdstat_fcall"] <= 2 * (calls["cmdstat_set"] // sessions + 1), f"with one call for {sessions} sessions, and one that looks after some: {calls}")
+    assert calls["cmdstat_fcall"] <= 2 * (calls["cmdstat_set"] // sessions + 1), f"with one call for {sessions} sessions, and one that looks after some: {calls}"
     most = max(proportional(each.pid) for each in hosts)
-    check(most < 1_000_000, f"a keeper takes less than a megabyte: {most}")
-    check(store.memory_usage(key(incarnation_of(store, "idle-0"), "about")) < 4000, "and little in the store")
+    assert most < 1_000_000, f"a keeper takes less than a megabyte: {most}"
+    assert store.memory_usage(key(incarnation_of(store, "idle-0"), "about")) < 4000, "and little in the store"
 
 
-def proportional(pid):
-    """Returns the memory of a process in bytes: of what it shares its part."""
-    with open(f"/proc/{pid}/smaps_rollup") as said:
-        return next(int(line.split()[1]) * 1024 for line in said if line.startswith("Pss:"))
-
-
-def an_old_host_writes_nothing_once_there_is_a_new_one(machine, _):
+def test_an_old_host_writes_nothing_once_there_is_a_new_one(machine):
     """A daemon that was stopped comes to itself when another one has its sessions."""
     host, store, incarnation = begun(machine, "two", ["sh", "-c", ANSWERS], "--input")
     old = machine.daemon
@@ -260,6 +251,6 @@ def an_old_host_writes_nothing_once_there_is_a_new_one(machine, _):
     with open(f"/proc/{old.pid}/stat"):
         old.kill()
         old.wait()
-    check(wait_for(lambda: store.hget(key(incarnation, "about"), "host") != before), "the new one has it")
+    wait_for(lambda: store.hget(key(incarnation, "about"), "host") != before)  # the new one has it
     Typist(store, incarnation).type(b"x\r")
-    check(wait_for(lambda: b"got x" in written(store, "two")), "and goes on")
+    wait_for(lambda: b"got x" in written(store, "two"))  # and goes on

@@ -11,14 +11,9 @@ import sys
 import aiohttp
 from yarl import URL
 
-from harness import (
-    PATIENCE, PATIENT, ROOT, Source, check, conf, ending, free_port, keys, launched, program, session, started,
-    stores, wait_for, wanted,
-)
-from operators import asked, metrics_at
+from harness import PATIENCE, PATIENT, ROOT, Source, asked, conf, ending, free_port, keys, launched, program, session, started, stores, vt220, wait_for, wanted
 from fleet.gallery import Picture
 from fleet.web import UNKNOWN
-import vt220
 
 sys.path.append(os.path.join(ROOT, "lib/js/tests"))
 
@@ -81,14 +76,18 @@ def count(browser, selector):
     return browser.evaluate(f"document.querySelectorAll('{selector}').length")
 
 
-def said(browser, name):
+def said(browser, name, what="textContent"):
     """Returns the text of an element of the page."""
-    return browser.evaluate(f"document.getElementById('{name}').textContent")
+    return browser.evaluate(f"document.getElementById('{name}').{what}")
 
 
 def is_hidden(browser, name):
-    """Returns whether an element of the page is hidden."""
-    return browser.evaluate(f"document.getElementById('{name}').hidden")
+    return said(browser, name, "hidden")
+
+
+def shows(browser, *wanted):
+    """Waits until the screen has these lines."""
+    wait_for(lambda: [line.rstrip() for line in lines(browser)] == [*wanted])
 
 
 def choose(browser, name):
@@ -105,7 +104,7 @@ def cursor_of(store, name):
     return place.row, place.col
 
 
-def real_sessions_in_the_browser(machine, _):
+def test_real_sessions_in_the_browser(machine):
     store = stores.connect(machine.url)
     served = Served(machine, "--typing")
     program(machine, "editor", ["vim", "-u", "NONE", "-i", "NONE", "-n"], "--input")
@@ -113,62 +112,56 @@ def real_sessions_in_the_browser(machine, _):
     program(machine, "flood", ["sh", "-c", "while :; do seq 1 100000; done"])
     program(machine, HOSTILE, ["sh", "-c", f"printf '{MARKUP}'; sleep infinity"])
     browser = Browser(served.url)
-    check(wait_for(lambda: count(browser, "li") == 4), "all sessions are there")
-    check(browser.evaluate("location.href") == f"http://127.0.0.1:{served.port}/", "the token is no longer in the address")
+    wait_for(lambda: count(browser, "li") == 4)  # all sessions are there
+    assert browser.evaluate("location.href") == f"http://127.0.0.1:{served.port}/", "the token is no longer in the address"
     names = browser.evaluate("[...document.querySelectorAll('.name')].map(e => e.textContent)")
-    check(names == sorted(["editor", "top", "flood", HOSTILE]), f"by name: {names}")
+    assert names == sorted(["editor", "top", "flood", HOSTILE]), f"by name: {names}"
     markup_is_text(browser)
     the_editor_is_typed_into(browser, store)
     by_keyboard_alone(browser)
     it_fits(browser)
     changes_arrive(browser, store)
-    check(browser.said == [], f"the browser complains of nothing: {browser.said[:2]}")
+    assert browser.said == [], f"the browser complains of nothing: {browser.said[:2]}"
 
 
-def sessions_of_several_sizes_in_the_browser(machine, _):
-    """Each has the size of its session: a large one, and then a VT220 in its place, and back."""
-    served = Served(machine)
-    large = Source(machine.url, "large", lease=600, screen="120x40").send(b"first\r\n\033[40;100Hlast")
-    Source(machine.url, "usual", lease=600).send(b"a VT220\033[24;80H*")
+def looking_at(served, name, count_of=1):
+    """Returns a browser that shows a session."""
     browser = Browser(served.url)
-    check(wait_for(lambda: count(browser, "li") == 2), "both sessions are there")
-    for number in range(2):
-        choose(browser, "large")
-        check(wait_for(lambda: [row.rstrip() for row in lines(browser)] == ["first", *[""] * 38, " " * 99 + "last"]), f"40 rows: {lines(browser)[:2]}")
-        choose(browser, "usual")
-        check(wait_for(lambda: [row.rstrip() for row in lines(browser)] == ["a VT220", *[""] * 22, " " * 79 + "*"]), f"24 rows: {lines(browser)[:2]}")
-    choose(browser, "large")
-    large.send(b"\033[39;120H+")
-    check(wait_for(lambda: len(lines(browser)) == 40 and lines(browser)[38].endswith("+")), "an update of the large one")
-    check(browser.said == [], f"the browser complains of nothing: {browser.said[:2]}")
-
-
-def looking_at(served, name):
-    """Returns a browser that shows the only session."""
-    browser = Browser(served.url)
-    check(wait_for(lambda: count(browser, "li") == 1), "the session is there")
+    wait_for(lambda: count(browser, "li") == count_of)
     choose(browser, name)
     return browser
 
 
-def a_session_that_is_resized_in_the_browser(machine, _):
+def test_sessions_of_several_sizes_in_the_browser(machine):
+    """Each has the size of its session: a large one, and then a VT220 in its place, and back."""
+    served = Served(machine)
+    large = Source(machine.url, "large", screen="120x40").send(b"first\r\n\033[40;100Hlast")
+    Source(machine.url, "usual").send(b"a VT220\033[24;80H*")
+    browser = looking_at(served, "large", 2)
+    for _ in range(2):
+        shows(browser, "first", *[""] * 38, " " * 99 + "last")
+        choose(browser, "usual")
+        shows(browser, "a VT220", *[""] * 22, " " * 79 + "*")
+        choose(browser, "large")
+    large.send(b"\033[39;120H+")
+    shows(browser, "first", *[""] * 37, " " * 119 + "+", " " * 99 + "last")
+    assert browser.said == [], "the browser complains of nothing"
+
+
+def test_a_session_that_is_resized_in_the_browser(machine):
     """To a larger size, and then to that of a VT220. Another page that comes later shows the same."""
     served = Served(machine)
-    source = Source(machine.url, "resized", lease=600).send(b"first")
+    source = Source(machine.url, "resized").send(b"first")
     browser = looking_at(served, "resized")
-    check(wait_for(lambda: [row.rstrip() for row in lines(browser)] == ["first", *[""] * 23]), f"24 rows: {lines(browser)[:2]}")
-    source.resize("120x40")
-    source.send(b"\033[40;117Hlast")
-    large = ["first", *[""] * 38, " " * 116 + "last"]
-    check(wait_for(lambda: [row.rstrip() for row in lines(browser)] == large), f"40 rows: {lines(browser)[:2]}")
+    shows(browser, "first", *[""] * 23)
+    source.resize("120x40").send(b"\033[40;117Hlast")
     later = looking_at(served, "resized")
-    check(wait_for(lambda: [row.rstrip() for row in lines(later)] == large), f"on another page: {lines(later)[:2]}")
-    source.resize("80x24")
-    source.send(b"\033[24;79Hup")
-    small = [*[""] * 23, " " * 78 + "up"]
     for each in (browser, later):
-        check(wait_for(lambda: [row.rstrip() for row in lines(each)] == small), f"24 rows again: {lines(each)[:2]}")
-        check(each.said == [], f"the browser complains of nothing: {each.said[:2]}")
+        shows(each, "first", *[""] * 38, " " * 116 + "last")
+    source.resize("80x24").send(b"\033[24;79Hup")
+    for each in (browser, later):
+        shows(each, *[""] * 23, " " * 78 + "up")
+        assert each.said == [], "the browser complains of nothing"
 
 
 # What is copied if the first row of the screen is selected.
@@ -183,52 +176,52 @@ COPIED = """((root, row) => {
 def markup_is_text(browser):
     choose(browser, HOSTILE)
     wanted = "<img src=x onerror=alert(1)>Bold reverse &lt; under"
-    check(wait_for(lambda: lines(browser)[0].rstrip() == wanted), f"markup in a screen is text: {lines(browser)[0]}")
-    check(count(browser, "img, li b, main script, iframe") == 0, "and never markup, in a name, a title or a screen")
-    check(said(browser, "title") == HOSTILE, "the title")
+    wait_for(lambda: lines(browser)[0].rstrip() == wanted)
+    assert count(browser, "img, li b, main script, iframe") == 0, "and never markup, in a name, a title or a screen"
+    assert said(browser, "title") == HOSTILE, "the title"
     looks = browser.evaluate(f"[...{INSIDE}.querySelectorAll('#screen span')].map(e => [e.textContent, e.className])")
     marked = [look for look in looks if "c" not in look[1].split()]
-    check(marked == [["Bold ", "b"], ["reverse", "b r"], ["under", "u"]], f"attributes: {looks}")
+    assert marked == [["Bold ", "b"], ["reverse", "b r"], ["under", "u"]], f"attributes: {looks}"
     # In one script: between two the page may draw the row anew.
     copied = browser.evaluate(COPIED)
-    check(copied == wanted, f"its text can be selected and copied: {copied!r}")
+    assert copied == wanted, f"its text can be selected and copied: {copied!r}"
 
 
 def the_editor_is_typed_into(browser, store):
     choose(browser, "top")
-    check(is_hidden(browser, "type"), "no typing at a host that takes no input")
+    assert is_hidden(browser, "type"), "no typing at a host that takes no input"
     choose(browser, "editor")
-    check(wait_for(lambda: not is_hidden(browser, "type")), "typing at one that does")
+    wait_for(lambda: not is_hidden(browser, "type"))  # typing at one that does
     browser.type("x")
     browser.evaluate("document.getElementById('type').click()")
     browser.type("iHello <b>page</b>")
     browser.press("Enter", text="\r")
     browser.type("two")
     browser.press("Escape")
-    check(wait_for(lambda: cursor_of(store, "editor") == (2, 3)), "ESC ends the insertion, and the cursor goes back")
+    wait_for(lambda: cursor_of(store, "editor") == (2, 3))  # ESC ends the insertion, and the cursor goes back
     for name in ("ArrowLeft", "ArrowUp"):
         browser.press(name)
     browser.type("i!")
     browser.press("Escape")
     wanted_lines = ["H!ello <b>page</b>", "two"]
     are_shown = wait_for(lambda: [line.rstrip() for line in lines(browser)[:2]] == wanted_lines)
-    check(are_shown, f"keys arrive in order, once: {lines(browser)[:3]}")
-    check(terminal_of(store, "editor").text().splitlines()[:2] == wanted_lines, "at the program")
+    assert are_shown, f"keys arrive in order, once: {lines(browser)[:3]}"
+    assert terminal_of(store, "editor").text().splitlines()[:2] == wanted_lines, "at the program"
     browser.press("]", control=True)
-    check(browser.evaluate("document.activeElement.id") == "type", "Ctrl+] leaves the screen")
+    assert browser.evaluate("document.activeElement.id") == "type", "Ctrl+] leaves the screen"
 
 
 def it_fits(browser):
     """The page fits a phone, where a screen scrolls to the side, and is light or dark as the reader wants."""
     browser.size(375, 700)
     sizes = browser.evaluate("[document.documentElement.scrollWidth, innerWidth]")
-    check(sizes[0] <= sizes[1], f"the page fits a phone: {sizes}")
+    assert sizes[0] <= sizes[1], f"the page fits a phone: {sizes}"
     browser.call("Emulation.clearDeviceMetricsOverride")
     grounds = []
     for scheme in ("light", "dark"):
         browser.media(prefers_color_scheme=scheme)
         grounds.append(browser.evaluate("getComputedStyle(document.body).backgroundColor"))
-    check(grounds[0] == "rgb(255, 255, 255)" != grounds[1], f"light and dark: {grounds}")
+    assert grounds[0] == "rgb(255, 255, 255)" != grounds[1], f"light and dark: {grounds}"
     browser.media()
 
 
@@ -240,17 +233,17 @@ def by_keyboard_alone(browser):
         browser.press("Tab")
         seen.append(browser.evaluate(focused))
     for each in ("skip", "filter", "editor", "top", "flood", HOSTILE, "type", "announce", "screen"):
-        check(each in seen, f"Tab reaches {each}: {seen}")
+        assert each in seen, f"Tab reaches {each}: {seen}"
     browser.evaluate("[...document.querySelectorAll('li button')].find(e => e.textContent.startsWith('top')).focus()")
     browser.press("Enter", text="\r")
-    check(said(browser, "title") == "top", "Enter chooses a session")
+    assert said(browser, "title") == "top", "Enter chooses a session"
     parts = {"button": "editor, running", "searchbox": "Filter", "heading": "top", "navigation": "Sessions", "checkbox": "Announce changes"}
     for each in parts.items():
-        check(wait_for(lambda: each in browser.names()), f"a screen reader finds {each}")
+        wait_for(lambda: each in browser.names())
     names = [said for role, said in browser.names() if role in ("group", "region")]
-    check("Screen of top" in names, f"and the screen by its name: {names}")
+    assert "Screen of top" in names, f"and the screen by its name: {names}"
     browser.evaluate("document.getElementById('announce').click()")
-    check(wait_for(lambda: len(said(browser, "said")) > 20), "changes are announced")
+    wait_for(lambda: len(said(browser, "said")) > 20)  # changes are announced
     browser.evaluate("document.getElementById('announce').click()")
 
 
@@ -273,23 +266,23 @@ def changes_arrive(browser, store):
     """Only what changed is sent; the flood doesn't hold up the rest. However slow the machine is, messages don't come sooner."""
     top, still = (store.hget(keys.NAMES, each).decode() for each in ("top", HOSTILE))
     seconds, got = browser.evaluate(MESSAGES.replace("COUNT", "100").replace("MOVING", json.dumps(top)))
-    check(seconds > len(got) / 40, f"at most some messages a second: {len(got)} in {seconds:.2f} s")
+    assert seconds > len(got) / 40, f"at most some messages a second: {len(got)} in {seconds:.2f} s"
     news = [each for message in got for each in json.loads(message).get("news", []) if each["session"] == still]
-    check(sum("bytes" in each for each in news) == 1, f"a session that stands still is sent once: {news}")
+    assert sum("bytes" in each for each in news) == 1, f"a session that stands still is sent once: {news}"
     choose(browser, "flood")
     before = lines(browser)
-    check(wait_for(lambda: lines(browser) != before), "the flood moves")
+    wait_for(lambda: lines(browser) != before)  # the flood moves
 
 
 def its_terminal_is_the_session_s(browser, source):
     """The page has played bytes: its terminal has also what no screen shows."""
     repaint = f"btoa(String.fromCharCode(...sessions.get({json.dumps(source.incarnation)}).terminal.repaint()))"
     state = base64.b64encode(terminal_of(source.store, source.name).repaint()).decode()
-    check(wait_for(lambda: browser.evaluate(repaint) == state), "the page's terminal has the state of the session")
-    check(browser.evaluate("performance.getEntriesByType('resource').length") == 0, "and the page loads nothing")
+    wait_for(lambda: browser.evaluate(repaint) == state)  # the page's terminal has the state of the session
+    assert browser.evaluate("performance.getEntriesByType('resource').length") == 0, "and the page loads nothing"
 
 
-def ended_and_faulty_sessions_are_shown(machine, data):
+def test_ended_and_faulty_sessions_are_shown(machine, data):
     served = Served(machine)
     done, bad = Source(machine.url, "done").send(data).end(7), Source(machine.url, "bad").send(b"ab")
     bad.store.xadd(bad.part("bytes"), {"v": "9", "bytes": "c"}, id="3-0")
@@ -297,20 +290,20 @@ def ended_and_faulty_sessions_are_shown(machine, data):
     for number in range(60):
         Source(machine.url, f"many-{number:03}").send(b"Session %d" % number)
     browser = Browser(served.url, 900, 1000)
-    check(wait_for(lambda: count(browser, "li") == 63), "all are there")
+    wait_for(lambda: count(browser, "li") == 63)  # all are there
     facts = "[...document.querySelectorAll('li')].map(e => [e.querySelector('.name').textContent, e.querySelector('.how').textContent])"
     said = lambda: dict(browser.evaluate(facts))
-    check(wait_for(lambda: said()["bad"].startswith("fault: Version")), f"a fault is named: {said()['bad']}")
-    check(wait_for(lambda: said()["done"] == "ended 7" and said()["gone"] == "no host"), f"{said()['done']}, {said()['gone']}")
+    wait_for(lambda: said()["bad"].startswith("fault: Version"))
+    wait_for(lambda: said()["done"] == "ended 7" and said()["gone"] == "no host")
     choose(browser, "done")
     text = wanted("text", data)[1].decode().splitlines()
-    check(wait_for(lambda: [line.rstrip() for line in lines(browser)] == text), "the screen of one that ended")
+    wait_for(lambda: [line.rstrip() for line in lines(browser)] == text)  # the screen of one that ended
     its_terminal_is_the_session_s(browser, done)
     choose(browser, "many-042")
-    check(wait_for(lambda: lines(browser)[0].rstrip() == "Session 42"), "and of one of many")
-    check(browser.evaluate("document.documentElement.scrollWidth <= innerWidth"), "nothing is wider than the window")
+    wait_for(lambda: lines(browser)[0].rstrip() == "Session 42")  # and of one of many
+    assert browser.evaluate("document.documentElement.scrollWidth <= innerWidth"), "nothing is wider than the window"
     browser.evaluate("const f = document.getElementById('filter'); f.value = '-04'; f.dispatchEvent(new Event('input'))")
-    check(count(browser, "li") == 10, "a filter")
+    assert count(browser, "li") == 10, "a filter"
 
 
 def tell(client, picture):
@@ -323,7 +316,7 @@ def tell(client, picture):
 USUAL = "80x24", ""  # the size of a session that wasn't resized
 
 
-def clients_are_led_where_a_session_is(_, data):
+def test_clients_are_led_where_a_session_is(data):
     """One is told each change, others some of them; one knew another picture, and one comes at the end."""
     picture, session, shown = Picture("x"), vt220.Terminal(), vt220.Terminal()
     clients = {every: [vt220.Terminal(), -1] for every in (1, 7, len(data))}
@@ -340,61 +333,21 @@ def clients_are_led_where_a_session_is(_, data):
                 tell(client, picture)
     for every, client in clients.items():
         tell(client, picture)
-        check(client[0].same_state(shown), f"one that is told after {every} changes")
-    check(picture.since(picture.number) is None, "nothing is left to be told")
+        assert client[0].same_state(shown), f"one that is told after {every} changes"
+    assert picture.since(picture.number) is None, "nothing is left to be told"
 
 
-def the_page_has_metrics(machine, _):
-    port = free_port()
-    served = Served(machine, "--typing", "--metrics", f"127.0.0.1:{port}")
-    source, now = Source(machine.url, "one", takes_input=True), lambda: metrics_at(port)
-    live, keys_sent = f"http://127.0.0.1:{served.port}/live", json.dumps({"session": source.incarnation, "text": "typed"})
-
-    async def ask():
-        async with aiohttp.ClientSession() as client:
-            codes = [await refusal(client, live, first) for first in FIRST]
-            check(codes == [UNKNOWN] * len(FIRST), f"connections are refused: {codes}")
-            check((await client.get(live, headers={"Origin": "http://evil.example"})).status == 403, "and so is another page's")
-            check(now()['fleet_page_refused_total{why="token"}'] == len(FIRST) and now()['fleet_page_refused_total{why="origin"}'] == 1, f"and counted: {now()}")
-            check((now()["fleet_page_clients"], now()["fleet_page_connections_total"], now()["fleet_page_sent_bytes_total"]) == (0, 0, 0), "nobody is let in")
-            page = await (await client.get(served.url)).read()
-            check(now()["fleet_page_sent_bytes_total"] == len(page), "the page's bytes")
-            async with client.ws_connect(live) as socket:
-                await socket.send_str(json.dumps({"token": served.token()}))
-                known, got = set(), 0
-                while source.incarnation not in known:
-                    message = (await socket.receive(PATIENCE)).data
-                    known, got = known | {each["session"] for each in json.loads(message).get("news", [])}, got + len(message)
-                await socket.send_str(keys_sent)
-                check(wait_for(lambda: source.keys() == b"typed"), "keys arrive")
-                found = now()
-                wanted = {"fleet_page_clients": 1, "fleet_page_connections_total": 1, "fleet_page_sessions": 1, "fleet_page_received_bytes_total": len(keys_sent)}
-                check(wanted.items() <= found.items() and found["fleet_page_sent_bytes_total"] >= len(page) + got, str(found))
-            check(wait_for(lambda: now()["fleet_page_clients"] == 0), "it has left")
-
-    asyncio.run(ask())
-    check(asked(port, "healthz") == (200, "ok\n"), "its health is served there, too")
-
-
-def the_page_sends_the_keys_of_a_vt220(machine, _):
+def test_the_page_sends_the_keys_of_a_vt220(machine):
     """Under LNM, DECCKM and S8C1T. The bytes are those of the VT220's manual, chapter 3."""
-    served = Served(machine, "--typing")
+    served, wanted = Served(machine, "--typing"), b""
     source = Source(machine.url, "keys", takes_input=True).send(b"\033[20h\033[?1h\033 Gready")
-    wanted = b""
-    browser = Browser(served.url)
-    check(wait_for(lambda: count(browser, "li") == 1), "the session is there")
-    choose(browser, "keys")
-    check(wait_for(lambda: lines(browser)[0].rstrip() == "ready"), "and its screen")
-    check(wait_for(lambda: not is_hidden(browser, "type")), "and typing")
+    browser = looking_at(served, "keys")
+    shows(browser, "ready", *[""] * 23)
+    wait_for(lambda: not is_hidden(browser, "type"))
     browser.evaluate("document.getElementById('type').click()")
     for pressed, sent in (
         (lambda: browser.press("Enter", text="\r"), b"\r\n"),
-        (lambda: browser.press("Delete"), b"\x9b3~"),
-        (lambda: browser.press("Backspace"), b"\x7f"),
-        (lambda: browser.press("ArrowUp"), b"\x8fA"),
-        (lambda: browser.press("Home"), b"\x9b1~"),
-        (lambda: browser.press("F1"), b"\x8fP"),
-        (lambda: browser.press("F10"), b"\x9b21~"),
+        (lambda: [browser.press(each) for each in ("Delete", "Backspace", "ArrowUp", "Home", "F1", "F10")], b"\x9b3~\x7f\x8fA\x9b1~\x8fP\x9b21~"),
         (lambda: browser.press("c", control=True), b"\x03"),
         (lambda: browser.type("éœÿ"), b"\xe9\xf7\xfd"),
         # A German keyboard of a Mac has these by Option and L, 5, 7. Alt and a letter is for the browser.
@@ -403,9 +356,9 @@ def the_page_sends_the_keys_of_a_vt220(machine, _):
     ):
         pressed()
         wanted += sent
-        check(wait_for(lambda: source.keys() == wanted), f"{sent} arrives: {source.keys()}")
+        wait_for(lambda: source.keys() == wanted)
     browser.type("÷")
-    check(wait_for(lambda: "no key of a VT220 sends '÷'" in said(browser, "problem")), "a character without a key is refused")
+    wait_for(lambda: "no key of a VT220 sends '÷'" in said(browser, "problem"))
 
 
 FIRST = ("", "x", "[]", "{}", '{"token": 1}', '{"token": ""}', '{"token": "a guess"}', '{"token": "\\ud800"}')
@@ -429,39 +382,39 @@ async def type_without_right(served, session):
         errors = 0
         while errors < 7:
             errors += "error" in json.loads((await socket.receive(PATIENCE)).data)
-        check(errors == 7, "what may not be typed is refused, and the connection lives")
+        assert errors == 7, "what may not be typed is refused, and the connection lives"
 
 
-def only_the_token_opens_the_page(machine, _):
+def test_only_the_token_opens_the_page(machine):
     served = Served(machine)
     source = Source(machine.url, "session", takes_input=True).send(b"x")
     base, token = f"http://127.0.0.1:{served.port}", served.token()
-    check(served.url.startswith("http://127.0.0.1:") and len(token) >= 32, "on 127.0.0.1 alone, with a long token")
+    assert served.url.startswith("http://127.0.0.1:") and len(token) >= 32, "on 127.0.0.1 alone, with a long token"
 
     async def ask():
         async with aiohttp.ClientSession() as client:
             for first in FIRST + (json.dumps({"token": token + "x"}), json.dumps({"token": token[:-1]})):
                 code = await refusal(client, base + f"/live?token={token}", first)
-                check(code == UNKNOWN, f"{first}: {code}")
+                assert code == UNKNOWN, f"{first}: {code}"
             for path in ("/page.js", "/../cli.py", "/%2e%2e/cli.py", "//etc/passwd"):
                 status = (await client.get(URL(f"{base}{path}?token={token}", encoded=True))).status  # as it is written
-                check(status in (403, 404), f"{path}: {status}")
+                assert status in (403, 404), f"{path}: {status}"
             async with client.get(base + "/") as answer:
-                check(token not in await answer.text(), "the page has no token")
+                assert token not in await answer.text(), "the page has no token"
                 policy = answer.headers["Content-Security-Policy"]
                 loose = policy.replace("'wasm-unsafe-eval'", "")
-                check(answer.status == 200 and "default-src 'none'" in policy and "unsafe" not in loose, "a strict policy")
-                check(answer.headers["Referrer-Policy"] == "no-referrer", "the token leaks to no other page")
+                assert answer.status == 200 and "default-src 'none'" in policy and "unsafe" not in loose, "a strict policy"
+                assert answer.headers["Referrer-Policy"] == "no-referrer", "the token leaks to no other page"
             status = 101
             try:
                 await client.ws_connect(f"{base}/live", origin="http://evil.example")
             except aiohttp.WSServerHandshakeError as refused:
                 status = refused.status
-            check(status == 403, "another page's script is refused")
+            assert status == 403, "another page's script is refused"
             await type_without_right(served, source.incarnation)
 
     asyncio.run(ask())
-    check(not source.store.exists(source.part("keys")), "nothing was typed")
+    assert not source.store.exists(source.part("keys")), "nothing was typed"
 
 
 def the_page_asks_for_the_token(address, token):
@@ -471,29 +424,29 @@ def the_page_asks_for_the_token(address, token):
     def typed(what):
         browser.evaluate(f"document.getElementById('token').value = {json.dumps(what)}; document.getElementById('enter').requestSubmit()")
 
-    check(wait_for(lambda: browser.evaluate("document.getElementById('enter')?.hidden === false")), "the page asks for the token")
+    wait_for(lambda: browser.evaluate("document.getElementById('enter')?.hidden === false"))  # the page asks for the token
     typed("a guess")
-    check(wait_for(lambda: "not the token" in said(browser, "problem")), "a wrong one is refused")
-    check(not is_hidden(browser, "enter"), "and asked for again")
+    wait_for(lambda: "not the token" in said(browser, "problem"))  # a wrong one is refused
+    assert not is_hidden(browser, "enter"), "and asked for again"
     typed(token)
-    check(wait_for(lambda: "session" in said(browser, "summary")), "the right one opens the page")
-    check(browser.evaluate("location.href") == address and is_hidden(browser, "enter"), "and isn't in its address")
+    wait_for(lambda: "session" in said(browser, "summary"))  # the right one opens the page
+    assert browser.evaluate("location.href") == address and is_hidden(browser, "enter"), "and isn't in its address"
 
 
-def a_token_of_a_file_is_not_printed(machine, _):
+def test_a_token_of_a_file_is_not_printed(machine):
     """What a service prints is in the journal."""
     token = "0123456789abcdef-of-a-file"
     file = conf(machine, "token", token)
     served = Served(machine, config=conf(machine, "web.conf", *PATIENT, "[web]", f"token-file = {file}"))
-    check(token not in served.url and file in served.url, f"the file is named: {served.url}")
+    assert token not in served.url and file in served.url, f"the file is named: {served.url}"
     the_page_asks_for_the_token(f"http://127.0.0.1:{served.port}/", token)
 
     async def ask():
         async with served.live(token=token) as connection:
             return json.loads((await connection.receive(PATIENCE)).data)
 
-    check("typing" in asyncio.run(ask()), "its token opens the page")
-    check(asked(served.port, "healthz")[0] == 200, "it is well, and tells that without the token")
+    assert "typing" in asyncio.run(ask()), "its token opens the page"
+    assert asked(served.port, "healthz")[0] == 200, "it is well, and tells that without the token"
     machine.kill()
-    check(asked(served.port, "healthz")[0] == 503, "without a store it isn't")
+    assert asked(served.port, "healthz")[0] == 503, "without a store it isn't"
     machine.start()

@@ -1,47 +1,25 @@
 """Faults of the store: away, silent, gone back, full, with another clock, failed over. Programs go on, and what the store lacks is sent again."""
 import os
-import re
+import pathlib
 import signal
 import subprocess
 import time
 
+import pytest
+
 from harness import (
-    HERE, PATIENCE, Proxy, Source, Told, begun, check, conf, configured, end_of, ending, fleet, free_port, incarnation_of, key, keys, program, raises, session,
-    stores, wait_for, written,
+    ANSWERS, PATIENCE, Proxy, Source, Told, another_daemon, begun, conf, configured, cut_back, end_all, end_of, ending, file_of,
+    fill_disk, fleet, free_port, incarnation_of, key, keys, program, session, shimmed, stores, vt220, wait_for, written,
 )
+from fleet.operate import Refused, Typist
 from fleet.view import Viewer
-from sessions import ANSWERS
-import vt220
-
-
-def cut_back(machine, is_enough):
-    """Kills the store, drops changes at the end of its file until something is no longer there, and starts it again."""
-    machine.kill()
-    [path] = [os.path.join(f, n) for f, _, names in os.walk(machine.folder) for n in names if n.endswith(".incr.aof")]
-    whole = open(path, "rb").read()
-    commands = [m.start() for m in re.finditer(rb"\*1\r\n\$5\r\nMULTI\r\n", whole)]
-    for at in reversed(commands):
-        if is_enough(whole[at:]):
-            break
-    with open(path, "wb") as file:
-        file.write(whole[:at])
-    machine.start()
 
 
 def told(machine, data, count=3, **options):
     return [Told(machine, f"told-{number}", data[number * 300 :], **options) for number in range(count)]
 
 
-def end_all(sessions, is_whole=True):
-    """Has sessions go on to their ends, and holds them against what they noted."""
-    for each in sessions:
-        each.go_on(each.steps)
-        each.type(b"q")
-    for each in sessions:
-        check(each.hold() or not is_whole, f"{each.name}: its log is whole")
-
-
-def half_open_connections_are_left(machine, data):
+def test_half_open_connections_are_left(machine, data):
     """All connections say nothing any more, in either direction, and stay open. New ones work."""
     proxy = Proxy(machine)
     with configured(machine, "[store]", "timeout = 2", "[host]", "lease = 3600"):
@@ -52,11 +30,11 @@ def half_open_connections_are_left(machine, data):
         for each in sessions:
             each.type(b"%d;" % number)
             each.go_on(2)
-            check(wait_for(lambda: each.read("keys") == each.typed), "keys arrive")
+            wait_for(lambda: each.read("keys") == each.typed)  # keys arrive
     end_all(sessions)
 
 
-def a_store_that_went_back_gets_what_it_lacks(machine, data):
+def test_a_store_that_went_back_gets_what_it_lacks(machine, data):
     """The end of its file is gone: bytes and checkpoints that it had acknowledged."""
     with configured(machine, "[host]", "every = 300", "keep = 600", "lease = 3600"):
         sessions = told(machine, data)
@@ -66,11 +44,11 @@ def a_store_that_went_back_gets_what_it_lacks(machine, data):
         wait_for(lambda: all(end_of(each.store, each.incarnation) == len(each.read("sent")) for each in sessions))
         before = sum(end_of(each.store, each.incarnation) for each in sessions)
         cut_back(machine, lambda gone: gone.count(b"bytes\r\n") > 10)
-        check(wait_for(lambda: sum(end_of(each.store, each.incarnation) for each in sessions) >= before), "what is gone is sent again")
+        wait_for(lambda: sum(end_of(each.store, each.incarnation) for each in sessions) >= before)  # what is gone is sent again
     end_all(sessions, False)  # the bytes before a checkpoint are trimmed
 
 
-def an_empty_store_gets_all_that_is_held(machine, data):
+def test_an_empty_store_gets_all_that_is_held(machine, data):
     """A FLUSHALL, and a store that was started on another directory. If more is gone than is held, a checkpoint takes its place."""
     sessions = told(machine, data)
     host, store, incarnation = begun(machine, "long", ["sh", "-c", "head -c 5000000 /dev/zero | tr '\\0' x; echo; echo end; " + ANSWERS], "--input", says=b"end")
@@ -79,35 +57,34 @@ def an_empty_store_gets_all_that_is_held(machine, data):
         each.go_on(3)
         wait_for(lambda: each.store.hget(keys.NAMES, each.name))
     store.flushall()
-    check(wait_for(lambda: store.hget(keys.NAMES, "long") and session.as_it_is(store, incarnation_of(store, "long")).terminal.text().rstrip().endswith("end\non")), "its screen is there")
+    wait_for(lambda: store.hget(keys.NAMES, "long") and session.as_it_is(store, incarnation_of(store, "long")).terminal.text().rstrip().endswith("end\non"))
     status, log, said = fleet(machine.url, "log", "long")
-    check(status == 0 and "no longer in the store" in said, f"and what its log lacks is said: {said}")
-    check(fleet(machine.url, "type", "--enter", "long", "more")[0] == 0, "it is typed into")
-    check(wait_for(lambda: b"got more" in written(store, "long")), "and goes on")
-    check(host.poll() is None, "no program was ended")
+    assert status == 0 and "no longer in the store" in said, f"and what its log lacks is said: {said}"
+    assert fleet(machine.url, "type", "--enter", "long", "more")[0] == 0, "it is typed into"
+    wait_for(lambda: b"got more" in written(store, "long"))  # and goes on
+    assert host.poll() is None, "no program was ended"
     wait_for(lambda: all(each.store.hget(keys.NAMES, each.name) for each in sessions))
     end_all(sessions)
 
 
-def a_store_without_persistence_is_refused(machine, _):
+def test_a_store_without_persistence_is_refused(machine):
     """One that comes back without its file counts as away."""
     host, store, _ = begun(machine, "file", ["sh", "-c", ANSWERS], "--input")
     machine.kill()
     machine.start("--appendonly", "no")
     other = stores.connect(machine.url)
-    check(raises(stores.Unfit, other.examine), "it is refused")
-    other.examine(True)
+    pytest.raises(stores.Unfit, other.examine)
     machine.kill()
     machine.start()
-    check(fleet(machine.url, "type", "--enter", "file", "x")[0] == 0, "it is back with its file")
-    check(wait_for(lambda: b"got x" in written(store, "file")), "and the session goes on")
+    assert fleet(machine.url, "type", "--enter", "file", "x")[0] == 0, "it is back with its file"
+    wait_for(lambda: b"got x" in written(store, "file"))  # and the session goes on
 
 
-def keys_that_are_gone_are_made_again(machine, data):
+def test_keys_that_are_gone_are_made_again(machine, data):
     """Each of them alone, by whatever. A daemon that renews its leases finds it."""
     store = stores.connect(machine.url)
     store.config_set("maxmemory-policy", "allkeys-lru")
-    check(raises(stores.Unfit, store.examine), "a store that evicts is refused")
+    pytest.raises(stores.Unfit, store.examine)
     store.config_set("maxmemory-policy", "noeviction")
     with configured(machine, "[host]", "lease = 1", "every = 300"):
         [one] = told(machine, data, 1)
@@ -115,69 +92,77 @@ def keys_that_are_gone_are_made_again(machine, data):
         for number, each in enumerate(gone):
             one.go_on(2)
             store.delete(each)
-            check(wait_for(lambda: store.exists(each) or each.endswith("checkpoint")), f"{each} is there again")
+            wait_for(lambda: store.exists(each) or each.endswith("checkpoint"))
         for part in ("bytes", "about", "keys", "signals"):
             store.delete(key(one.incarnation, part))
             store.set(key(one.incarnation, part), "x")
             one.go_on(1)
-            check(wait_for(lambda: store.type(key(one.incarnation, part)) != b"string"), f"what stands in place of {part} goes")
+            wait_for(lambda: store.type(key(one.incarnation, part)) != b"string")
         end_all([one])
 
 
-def a_full_store_is_waited_for(machine, data):
+def test_a_full_store_is_waited_for(machine, data):
     """maxmemory, and no eviction: a flood beside a quiet session."""
     machine.kill()
     machine.start("--maxmemory", "6mb", "--maxmemory-policy", "noeviction")
     [quiet] = told(machine, data, 1)
     host = program(machine, "flood", ["sh", "-c", "yes 0123456789012345678901234567890123456789 | head -c 8000000; exit 5"])
     store = stores.connect(machine.url)
-    check(wait_for(lambda: int(store.info("errorstats").get("errorstat_OOM", "count=0").removeprefix("count=")) > 5), "it is full, and refuses call after call")
-    check(quiet.go_on(3) and host.poll() is None, "programs go on, and the flood waits")
+    wait_for(lambda: int(store.info("errorstats").get("errorstat_OOM", "count=0").removeprefix("count=")) > 5)
+    assert quiet.go_on(3) and host.poll() is None, "programs go on, and the flood waits"
     store.config_set("maxmemory", "200mb")
-    check(host.wait(PATIENCE) == 5, "the flood goes on to its end")
+    assert host.wait(PATIENCE) == 5, "the flood goes on to its end"
     end_all([quiet])
 
 
-def shimmed(machine):
-    """Starts the machine's store with a clock that a file moves."""
-    library, file = os.path.join(machine.folder, "clock.so"), os.path.join(machine.folder, "clock")
-    subprocess.run(["gcc", "-O2", "-shared", "-fPIC", "-o", library, os.path.join(HERE, "clock.c")], check=True)
-    machine.kill()
-    os.environ.update(LD_PRELOAD=library, CLOCK_FILE=file)
-    try:
+def test_a_full_disk_is_waited_for(machine, data):
+    """The store ends at each write, and is started again and again, as systemd does it. Programs go on, and what was acknowledged is there."""
+    sessions, store = told(machine, data), stores.connect(machine.url)
+    with configured(machine, "[host]", "lease = 1"):
+        another_daemon(machine)
+    for number in range(3):
+        for each in sessions:
+            each.type(b"%d;" % number)
+            each.go_on(2)
+        acknowledged = sum(end_of(store, each.incarnation) for each in sessions)
+        fill_disk(machine)
+        for _ in range(2):
+            assert sessions[0].go_on(1), "programs go on"
+            machine.under = ("prlimit", f"--fsize={file_of(machine).stat().st_size + 100}", *type(machine).under)
+            machine.launch()
+            machine.server.wait()
+        del machine.under
         machine.start()
-    finally:
-        del os.environ["LD_PRELOAD"], os.environ["CLOCK_FILE"]
-
-    def move(seconds):
-        with open(file + ".new", "w") as moved:
-            moved.write(str(seconds))
-        os.replace(file + ".new", file)
-
-    return move
+        assert sum(end_of(store, each.incarnation) for each in sessions) >= acknowledged, "what was acknowledged is there"
+    assert "AOF write error" in pathlib.Path(machine.folder, "log").read_text(), "the store's log says why"
+    end_all(sessions)
 
 
-def the_clock_may_jump(machine, data):
-    """Back an hour and forward two, beside a viewer."""
+def test_the_clock_may_jump(machine, data):
+    """Back and forward, beside a viewer and keys. The last time the store is empty, too."""
     move, store = shimmed(machine), stores.connect(machine.url)
     with configured(machine, "[host]", "lease = 2"):
         [one] = told(machine, data, 1)
     viewer = Viewer(stores.connect(machine.url), one.incarnation)
-    for seconds in (-3600, 3600, -3600, 7200):
+    for seconds in (-3600, 3600, -3600, 7200, -7200):
         move(seconds)
-        check(wait_for(lambda: abs(store.time()[0] - time.time() - seconds) < 60), "the clock jumped")
+        wait_for(lambda: abs(store.time()[0] - time.time() - seconds) < 60)  # the clock jumped
+        if seconds == -7200:  # an id of a new stream is that of the clock
+            store.flushall()
         one.go_on(3)
-        check(wait_for(lambda: end_of(store, one.incarnation) == len(one.read("sent"))), f"{seconds}: it goes on")
+        wait_for(lambda: end_of(store, one.incarnation) == len(one.read("sent")))
         viewer.ask()
         viewer.follow(0)
-        check(viewer.session.at > 0 and not viewer.fault, f"{seconds}: a viewer sees it")
-        check(wait_for(lambda: store.exists(keys.lease(one.name))), f"{seconds}: its lease is there again")
+        assert viewer.session.at > 0 and not viewer.fault, f"{seconds}: a viewer sees it"
+        wait_for(lambda: store.exists(keys.lease(one.name)))
+        one.type(b"%d;" % seconds)
+        wait_for(lambda: one.read("keys") == one.typed)
     end_all([one])
 
 
-def a_failover_to_a_replica_that_is_behind(machine, data):
+def test_a_failover_to_a_replica_that_is_behind(machine, data):
     """The store's address is that of a sentinel. The master is killed after its replica was cut off and the daemon was restarted: the replica has neither
-    this daemon nor the last bytes. No program is ended."""
+    this daemon nor the last bytes. No program is ended. A viewer that asks for a replica is told that it has no key, and types it again."""
     ports = [free_port() for _ in range(3)]
     machine.kill()
     machine.start("--port", str(ports[0]), "--repl-diskless-sync-delay", "0")
@@ -189,8 +174,8 @@ def a_failover_to_a_replica_that_is_behind(machine, data):
     ending(subprocess.Popen(["redis-server", sentinel, "--sentinel"], stdout=subprocess.DEVNULL))
     url = f"sentinel://127.0.0.1:{ports[2]}/fleet"
     asked, second = stores.connect(f"redis://127.0.0.1:{ports[2]}"), stores.connect(f"redis://127.0.0.1:{ports[1]}")
-    check(raises(stores.Unfit, asked.examine), "a sentinel's own address is refused")
-    check(raises(ValueError, stores.connect, "sentinel://127.0.0.1/fleet"), "so is an address that is none")
+    pytest.raises(stores.Unfit, asked.examine)
+    pytest.raises(ValueError, stores.connect, "sentinel://127.0.0.1/fleet")
     wait_for(lambda: asked.execute_command("SENTINEL", "REPLICAS", "fleet"))
     with configured(machine, "[host]", "lease = 3"):
         machine.start_daemon(url=url)
@@ -205,38 +190,48 @@ def a_failover_to_a_replica_that_is_behind(machine, data):
         for each in sessions:
             each.go_on(5)
             wait_for(lambda: end_of(each.store, each.incarnation) == len(each.read("sent")))
+    careful, hasty = (Typist(stores.connect(machine.url), each.incarnation, 0) for each in sessions[:2])
+    careful.store.replicas = hasty.store.replicas = 1
+    assert not careful.offer("keys", b"once;"), "no replica has it"
+    with pytest.raises(Refused, match="fewer than 1 replicas"):
+        hasty.type(b"unsure;")
+    sessions[0].typed += b"once;"
+    sessions[1].typed += b"unsure;"
+    wait_for(lambda: all(each.read("keys") == each.typed for each in sessions))
     machine.kill()
     copy.send_signal(signal.SIGCONT)
-    check(wait_for(lambda: second.info("replication")["role"] == "master"), "the replica takes its place")
+    wait_for(lambda: second.info("replication")["role"] == "master")  # the replica takes its place
     for each in sessions:
         each.store = second
         each.typist.store = second
-        check(wait_for(lambda: end_of(second, each.incarnation) == len(each.read("sent"))), f"{each.name}: what it lacks is sent again")
+        wait_for(lambda: end_of(second, each.incarnation) == len(each.read("sent")))
+    careful.store = second
+    wait_for(lambda: second.exists(keys.lease(sessions[0].name)) and careful.offer("keys", b"once;"))
     end_all(sessions)
 
 
-def a_cluster_is_refused(machine, _):
+def test_a_cluster_is_refused(machine):
     machine.kill()
     for path, _, names in os.walk(machine.folder):
         for each in names:
             if each.endswith((".aof", ".rdb", ".manifest")):
                 os.remove(os.path.join(path, each))
     machine.start("--cluster-enabled", "yes", "--cluster-port", str(free_port()))
-    check(raises(stores.Unfit, stores.connect(machine.url).examine), "with a clear error")
+    pytest.raises(stores.Unfit, stores.connect(machine.url).examine)
 
 
-def damaged_checkpoints_are_noticed(machine, data):
+def test_damaged_checkpoints_are_noticed(machine, data):
     """One that was cut or changed isn't used. If the bytes before it are gone, this is a fault that is named."""
     source = Source(machine.url, "damaged").send(data)
     terminal = vt220.Terminal()
     terminal.feed(data)
     source.host.check(len(data), b"\033[1;1H" + terminal.repaint())
     source.store.hset(source.part("checkpoint"), "repaint", "x")
-    check(session.as_it_is(source.store, source.incarnation).terminal.same_state(terminal), "the bytes before it are played")
+    assert session.as_it_is(source.store, source.incarnation).terminal.same_state(terminal), "the bytes before it are played"
     source.store.xtrim(source.part("bytes"), maxlen=1, approximate=False)
-    check(fleet(machine.url, "text", "damaged")[0] == 4, "without them it is a fault: 4")
+    assert fleet(machine.url, "text", "damaged")[0] == 4, "without them it is a fault: 4"
     for name, fields, fault in (("wrong", {"v": keys.version(), "text": "x"}, "Wrong"), ("version", {"v": "999.1", "bytes": "abc"}, "Version")):
         other = Source(machine.url, name)
         other.store.xadd(other.part("bytes"), fields, id="3-0")
         status, _, said = fleet(machine.url, "text", name)
-        check(status == 4 and f"fleet: {fault}: " in said, f"{name}: {status} {said}")
+        assert status == 4 and f"fleet: {fault}: " in said, f"{name}: {status} {said}"

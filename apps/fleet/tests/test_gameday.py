@@ -5,21 +5,18 @@ import os
 import pathlib
 import re
 import subprocess
+import time
 import urllib.error
 
 from prometheus_client import CollectorRegistry, generate_latest
 
 from harness import (
-    HERE, PATIENCE, Clock, Proxy, Source, Told, another_daemon, begun, check, conf, configured, end_of, ending, fleet, free_port, keys, launched, local,
-    replace, stores, text_of, wait_for, written,
+    ANSWERS, HERE, PATIENCE, PATIENT, Clock, Proxy, Source, Told, another_daemon, asked, begun, conf, configured, end_all, end_of, ending, fill_disk, fleet, free_port, keys, launched, local,
+    metrics_at, started, state, stores, text_of, wait_for, written,
 )
-from operators import asked, metrics_at, state
-from sessions import ANSWERS
-from stores_faults import end_all
-from fleet import config, metrics
-from fleet.metrics import PageMetrics, WholeFleet
+from fleet import metrics
+from fleet.metrics import WholeFleet
 from fleet.operate import Typist
-from fleet.web import Page
 
 ALERTS = os.path.join(HERE, "..", "alerts.yml")
 SAMPLES = 80  # of each phase, 15 seconds apart: no alert looks back further, or waits longer
@@ -104,7 +101,7 @@ class Day:
         rules = {"rule_files": [os.path.realpath(ALERTS)], "evaluation_interval": "15s", "tests": [made]}
         path = conf(machine, "rules.json", json.dumps(rules))  # JSON is YAML
         done = subprocess.run(["promtool", "test", "rules", path], capture_output=True, text=True)
-        check(done.returncode == 0, f"{alert}: it isn't there, fires, and ends: {done.stdout[-3000:]}{done.stderr}")
+        assert done.returncode == 0, f"{alert}: it isn't there, fires, and ends: {done.stdout[-3000:]}{done.stderr}"
 
 
 def day_of(alert, *labels):
@@ -112,7 +109,7 @@ def day_of(alert, *labels):
     It may yield a metric and the value that is waited for. An alert that has labels fires for each of them."""
 
     def decorate(case):
-        def judged(machine, _):
+        def judged(machine):
             day = Day(machine)
             for awaited in case(machine, day):
                 day.look(*awaited or ())
@@ -126,38 +123,39 @@ def day_of(alert, *labels):
 
 
 @day_of("FleetConnections")
-def connections_run_out(machine, day):
+def test_connections_run_out(machine, day):
     store = stores.connect(machine.url)
     yield
     others = [stores.connect(machine.url) for _ in range(8)]
-    check(all(each.ping() for each in others), "others come")
+    assert all(each.ping() for each in others), "others come"
     most = store.info("clients")["connected_clients"] + 2
     store.config_set("maxclients", most)
     status, _, said = fleet(machine.url, "check-store")
-    check(status == 69 and f"of {most} connections" in said, f"check-store says so: {status} {said}")
+    assert status == 69 and f"of {most} connections" in said, f"check-store says so: {status} {said}"
     yield
     run_of("FleetConnections", machine)
     status, _, said = fleet(machine.url, "check-store")
-    check(status == 0, f"then the store is fit: {said}")
+    assert status == 0, f"then the store is fit: {said}"
     yield
 
 
 def run_of(section, machine):
     """Runs the runbook's commands of a section on a test's store. The test is its systemd: if the store ends by itself, it is started again at once."""
     text = re.search(rf"^## {section}\n(.*?)(?=^## |\Z)", text_of("RUNBOOK.md"), re.MULTILINE | re.DOTALL)[1]
-    commands, serves = [line[4:] for line in text.splitlines() if line.startswith("    ")], True
+    commands, serves = [line[4:] for line in text.splitlines() if line.startswith("    ")], local.is_listening(machine.socket)
     for command in commands:
         if command in ("systemctl stop redis-server", "systemctl start redis-server"):
             serves = not serves
             machine.start() if serves else ended(machine)
+        if command.startswith("systemctl"):
             continue
         command = command.replace("redis-cli", f"redis-cli -s {machine.socket}").replace("/var/lib/redis", machine.folder)
         done = subprocess.run(["sh", "-c", command], capture_output=True, text=True)
-        check(done.returncode == 0, f"{section}: its commands run: {done.stdout} {done.stderr}")
+        assert done.returncode == 0, f"{section}: its commands run: {done.stdout} {done.stderr}"
         if serves and not local.is_listening(machine.socket):
             machine.server.wait()
             machine.start()
-    check(commands, f"{section} has commands")
+    assert commands, f"{section} has commands"
 
 
 def ended(machine):
@@ -180,11 +178,11 @@ def prepared(machine, content):
 
 
 def stored(sessions):
-    """Waits until the store has all that sessions have written."""
-    return wait_for(lambda: all(end_of(each.store, each.incarnation) == len(each.read("sent")) for each in sessions))
+    """Waits until the store has all that sessions have written, and they all that was typed: what a store loses before a daemon read it is lost."""
+    return wait_for(lambda: all(end_of(each.store, each.incarnation) == len(each.read("sent")) and each.read("keys") == each.typed for each in sessions))
 
 
-def a_backup_is_restored(machine, data):
+def test_a_backup_is_restored(machine, data):
     """Programs live on. The daemon is restarted between the backup and the restore, and one session begins then: the backup has neither."""
     sessions, place, user = prepared(machine, data)
     for each in sessions:
@@ -200,13 +198,13 @@ def a_backup_is_restored(machine, data):
     store = stores.connect(machine.url)
     store.set("after-the-backup", 1)
     run_of("Restore of the store", machine)
-    check(owners(place) == {user}, f"the files are those of the user of Redis: {owners(place)}")
-    check(not store.exists("after-the-backup"), "the store is the copy")
-    check(stored(sessions), "what it lacks is sent again")
+    assert owners(place) == {user}, f"the files are those of the user of Redis: {owners(place)}"
+    assert not store.exists("after-the-backup"), "the store is the copy"
+    assert stored(sessions), "what it lacks is sent again"
     end_all(sessions)
 
 
-def a_store_is_upgraded(machine, data):
+def test_a_store_is_upgraded(machine, data):
     """Debian has one version of Redis, which is also the oldest that has functions. So it writes the file in the form that all versions read, and
     is started again over this file alone."""
     sessions, place, _ = prepared(machine, data)
@@ -215,20 +213,20 @@ def a_store_is_upgraded(machine, data):
     run_of("Upgrade of the store", machine)
     files = [file for file in os.listdir(place) if ".base." in file]
     text = pathlib.Path(place, files[0]).read_bytes()
-    check(len(files) == 1 and text.startswith(b"*") and b"FUNCTION" in text, f"the file has plain commands, and the functions: {files} {text[:20]}")
+    assert len(files) == 1 and text.startswith(b"*") and b"FUNCTION" in text, f"the file has plain commands, and the functions: {files} {text[:20]}"
     machine.start()
-    check(fleet(machine.url, "check-store")[0] == 0, "the store is fit")
+    assert fleet(machine.url, "check-store")[0] == 0, "the store is fit"
     end_all(sessions)
 
 
 @day_of("FleetTargetDown", {"instance": "one"})
-def a_target_is_down(machine, day):
+def test_a_target_is_down(machine, day):
     """`fleet metrics` ends, and that of another fleet doesn't."""
     port = free_port()
     day.targets["one"] = of_port(port)
     for is_killed in (True, False):
         serves = ending(launched(machine, "metrics", f"127.0.0.1:{port}"))
-        check(wait_for(of_port(port)), "it serves")
+        wait_for(of_port(port))  # it serves
         yield
         if is_killed:
             serves.kill()
@@ -237,28 +235,30 @@ def a_target_is_down(machine, day):
 
 
 @day_of("FleetStoreAway")
-def the_store_is_away(machine, _):
+def test_the_store_is_away(machine, _):
+    """Its disk is full."""
     yield
-    machine.kill()
+    fill_disk(machine)
     yield
-    machine.start()
+    run_of("FleetStoreAway", machine)
     yield
 
 
 @day_of("FleetStoreSlow")
-def the_store_is_slow(machine, day):
+def test_the_store_is_slow(machine, day):
     """Each ping takes longer than it should, by the clock of the metrics."""
-    clock, store = replace(metrics, "time", Clock()), day.whole.store
+    clock, store = Clock(), day.whole.store
     ping = store.ping
     yield
-    store.ping = lambda: setattr(clock, "now", clock.now + 0.7)
+    started.callback(setattr, metrics, "time", time)
+    metrics.time, store.ping = clock, lambda: setattr(clock, "now", clock.now + 0.7)
     yield
-    store.ping = ping
+    metrics.time, store.ping = time, ping
     yield
 
 
 @day_of("FleetHostsSilent")
-def hosts_are_silent(machine, _):
+def test_hosts_are_silent(machine, _):
     """A host daemon is killed, and the next one goes on with its programs."""
     silent = 'fleet_states{state="no host",'
     with configured(machine, "[host]", "lease = 1"):
@@ -267,37 +267,38 @@ def hosts_are_silent(machine, _):
         machine.kill_daemon()
         yield silent, "1.0"
         machine.start_daemon()
-    check(wait_for(lambda: state(store, "silent")["state"] == "running"), "it has a host again")
+    wait_for(lambda: state(store, "silent")["state"] == "running")  # it has a host again
     yield silent, "0.0"
     Typist(store, incarnation).type(b"\r")
-    check(host.wait(PATIENCE) == 3, f"and its program lives: {host.returncode}")
+    assert host.wait(PATIENCE) == 3, f"and its program lives: {host.returncode}"
 
 
 @day_of("FleetFaults", {"fault": "Wrong"})
-def sessions_have_faults(machine, _):
+def test_sessions_have_faults(machine, _):
     """Another program writes into the store. An operator ends the session."""
     yield
     made = Source(machine.url, "wrong")
     made.store.hset(made.part("about"), "end", "x")
     yield
-    check(fleet(machine.url, "end", "--force", "--keep", "0", "wrong")[0] == 0, "it is removed")
+    assert fleet(machine.url, "end", "--force", "--keep", "0", "wrong")[0] == 0, "it is removed"
     yield
 
 
-def of_daemon(machine, day, url=None):
+def of_daemon(machine, day, *lines, url=None, port=None):
     """Starts the machine's daemon with metrics, as the target `one`. Returns its port."""
-    port = free_port()
-    machine.start_daemon("--metrics", f"127.0.0.1:{port}", url=url)
+    port = port or free_port()
+    with configured(machine, *PATIENT, "[host]", *(lines or ["lease = 3600"]), f"metrics = 127.0.0.1:{port}"):
+        machine.start_daemon(url=url)
     day.targets["one"] = of_port(port)
     wait_for(of_port(port))
     return port
 
 
 @day_of("FleetCutOff", {"instance": "one"})
-def a_daemon_is_cut_off(machine, day):
+def test_a_daemon_is_cut_off(machine, day):
     """Its link ends, and is back. Its program goes on meanwhile."""
     proxy = Proxy(machine)
-    port = of_daemon(machine, day, proxy.url)
+    port = of_daemon(machine, day, url=proxy.url)
     host, store, incarnation = begun(machine, "cut off", ["sh", "-c", ANSWERS], "--input")
 
     def is_away():
@@ -309,14 +310,14 @@ def a_daemon_is_cut_off(machine, day):
     yield
     os.unlink(proxy.socket)
     proxy.start()
-    check(wait_for(lambda: not is_away()), "it reaches the store again")
+    wait_for(lambda: not is_away())  # it reaches the store again
     yield
     Typist(store, incarnation).type(b"x\r")
-    check(wait_for(lambda: b"got x" in written(store, "cut off")) and host.poll() is None, "and so does its session")
+    assert wait_for(lambda: b"got x" in written(store, "cut off")) and host.poll() is None, "and so does its session"
 
 
 @day_of("FleetHostBehind", {"instance": "one"})
-def a_host_is_behind(machine, day):
+def test_a_host_is_behind(machine, day):
     """The store is full, and takes nothing."""
     port = of_daemon(machine, day)
     host, store, incarnation = begun(machine, "behind", ["sh", "-c", "echo on; read x; head -c 300000 /dev/zero; exit 3"], "--input")
@@ -329,39 +330,46 @@ def a_host_is_behind(machine, day):
     yield
     day.targets["one"] = real
     store.config_set("maxmemory", "0")
-    check(host.wait(PATIENCE) == 3, f"it goes on: {host.returncode}")
+    assert host.wait(PATIENCE) == 3, f"it goes on: {host.returncode}"
     yield
 
 
 @day_of("FleetRefused", {"instance": "one"})
-def a_session_is_refused(machine, day):
+def test_a_session_is_refused(machine, day):
     """While its daemon was away for longer than `lease` and `linger`, another machine took its name. Its program goes on."""
-    with configured(machine, "[host]", "lease = 1", "linger = 0"):
-        port = of_daemon(machine, day)
-        host, store, incarnation = begun(machine, "taken", ["sh", "-c", ANSWERS], "--input")
-        yield
-        machine.kill_daemon()
-        wait_for(lambda: not store.exists(keys.lease("taken")))
-        other = Source(machine.url, "taken")
-        machine.start_daemon("--metrics", f"127.0.0.1:{port}")
-        wait_for(of_port(port))
-        check(wait_for(lambda: metrics_at(port)["fleet_host_refused"] == 1), "it is refused")
-        yield
-        check(host.poll() is None, "its program goes on")
-        other.end(0)
-        check(wait_for(lambda: metrics_at(port)["fleet_host_refused"] == 0), "it is let in once the name is free")
-        yield
-    check(wait_for(lambda: fleet(machine.url, "text", "taken")[1].startswith("on\n")), "with its screen")
+    short = "lease = 1", "linger = 0"
+    port = of_daemon(machine, day, *short)
+    host, store, incarnation = begun(machine, "taken", ["sh", "-c", ANSWERS], "--input")
+    yield
+    machine.kill_daemon()
+    wait_for(lambda: not store.exists(keys.lease("taken")))
+    other = Source(machine.url, "taken")
+    of_daemon(machine, day, *short, port=port)
+    wait_for(lambda: metrics_at(port)["fleet_host_refused"] == 1)
+    yield
+    assert host.poll() is None, "its program goes on"
+    other.end(0)
+    wait_for(lambda: metrics_at(port)["fleet_host_refused"] == 0)  # the name is free
+    yield
+    wait_for(lambda: fleet(machine.url, "text", "taken")[1].startswith("on\n"))
 
 
-@day_of("FleetPageRefuses", {"instance": "one"})
-def a_page_is_asked_without_its_token(machine, day):
-    store = stores.connect(machine.url)
-    for guesses in (30, 0):
-        page = Page(store, store, config.Web())  # each with another token
-        day.targets["one"] = of_collector(PageMetrics(page))
-        yield
-        for _ in range(guesses):
-            check(not page.admits('{"token": "a guess"}'), "it is refused")
-        if guesses:
-            yield
+@day_of("FleetHostDeaf", {"instance": "one"})
+def test_a_daemon_is_deaf(machine, day):
+    """Its user of the store may not read the streams any more. What programs write is stored all the same, and what was typed arrives afterwards."""
+    port = of_daemon(machine, day)
+    host, store, incarnation = begun(machine, "deaf", ["sh", "-c", ANSWERS], "--input")
+    yield
+    store.execute_command("ACL", "SETUSER", "default", "-xread")
+    typist = Typist(store, incarnation, PATIENCE)
+    typist.type(b"typed\r")
+    before = metrics_at(port)["fleet_host_unread_seconds"]
+    wait_for(lambda: metrics_at(port)["fleet_host_unread_seconds"] > before + 5)  # it notices
+    real = day.targets["one"]
+    day.targets["one"] = lambda: re.sub(r"^fleet_host_unread_seconds .*$", "fleet_host_unread_seconds 60.0", real(), flags=re.MULTILINE)
+    yield
+    day.targets["one"] = real
+    store.execute_command("ACL", "SETUSER", "default", "+xread")
+    wait_for(lambda: b"got typed" in written(store, "deaf"))  # the key arrives, once
+    assert wait_for(lambda: metrics_at(port)["fleet_host_unread_seconds"] < 5) and written(store, "deaf").count(b"got typed") == 1
+    yield

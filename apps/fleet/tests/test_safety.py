@@ -2,50 +2,50 @@
 import contextlib
 import os
 import random
-import shutil
+import signal
 import socket
 import stat
 import subprocess
 import sys
-import tempfile
-import types
+
+import pytest
 
 from harness import (
-    HERE, KEEPER, PATIENCE, PATIENT, Source, Told, begun, check, conf, configured, ending, fleet, free_port, incarnation_of, key, keys, launched, local, played, program, raises,
+    ANSWERS, KEEPER, PATIENCE, PATIENT, Source, Told, begun, conf, configured, ending, fleet, free_port, incarnation_of, key, launched, local, played, program,
     seen, stores, text_of, wait_for, written,
 )
 from fleet import wire
 from fleet.operate import Typist
 from fleet.view import Viewer
 
-def the_store_of_run_is_this_users_alone(machine, _):
-    check(stat.S_IMODE(os.stat(machine.folder).st_mode) == 0o700, "its directory is this user's alone")
-    check(stat.S_IMODE(os.stat(machine.socket).st_mode) == 0o700, "and so is the socket")
-    check(stores.connect(machine.url).config_get("port")["port"] == "0", "no port is open")
+def test_the_store_of_run_is_this_users_alone(machine):
+    assert stat.S_IMODE(os.stat(machine.folder).st_mode) == 0o700, "its directory is this user's alone"
+    assert stat.S_IMODE(os.stat(machine.socket).st_mode) == 0o700, "and so is the socket"
+    assert stores.connect(machine.url).config_get("port")["port"] == "0", "no port is open"
 
 
-def the_program_learns_no_address(machine, _):
+def test_the_program_learns_no_address(machine):
     name, store = "environment", stores.connect(machine.url)
     machine.start_daemon()
     reads = "env; cat /proc/$PPID/cmdline /proc/$PPID/environ | tr '\\0' '\\n'"
     status = program(machine, name, ["sh", "-c", reads]).wait(PATIENCE)
     said = written(store, name).decode()
-    check(status == 0 and "TERM=vt220" in said, "the program ran")
-    check("FLEET" not in said and "redis" not in said.lower(), "no variable and no argument has the address")
-    check("vt220-keep" in said, "neither of its own nor of its keeper's")
+    assert status == 0 and "TERM=vt220" in said, "the program ran"
+    assert "FLEET" not in said and "redis" not in said.lower(), "no variable and no argument has the address"
+    assert "vt220-keep" in said, "neither of its own nor of its keeper's"
 
 
-def a_password_is_needed_and_read_from_a_file(machine, _):
+def test_a_password_is_needed_and_read_from_a_file(machine):
     password = conf(machine, "password", "secret")
     stores.connect(machine.url).config_set("requirepass", "secret")
     config = conf(machine, "conf", *PATIENT, f"password-file = {password}")
     status, _, said = fleet(machine.url, "list")
-    check(status == 77 and "Authentication" in said, f"without it: {status} {said}")
-    check(fleet(machine.url, "list", config=config)[0] == 0, "with it")
+    assert status == 77 and "Authentication" in said, f"without it: {status} {said}"
+    assert fleet(machine.url, "list", config=config)[0] == 0, "with it"
     status, _, said = fleet(machine.url, "list", config=conf(machine, "wrong", *PATIENT, f"password-file = {config}"))
-    check(status == 77, f"with another: {status} {said}")
+    assert status == 77, f"with another: {status} {said}"
     status, _, said = fleet(machine.url, "list", config=conf(machine, "none", "[store]", "give-up = 0.1", "password-file = /nowhere"))
-    check(status == 69 and said.splitlines()[-1].startswith("fleet: /nowhere: "), f"with one that can't be read: {status} {said}")
+    assert status == 69 and said.splitlines()[-1].startswith("fleet: /nowhere: "), f"with one that can't be read: {status} {said}"
 
 
 USERS = ("host", "viewer", "typist", "operator")
@@ -54,42 +54,44 @@ PROGRAM_THAT_ASKS = r"""stty -echo raw; printf 'a\033[6n'; dd bs=1 count=6 2>/de
 while read x; do echo got $x; done"""
 
 
-def users_have_the_rights_that_they_need(machine, _):
+def test_users_have_the_rights_that_they_need(machine):
     """users.acl, as it is: host, viewer, typist and operator do their work, and no other's."""
     acl = conf(machine, "users.acl", text_of("users.acl"))
     machine.kill()
     urls = {user: f"unix://{user}:{user.upper()}-PASSWORD@{machine.socket}" for user in USERS}
     machine.url = urls["operator"]
     machine.start("--aclfile", acl)
-    check(fleet(urls["viewer"], "prepare-store")[0] == 69, "only an operator loads the functions")
-    check(fleet(urls["operator"], "prepare-store")[0] == 0, "an operator loads them")
-    machine.start_daemon("--retain", "1h", url=urls["host"])
+    assert fleet(urls["viewer"], "prepare-store")[0] == 69, "only an operator loads the functions"
+    assert fleet(urls["operator"], "prepare-store")[0] == 0, "an operator loads them"
+    with configured(machine, *PATIENT, "[host]", "lease = 3600", "retain = 1h"):
+        machine.start_daemon(url=urls["host"])
     host = program(machine, "roles", ["sh", "-c", PROGRAM_THAT_ASKS], "--input")
-    check(wait_for(lambda: fleet(urls["viewer"], "text", "roles")[1].startswith("answered")), "host and viewer")
+    wait_for(lambda: fleet(urls["viewer"], "text", "roles")[1].startswith("answered"))  # host and viewer
     rights_of_commands(urls)
     machine.kill_daemon()
     machine.start_daemon(url=urls["viewer"])
-    check(program(machine, "other", ["true"]).wait(PATIENCE) == 77, "a viewer is no host")
+    assert program(machine, "other", ["true"]).wait(PATIENCE) == 77, "a viewer is no host"
     machine.kill_daemon()
-    machine.start_daemon("--retain", "1h", url=urls["host"])
+    with configured(machine, *PATIENT, "[host]", "lease = 3600", "retain = 1h"):
+        machine.start_daemon(url=urls["host"])
     rights_of_calls(urls)
     store = stores.connect(urls["operator"])
     incarnation = incarnation_of(store, "roles")
     viewer = Viewer(stores.connect(urls["viewer"]), incarnation)
-    check(wait_for(lambda: "got hello" in seen(viewer)), "a viewer follows")
-    check(fleet(urls["operator"], "kill", "--patience", str(PATIENCE), "roles")[0] == 0, "an operator kills")
-    check(host.wait(PATIENCE) == 129, f"and the host ends with it: {host.returncode}")
-    check(0 < store.ttl(key(incarnation, "bytes")) <= 3600, "whose keys stay for an hour")
+    wait_for(lambda: "got hello" in seen(viewer))  # a viewer follows
+    assert fleet(urls["operator"], "kill", "--patience", str(PATIENCE), "roles")[0] == 0, "an operator kills"
+    assert host.wait(PATIENCE) == 129, f"and the host ends with it: {host.returncode}"
+    assert 0 < store.ttl(key(incarnation, "bytes")) <= 3600, "whose keys stay for an hour"
 
 
 def rights_of_commands(urls):
-    check(fleet(urls["viewer"], "type", "--enter", "roles", "hello")[0] == 77, "a viewer cannot type")
-    check(fleet(urls["typist"], "type", "--enter", "roles", "hello")[0] == 0, "a typist can")
-    check(wait_for(lambda: "got hello" in fleet(urls["viewer"], "text", "roles")[1]), "and the program reads it")
-    check(fleet(urls["typist"], "kill", "roles")[0] == 77, "but sends no signal")
-    check(fleet(urls["typist"], "resize", "roles", "90x30")[0] == 77, "and no size")
-    check(fleet(urls["operator"], "resize", "--patience", str(PATIENCE), "roles", "90x30")[0] == 0, "an operator does")
-    check(fleet(urls["viewer"], "end", "--force", "roles")[0] == 77, "a viewer ends nothing")
+    assert fleet(urls["viewer"], "type", "--enter", "roles", "hello")[0] == 77, "a viewer cannot type"
+    assert fleet(urls["typist"], "type", "--enter", "roles", "hello")[0] == 0, "a typist can"
+    wait_for(lambda: "got hello" in fleet(urls["viewer"], "text", "roles")[1])  # and the program reads it
+    assert fleet(urls["typist"], "kill", "roles")[0] == 77, "but sends no signal"
+    assert fleet(urls["typist"], "resize", "roles", "90x30")[0] == 77, "and no size"
+    assert fleet(urls["operator"], "resize", "--patience", str(PATIENCE), "roles", "90x30")[0] == 0, "an operator does"
+    assert fleet(urls["viewer"], "end", "--force", "roles")[0] == 77, "a viewer ends nothing"
 
 
 def rights_of_calls(urls):
@@ -106,7 +108,7 @@ def rights_of_calls(urls):
     for user, calls in denied.items():
         for words in calls:
             call = stores.connect(urls[user]).execute_command
-            check(raises(stores.NoPermissionError, call, *words), f"{user}: no {words[0]}")
+            pytest.raises(stores.NoPermissionError, call, *words)
 
 
 def state_of(name="other", incarnation="", version=wire.VERSION, encoding="dec", terminal="vt220", screen="80x24", base="0", end="0", last="0"):
@@ -139,7 +141,7 @@ def well_formed(chance, names):
     return [state, *(wire.packed(chance.choice(letters), chance.choice(EXTREME), chance.choice(data)) for _ in range(3))]
 
 
-def another_user_harms_no_session(machine, _):
+def test_another_user_harms_no_session(machine):
     """Well-formed frames with extreme numbers, names and incarnations of others, by another user, beside sessions that go on, and over restarts of the daemon."""
     place, chance = machine.where()["FLEET_DAEMON"], random.Random(1)
     with configured(machine, *PATIENT, "[host]", "lease = 3600"):
@@ -150,8 +152,8 @@ def another_user_harms_no_session(machine, _):
             others = [sent_by_another(machine, *well_formed(chance, names)) for _ in range(12)]
             for each in sessions:
                 each.type(b"%d;" % number)
-                check(each.go_on(3), f"{number}: {each.name} goes on")
-                check(wait_for(lambda: each.read("keys") == each.typed), f"{number}: keys of {each.name} arrive")
+                assert each.go_on(3), f"{number}: {each.name} goes on"
+                wait_for(lambda: each.read("keys") == each.typed)
             machine.kill_daemon()
             others += [sent_by_another(machine, state_of(each.name)) for each in sessions if local.is_listening(place)]
             machine.start_daemon()
@@ -159,24 +161,26 @@ def another_user_harms_no_session(machine, _):
             for each in others:
                 each.kill()
         for each in sessions:
-            check(incarnation_of(each.store, each.name) == names[each.name], "each is still itself")
+            assert incarnation_of(each.store, each.name) == names[each.name], "each is still itself"
             each.go_on(each.steps)
             each.type(b"q")
         for each in sessions:
-            check(each.hold(), f"{each.name}: its log is whole")
+            assert each.hold(), f"{each.name}: its log is whole"
 
 
-def what_is_no_keeper_harms_no_session(machine, _):
+def test_what_is_no_keeper_harms_no_session(machine):
     """It is refused or left, and the daemon goes on."""
     host, store, incarnation = begun(machine, "good", ["sh", "-c", ANSWERS], "--input")
 
     def connected():
         made = socket.socket(socket.AF_UNIX)
-        made.connect(machine.where()["FLEET_DAEMON"])
         made.settimeout(PATIENCE)
+        made.connect(machine.where()["FLEET_DAEMON"])
         return made
 
-    silent = [connected() for _ in range(50)]
+    machine.daemon.send_signal(signal.SIGSTOP)
+    silent = [connected() for _ in range(300)]  # all keepers of a machine may come at once
+    machine.daemon.send_signal(signal.SIGCONT)
     strange = [b"x" * 100, wire.HEAD.pack(wire.STATE, wire.LONGEST + 1), wire.framed(wire.STATE), wire.packed(wire.BYTES, 1, b"x"), state_of(version="6")]
     strange += [state_of(each) for each in ("a\nb", "\udcff", "x" * 300, "good")] + [state_of(encoding="utf-7"), state_of(incarnation="ZZ")]
     strange += [state_of(screen=each) for each in ("1x24", "80x256", "x", "-80x24")]
@@ -189,10 +193,10 @@ def what_is_no_keeper_harms_no_session(machine, _):
             answer = b""  # in one part or more: what was taken before is told apart
             while wire.REFUSED not in answer and (part := made.recv(4096)):
                 answer += part
-            check(wire.REFUSED in answer, f"{number} is refused: {data[:40]}")
+            assert wire.REFUSED in answer, f"{number} is refused: {data[:40]}"
     Typist(store, incarnation).type(b"hello\r")
-    check(wait_for(lambda: b"got hello" in written(store, "good")), "the session goes on")
-    check(machine.daemon.poll() is None and host.poll() is None, "and so does the daemon")
+    wait_for(lambda: b"got hello" in written(store, "good"))  # the session goes on
+    assert machine.daemon.poll() is None and host.poll() is None, "and so does the daemon"
     for each in silent:
         each.close()
 
@@ -206,7 +210,7 @@ def false_frames(chance):
     return chance.sample(frames, len(frames)) + [chance.choice((b"", b"A", wire.HEAD.pack(b"I", 1 << 30), chance.randbytes(40)))]
 
 
-def what_is_no_daemon_harms_no_program(machine, _):
+def test_what_is_no_daemon_harms_no_program(machine):
     """The keeper leaves it, and comes again. The next daemon publishes the session."""
     path, chance = machine.where()["FLEET_DAEMON"], random.Random(2)
     with socket.socket(socket.AF_UNIX) as listener:
@@ -216,7 +220,7 @@ def what_is_no_daemon_harms_no_program(machine, _):
         host = launched(machine, "host", "--input", "bold", "sh", "-c", ANSWERS)
         for _ in range(40):
             with listener.accept()[0] as link:
-                check(link.recv(1 << 16).startswith(wire.STATE), "it says its state")
+                assert link.recv(1 << 16).startswith(wire.STATE), "it says its state"
                 with contextlib.suppress(ConnectionError):
                     link.sendall(wire.framed(wire.NAMED, b"0" * 16) + wire.packed(wire.FROM) + b"".join(false_frames(chance)))
                     link.shutdown(socket.SHUT_WR)
@@ -224,76 +228,48 @@ def what_is_no_daemon_harms_no_program(machine, _):
                         pass
     os.unlink(path)
     machine.start_daemon()
-    check(wait_for(lambda: fleet(machine.url, "text", "bold")[1].startswith("on")) and host.poll() is None, "it goes on, and is published")
+    assert wait_for(lambda: fleet(machine.url, "text", "bold")[1].startswith("on")) and host.poll() is None, "it goes on, and is published"
     host.terminate()
-    check(host.wait(PATIENCE) == 129, f"and ends: {host.returncode}")
+    assert host.wait(PATIENCE) == 129, f"and ends: {host.returncode}"
 
 
-ANSWERS = "stty -echo; echo on; while read x; do echo got $x; done"
-UNITS = os.path.join(HERE, "..", "systemd")
-ATTACK = r"""cat %s/*/password /proc/*/environ; KEEP_DIR=$(mktemp -d) %s publish -- %s 0 1 4096 C dec vt220 80x24 victim true; echo "status $?"; until [ -e %s/go ]; do sleep 0.1; done; [ "$(id -u)" -ne 0 ] && kill -9 -1; echo survived"""
+ATTACK = r"""cat %s /proc/*/environ; KEEP_DIR=$(mktemp -d) %s publish -- %s 0 1 4096 C dec vt220 80x24 victim true; echo "status $?"; read x; kill -9 -1; echo survived"""
 
 
-class Units:
-    """Commands under the users that their units have: a user of the same name is the same one. That of a dynamic user is the unit's, without its
-    instance, if the unit names none. systemd doesn't run here. Each unit has its password as LoadCredential gives it."""
-
-    def __init__(self, machine):
-        self.machine, self.users, self.first = machine, {}, 10**6 + 100 * random.randrange(10**6)
-        self.place = tempfile.mkdtemp(prefix="units-")
-        os.chmod(self.place, 0o755)
-
-    def start(self, unit, *words, instance=""):
-        lines = text_of(f"{UNITS}/vt220-fleet-{unit}.service").splitlines()
-        said = dict(line.split("=", 1) for line in lines if "=" in line and line[0] != "#")
-        mine = os.path.join(self.place, f"{unit}{instance}")
-        named = said.get("User", f"vt220-fleet-{unit.rstrip('@')}").replace("%i", instance)
-        user = self.users.setdefault(named, self.first + len(self.users))
-        where = {"FLEET_REDIS": self.machine.url, "FLEET_DAEMON": os.path.join(self.place, "daemon", "socket")}
-        os.makedirs(mine)
-        if "LoadCredential" in said:
-            where["FLEET_PASSWORD_FILE"] = conf(types.SimpleNamespace(folder=mine), "password", "secret")
-            os.chown(where["FLEET_PASSWORD_FILE"], user, user)
-            os.chmod(where["FLEET_PASSWORD_FILE"], 0o400)
-        os.chown(mine, user, user)
-        words = ["setpriv", f"--reuid={user}", f"--regid={user}", "--clear-groups", local.PYTHON, local.COMMAND, *words]
-        return subprocess.Popen(words, env=os.environ | where, stdout=subprocess.DEVNULL, stderr=subprocess.DEVNULL)
-
-
-def a_session_reaches_no_other_and_no_password(machine, _):
-    """A program reads what it may, takes another session's name, and kills all that it may."""
-    name = "apart"
+def test_a_session_reaches_no_other_and_no_password(machine):
+    """A program under a user of its own, as the units give it one, reads what it may, takes another session's name, and kills all that it may."""
     if os.getuid() != 0:
-        print(f"skipped: {name}: it needs root, for sessions of several users", file=sys.stderr)
+        print("not tried: it needs root, for sessions of several users")
         return
-    units = Units(machine)
+    first, place, password = 10**6 + 100 * random.randrange(10**6), os.path.join(machine.folder, "of-daemon"), conf(machine, "password", "secret")
+    daemon, victim, attacker = range(first, first + 3)
+    where = os.environ | machine.where() | {"FLEET_DAEMON": f"{place}/socket"}
+    store = stores.connect(machine.url, password)
     stores.connect(machine.url).config_set("requirepass", "secret")
-    os.chmod(machine.folder, 0o711)
-    os.chmod(machine.socket, 0o777)
-    configuration = os.environ["FLEET_CONFIG"]
-    os.chmod(configuration, 0o644)
-    store = stores.connect(machine.url, conf(machine, "password", "secret"))
-    served = [units.start("daemon", "daemon")]
-    socket_of_daemon = os.path.join(units.place, "daemon", "socket")
-    check(wait_for(lambda: local.is_listening(socket_of_daemon)), "the daemon listens")
-    victim = units.start("host@", "host", "--input", "victim", "sh", "-c", ANSWERS, instance="victim")
-    check(wait_for(lambda: b"on" in written(store, "victim")), "a session runs")
-    attack = ATTACK % (units.place, os.path.realpath(KEEPER), socket_of_daemon, units.place)
-    attacker = units.start("host@", "host", "attacker", "sh", "-c", attack, instance="attacker")
-    check(wait_for(lambda: b"status 5" in written(store, "attacker")), "it doesn't get another user's name")
-    open(os.path.join(units.place, "go"), "w").close()
-    check(attacker.wait(PATIENCE) == -9, f"its keeper ends with it: {attacker.returncode}")
-    check(wait_for(lambda: store.hget(key(store.hget(keys.NAMES, "attacker").decode(), "about"), "closed") == b"lost"), "so its session is lost")
+    os.mkdir(place)
+    for path, mode, owner in ((machine.folder, 0o711, 0), (machine.socket, 0o777, 0), (os.environ["FLEET_CONFIG"], 0o644, 0), (place, 0o755, daemon), (password, 0o400, daemon)):
+        os.chmod(path, mode)
+        os.chown(path, owner, owner)
+
+    def runs(user, *words, **more):
+        as_user = ["setpriv", f"--reuid={user}", f"--regid={user}", "--clear-groups", local.PYTHON, local.COMMAND, *words]
+        return ending(subprocess.Popen(as_user, env=where | more, stdout=subprocess.DEVNULL, stderr=subprocess.DEVNULL))
+
+    serves = runs(daemon, "daemon", FLEET_PASSWORD_FILE=password)
+    wait_for(lambda: local.is_listening(f"{place}/socket"))
+    lives = runs(victim, "host", "--input", "victim", "sh", "-c", ANSWERS)
+    wait_for(lambda: b"on" in written(store, "victim"))
+    attacks = runs(attacker, "host", "--input", "attacker", "sh", "-c", ATTACK % (password, os.path.realpath(KEEPER), f"{place}/socket"))
+    wait_for(lambda: b"status 5" in written(store, "attacker"))  # another user's name
+    session = incarnation_of(store, "attacker")
+    Typist(store, session).type(b"\r")
+    assert attacks.wait(PATIENCE) == -9, "its keeper ends with it"
+    wait_for(lambda: store.hget(key(session, "about"), "closed") == b"lost")
     said = written(store, "attacker")
-    check(b"secret" not in said and b"denied" in said and b"survived" not in said, f"it reads no password: {said}")
-    check(all(each.poll() is None for each in (*served, victim)), "the daemon and the other session live")
-    typist = Typist(store, incarnation_of(store, "victim"))
-    typist.type(b"hello\r")
-    check(wait_for(lambda: b"got hello" in written(store, "victim")), "and go on")
-    for each in (victim, *served):
-        each.terminate()
-        each.wait()
-    shutil.rmtree(units.place)
+    assert b"secret" not in said and b"denied" in said and b"survived" not in said, f"it reads no password: {said}"
+    Typist(store, incarnation_of(store, "victim")).type(b"hello\r")
+    wait_for(lambda: b"got hello" in written(store, "victim"))
+    assert serves.poll() is None and lives.poll() is None, "the daemon and the other session live"
 
 
 def certify(at):
@@ -302,7 +278,7 @@ def certify(at):
     subprocess.run([*words.split(), "-keyout", f"{at}/key", "-out", f"{at}/cert"], check=True, capture_output=True)
 
 
-def tls_is_spoken(machine, data):
+def test_tls_is_spoken(machine, data):
     name, port, at = "TLS", free_port(), machine.folder
     certify(at)
     machine.kill()
@@ -311,7 +287,7 @@ def tls_is_spoken(machine, data):
     stores.connect(machine.url).config_set("requirepass", "pw")
     url = f"rediss://:pw@127.0.0.1:{port}?ssl_ca_certs={at}/cert"
     source = Source(url, name).send(data).end(0)
-    check(fleet(url, "text", name)[1] == played(source.sent)[0].text(), "the command")
+    assert fleet(url, "text", name)[1] == played(source.sent)[0].text(), "the command"
     quick = conf(machine, "quick", "[store]", "timeout = 60", "give-up = 1")
     status, _, said = fleet(f"rediss://:pw@127.0.0.1:{port}", "check-store", config=quick)
-    check(status == 69 and "certificate" in said.lower(), f"a certificate that nobody vouches for is refused: {said[:200]}")
+    assert status == 69 and "certificate" in said.lower(), f"a certificate that nobody vouches for is refused: {said[:200]}"

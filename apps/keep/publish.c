@@ -354,11 +354,14 @@ static void take(char letter, const uint8_t *bytes, size_t len) {
     memcpy(&id.moment, bytes + 1, sizeof id.moment);
     memcpy(&id.number, bytes + 9, sizeof id.number);
     bool is_new = id.moment > last->moment || (id.moment == last->moment && id.number > last->number);
+    if (is_new && !the.is_over && letter == INPUT && !add(&it.typed, bytes + ID_LENGTH, len - ID_LENGTH)) {
+        part(AGAIN); /* without memory for it, it isn't taken: the daemon sends it again */
+        return;
+    }
     if (is_new) *last = id;
     if (letter == INPUT) it.heard++;
     if (!is_new || the.is_over) return;
-    if (letter == INPUT) add(&it.typed, bytes + ID_LENGTH, len - ID_LENGTH);
-    else if (letter == SIGNAL && len > ID_LENGTH) signal_program(bytes[ID_LENGTH]);
+    if (letter == SIGNAL && len > ID_LENGTH) signal_program(bytes[ID_LENGTH]);
     else if (letter == SIZE) size_program(bytes + ID_LENGTH, len - ID_LENGTH);
 }
 

@@ -1,160 +1,257 @@
 package vt220
 
 import (
+	"bytes"
+	"encoding/hex"
 	"errors"
 	"fmt"
 	"io/fs"
 	"os"
+	"reflect"
 	"regexp"
+	"sort"
 	"strconv"
 	"strings"
 	"testing"
 )
 
-// rowsOf returns the rows of the file that a variable names, each as its fields. Without it, this repository's file is read. The published
-// module has no such file beside it, so the test is skipped there.
-func rowsOf(t *testing.T, variable, name string) (rows [][]string) {
-	path, isNamed := os.LookupEnv(variable)
+// rowsOf returns the rows of a file that lib/rows/flat.py wrote, each as its fields: in the directory that VT220_ROWS names, or else in this repository.
+// The published module has no such file beside it, so the test is skipped there.
+func rowsOf(t *testing.T, name string, least int) (rows [][]string) {
+	place, isNamed := os.LookupEnv("VT220_ROWS")
 	if !isNamed {
-		path = "../../" + name
+		place = "../../out/tests/rows"
 	}
-	file, err := os.ReadFile(path)
+	file, err := os.ReadFile(place + "/" + name + ".rows")
 	if errors.Is(err, fs.ErrNotExist) && !isNamed {
-		t.Skipf("no rows: %s names their file", variable)
+		t.Skip("no rows: VT220_ROWS names their directory")
 	}
 	if err != nil {
 		t.Fatal(err)
 	}
-	for _, line := range strings.Split(string(file), "\n") {
-		if line != "" && line[0] != '#' {
-			rows = append(rows, strings.Split(line, "\t"))
+	for _, line := range strings.SplitAfter(string(file), "\n") {
+		if line != "" {
+			rows = append(rows, strings.Split(strings.TrimSuffix(line, "\n"), "\t"))
 		}
+	}
+	if len(rows) < least {
+		t.Errorf("%d rows of %s", len(rows), name)
 	}
 	return rows
 }
 
-// spelling is a part of a field of lib/rows/vectors.txt, and escapes is what a letter after a backslash spells.
-var (
-	spelling = regexp.MustCompile(`\\(x..|\{\d+\}|.)|[^\\]+`)
-	escapes  = map[string]string{`\e`: "\x1b", `\n`: "\n", `\r`: "\r", `\\`: `\`, `\H`: "\x1b(B\x1b*<\x1b+0\x0f", `\P`: "\x1b[0m\x1b[0\"q",
-		`\S`: "\x1b(B\x1b)B\x1b*<\x1b+<\x0f\x1b}"}
-)
-
-// spelled returns the bytes that a field spells.
-func spelled(field string) (found string) {
-	for _, part := range spelling.FindAllString(field, -1) {
-		switch {
-		case strings.HasPrefix(part, `\x`):
-			number, _ := strconv.ParseUint(part[2:], 16, 8)
-			found += string([]byte{byte(number)})
-		case strings.HasPrefix(part, `\{`):
-			count, _ := strconv.Atoi(part[2 : len(part)-1])
-			found += strings.Repeat(found[len(found)-1:], count-1)
-		case part[0] == '\\':
-			found += escapes[part]
-		default:
-			found += part
-		}
+func unhex(t *testing.T, field string) []byte {
+	content, err := hex.DecodeString(field)
+	if err != nil {
+		t.Fatal(err)
 	}
-	return found
+	return content
 }
 
-// row is what a vector of lib/rows/vectors.txt has: what its terminal shows and returned, by the names there.
-type row struct{ text, cursor, wrap, brush, alternate, paste, bells, pending, reports, lines, repaint string }
-
-// wantedOf returns the row that some fields describe.
-func wantedOf(t *testing.T, fields []string) row {
-	wanted := row{cursor: "1;1", wrap: "0", alternate: "0", paste: "0", bells: "0"}
-	places := map[string]*string{"text": &wanted.text, "cursor": &wanted.cursor, "wrap": &wanted.wrap, "brush": &wanted.brush, "alternate": &wanted.alternate,
-		"paste": &wanted.paste, "bells": &wanted.bells, "pending": &wanted.pending, "reports": &wanted.reports, "lines": &wanted.lines, "repaint": &wanted.repaint, "differs": new(string), "left": new(string)}
-	for _, field := range fields {
-		name, value, _ := strings.Cut(field, "=")
-		if places[name] == nil {
-			t.Fatal(field)
-		}
-		*places[name] = spelled(value)
-	}
-	return wanted
+func number(field string) int {
+	value, _ := strconv.Atoi(field)
+	return value
 }
 
-// flag returns how a vector has a flag.
-func flag(isSet bool) string { return map[bool]string{true: "1", false: "0"}[isSet] }
+// is returns how the rows have a flag.
+func is(set bool) int { return map[bool]int{true: 1}[set] }
 
-// shownBy returns what a terminal itself shows. The rest is as at power-up.
-func shownBy(t *testing.T, terminal *Terminal, s *Scratch) row {
+// screen is a row of screens.rows: two sizes and two inputs, of which the second may be nothing.
+type screen struct {
+	name            string
+	language        Language
+	sizes           [2][2]int
+	inputs          [2][]byte
+	wanted, repaint string
+}
+
+// change gives terminals the second size.
+func (r screen) change(t *testing.T, terminals ...*Terminal) {
+	for _, terminal := range terminals {
+		if rows, columns := r.sizes[1][0], r.sizes[1][1]; rows > 0 {
+			if err := terminal.Resize(rows, columns); err != nil || terminal.Rows() != rows || terminal.Width() != columns {
+				t.Fatal(r.name, err)
+			}
+		}
+	}
+}
+
+func (r screen) open(t *testing.T, start string) *Terminal {
+	terminal, err := OpenSize(r.language, r.sizes[0][0], r.sizes[0][1])
+	if err != nil {
+		t.Fatal(r.name, err)
+	}
+	terminal.Feed([]byte(start))
+	return terminal
+}
+
+// described returns what a terminal has and returned, as the rows have it.
+func described(t *testing.T, terminal *Terminal, s *Scratch, reports, lines string) string {
 	text, err := terminal.Show(s)
 	if err != nil {
 		t.Fatal(err)
 	}
 	cursor, brush := terminal.Cursor(), terminal.Brush()
 	var names []string
-	for _, one := range []struct {
-		name  string
-		isSet bool
-	}{{"bold", brush.Bold}, {"underline", brush.Underline}, {"blink", brush.Blink}, {"reverse", brush.Reverse}} {
-		if one.isSet {
-			names = append(names, one.name)
+	for i, isSet := range []bool{brush.Bold, brush.Underline, brush.Blink, brush.Reverse} {
+		if isSet {
+			names = append(names, []string{"bold", "underline", "blink", "reverse"}[i])
 		}
 	}
-	return row{text: strings.TrimRight(text, "\n"), cursor: fmt.Sprintf("%d;%d", cursor.Row, cursor.Col), wrap: flag(cursor.Wrap),
-		brush: strings.Join(names, " "), alternate: "0", paste: "0", bells: fmt.Sprint(terminal.Bells())}
+	return fmt.Sprintf("text %x cursor %d;%d wrap %d brush %s alternate %d paste %d bells %d pending %x reports %x lines %x", strings.TrimRight(text, "\n"), cursor.Row, cursor.Col,
+		is(cursor.Wrap), strings.Join(names, " "), is(terminal.Alternate()), is(terminal.BracketedPaste()), terminal.Bells(), terminal.Pending(), reports, lines)
 }
 
-// fed feeds an input in chunks of a size, with the log and without one. It returns the terminal, and what that leads to.
-func fed(t *testing.T, s *Scratch, language Language, input []byte, size int) (*Terminal, row) {
-	terminal, other := openAs(t, language), openAs(t, language)
+// isSame returns whether two terminals show the same, and keep the same for their language but for the page that isn't shown.
+func isSame(one, other *Terminal) bool {
+	return one.SameState(other) && one.Alternate() == other.Alternate() && string(one.Pending()) == string(other.Pending())
+}
+
+// rebuilds checks that the repaint of a terminal rebuilds it on another one, as an update does. There is neither inside a sequence.
+func (r screen) rebuilds(t *testing.T, s *Scratch, terminal *Terminal) string {
+	const start = "any\x1b[5mthing\x1b[?3h\x1b[?47hpage"
+	painted, updated, shown := r.open(t, start+"\xe2"), r.open(t, start), r.open(t, start)
+	if terminal.Rows() == r.sizes[1][0] {
+		r.change(t, painted, updated, shown)
+	}
+	repaint, err := terminal.Repaint(s)
+	update, err2 := shown.Update(terminal, s)
+	if !terminal.IsBetween() {
+		if err != ErrPartial || r.language != Xterm && err2 != ErrPartial || terminal.Held() == HeldNothing {
+			t.Errorf("%s: inside a sequence: %v, %v", r.name, err, err2)
+		}
+		return "partial"
+	}
+	if err != nil || len(painted.Feed(repaint)) > 0 || r.language != Bytes && len(painted.Pending()) > 0 {
+		t.Errorf("%s: the repaint %q: %v", r.name, repaint, err)
+	}
+	painted.Feed(terminal.Pending())
+	if again, err := painted.Repaint(s); err != nil || !bytes.Equal(again, repaint) || !isSame(painted, terminal) {
+		t.Errorf("%s: the repaint, played: %q: %v", r.name, repaint, err)
+	}
+	if r.language != Xterm {
+		if err2 != nil || !shown.SameState(terminal) || len(updated.Feed(update)) > 0 || !updated.SameState(terminal) {
+			t.Errorf("%s: the update %q: %v", r.name, update, err2)
+		}
+		if update, err = shown.Update(terminal, s); err != nil || len(update) > 0 {
+			t.Errorf("%s: an update of equal states: %q, %v", r.name, update, err)
+		}
+	}
+	return hex.EncodeToString(repaint)
+}
+
+// play plays the row in chunks, with the log and without one. Another terminal is copied from it after each chunk.
+func (r screen) play(t *testing.T, s *Scratch, size int) {
+	terminal, other := r.open(t, ""), r.open(t, "")
 	var reports, lines string
-	for len(input) > 0 {
-		piece := input
-		if len(piece) > size {
-			piece = piece[:size]
+	for i, input := range r.inputs {
+		if i == 1 {
+			r.change(t, terminal, other)
 		}
-		now, off, err := terminal.FeedLog(piece, s)
-		if err != nil || string(other.Feed(piece)) != string(now) || !other.SameState(terminal) || string(other.Pending()) != string(terminal.Pending()) {
-			t.Errorf("% X: the log differs: %v", piece, err)
-		}
-		reports += string(now)
-		lines += string(off)
-		input = input[len(piece):]
-	}
-	found := shownBy(t, terminal, s)
-	found.pending, found.reports, found.lines = string(terminal.Pending()), reports, lines
-	return terminal, found
-}
-
-// pieces cuts an input into chunks of a size.
-func pieces(input []byte, size int) (parts [][]byte) {
-	for ; len(input) > size; input = input[size:] {
-		parts = append(parts, input[:size])
-	}
-	return append(parts, input)
-}
-
-// sizeOf returns the rows and the columns of COLUMNSxROWS.
-func sizeOf(t *testing.T, field string) (rows, columns int) {
-	if _, err := fmt.Sscanf(field, "%dx%d", &columns, &rows); err != nil {
-		t.Fatal(field, err)
-	}
-	return rows, columns
-}
-
-// eachWay feeds the input of each vector for an encoding and a terminal whole, byte by byte and in chunks of five, and compares what that
-// leads to with what the vector has.
-func eachWay(t *testing.T, encoding, terminal string, fed func([]byte, int) row) {
-	count := 0
-	for _, fields := range rowsOf(t, "VT220_VECTORS", "lib/rows/vectors.txt") {
-		if fields[1] != encoding || fields[2] != terminal {
-			continue
-		}
-		input, wanted := []byte(spelled(fields[3])), wantedOf(t, fields[4:])
-		for _, size := range []int{len(input), 1, 5} {
-			if found := fed(input, size); found != wanted {
-				t.Errorf("%s in chunks of %d: %+v, and not %+v", fields[0], size, found, wanted)
+		for len(input) > 0 {
+			piece := input
+			if len(piece) > size {
+				piece = piece[:size]
 			}
+			now, off, err := terminal.FeedLog(piece, s)
+			if err != nil || string(other.Feed(piece)) != string(now) || !isSame(other, terminal) {
+				t.Errorf("%s: % X: the log differs: %v", r.name, piece, err)
+			}
+			if other.Reset() != nil || other.CopyFrom(terminal) != nil || !isSame(other, terminal) {
+				t.Error(r.name, "a copy")
+			}
+			if r.language == Xterm && r.sizes[0] == [2]int{Rows, 80} {
+				r.rebuilds(t, s, terminal)
+			}
+			reports, lines, input = reports+string(now), lines+string(off), input[len(piece):]
 		}
-		count++
 	}
-	if count < 50 {
-		t.Errorf("%d vectors", count)
+	if found := described(t, terminal, s, reports, lines); r.wanted != "-" && found != r.wanted {
+		t.Errorf("%s in chunks of %d: %s, and not %s", r.name, size, found, r.wanted)
+	}
+	if repaint := r.rebuilds(t, s, terminal); r.repaint != "-" && repaint != r.repaint {
+		t.Errorf("%s in chunks of %d: the repaint %s, and not %s", r.name, size, repaint, r.repaint)
+	}
+	text, err := terminal.Text(s)
+	shown, _ := terminal.Show(s)
+	plain := regexp.MustCompile(`(?m) +$`).ReplaceAllString(regexp.MustCompile(`\x1b\[[0-9;]*m`).ReplaceAllString(shown, ""), "")
+	if err != nil || text != plain {
+		t.Errorf("%s: the text %q, shown as %q", r.name, text, shown)
+	}
+}
+
+func TestScreens(t *testing.T) {
+	s := scratch(t)
+	for _, f := range rowsOf(t, "screens", 800) {
+		r := screen{f[0], Language(number(f[1])), [2][2]int{{number(f[2]), number(f[3])}, {number(f[5]), number(f[6])}}, [2][]byte{unhex(t, f[4]), unhex(t, f[7])}, f[8], f[9]}
+		for _, size := range []int{1 << 16, 1, 5} {
+			r.play(t, s, size)
+		}
+	}
+}
+
+// nameInC returns the name in C of a field of Modes.
+func nameInC(name string) string {
+	return strings.NewReplacer("keypada", "keypad_a", "reports8", "reports_8").Replace(strings.ToLower(name))
+}
+
+// fieldsOf returns what each reader returns, by the names of lib/rows/fields.txt.
+func fieldsOf(t *Terminal) string {
+	found := []string{fmt.Sprintf("width=%d", t.Width()), fmt.Sprintf("bells=%d", t.Bells()), fmt.Sprintf("held=%d", t.Held())}
+	put := func(of string, values ...any) {
+		for i := 0; i < len(values); i += 2 {
+			found = append(found, fmt.Sprintf("%s.%s=%d", of, values[i], values[i+1]))
+		}
+	}
+	attributes := func(of string, b Brush) {
+		put(of, "bold", is(b.Bold), "underline", is(b.Underline), "blink", is(b.Blink), "reverse", is(b.Reverse), "is_protected", is(b.IsProtected))
+	}
+	place := func(of string, c Cursor) { put(of, "row", c.Row, "col", c.Col, "wrap", is(c.Wrap)) }
+	sets := func(of string, g [4]byte, gl, gr int) {
+		put(of, "g0", g[0], "g1", g[1], "g2", g[2], "g3", g[3], "gl", gl, "gr", gr)
+	}
+	margins, c, s, r, modes := t.Margins(), t.Row(1)[0], t.Sets(), t.Saved(), reflect.ValueOf(t.Modes())
+	put("margins", "top", margins.Top, "bottom", margins.Bottom)
+	for i := 0; i < modes.NumField(); i++ {
+		put("modes", nameInC(modes.Type().Field(i).Name), is(modes.Field(i).Bool()))
+	}
+	put("cell", "glyph", c.Glyph)
+	attributes("cell", Brush{c.Bold, c.Underline, c.Blink, c.Reverse, c.IsProtected})
+	attributes("brush", t.Brush())
+	sets("sets", s.G, s.GL, s.GR)
+	place("cursor", t.Cursor())
+	put("sets", "single_shift", s.SingleShift)
+	place("saved", r.Cursor)
+	put("saved", "origin", is(r.Origin))
+	attributes("saved", r.Brush)
+	sets("saved", r.G, r.GL, r.GR)
+	for i, isSet := range t.Stops() {
+		put("stop", strconv.Itoa(i+1), is(isSet))
+	}
+	sort.Slice(found, func(i, j int) bool { return strings.Split(found[i], "=")[0] < strings.Split(found[j], "=")[0] })
+	return strings.Join(found, " ")
+}
+
+func TestFields(t *testing.T) {
+	for _, fields := range rowsOf(t, "fields", 50) {
+		terminal := open(t, string(unhex(t, fields[1])))
+		if found := fieldsOf(terminal); found != fields[2] {
+			t.Errorf("%s: %s, and not %s", fields[0], found, fields[2])
+		}
+		terminal.Close()
+	}
+}
+
+func TestKeys(t *testing.T) {
+	failures := map[string]error{"no key": ErrNoKey, "no character": ErrNoCharacter}
+	for _, fields := range rowsOf(t, "keys", 6000) {
+		setting, wanted := number(fields[1]), fields[3]
+		if failures[wanted] != nil {
+			wanted = ""
+		}
+		modes := Modes{LNM: setting&8 != 0, DECCKM: setting&4 != 0, KeypadApplication: setting&2 != 0, Reports8Bit: setting&1 != 0}
+		if sent, err := Key(fields[2], modes, Language(number(fields[0]))); err != failures[fields[3]] || hex.EncodeToString(sent) != wanted {
+			t.Errorf("%q: %x, %v", fields, sent, err)
+		}
 	}
 }

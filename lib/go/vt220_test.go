@@ -1,11 +1,13 @@
 package vt220
 
 import (
-	"encoding/hex"
-	"reflect"
-	"regexp"
+	"fmt"
+	"os"
+	"os/exec"
+	"runtime"
 	"strings"
 	"testing"
+	"time"
 )
 
 func open(t *testing.T, start string) *Terminal {
@@ -33,57 +35,6 @@ func scratch(t *testing.T) *Scratch {
 	return s
 }
 
-func unhex(t *testing.T, field string) []byte {
-	content, err := hex.DecodeString(strings.ReplaceAll(field, " ", ""))
-	if err != nil {
-		t.Fatal(err)
-	}
-	return content
-}
-
-// repainted returns the repaint of a terminal, which leads to its state, as an update does. There is none inside a sequence.
-func repainted(t *testing.T, s *Scratch, terminal *Terminal) string {
-	const start = "any\x1b[5mthing\x1b[?3h"
-	painted, updated, shown := open(t, start), open(t, start), open(t, start)
-	repaint, err := terminal.Repaint(s)
-	update, err2 := shown.Update(terminal, s)
-	if !terminal.IsBetween() {
-		if err != ErrPartial || err2 != ErrPartial || terminal.Held() == HeldNothing {
-			t.Errorf("inside a sequence: %v, %v", err, err2)
-		}
-		return ""
-	}
-	if err != nil || len(painted.Feed(repaint)) > 0 || !painted.SameState(terminal) {
-		t.Errorf("the repaint %q: %v", repaint, err)
-	}
-	if err2 != nil || !shown.SameState(terminal) || len(updated.Feed(update)) > 0 || !updated.SameState(terminal) {
-		t.Errorf("the update %q: %v", update, err2)
-	}
-	if update, err = shown.Update(terminal, s); err != nil || len(update) > 0 {
-		t.Errorf("an update of equal states: %q, %v", update, err)
-	}
-	return string(repaint)
-}
-
-// plain returns the lines that are shown, without SGR and without the spaces at their ends.
-func plain(shown string) string {
-	return regexp.MustCompile(`(?m) +$`).ReplaceAllString(regexp.MustCompile(`\x1b\[[0-9;]*m`).ReplaceAllString(shown, ""), "")
-}
-
-func TestVectors(t *testing.T) {
-	s := scratch(t)
-	eachWay(t, "dec", "vt220", func(input []byte, size int) row {
-		terminal, found := fed(t, s, Bytes, input, size)
-		text, err := terminal.Text(s)
-		shown, err2 := terminal.Show(s)
-		if err != nil || err2 != nil || text != plain(shown) {
-			t.Errorf("% X: the text %q, shown as %q", input, text, shown)
-		}
-		found.repaint = repainted(t, s, terminal)
-		return found
-	})
-}
-
 func TestDraw(t *testing.T) {
 	terminal, fresh := open(t, "\x1b[1mab"), open(t, "")
 	s, err := NewScratch()
@@ -101,24 +52,15 @@ func TestDraw(t *testing.T) {
 }
 
 func TestReaders(t *testing.T) {
-	terminal := open(t, "\x1b[2;3H\x1b[1;4mx\x1b[5;9r\x1b[4h")
+	terminal := open(t, "\x1b[2;3H\x1b[1;4mx")
 	if cell := terminal.Row(2)[2]; cell != (Cell{'x', true, true, false, false, false}) {
 		t.Error("row", cell)
 	}
-	if len(terminal.Row(24)) != 80 || terminal.Width() != 80 || terminal.Row(0) != nil || terminal.Row(25) != nil || terminal.Row(-1) != nil {
+	if len(terminal.Row(24)) != 80 || terminal.Row(0) != nil || terminal.Row(25) != nil || terminal.Row(-1) != nil {
 		t.Error("rows")
 	}
-	if terminal.Cursor() != (Cursor{1, 1, false}) || terminal.Margins() != (Margins{5, 9}) {
-		t.Error("cursor, margins")
-	}
-	if !terminal.Modes().IRM || terminal.Modes().LNM || !terminal.Modes().DECTCEM {
-		t.Error("modes")
-	}
-	if update, err := terminal.Update(terminal, scratch(t)); len(update) != 0 || err != nil || !terminal.SameState(terminal) {
-		t.Error("itself")
-	}
-	if string(terminal.Feed([]byte("\x1b[6n"))) != "\x1b[1;1R" || LibraryVersion() != Version {
-		t.Error("reports, version")
+	if update, err := terminal.Update(terminal, scratch(t)); len(update) != 0 || err != nil || !terminal.SameState(terminal) || LibraryVersion() != Version {
+		t.Error("itself, version")
 	}
 }
 
@@ -138,7 +80,7 @@ func TestClosed(t *testing.T) {
 	if clone, err := terminal.Clone(); clone != nil || err != ErrClosed {
 		t.Error("clone", err)
 	}
-	if terminal.IsOpen() || terminal.Feed([]byte("x")) != nil || len(terminal.Row(1)) != 0 || terminal.Width() != 0 || terminal.SameState(other) || terminal.SameState(terminal) {
+	if terminal.IsOpen() || terminal.Feed([]byte("x")) != nil || len(terminal.Row(1)) != 0 || terminal.Width() != 0 || terminal.SameState(other) || terminal.SameState(terminal) || len(terminal.Pending()) != 0 {
 		t.Error("closed")
 	}
 	s.Close()
@@ -176,18 +118,6 @@ func TestParts(t *testing.T) {
 	b, _ := New()
 	s, _ := NewScratch()
 	a.Feed([]byte("\x1b[3;7H\x1b(A\x1b)0\x0e\x1b[1m\x1b7\x1b[m\x1b[4m\x1bO\a"))
-	if a.Bells() != 1 || !a.Brush().Underline || a.Brush().Bold {
-		t.Error("bells or brush")
-	}
-	if a.Sets() != (Sets{[4]byte{'A', '0', '<', '<'}, 1, 2, 3}) {
-		t.Error("sets", a.Sets())
-	}
-	if saved := a.Saved(); saved.Cursor != (Cursor{3, 7, false}) || !saved.Brush.Bold || saved.G[1] != '0' || saved.GL != 1 || saved.GR != 2 {
-		t.Error("saved", saved)
-	}
-	if stops := a.Stops(); !stops[8] || stops[9] || stops[0] {
-		t.Error("stops")
-	}
 	if b.CopyFrom(a) != nil || !b.SameState(a) {
 		t.Error("copy")
 	}
@@ -198,6 +128,10 @@ func TestParts(t *testing.T) {
 	changed, err := b.RowChanges(a, 3)
 	if err != nil || len(changed) != 80 || !changed[8] || !changed[9] || changed[7] {
 		t.Error("changes", err)
+	}
+	wide := open(t, "\x1b[?3h")
+	if changed, err = b.RowChanges(wide, 3); err != nil || len(changed) != 132 || !changed[131] {
+		t.Error("changes of the width", err)
 	}
 	if _, err := b.RowChanges(a, 25); err != ErrNoRow {
 		t.Error("no such row")
@@ -217,37 +151,6 @@ func TestParts(t *testing.T) {
 	}
 }
 
-// Draws the marked cells alone, or the whole screen after a change of the width: from 80 columns to 132 and back.
-func TestDrawnAnew(t *testing.T) {
-	shown, terminal, s := open(t, ""), open(t, ""), scratch(t)
-	var drawn [Rows + 1][]Cell
-	for i, step := range []string{"abc", "\x1b[2;2Hx", "\x1b[?3h\x1b[1;130Hyz", "\x1b[5;100Hw", "\x1b[?3l", "d\x1b[1me"} {
-		terminal.Feed([]byte(step))
-		isAnew := i == 0 || shown.Width() != terminal.Width()
-		for row := 1; row <= Rows; row++ {
-			cells := terminal.Row(row)
-			changed, err := shown.RowChanges(terminal, row)
-			if err != nil || len(changed) != len(cells) {
-				t.Fatal(err, len(changed))
-			}
-			if isAnew {
-				drawn[row] = make([]Cell, len(cells))
-			}
-			for c := range cells {
-				if isAnew || changed[c] {
-					drawn[row][c] = cells[c]
-				}
-			}
-			if !reflect.DeepEqual(drawn[row], cells) {
-				t.Errorf("%q: row %d", step, row)
-			}
-		}
-		if _, err := shown.Update(terminal, s); err != nil {
-			t.Fatal(err)
-		}
-	}
-}
-
 func TestLog(t *testing.T) {
 	terminal, s := open(t, "top\x1b[24H"), scratch(t)
 	reports, lines, err := terminal.FeedLog([]byte("\xe9\n\x1b[6n"), s)
@@ -261,70 +164,6 @@ func TestLog(t *testing.T) {
 	s.Close()
 	if _, _, err := terminal.FeedLog([]byte("x"), s); err != ErrClosed {
 		t.Error(err)
-	}
-}
-
-// openRow opens the terminal of a row of lib/rows/sizes.txt.
-func openRow(t *testing.T, fields []string) *Terminal {
-	language := map[string]Language{"dec": Bytes, "utf-8": UTF8}[fields[1]]
-	if fields[2] == "xterm" {
-		language = Xterm
-	}
-	rows, columns := sizeOf(t, fields[3])
-	terminal, err := OpenSize(language, rows, columns)
-	if err != nil {
-		t.Fatal(fields[0], err)
-	}
-	return terminal
-}
-
-// playSize plays a row of lib/rows/sizes.txt in chunks. A copy of the terminal plays the second part, too.
-func playSize(t *testing.T, s *Scratch, fields []string, chunk int) row {
-	terminal := openRow(t, fields)
-	var reports, lines string
-	play := func(terminal *Terminal, field string) {
-		for _, piece := range pieces([]byte(spelled(field)), chunk) {
-			now, off, err := terminal.FeedLog(piece, s)
-			if err != nil {
-				t.Fatal(fields[0], err)
-			}
-			reports, lines = reports+string(now), lines+string(off)
-		}
-	}
-	play(terminal, fields[4])
-	if fields[5] != "-" {
-		rows, columns := sizeOf(t, fields[5])
-		if err := terminal.Resize(rows, columns); err != nil || terminal.Rows() != rows {
-			t.Fatal(fields[0], err)
-		}
-	}
-	copied, err := terminal.Clone()
-	if err != nil {
-		t.Fatal(fields[0], err)
-	}
-	copied.Feed([]byte(spelled(fields[6])))
-	play(terminal, fields[6])
-	if !copied.SameState(terminal) || string(copied.Pending()) != string(terminal.Pending()) {
-		t.Error(fields[0], "a copy")
-	}
-	found := shownBy(t, terminal, s)
-	found.alternate, found.paste, found.pending = flag(terminal.Alternate()), flag(terminal.BracketedPaste()), string(terminal.Pending())
-	found.reports, found.lines = reports, lines
-	return found
-}
-
-// Each row of lib/rows/sizes.txt, whole and byte by byte.
-func TestRowsOfSizes(t *testing.T) {
-	rows, s := rowsOf(t, "VT220_SIZES", "lib/rows/sizes.txt"), scratch(t)
-	for _, fields := range rows {
-		for _, chunk := range []int{1000, 1} {
-			if found, wanted := playSize(t, s, fields, chunk), wantedOf(t, fields[7:]); found != wanted {
-				t.Errorf("%s in chunks of %d: %+v, and not %+v", fields[0], chunk, found, wanted)
-			}
-		}
-	}
-	if len(rows) < 30 {
-		t.Errorf("%d rows", len(rows))
 	}
 }
 
@@ -361,5 +200,136 @@ func TestSizes(t *testing.T) {
 	}
 	if _, err := OpenSize(Bytes, 24, -1); err != ErrNoSize {
 		t.Error("no such size", err)
+	}
+}
+
+func TestLanguages(t *testing.T) {
+	terminal, other, s := openAs(t, Xterm), open(t, ""), scratch(t)
+	if _, err := OpenAs(4); err != ErrNoLanguage {
+		t.Error("a language that isn't there", err)
+	}
+	terminal.Feed([]byte("main\x1b[?1049halt"))
+	if terminal.Language() != Xterm || other.Language() != Bytes || openAs(t, UTF8).Language() != UTF8 || !terminal.Alternate() {
+		t.Error("languages")
+	}
+	if err := terminal.CopyFrom(other); err != ErrLanguage {
+		t.Error("a copy of a VT220", err)
+	}
+	if _, err := terminal.Update(other, s); err != ErrLanguage {
+		t.Error("an update of an xterm", err)
+	}
+	if _, err := other.RepaintAs(Xterm, s); err != ErrLanguage {
+		t.Error("pages of a VT220", err)
+	}
+	bytes, err := terminal.RepaintAs(Bytes, s)
+	if other.Feed(bytes); err != nil || !other.SameState(terminal) || other.Alternate() {
+		t.Error("a repaint for a VT220", err)
+	}
+	if terminal.Reset(); terminal.Alternate() {
+		t.Error("a reset")
+	}
+	if text, err := terminal.Text(s); err != nil || strings.TrimRight(text, "\n") != "" {
+		t.Errorf("%q %v", text, err)
+	}
+	terminal.Close()
+	if _, _, err := terminal.FeedLog([]byte("x"), s); err != ErrClosed || terminal.Alternate() || terminal.Feed([]byte("x")) != nil || terminal.Language() != Bytes {
+		t.Error("closed", err)
+	}
+	if _, err := terminal.Repaint(s); err != ErrClosed {
+		t.Error("a repaint of a closed one", err)
+	}
+}
+
+// By the tables of docs/SPECIFICATION.md, 'UTF-8'.
+func TestShown(t *testing.T) {
+	for _, c := range []struct {
+		character, glyph rune
+		cells            int
+	}{{'A', 'A', 1}, {'\u201c', '"', 1}, {'\u2501', '\u2500', 1}, {'\u4e16', '\u2426', 2}, {'\uff21', 'A', 2}, {'\u0301', 0, 0}, {'\u0085', 0, 0}, {'\n', 0, 0}} {
+		if glyph, cells := Shown(c.character); glyph != c.glyph || cells != c.cells {
+			t.Errorf("%U is shown as %U in %d cells", c.character, glyph, cells)
+		}
+	}
+}
+
+func TestTyped(t *testing.T) {
+	if KeyLength([]byte("\x1b[A")) != 3 || KeyLength([]byte("\x1b[")) != 0 || KeyLength([]byte("éx")) != 2 || KeyLength(nil) != 0 {
+		t.Error("lengths")
+	}
+	if _, err := Key("", Modes{}, Bytes); err != ErrNoKey {
+		t.Error(err)
+	}
+}
+
+// heap returns how many bytes the C library's heap has, also those that were never touched. It is one mapping under oneHeap.
+func heap(t *testing.T) int {
+	maps, err := os.ReadFile("/proc/self/maps")
+	if err != nil {
+		t.Skip("no /proc")
+	}
+	for _, line := range strings.Split(string(maps), "\n") {
+		if !strings.HasSuffix(line, "[heap]") {
+			continue
+		}
+		var begin, end int
+		if _, err := fmt.Sscanf(line, "%x-%x", &begin, &end); err != nil {
+			t.Fatal(err)
+		}
+		return end - begin
+	}
+	return 0
+}
+
+// oneHeap is the environment in which the C library has one heap for all threads, and maps no large block by itself. Otherwise each new
+// thread may reserve 64 MB more, and how many threads there are depends on how busy the machine is.
+var oneHeap = []string{"MALLOC_ARENA_MAX=1", "MALLOC_MMAP_MAX_=0"}
+
+// collect waits until the finalizers of what nothing refers to have run.
+func collect(t *testing.T) {
+	done := make(chan bool)
+	runtime.SetFinalizer(new([16]byte), func(*[16]byte) { close(done) })
+	for tries := 0; ; tries++ {
+		runtime.GC()
+		select {
+		case <-done:
+			return
+		case <-time.After(100 * time.Millisecond):
+			if tries == 600 {
+				t.Fatal("no finalizer runs")
+			}
+		}
+	}
+}
+
+// Terminals and scratch buffers that are dropped without Close give back their memory. Otherwise these take 300 MB and 690 MB.
+func TestDropped(t *testing.T) {
+	if os.Getenv("MALLOC_ARENA_MAX") != "1" {
+		again := exec.Command(os.Args[0], "-test.run=^TestDropped$")
+		again.Env = append(os.Environ(), oneHeap...)
+		if said, err := again.CombinedOutput(); err != nil {
+			t.Errorf("%v\n%s", err, said)
+		}
+		return
+	}
+	const limit = 100 << 20
+	for _, kind := range []struct {
+		name string
+		size int
+		drop func()
+	}{
+		{"terminals", 100, func() { open(t, "x") }},
+		{"scratch buffers", 10, func() { scratch(t) }},
+	} {
+		collect(t)
+		before := heap(t)
+		for batch := 0; batch < 100; batch++ {
+			for i := 0; i < kind.size; i++ {
+				kind.drop()
+			}
+			collect(t)
+		}
+		if grown := heap(t) - before; grown > limit {
+			t.Errorf("%s: %d bytes more", kind.name, grown)
+		}
 	}
 }

@@ -115,19 +115,9 @@ def test_scrolled():
     wait(lambda: reader.tells("alternate_on") == "0", "the end of the command ends this, too")
 
 
-#!/usr/bin/env python3
-"""edges KEEP PROGRAM: tests the session keeper's log and keys at their edges.
-
-KEEP is the built keeper, PROGRAM the proved program (crates/vt220/out/vt220). The ring of the log grows to its limit while it is full, a
-client reads the log more slowly than it is written, and what is typed has keys of one to four bytes and each key that scrolls.
-"""
-
-
 # Lines of 402 bytes and then of 501: the ring grows to its limit while its lines cross the new ring's end. (A ring has 4,194,304 bytes
 # before, and at most 10,000 lines of 766.) A line is a number and line drawing, of three bytes each.
 SHORT_LINES, LONG_LINES = 17000, 9000
-
-
 PRINTS = r"""
 printf '\033(0'
 awk 'BEGIN { for (i = 0; i < 132; i++) s = s "q"
@@ -139,6 +129,7 @@ read x
 awk 'BEGIN { for (i = 26000; i < 60000; i++) printf "%05d\n", i; printf "again" }'
 read x
 """
+
 
 def line_of(number):
     return f"{number:05}" + "\u2500" * (132 if number < SHORT_LINES else 165 if number < SHORT_LINES + LONG_LINES else 0)

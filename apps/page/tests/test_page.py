@@ -122,50 +122,19 @@ def read(data, timing=None):
     return PARTS["Recording"](data, timing)
 
 
-def test_headings():
-    """What the first line of a recording names, by the forms of asciinema and script."""
-    plain = b'Script started on 2026-01-01 00:00:00+00:00 [TERM="vt220" TTY="/dev/pts/0" COLUMNS="132" LINES="24"]\n'
-
-    def named(data):
-        made = read(data)
-        return made.terminal, made.size
-
-    assert named(scripted([])) == ("xterm", (100, 30)), "the first line of script under xterm"
-    assert named(plain) == ("vt220", (132, 24)), "the first line of script under vt220"
-    for version in (2, 3):
-        assert named(cast([], version)) == ("xterm", (100, 30)), f"the first line of a cast of version {version}"
-    assert named(b"\x1b[?1049h") == named(ttyrec(frames()[:1])) == (None, None), "bytes and a ttyrec name nothing"
-
-
-def test_timings(tmp_path):
-    """The times of recordings by script, in both forms of its timing file."""
-    made = [(micros, data) for micros, data in frames(4)[:200]] + [(9 * 3600 * 10**6 + 3, b"\nScript done on the screen\n")]
-    wanted, timing = sized(made), tmp_path / "timing"
-
-    def timed(lines, session=scripted(made)):
-        timing.write_text("\n".join(lines) + "\n")
-        return read(session, timing)
-
-    old = [f"{wait // 10**6}.{wait % 10**6:06} {len(data)}" for wait, data in waits(made)]
-    assert timed(old).chunks == wanted, "the times of script's old form"
-    assert timed(old[:7] + [""] + old[7:]).chunks[:9] == wanted[:9], "an empty line"
-    facts = ["H 0.000000 START_TIME 2026-01-01", "H 0.000000 OUTPUT_LOG out", "H 0.250000 INPUT_LOG in"]
-    later = [(micros + 250000, size) for micros, size in wanted]
-    assert timed(facts + [f"O {line}" for line in old]).chunks == later, "the times of script's new form"
-    apart = facts + [f"O {old[0]}", "I 0.5 7", "S 0.25 SIGWINCH ROWS=24 COLS=80"] + [f"O {line}" for line in old[1:]]
-    assert timed(apart).chunks[1] == (made[1][0] + 1000000, len(made[1][1])), "input in another file, and a signal"
-    session = b'Script started on 2026-01-01\nabcINPUTdef\nScript done on 2026-01-01\n'
-    both = timed(["O 0.5 3", "I 0.25 5", "O 0.25 3"], session)
-    assert (both.chunks, both.content, both.texts(b"input")) == ([(500000, 3), (1000000, 3)], b"abcdef", [[0.75, "INPUT"]]), "input in the same file"
-
-    def broken(lines, session):
-        made = timed(lines, session)
-        return made.chunks, made.broken
-
-    end = session.rpartition(b"\nScript")[0]
-    assert broken(["0.5 3", "nothing"], session) == ([(500000, 3)], {"part": "timing", "at": 6}), "a timing file that is broken"
-    assert broken(["0.5 3", "0.5 9"], session) == ([(500000, 3)], {"part": "recording", "at": len(end)}), "a session that is too short"
-    assert broken(["0.5 3"], b"no session") == ([], {"part": "recording", "at": 0}), "no session"
+def test_read():
+    """What a page takes from the program's list of a recording's events. The rows of lib/rows/recordings.txt show how the program reads each format."""
+    for data, terminal, size in ((scripted([]), "xterm", (100, 30)), (cast([], 2), "xterm", (100, 30)), (cast([], 3), "xterm", (100, 30)), (b"\x1b[?1049h", None, None), (ttyrec([(0, b"x")]), None, None)):
+        assert (read(data).terminal, read(data).size) == (terminal, size), f"what the first line names: {data[:40]}"
+    made = [(0, b"one"), (1, b""), (1, b"two"), (1, b"at once"), (3 * 3600 * 10**6 + 8, b"hours later" + bytes(range(32, 127)) * 50)]
+    for data in (ttyrec(made), cast(made, 2), cast(made, 3)):
+        assert read(data).chunks == sized((micros, data) for micros, data in made if data), "the times of chunks"
+    assert read(ttyrec(made)[:-1]).broken == {"part": "recording", "at": len(ttyrec(made[:-1]))} and read(b'{"version": 1}\n').broken == {"part": "recording", "at": 0}, "where it is broken"
+    assert read(ttyrec([(5000000, b"a"), (7000000, b"b"), (6000000, b"c")])).chunks == [(0, 1), (2000000, 1), (2000000, 1)], "times that fall"
+    assert not read(b"\x1b[2Jtext").is_timed and not read(b"").is_timed, "bytes have no times"
+    # A backslash, TAB and LF, and bytes of both halves.
+    plain = bytes(range(256)) + b"\\x41\t\n"
+    assert read(ttyrec([(5000000, plain)])).content == plain and read(b"\x1f\x8b\x08\0\0\0").content == b"", "the bytes of a ttyrec, and of a compressed file"
 
 
 def test_markers(page, work):
@@ -200,30 +169,6 @@ def test_times_of_script(page, work):
     page.wait(READY)
     assert "recorded for an xterm" in page.evaluate(NOTED), f"the notes of script for a VT220: {page.evaluate(NOTED)}"
     moments(page, made, 20, **SIZED)
-
-
-def test_times():
-    source = random.Random(9)
-    made = [(micros, data) for micros, data in frames(3)[:300] if data.isascii()]
-    made.insert(5, (made[4][0] + 1, b""))
-    made.append((made[-1][0], b"at once"))
-    made.append((made[-1][0] + 3 * 3600 * 10**6 + 7, b"hours later" + bytes(source.randrange(32, 127) for _ in range(5000))))
-    wanted = sized((micros, data) for micros, data in made if data)
-    assert read(ttyrec(made)).chunks == wanted, "the times of a ttyrec"
-    for version in (2, 3):
-        assert read(cast(made, version)).chunks == wanted, f"the times of a cast, version {version}"
-        assert read(cast(made, version)[:-1]).chunks == wanted, f"the times of a cast without its last LF, version {version}"
-    assert read(ttyrec(made)[:-1]).broken == {"part": "recording", "at": len(ttyrec(made[:-1]))}, "a ttyrec that is cut"
-    lines = cast(made[:3], 2)
-    assert read(lines + b"[nothing\n").broken == {"part": "recording", "at": len(lines)}, "a cast that is broken"
-    assert read(b'{"version": 1}\n').broken == {"part": "recording", "at": 0}, "a cast of version 1"
-    falling = ttyrec([(5000000, b"a"), (7000000, b"b"), (6000000, b"c")])
-    assert read(falling).chunks == [(0, 1), (2000000, 1), (2000000, 1)], "times that fall"
-    assert not read(b"\x1b[2Jtext").is_timed and not read(b"").is_timed, "bytes have no times"
-    # A backslash, TAB and LF, and bytes of both halves.
-    plain = bytes(range(256)) + b"\\x41\t\n"
-    assert read(ttyrec([(5000000, plain)])).content == plain, "the bytes of a ttyrec"
-    assert read(b"\x1f\x8b\x08\0\0\0").content == b"", "a compressed file"
 
 
 # --- the player ---

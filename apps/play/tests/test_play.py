@@ -1,8 +1,6 @@
 """Tests vt220-play on terminals of the rig, and on others whose bytes are looked at. `make -f tests/Makefile player` builds the players, by both compilers
 with their sanitizers. The proved program says what the screen is at a moment. A test waits for what is on the screen, never for a time:
 what is to come by itself comes within milliseconds of the recording, and what isn't comes after hours."""
-import contextlib
-import fcntl
 import gzip
 import json
 import os
@@ -14,7 +12,6 @@ import subprocess
 import sys
 import tempfile
 import termios
-import time
 
 import pytest
 
@@ -95,65 +92,25 @@ def shows_all(rig, rows, length, what):
 
 
 class Outer:
-    """A terminal of any size, whose bytes are looked at."""
+    """A terminal of the rig whose bytes are looked at."""
 
     def __init__(self, *words, rows=30, columns=80):
-        opened.append(self)
-        self.master, line = pty.openpty()
-        self.resize(rows, columns)
-        self.got = b""
-
-        def own_line():
-            os.setsid()
-            fcntl.ioctl(0, termios.TIOCSCTTY, 0)
-
-        self.process = subprocess.Popen([PLAY, *words], stdin=line, stdout=line, stderr=line, preexec_fn=own_line)
-        os.close(line)
-        os.set_blocking(self.master, False)
-
-    def resize(self, rows, columns):
-        fcntl.ioctl(self.master, termios.TIOCSWINSZ, struct.pack("HHHH", rows, columns, 0, 0))
-
-    def read(self):
-        with contextlib.suppress(BlockingIOError, OSError):
-            while more := os.read(self.master, 65536):
-                self.got += more
-        return self.got
-
-    def until(self, condition):
-        end = time.monotonic() + PATIENCE
-        while not condition():
-            if time.monotonic() > end:
-                return False
-            time.sleep(0.01)
-        return True
+        self.rig, self.seen = run(PLAY, *words, terminal="xterm", rows=rows, columns=columns, timeout=PATIENCE), 0
+        opened.append(self.rig)
 
     def shows(self, wanted, what):
-        """Waits for bytes, and drops what came up to them."""
-        assert self.until(lambda: wanted in self.read()), f"{what}: {self.got!r}"
-        before, _, self.got = self.got.partition(wanted)
-        return before
-
-    def type(self, keys):
-        os.write(self.master, keys)
-
-    def status(self):
-        self.until(lambda: self.read() is None or self.process.poll() is not None)
-        self.read()
-        return self.process.returncode
-
-    def close(self):
-        self.process.kill()
-        self.process.wait()
-        with contextlib.suppress(OSError):
-            os.close(self.master)
+        """Waits for bytes. Returns what came up to them, after those that were waited for before."""
+        wait(self.rig, lambda screen: wanted in self.rig.recording[self.seen :], what)
+        before = self.rig.recording[self.seen :].partition(wanted)[0]
+        self.seen += len(before) + len(wanted)
+        return bytes(before)
 
 
 def refused(words, status, *said, rows=24, columns=80):
     """Checks that the player refuses, in one line that has these words, and draws nothing."""
-    outer = Outer(*words, rows=rows, columns=columns)
-    assert outer.status() == status, f"{words}: status {outer.process.returncode}, {outer.got!r}"
-    assert outer.got.count(b"\n") == 1 and b"\x1b" not in outer.got and all(word in outer.got.decode() for word in said), f"{words}: {outer.got!r}"
+    with run(PLAY, *words, terminal="xterm", rows=rows, columns=columns, timeout=PATIENCE) as rig:
+        rig.ended(status)
+    assert rig.recording.count(b"\n") == 1 and b"\x1b" not in rig.recording and all(word in rig.recording.decode() for word in said), f"{words}: {rig.recording!r}"
 
 
 def test_keys():
@@ -439,11 +396,11 @@ def test_changes():
     refused([large], 1, "this terminal has 24 rows and 80 columns, and 40 rows and 120 columns are needed")
     outer = Outer(grows, rows=24, columns=80)
     outer.shows(b"one", "a recording that fits at its beginning")
-    outer.type(b".")
+    outer.rig.send(b".")
     outer.shows(b"30 rows and 100 columns are needed", "and not after a change")
-    outer.resize(30, 100)
+    outer.rig.resize(30, 100)
     outer.shows(b"one", "a terminal that becomes large enough")
-    outer.type(b",")
+    outer.rig.send(b",")
     outer.shows(b"one", "and back")
 
 
@@ -467,23 +424,23 @@ def test_below():
     """What a terminal with more rows shows below the screen, which is drawn in differences."""
     outer = Outer(SLOW)
     outer.shows(b"plays 0:00 / 8:20:00, speed 1", "the line below")
-    outer.type(b" ")
+    outer.rig.send(b" ")
     outer.shows(b"stopped 0:00 / 8:20:00, speed 1", "it has stopped")
-    outer.type(b">>")
+    outer.rig.send(b">>")
     outer.shows(b"speed 4", "it would play faster")
-    outer.type(b"<<<<<<<")
+    outer.rig.send(b"<<<<<<<")
     outer.shows(b"speed 0.25", "and not more slowly than that")
-    outer.type(b".")
+    outer.rig.send(b".")
     drawn = outer.shows(b"stopped 2:46:40 / 8:20:00, speed 0.25", "a step")
     assert b"two" in drawn and b"one" not in drawn, f"only what changed is drawn: {drawn!r}"
-    outer.type(b"\x0c")
+    outer.rig.send(b"\x0c")
     assert b"one" in outer.shows(b"stopped 2:46:40", "Ctrl-L"), "Ctrl-L draws everything"
-    outer.resize(20, 80)
+    outer.rig.resize(20, 80)
     outer.shows(b"24 rows and 80 columns are needed", "a terminal that becomes too small")
-    outer.resize(24, 80)
+    outer.rig.resize(24, 80)
     outer.shows(b"two", "and large enough")
-    outer.type(b"q")
-    assert outer.status() == 0, "q ends it"
+    outer.rig.send(b"q")
+    outer.rig.ended(0)
 
 
 def test_bells():
@@ -503,13 +460,13 @@ def test_covered():
     outer = Outer(file, rows=24)
     outer.shows(b"last-row", "it plays")
     for keys, said, row in ((b">", b"speed 2", b"last-row"), (b"<<", b"speed 0.5", b"last-row"), (b".", b"stopped 2:46:40", b"new-row"), (b".", b"at the end: 5:33:20 / 5:33:20", b"end-row")):
-        outer.type(keys)
+        outer.rig.send(keys)
         outer.shows(said, f"the line after {keys}")
         outer.shows(row, f"and the row {row} is back")
-    outer.type(b"?")
+    outer.rig.send(b"?")
     outer.shows(b"q ends", "the keys")
-    outer.type(b"q")
-    assert outer.status() == 0, "q ends it"
+    outer.rig.send(b"q")
+    outer.rig.ended(0)
     outer = Outer(cast("soon.cast", (0, "one\x1b[24;1Hlast-row"), (0.01, "\x1b[H")), rows=24)
     for said in (b"last-row", b"; ? shows the keys, q ends it", b"last-row"):
         outer.shows(said, "the line at the end, which comes and goes by itself")
@@ -533,10 +490,15 @@ def test_restored(number):
 
 
 def test_closed():
-    outer = Outer(SLOW)
-    outer.shows(b"one", "it plays")
-    os.close(outer.master)
-    assert outer.process.wait(PATIENCE) in (-signal.SIGHUP, 1), f"a terminal that closes ends it: {outer.process.returncode}"
+    pid, line = pty.fork()
+    if pid == 0:
+        os.execvp("sh", ["sh", "-c", f"stty rows 24 cols 80; exec {PLAY} {SLOW}"])
+    got = b""
+    while b"one" not in got:
+        got += os.read(line, 65536)
+    os.close(line)
+    status = os.waitstatus_to_exitcode(os.waitpid(pid, 0)[1])
+    assert status in (-signal.SIGHUP, 1), f"a terminal that closes ends it: {status}"
 
 
 def test_stopped():

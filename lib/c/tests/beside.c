@@ -1,11 +1,7 @@
 /* beside PROGRAM [COUNT [SEED]]: random inputs through the library and through the program, whose bytes must be equal. */
 #include "check.h"
-#include <fcntl.h>
-#include <spawn.h>
 #include <sys/wait.h>
 #include <unistd.h>
-
-extern char **environ;
 
 static uint64_t seed = 1;
 
@@ -67,32 +63,22 @@ static void add_lines(bytes *b) {
     }
 }
 
-/* What the program prints of the file on `input`, and its status. */
-static int program(const char *path, const char *word, int input, bytes *out) {
-    int two[2], status;
-    pid_t child;
-    posix_spawn_file_actions_t acts;
-    char *argv[] = {(char *)path, (char *)word, NULL};
+/* What the program prints of a file, and its status. */
+static int program(const char *path, const char *word, const char *input, bytes *out) {
+    char command[400];
     uint8_t room[65536];
-    if (lseek(input, 0, SEEK_SET) != 0 || pipe(two) != 0) abort();
-    posix_spawn_file_actions_init(&acts);
-    posix_spawn_file_actions_adddup2(&acts, input, 0);
-    posix_spawn_file_actions_adddup2(&acts, two[1], 1);
-    posix_spawn_file_actions_addclose(&acts, two[0]);
-    posix_spawn_file_actions_addclose(&acts, two[1]);
-    posix_spawn_file_actions_addopen(&acts, 2, "/dev/null", O_WRONLY, 0);
-    if (posix_spawn(&child, path, &acts, NULL, argv, environ) != 0) abort();
-    posix_spawn_file_actions_destroy(&acts);
-    close(two[1]);
+    snprintf(command, sizeof command, "exec '%s' %s <'%s' 2>/dev/null", path, word, input);
+    FILE *printed = popen(command, "r");
+    if (printed == NULL) abort();
     out->len = 0;
-    for (ssize_t n; (n = read(two[0], room, sizeof room)) > 0;) append(out, room, (size_t)n);
-    close(two[0]);
-    if (waitpid(child, &status, 0) != child || !WIFEXITED(status)) abort();
+    for (size_t n; (n = fread(room, 1, sizeof room, printed)) > 0;) append(out, room, n);
+    int status = pclose(printed);
+    if (!WIFEXITED(status)) abort();
     return WEXITSTATUS(status);
 }
 
 int main(int argc, char **argv) {
-    static uint8_t room[8192], out[VT220_UPDATE_LIMIT];
+    static uint8_t out[VT220_UPDATE_LIMIT];
     unsigned count = argc > 2 ? (unsigned)strtoul(argv[2], NULL, 10) : 10000;
     if (argc > 3) seed = strtoull(argv[3], NULL, 10) | 1;
     vt220_scratch s = VT220_INIT;
@@ -100,7 +86,6 @@ int main(int argc, char **argv) {
     char name[] = "/tmp/vt220-beside-XXXXXX";
     int input = mkstemp(name);
     if (argc < 2 || input < 0 || vt220_scratch_open(&s) != VT220_OK) return 2;
-    unlink(name);
     bytes bytes_in = {NULL, 0, 0}, reports = {NULL, 0, 0}, printed = {NULL, 0, 0};
     for (unsigned i = 0; i < count; i++) {
         size_t written;
@@ -113,18 +98,18 @@ int main(int argc, char **argv) {
         for (size_t at = 0; at < bytes_in.len;) {
             size_t piece = 1 + pick(700), size = 10 + pick(pick(2) == 0 ? 50 : 8000);
             if (piece > bytes_in.len - at) piece = bytes_in.len - at;
-            play(&t, bytes_in.at + at, piece, room, size, &reports);
+            play(&t, NULL, bytes_in.at + at, piece, size, 0, &reports, NULL);
             at += piece;
         }
-        CHECK(program(argv[1], "reports", input, &printed) == 0 && same_bytes(&printed, reports.at, reports.len));
-        CHECK(program(argv[1], "text", input, &printed) == 0 && vt220_text(&t, &s, out, sizeof out, &written) == VT220_OK && same_bytes(&printed, out, written));
-        int status = program(argv[1], "repaint", input, &printed);
+        CHECK(program(argv[1], "reports", name, &printed) == 0 && same_bytes(&printed, reports.at, reports.len));
+        CHECK(program(argv[1], "text", name, &printed) == 0 && vt220_text(&t, &s, out, sizeof out, &written) == VT220_OK && same_bytes(&printed, out, written));
+        int status = program(argv[1], "repaint", name, &printed);
         uint32_t answer = vt220_repaint(&t, &s, out, sizeof out, &written);
         CHECK(answer == VT220_OK ? status == 0 && same_bytes(&printed, out, written) : answer == VT220_PARTIAL && status == 3);
         vt220_close(&t);
     }
     vt220_scratch_close(&s);
     free(bytes_in.at), free(reports.at), free(printed.at);
-    close(input);
+    close(input), unlink(name);
     return finish("beside");
 }

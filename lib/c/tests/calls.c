@@ -4,27 +4,9 @@
 static vt220_scratch s = VT220_INIT;
 static uint8_t out[VT220_PICTURE_LIMIT], other[VT220_PICTURE_LIMIT];
 
-static vt220 opened(const char *text) {
-    vt220 t = VT220_INIT;
-    uint8_t reports[64];
-    size_t written;
-    CHECK(vt220_open(&t) == VT220_OK);
-    CHECK(vt220_feed(&t, (const uint8_t *)text, strlen(text), reports, sizeof reports, &written) == strlen(text) && written == 0);
-    return t;
-}
+static vt220 opened(const char *text) { return opened_as(VT220_BYTES, VT220_ROWS, 80, text); }
 
-static void feed(vt220 *t, const char *text) {
-    uint8_t reports[64];
-    size_t written;
-    CHECK(vt220_feed(t, (const uint8_t *)text, strlen(text), reports, sizeof reports, &written) == strlen(text) && written == 0);
-}
-
-static bool all_zero(const uint8_t *at, size_t len) {
-    for (size_t i = 0; i < len; i++)
-        if (at[i] != 0) return false;
-    return true;
-}
-#define RESERVED(x) all_zero((x).reserved, sizeof(x).reserved)
+static void feed(vt220 *t, const char *text) { CHECK(vt220_feed(t, (const uint8_t *)text, strlen(text), NULL, 0, NULL) == strlen(text)); }
 
 /* A BEL rings between sequences and inside an escape or control sequence, and not in a control string, which OSC's BEL ends. */
 static void bells(void) {
@@ -64,60 +46,29 @@ static void bells(void) {
     vt220_close(&copy);
 }
 
-static void resets_and_copies(void) {
-    static const char *const states[] = {"", "abc", "\033[?3h\033[5;9r\033[4mx", "\033", "\033 ", "\033  ", "\033[", "\033[?12;7", "\033[1;2;3;4;5;6;7;8;9;10;11;12;13;14;15;16;17", "\033[1 ", "\033[:", "\033P1", "\033]0;", "\033_x", "\033N", "\033#8\033[7m\0337\033)0\016"};
-    vt220 power_up = opened("");
+/* Under each language a copy goes on as the first one does, and a reset leaves what is there at power-up on both pages. */
+static void resets_and_copies(uint32_t language) {
+    static const char *const states[] = {"", "abc", "\033[?3h\033[5;9r\033[4mx", "\033", "\033 ", "\033  ", "\033[", "\033[?12;7", "\033[1;2;3;4;5;6;7;8;9;10;11;12;13;14;15;16;17",
+                                         "\033[1 ", "\033[:", "\033P1", "\033]0;", "\033_x", "\033N", "\033#8\033[7m\0337\033)0\016", "main\033[?1049halt\xE2",
+                                         "\033[?40h\033[?3hwide\0337\033[?47h\033[2", "\033[?2004h\a\033]0;x", "\033[?47h\033N\033["};
     for (size_t i = 0; i < sizeof states / sizeof states[0]; i++) {
-        vt220 from = opened(states[i]), to = opened("\033[?3hzz\033]");
+        vt220 from = opened_as(language, VT220_ROWS, 80, states[i]), to = opened_as(language, VT220_ROWS, 80, "\033[?3hzz\033]"), power_up = opened_as(language, VT220_ROWS, 80, "");
         CHECK(vt220_copy(&to, &from) == VT220_OK && vt220_same_state(&to, &from) && vt220_held_kind(&to) == vt220_held_kind(&from));
         feed(&to, "1m\033[2;2Hq");
         CHECK(!vt220_same_state(&to, &from));
         feed(&from, "1m\033[2;2Hq");
-        CHECK(vt220_same_state(&to, &from));
+        CHECK(vt220_same_state(&to, &from) && kept_by(&to).alternate == kept_by(&from).alternate);
         CHECK(vt220_copy(&from, &from) == VT220_OK && vt220_same_state(&to, &from));
-        CHECK(vt220_reset(&from) == VT220_OK && vt220_same_state(&from, &power_up));
+        feed(&from, "\xE2\x80"); /* in UTF-8 they are pending */
+        uint64_t rung = vt220_bells(&from);
+        CHECK(vt220_reset(&from) == VT220_OK && vt220_same_state(&from, &power_up) && vt220_bells(&from) == rung);
+        CHECK(kept_by(&from).pending_len == 0 && !kept_by(&from).alternate && !kept_by(&from).bracketed_paste);
+        feed(&from, "\033[?47h"), feed(&power_up, "\033[?47h");
+        CHECK(vt220_same_state(&from, &power_up));
         vt220_close(&from);
         CHECK(vt220_copy(&to, &from) == VT220_CLOSED && vt220_copy(&from, &to) == VT220_CLOSED && vt220_reset(&from) == VT220_CLOSED);
-        vt220_close(&to);
+        vt220_close(&to), vt220_close(&power_up);
     }
-    vt220_close(&power_up);
-}
-
-static void parts(void) {
-    vt220 t = opened("");
-    vt220_cursor_place cursor;
-    vt220_margin_rows margins;
-    vt220_mode_set modes;
-    vt220_brush_look brush;
-    vt220_graphic_sets sets;
-    vt220_tab_stops stops;
-    vt220_saved_record saved;
-    /* What is written needs nothing of the caller before. */
-    memset(&cursor, 0xA5, sizeof cursor), memset(&margins, 0xA5, sizeof margins), memset(&modes, 0xA5, sizeof modes);
-    memset(&brush, 0xA5, sizeof brush), memset(&sets, 0xA5, sizeof sets), memset(&stops, 0xA5, sizeof stops), memset(&saved, 0xA5, sizeof saved);
-    CHECK(vt220_cursor(&t, &cursor) && cursor.row == 1 && cursor.col == 1 && !cursor.wrap && RESERVED(cursor));
-    CHECK(vt220_margins(&t, &margins) && margins.top == 1 && margins.bottom == 24 && RESERVED(margins));
-    CHECK(vt220_modes(&t, &modes) && modes.srm && modes.decawm && !modes.irm && RESERVED(modes));
-    CHECK(vt220_brush(&t, &brush) && !brush.bold && !brush.underline && !brush.blink && !brush.reverse && !brush.is_protected && RESERVED(brush));
-    CHECK(vt220_sets(&t, &sets) && sets.g0 == 'B' && sets.g1 == 'B' && sets.g2 == '<' && sets.g3 == '<');
-    CHECK(sets.gl == 0 && sets.gr == 2 && sets.single_shift == 0 && RESERVED(sets));
-    CHECK(vt220_stops(&t, &stops) && RESERVED(stops));
-    for (size_t c = 1; c <= VT220_COLUMNS; c++) CHECK(stops.stop[c - 1] == (c > 1 && c % 8 == 1));
-    CHECK(vt220_saved(&t, &saved) && saved.row == 1 && saved.col == 1 && !saved.wrap && !saved.origin && RESERVED(saved));
-    CHECK(saved.g0 == 'B' && saved.g1 == 'B' && saved.g2 == '<' && saved.g3 == '<' && saved.gl == 0 && saved.gr == 2);
-    /* Each field by itself. */
-    feed(&t, "\033[3;7H\033(A\033)0\033*K\033+B\016\033}\033[1;5m\0337\033[0;4;7m\033[1\"q\033(K\033n\033~\033O");
-    CHECK(vt220_saved(&t, &saved) && saved.row == 3 && saved.col == 7 && saved.bold && saved.blink && !saved.underline && !saved.reverse && !saved.is_protected);
-    CHECK(saved.g0 == 'A' && saved.g1 == '0' && saved.g2 == 'K' && saved.g3 == 'B' && saved.gl == 1 && saved.gr == 2);
-    CHECK(vt220_brush(&t, &brush) && !brush.bold && brush.underline && !brush.blink && brush.reverse && brush.is_protected);
-    CHECK(vt220_sets(&t, &sets) && sets.g0 == 'K' && sets.g1 == '0' && sets.g2 == 'K' && sets.g3 == 'B' && sets.gl == 2 && sets.gr == 1 && sets.single_shift == 3);
-    feed(&t, "\033[3g\033[1;5H\033H\033[?6h\033[24;80Hx\0337");
-    CHECK(vt220_stops(&t, &stops));
-    for (size_t c = 1; c <= VT220_COLUMNS; c++) CHECK(stops.stop[c - 1] == (c == 5));
-    CHECK(vt220_saved(&t, &saved) && saved.row == 24 && saved.col == 80 && saved.wrap && saved.origin);
-    vt220_close(&t);
-    CHECK(!vt220_brush(&t, &brush) && !vt220_sets(&t, &sets) && !vt220_stops(&t, &stops) && !vt220_saved(&t, &saved));
-    CHECK(saved.row == 24 && stops.stop[4] && sets.gl == 2 && brush.underline);
 }
 
 static void rows_as_text(void) {
@@ -267,51 +218,6 @@ static void changed_cells(void) {
     vt220_close(&wide);
 }
 
-/* What a program shows that draws by the header: the marked cells alone, or the whole screen after a change of the width. */
-typedef struct drawing {
-    size_t width;
-    vt220_cell cells[VT220_ROWS][VT220_COLUMNS];
-} drawing;
-
-static void draw(drawing *d, vt220 *shown, const vt220 *to) {
-    vt220_cell cells[VT220_COLUMNS];
-    vt220_row_marks marks;
-    size_t written, width = vt220_width(to);
-    bool is_anew = d->width != width;
-    if (is_anew) memset(d, 0, sizeof *d);
-    d->width = width;
-    for (size_t row = 1; row <= VT220_ROWS; row++) {
-        CHECK(vt220_row(to, row, cells, VT220_COLUMNS) == width && vt220_row_changes(shown, to, row, &marks) == VT220_OK);
-        for (size_t i = 0; i < width; i++)
-            if (is_anew || marks.changed[i]) d->cells[row - 1][i] = cells[i];
-    }
-    CHECK(vt220_update(shown, to, &s, out, sizeof out, &written) == VT220_OK && vt220_same_state(shown, to));
-}
-
-/* Returns whether a drawing has the cells of a terminal, and none after its width. */
-static bool is_drawn(const drawing *d, const vt220 *t) {
-    vt220_cell cells[VT220_COLUMNS];
-    bool is = d->width == vt220_width(t);
-    for (size_t row = 1; row <= VT220_ROWS; row++) {
-        memset(cells, 0, sizeof cells);
-        is = is && vt220_row(t, row, cells, VT220_COLUMNS) == d->width && memcmp(cells, d->cells[row - 1], sizeof cells) == 0;
-    }
-    return is;
-}
-
-/* From 80 columns to 132 and back. The marks of that last step don't name the cells after column 80, which are gone. */
-static void drawn_anew(void) {
-    static const char *const steps[] = {"abc", "\033[2;2Hx", "\033[?3h\033[1;130Hyz", "\033[5;100Hw", "\033[?3l", "d\033[1me"};
-    static drawing d;
-    vt220 shown = opened(""), t = opened("");
-    for (size_t i = 0; i < sizeof steps / sizeof steps[0]; i++) {
-        feed(&t, steps[i]);
-        draw(&d, &shown, &t);
-        CHECK(is_drawn(&d, &t));
-    }
-    vt220_close(&shown), vt220_close(&t);
-}
-
 /* An update fits exactly if the buffer holds its bytes, and is refused without a trace otherwise. */
 static void exact_buffers(void) {
     static const char *const states[] = {"x", "\033[10;10Habc", "\033[?3hwide", "\033#8", "\033[1;4mA\033[24;1H\n\n", "\033[3g", "\033[?5h"};
@@ -333,20 +239,6 @@ static void exact_buffers(void) {
     }
 }
 
-/* Feeds with a log, in chunks and with free bytes of both buffers as given. Returns the length of the lines. */
-static size_t feed_log(vt220 *t, const char *text, size_t len, size_t chunk, size_t size, size_t lines_size, uint8_t *lines) {
-    uint8_t reports[64];
-    size_t all = 0, written, lines_written;
-    for (size_t at = 0; at < len;) {
-        size_t part = len - at < chunk ? len - at : chunk;
-        size_t taken = vt220_feed_log(t, &s, (const uint8_t *)text + at, part, reports, size, &written, lines + all, lines_size, &lines_written);
-        CHECK(taken >= 1 && taken <= part && (taken == part || size - written < VT220_REPORT_LIMIT || lines_size - lines_written < VT220_ROW_TEXT_LIMIT));
-        if (taken == 0) break;
-        at += taken, all += lines_written;
-    }
-    return all;
-}
-
 /* Which lines scroll off, by docs/SPECIFICATION.md and the manual: at a line feed at the bottom margin, if the top margin is row 1. */
 static void logs(void) {
     static const struct {
@@ -366,30 +258,28 @@ static void logs(void) {
         {"\351\033(0q\033[24H\n\a\n", "\303\251\342\224\200\n\n"},
         {"top\033[24H\033[\nm\033P\n\033\\\033[6n", "top\n"},
     };
-    static char many[70000];
-    static uint8_t lines[200000], other[200000];
+    static uint8_t many[70000], lines[200000];
     for (size_t i = 0; i < sizeof rows / sizeof rows[0]; i++) {
-        size_t len = strlen(rows[i].bytes), lines_len = strlen(rows[i].lines);
-        for (size_t chunk = 1; chunk < 100; chunk += 33) {
-            vt220 t = opened(""), u = opened("");
-            uint8_t reports[256];
-            size_t written;
-            CHECK(feed_log(&t, rows[i].bytes, len, chunk, 10, VT220_ROW_TEXT_LIMIT, lines) == lines_len && memcmp(lines, rows[i].lines, lines_len) == 0);
-            CHECK(vt220_feed(&u, (const uint8_t *)rows[i].bytes, len, reports, sizeof reports, &written) == len);
-            CHECK(vt220_same_state(&t, &u) && vt220_bells(&t) == vt220_bells(&u));
-            vt220_close(&t);
-            vt220_close(&u);
-        }
+        vt220 t = opened(""), u = opened(rows[i].bytes);
+        bytes replies = {0}, found = {0};
+        play(&t, &s, (const uint8_t *)rows[i].bytes, strlen(rows[i].bytes), VT220_REPORT_LIMIT, VT220_ROW_TEXT_LIMIT, &replies, &found);
+        append(&found, (const uint8_t *)"", 1);
+        check(strcmp((char *)found.at, rows[i].lines) == 0 && vt220_same_state(&t, &u) && vt220_bells(&t) == vt220_bells(&u), rows[i].bytes, "logs");
+        free(replies.at), free(found.at);
+        vt220_close(&t), vt220_close(&u);
     }
-    /* 875 lines of 80, of which 24 stay on the screen. Bytes after the lines aren't modified. */
+    /* 875 lines of 80, of which 24 stay on the screen, in buffers of all sizes. */
+    static const size_t sizes[][2] = {{5120, 200000}, {64, 100000}, {VT220_REPORT_LIMIT, 400}};
     memset(many, 'x', sizeof many);
-    memset(lines, 0xA5, sizeof lines);
     vt220 t = opened(""), u = opened("");
-    CHECK(feed_log(&t, many, sizeof many, sizeof many, 64, 100000, lines) == 851 * 81 && lines[851 * 81] == 0xA5);
-    for (size_t i = 0; i < 851 * 81; i++) CHECK(lines[i] == (i % 81 == 80 ? '\n' : 'x'));
-    CHECK(feed_log(&u, many, sizeof many, 1000, 10, 400, other) == 851 * 81 && memcmp(lines, other, 851 * 81) == 0 && vt220_same_state(&t, &u));
-    memset(many, '\a', 600);
-    CHECK(feed_log(&t, many, 600, 600, 10, 397, lines) == 0 && vt220_bells(&t) == 600);
+    for (size_t i = 0; i < 3; i++) {
+        bytes replies = {0}, found = {0};
+        CHECK(vt220_reset(&t) == VT220_OK);
+        play(&t, &s, many, sizeof many, sizes[i][0], sizes[i][1], &replies, &found);
+        CHECK(found.len == 851 * 81);
+        for (size_t j = 0; j < found.len; j++) CHECK(found.at[j] == (j % 81 == 80 ? '\n' : 'x'));
+        free(replies.at), free(found.at);
+    }
     /* Nothing is played without free bytes for a report and for a line, or with a closed handle. */
     uint8_t reports[10];
     size_t written = 9, lines_written = 9;
@@ -472,15 +362,13 @@ static void statuses(void) {
 int main(void) {
     CHECK(vt220_scratch_open(&s) == VT220_OK);
     bells();
-    resets_and_copies();
-    parts();
+    for (uint32_t language = VT220_BYTES; language <= VT220_XTERM; language++) resets_and_copies(language);
     rows_as_text();
     shown_and_drawn();
     drawn_from();
     drawn_under_xterm();
     drawn();
     changed_cells();
-    drawn_anew();
     exact_buffers();
     logs();
     null_pointers();

@@ -28,83 +28,48 @@ int LLVMFuzzerTestOneInput(const uint8_t *data, size_t len);
 
 static void see(unsigned kind, unsigned value) { seen[(kind * 131 + value * 2654435761u % 127) % sizeof seen] = 1; }
 
-/* Feeds all bytes in chunks and with buffers of different sizes. Returns how many bytes of replies came. */
-static size_t feed(vt220 *t, const uint8_t *bytes, size_t len, unsigned cut, uint8_t *reports) {
-    size_t at = 0, filled = 0, written;
-    unsigned n = cut;
-    while (at < len) {
-        n = n * 1103515245u + 12345;
-        size_t part = cut == 0 ? len - at : 1 + (n >> 16) % (cut + 1);
-        size_t size = cut == 0 ? VT220_REPORT_LIMIT * (len - at) : VT220_REPORT_LIMIT + (n >> 20) % 40;
-        if (part > len - at) part = len - at;
-        uint8_t *chunk = (uint8_t *)malloc(part), *room = (uint8_t *)malloc(size);
-        if (chunk == NULL || room == NULL) abort();
-        memcpy(chunk, bytes + at, part);
-        size_t taken = vt220_feed(t, chunk, part, room, size, &written);
-        MUST(taken >= 1 && taken <= part && written <= VT220_REPORT_LIMIT * taken && written <= size);
-        MUST(taken == part || size - written < VT220_REPORT_LIMIT);
-        memcpy(reports + filled, room, written);
-        at += taken, filled += written;
-        free(chunk), free(room);
-    }
-    return filled;
-}
-
-/* Feeds all bytes with their log, in chunks and with buffers of different sizes. Returns how many bytes of lines came. */
-static size_t feed_log(vt220 *t, const uint8_t *bytes, size_t len, unsigned cut, uint8_t *lines) {
-    size_t at = 0, filled = 0, written, lines_written;
-    unsigned n = cut;
-    while (at < len) {
-        n = n * 1103515245u + 12345;
-        size_t part = cut == 0 ? len - at : 1 + (n >> 16) % (cut + 1);
-        size_t size = VT220_REPORT_LIMIT * (1 + (n >> 20) % 40), lines_size = VT220_ROW_TEXT_LIMIT * (1 + (n >> 22) % 40);
-        if (part > len - at) part = len - at;
-        uint8_t *chunk = (uint8_t *)malloc(part), *room = (uint8_t *)malloc(size), *lines_room = (uint8_t *)malloc(lines_size);
-        if (chunk == NULL || room == NULL || lines_room == NULL) abort();
-        memcpy(chunk, bytes + at, part);
-        size_t taken = vt220_feed_log(t, &s, chunk, part, room, size, &written, lines_room, lines_size, &lines_written);
-        MUST(taken >= 1 && taken <= part && written <= VT220_REPORT_LIMIT * taken && lines_written <= VT220_ROW_TEXT_LIMIT * taken);
-        MUST(taken == part || size - written < VT220_REPORT_LIMIT || lines_size - lines_written < VT220_ROW_TEXT_LIMIT);
-        MUST(lines_written == 0 || lines_room[lines_written - 1] == '\n');
-        memcpy(lines + filled, lines_room, lines_written);
-        at += taken, filled += lines_written;
-        free(chunk), free(room), free(lines_room);
-    }
-    return filled;
-}
-
 static vt220_language_state kept_by(const vt220 *t) {
     vt220_language_state kept;
     MUST(vt220_language(t, &kept) && kept.pending_len <= 3 && kept.reserved[21] == 0);
     return kept;
 }
 
-static size_t lines_limit(const vt220 *t) { return kept_by(t).language == VT220_XTERM ? VT220_XTERM_LINES_LIMIT : VT220_UTF8_LINES_LIMIT; }
+static size_t lines_limit(const vt220 *t) {
+    const uint32_t language = kept_by(t).language;
+    return language == VT220_BYTES ? VT220_ROW_TEXT_LIMIT : language == VT220_UTF8 ? VT220_UTF8_LINES_LIMIT : VT220_XTERM_LINES_LIMIT;
+}
 
-/* Feeds UTF-8 with its log, in chunks and with buffers of different sizes. Returns how many bytes of replies came; *logged receives how many
- * of lines. */
-static size_t feed_characters(vt220 *t, const uint8_t *bytes, size_t len, unsigned cut, uint8_t *reports, uint8_t *lines, size_t *logged) {
+/* Feeds all bytes in chunks and with buffers of different sizes, with their log unless `lines` is null. Returns how many bytes of replies came; *logged
+ * receives how many of lines. */
+static size_t feed_all(vt220 *t, const uint8_t *bytes, size_t len, unsigned cut, uint8_t *reports, uint8_t *lines, size_t *logged) {
     const size_t limit = lines_limit(t);
-    size_t at = 0, filled = 0, written, off = 0;
+    size_t at = 0, filled = 0, written, off = 0, taken;
     unsigned n = cut;
     *logged = 0;
     while (at < len) {
         n = n * 1103515245u + 12345;
         size_t part = cut == 0 ? len - at : 1 + (n >> 16) % (cut + 1);
-        size_t size = VT220_REPORT_LIMIT + (n >> 20) % 400, lines_size = limit + (n >> 22) % 1000;
+        size_t size = cut == 0 && lines == NULL ? VT220_REPORT_LIMIT * (len - at) : VT220_REPORT_LIMIT + (n >> 20) % 400, lines_size = limit + (n >> 22) % 1000;
         if (part > len - at) part = len - at;
         uint8_t *chunk = (uint8_t *)malloc(part), *room = (uint8_t *)malloc(size), *lines_room = (uint8_t *)malloc(lines_size);
         if (chunk == NULL || room == NULL || lines_room == NULL) abort();
         memcpy(chunk, bytes + at, part);
-        size_t taken = vt220_feed_log(t, &s, chunk, part, room, size, &written, lines_room, lines_size, &off);
+        taken = lines == NULL ? vt220_feed(t, chunk, part, room, size, &written) : vt220_feed_log(t, &s, chunk, part, room, size, &written, lines_room, lines_size, &off);
         MUST(taken >= 1 && taken <= part && written <= VT220_REPORT_LIMIT * taken && written <= size && off <= lines_size);
+        MUST(kept_by(t).language != VT220_BYTES || off <= VT220_ROW_TEXT_LIMIT * taken);
         MUST(taken == part || size - written < VT220_REPORT_LIMIT || lines_size - off < limit);
+        MUST(off == 0 || lines_room[off - 1] == '\n');
         memcpy(reports + filled, room, written);
-        memcpy(lines + *logged, lines_room, off);
+        if (lines != NULL) memcpy(lines + *logged, lines_room, off);
         at += taken, filled += written, *logged += off;
         free(chunk), free(room), free(lines_room);
     }
     return filled;
+}
+
+static size_t feed(vt220 *t, const uint8_t *bytes, size_t len, unsigned cut, uint8_t *reports) {
+    size_t logged;
+    return feed_all(t, bytes, len, cut, reports, NULL, &logged);
 }
 
 static bool same_pending(const vt220 *t, const vt220 *other) {
@@ -121,8 +86,8 @@ static void look_at_utf8(const uint8_t *bytes, size_t len, unsigned cut) {
     for (size_t i = 0; i < len; i++) is_ascii = is_ascii && bytes[i] < 0x80;
     MUST(vt220_reset(&u) == VT220_OK && vt220_reset(&v) == VT220_OK && same_pending(&u, &power_up));
     uint64_t bells_u = vt220_bells(&u), bells_v = vt220_bells(&v);
-    all = feed_characters(&u, bytes, len, 0, reports_a, lines_u, &logged_u);
-    MUST(feed_characters(&v, bytes, len, cut, reports_b, lines_v, &logged_v) == all && memcmp(reports_a, reports_b, all) == 0);
+    all = feed_all(&u, bytes, len, 0, reports_a, lines_u, &logged_u);
+    MUST(feed_all(&v, bytes, len, cut, reports_b, lines_v, &logged_v) == all && memcmp(reports_a, reports_b, all) == 0);
     MUST(logged_u == logged_v && memcmp(lines_u, lines_v, logged_u) == 0 && vt220_same_state(&u, &v) && same_pending(&u, &v));
     MUST(vt220_bells(&u) - bells_u == vt220_bells(&v) - bells_v);
     bells_u = vt220_bells(&u) - bells_u, bells_v = vt220_bells(&v);
@@ -197,16 +162,16 @@ static void look_at_xterm(const uint8_t *bytes, size_t len, unsigned cut) {
     reset_pages();
     bells_y = vt220_bells(&y);
     MUST(feed(&x, bytes, len, 0, reports_a) == all);
-    MUST(feed_characters(&y, bytes, len, 0, reports_b, lines_x, &logged_x) == all && memcmp(reports_a, reports_b, all) == 0);
+    MUST(feed_all(&y, bytes, len, 0, reports_b, lines_x, &logged_x) == all && memcmp(reports_a, reports_b, all) == 0);
     MUST(vt220_bells(&y) - bells_y == bells_x);
     see(51, logged_x > 0);
     same_pages();
     /* The second half also goes on from a copy or a repaint. */
     reset_pages();
     bells_y = vt220_bells(&y);
-    size_t first = feed_characters(&y, bytes, half, cut, reports_b, lines_y, &logged_y), more;
+    size_t first = feed_all(&y, bytes, half, cut, reports_b, lines_y, &logged_y), more;
     rebuild_pages(cut);
-    MUST(first + feed_characters(&y, bytes + half, len - half, cut, reports_b + first, lines_y + logged_y, &more) == all);
+    MUST(first + feed_all(&y, bytes + half, len - half, cut, reports_b + first, lines_y + logged_y, &more) == all);
     MUST(memcmp(reports_a, reports_b, all) == 0 && logged_y + more == logged_x && memcmp(lines_x, lines_y, logged_x) == 0);
     MUST(vt220_bells(&y) - bells_y == bells_x);
     MUST(feed(&x, bytes + half, len - half, cut, reports_b) == all - first && memcmp(reports_a + first, reports_b, all - first) == 0);
@@ -378,8 +343,9 @@ int LLVMFuzzerTestOneInput(const uint8_t *data, size_t len) {
     static uint8_t lines_a[VT220_ROW_TEXT_LIMIT * LONGEST], lines_b[VT220_ROW_TEXT_LIMIT * LONGEST];
     MUST(vt220_reset(&c) == VT220_OK && vt220_reset(&b) == VT220_OK);
     bells_b = vt220_bells(&b), bells_c = vt220_bells(&c);
-    size_t logged = feed_log(&c, bytes, len, 0, lines_a);
-    MUST(feed_log(&b, bytes, len, cut, lines_b) == logged && memcmp(lines_a, lines_b, logged) == 0);
+    size_t logged, again;
+    MUST(feed_all(&c, bytes, len, 0, reports_b, lines_a, &logged) == all && memcmp(reports_a, reports_b, all) == 0);
+    MUST(feed_all(&b, bytes, len, cut, reports_b, lines_b, &again) == all && again == logged && memcmp(lines_a, lines_b, logged) == 0);
     MUST(vt220_bells(&b) - bells_b == bells && vt220_bells(&c) - bells_c == bells);
     MUST(vt220_same_state(&c, &a) && vt220_same_state(&b, &a));
     look(&a);

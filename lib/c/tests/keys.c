@@ -1,9 +1,8 @@
-/* The keyboard. Each row of keys.txt holds under the modes that it names, and each row of xterm-keys.txt under TERM=xterm:
- * keys FILE XTERM-FILE. Characters are those that a terminal shows. */
-#include "check.h"
+/* keys FILE: the keyboard. FILE is keys.rows of lib/rows/flat.py. Characters are those that a terminal shows. */
+#include "rows.h"
 #include "vt220-keys.h"
 
-enum { SETTINGS = 16, UNDEFINED = 0x2426, LAST_CHARACTER = 0x10FFFF };
+enum { SETTINGS = 16, DECCKM = 4, UNDEFINED = 0x2426, LAST_CHARACTER = 0x10FFFF };
 
 /* The sixteen settings of the four modes that the keyboard reads, in the order of keys.txt. All other modes are set, too, if `others`. */
 static vt220_mode_set modes_of(unsigned setting, bool others) {
@@ -14,14 +13,6 @@ static vt220_mode_set modes_of(unsigned setting, bool others) {
     modes.keypad_application = setting & 2;
     modes.reports_8bit = setting & 1;
     return modes;
-}
-
-static bool is_under(const char *pattern, unsigned setting) {
-    for (unsigned i = 0; i < 4; i++) {
-        char is = setting & (8u >> i) ? '1' : '0';
-        if (pattern[i] != '-' && pattern[i] != is) return false;
-    }
-    return true;
 }
 
 /* What vt220_key returned and wrote. */
@@ -49,158 +40,31 @@ static bool is_error(const outcome *is, uint32_t status) {
     return is->status == status && is->written == 0 && is->out[0] == 0xA5;
 }
 
-/* --- the rows of keys.txt --- */
-
-typedef struct row {
-    const char *pattern;
-    uint32_t status;
-    uint8_t bytes[VT220_KEY_LIMIT];
-    size_t len;
-} row;
-
-static row row_of(const char *pattern, char *field) {
-    row is = {pattern, VT220_OK, {0}, 0};
-    if (strcmp(field, "no key") == 0) is.status = VT220_NO_KEY;
-    else if (strcmp(field, "no character") == 0) is.status = VT220_NO_CHARACTER;
-    else
-        for (char *at = field; *at != 0; at += strspn(at, " ")) is.bytes[is.len++] = (uint8_t)strtoul(at, &at, 16);
-    return is;
-}
-
-/* How many rows have held for a key under each setting. */
-typedef struct tally {
-    char key[24];
-    unsigned held[SETTINGS];
-} tally;
-
-static tally tallies[400];
-static size_t keys_seen;
-
-static tally *tally_of(const char *key) {
-    for (size_t i = 0; i < keys_seen; i++)
-        if (strcmp(tallies[i].key, key) == 0) return &tallies[i];
-    if (keys_seen == sizeof tallies / sizeof tallies[0] || strlen(key) >= sizeof tallies[0].key) abort();
-    strcpy(tallies[keys_seen].key, key);
-    return &tallies[keys_seen++];
-}
+/* --- the rows --- */
 
 /* A sequence that a key sends is the same key under every setting. */
-static void check_sequence(const row *is, const char *key) {
-    if (is->len < 3 || is->bytes[0] != 0x1B) return;
+static void check_sequence(const bytes *sent, const char *key) {
+    if (sent->len < 3 || sent->at[0] != 0x1B) return;
     for (unsigned setting = 0; setting < SETTINGS; setting++) {
-        outcome named = sent_by(key, strlen(key), setting, false), passed_on = sent_by((const char *)is->bytes, is->len, setting, false);
+        outcome named = sent_by(key, strlen(key), setting, false), passed_on = sent_by((const char *)sent->at, sent->len, setting, false);
         check(named.status == VT220_OK && has_sent(&passed_on, named.out, named.written), key, "a sequence");
     }
-    check(vt220_key_length((const char *)is->bytes, is->len) == is->len, key, "the length of a sequence");
+    check(vt220_key_length((const char *)sent->at, sent->len) == sent->len, key, "the length of a sequence");
 }
 
-static void check_key(const row *is, const char *key) {
-    tally *seen = tally_of(key);
-    for (unsigned setting = 0; setting < SETTINGS; setting++) {
-        if (!is_under(is->pattern, setting)) continue;
-        seen->held[setting]++;
-        for (int others = 0; others < 2; others++) {
-            outcome now = sent_by(key, strlen(key), setting, others);
-            bool holds = is->status == VT220_OK ? has_sent(&now, is->bytes, is->len) : is_error(&now, is->status);
-            check(holds, key, is->pattern);
-            if (!holds) print_bytes("expected", is->bytes, is->len), print_bytes("got", now.out, now.written);
-        }
-    }
-    check_sequence(is, key);
-}
-
-static void rows(const char *path) {
-    char line[512];
-    FILE *file = fopen(path, "r");
-    CHECK(file != NULL);
-    while (file != NULL && fgets(line, sizeof line, file) != NULL) {
-        line[strcspn(line, "\n")] = 0;
-        if (line[0] == 0 || line[0] == '#') continue;
-        char *pattern = strtok(line, "\t"), *field = strtok(NULL, "\t");
-        row is = row_of(pattern, field);
-        for (char *key = strtok(NULL, "\t"); key != NULL; key = strtok(NULL, "\t")) check_key(&is, key);
-    }
-    if (file != NULL) fclose(file);
-    CHECK(keys_seen > 230);
-    for (size_t i = 0; i < keys_seen; i++)
-        for (unsigned setting = 0; setting < SETTINGS; setting++) check(tallies[i].held[setting] == 1, "one row holds", tallies[i].key);
-}
-
-/* --- the rows of xterm-keys.txt --- */
-
-enum { DECCKM = 4, IS_8BIT = 1, MODIFIERS = 7 };
-
-/* Writes the bytes of a sequence that is written with CSI or SS3. The number of the modifiers stands for an m. */
-static size_t put_sequence(const char *text, const char *number, bool is_8bit, uint8_t *to) {
-    size_t len = 0;
-    uint8_t control = strncmp(text, "CSI", 3) == 0 ? 0x9B : 0x8F;
-    if (is_8bit) to[len++] = control;
-    else to[len++] = 0x1B, to[len++] = (uint8_t)(control - 0x40);
-    for (text += 3; *text != 0; text++)
-        if (*text != ' ') to[len++] = (uint8_t)(*text == 'm' ? *number : *text);
-    return len;
-}
-
-/* The key sends a sequence in upper and in lower case, and by its name the bytes that are typed for it. */
-static void check_xterm_key(const char *key, unsigned setting, const char *text, const char *number) {
-    uint8_t bytes[VT220_KEY_LIMIT + 1];
-    char small[24];
-    size_t len = put_sequence(text, number, setting & IS_8BIT, bytes), at = 0;
-    for (; key[at] != 0; at++) small[at] = (char)(key[at] >= 'A' && key[at] <= 'Z' ? key[at] + 0x20 : key[at]);
+static void one_row(char **fields, size_t count) {
+    const uint32_t language = (uint32_t)strtoul(fields[0], NULL, 10), status = fields[3][0] != 'n' ? VT220_OK : strcmp(fields[3], "no key") == 0 ? VT220_NO_KEY : VT220_NO_CHARACTER;
+    const unsigned setting = (unsigned)strtoul(fields[1], NULL, 10);
+    bytes wanted = unhexed(status == VT220_OK ? fields[3] : "");
+    if (count != 4) abort();
     for (int others = 0; others < 2; others++) {
-        outcome now = sent_in(VT220_XTERM, key, at, setting, others), also = sent_in(VT220_XTERM | VT220_UTF8, small, at, setting, others);
-        bool holds = has_sent(&now, bytes, len) && has_sent(&also, bytes, len);
-        check(holds, key, text);
-        if (!holds) print_bytes("expected", bytes, len), print_bytes("got", now.out, now.written);
+        outcome now = sent_in(others && language == VT220_XTERM ? VT220_XTERM | VT220_UTF8 : language, fields[2], strlen(fields[2]), setting, others);
+        bool holds = status == VT220_OK ? has_sent(&now, wanted.at, wanted.len) : is_error(&now, status);
+        check(holds, fields[2], fields[1]);
+        if (!holds) print_bytes("expected", wanted.at, wanted.len), print_bytes("got", now.out, now.written);
     }
-}
-
-static char on_xterm[100][24];
-static size_t xterm_keys_seen;
-
-static unsigned xterm_rows(const char *path) {
-    char line[512], numbers[MODIFIERS][4], names[MODIFIERS][16], key[24];
-    unsigned seen = 0, modifiers = 0;
-    FILE *file = fopen(path, "r");
-    while (file != NULL && fgets(line, sizeof line, file) != NULL) {
-        line[strcspn(line, "\n")] = 0;
-        if (line[0] == 0 || line[0] == '#') continue;
-        char *name = strtok(line, "\t"), *field = strtok(NULL, "\t"), *set = strtok(NULL, "\t"), *held = strtok(NULL, "\t");
-        if (held == NULL) {
-            strcpy(numbers[modifiers], field), strcpy(names[modifiers++], set);
-            continue;
-        }
-        strcpy(on_xterm[xterm_keys_seen++], name);
-        for (unsigned is_8bit = 0; is_8bit < 2; is_8bit++, seen++) {
-            check_xterm_key(name, is_8bit, field, "");
-            check_xterm_key(name, is_8bit | DECCKM, set, "");
-            for (unsigned i = 0; i < modifiers && *held != '-'; i++, seen++) {
-                strcat(strcpy(key, names[i]), name);
-                check_xterm_key(key, is_8bit, held, numbers[i]);
-                check_xterm_key(key, is_8bit | DECCKM, held, numbers[i]);
-            }
-        }
-    }
-    if (file != NULL) fclose(file);
-    return seen;
-}
-
-static bool is_on_xterm(const char *key) {
-    for (size_t i = 0; i < xterm_keys_seen; i++)
-        if (strcmp(on_xterm[i], key) == 0) return true;
-    return false;
-}
-
-/* Each other key of keys.txt, if it isn't a character beyond ASCII, sends on an xterm what it sends on a VT220. */
-static void other_keys(void) {
-    for (size_t i = 0; i < keys_seen; i++) {
-        const char *key = tallies[i].key;
-        if (is_on_xterm(key) || (uint8_t)*key > 0x7F) continue;
-        for (unsigned setting = 0; setting < SETTINGS; setting++) {
-            outcome is = sent_by(key, strlen(key), setting, false), also = sent_in(VT220_XTERM, key, strlen(key), setting, false);
-            check(is.status == also.status && is.written == also.written && memcmp(is.out, also.out, is.written) == 0, key, "the same key of an xterm");
-        }
-    }
+    if (language == VT220_BYTES) check_sequence(&wanted, fields[2]);
+    free(wanted.at);
 }
 
 static bool is_no_key_of_an_xterm(const char *key) {
@@ -343,9 +207,8 @@ static void lengths(void) {
 }
 
 int main(int argc, char **argv) {
-    rows(argc > 1 ? argv[1] : "lib/rows/keys.txt");
-    CHECK(xterm_rows(argc > 2 ? argv[2] : "lib/rows/xterm-keys.txt") > 400);
-    other_keys();
+    if (argc != 2) return 2;
+    CHECK(each_row(argv[1], one_row) > 6000);
     xterm_keys();
     right_half();
     in_utf8();

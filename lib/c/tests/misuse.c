@@ -29,6 +29,12 @@ static void closed_handles(void) {
     CHECK(!vt220_cursor(&t, &cursor) && cursor.row == 7 && cursor.col == 8 && cursor.wrap);
     CHECK(!vt220_margins(&t, &margins) && margins.top == 7 && margins.bottom == 8);
     CHECK(!vt220_modes(&t, &modes) && modes.kam && modes.reports_8bit);
+    vt220_brush_look brush = {.underline = true};
+    vt220_graphic_sets sets = {.gl = 2};
+    vt220_tab_stops stops = {.stop = {true}};
+    vt220_saved_record saved = {.row = 24};
+    CHECK(!vt220_brush(&t, &brush) && !vt220_sets(&t, &sets) && !vt220_stops(&t, &stops) && !vt220_saved(&t, &saved));
+    CHECK(brush.underline && sets.gl == 2 && stops.stop[0] && saved.row == 24);
     CHECK(vt220_width(&t) == 0 && !vt220_is_between(&t) && vt220_held_kind(&t) == VT220_HELD_NOTHING);
     CHECK(!vt220_same_state(&t, &other));
     CHECK(untouched() && memcmp(cells, cells_before, sizeof cells) == 0);

@@ -1,18 +1,12 @@
-/* sizes FILE: terminals of another size than a VT220's: opening, reading, the limits, writing, resizing, and the statuses of two sizes. Each row of
- * FILE, which is lib/rows/sizes.txt, is played whole and byte by byte. */
-#include "rows.h"
+/* sizes: terminals of another size than a VT220's: opening, reading, the limits, writing, resizing, and the statuses of two sizes. The rows of lib/rows/sizes.txt
+ * are played by rows.c. */
+#include "check.h"
 
 enum { ROOM = 14000000 };
 
 static vt220_scratch s = VT220_INIT;
 static uint8_t out[ROOM], other[ROOM];
 static size_t written;
-
-static vt220 opened(uint32_t language, size_t rows, size_t columns, const char *text) {
-    vt220 t = VT220_INIT;
-    CHECK(vt220_open_as(&t, language, rows, columns) == VT220_OK && vt220_feed(&t, (const uint8_t *)text, strlen(text), NULL, 0, NULL) == strlen(text));
-    return t;
-}
 
 /* A terminal's size and the states at power-up, for each language. */
 static void open_and_read(void) {
@@ -21,7 +15,7 @@ static void open_and_read(void) {
     } sizes[] = {{24, 80, 132}, {2, 80, 80}, {255, 255, 255}, {40, 120, 120}, {24, 132, 132}, {25, 80, 80}, {24, 81, 81}, {5, 40, 40}};
     for (size_t i = 0; i < sizeof sizes / sizeof sizes[0]; i++) {
         for (uint32_t language = VT220_BYTES; language <= VT220_XTERM; language++) {
-            vt220 t = opened(language, sizes[i].rows, sizes[i].columns, "\033[999;999Hx");
+            vt220 t = opened_as(language, sizes[i].rows, sizes[i].columns, "\033[999;999Hx");
             vt220_cursor_place cursor;
             vt220_margin_rows margins;
             static vt220_cell cells[VT220_MOST_COLUMNS];
@@ -48,20 +42,11 @@ static void no_sizes(void) {
     for (size_t i = 0; i < sizeof sizes / sizeof sizes[0]; i++) {
         for (uint32_t language = VT220_BYTES; language <= VT220_XTERM; language++)
             CHECK(vt220_open_as(&t, language, sizes[i][0], sizes[i][1]) == VT220_NO_SIZE && !vt220_is_open(&t));
-        t = opened(VT220_XTERM, 24, 80, "x");
+        t = opened_as(VT220_XTERM, 24, 80, "x");
         CHECK(vt220_resize(&t, sizes[i][0], sizes[i][1]) == VT220_NO_SIZE && vt220_rows(&t) == 24 && vt220_width(&t) == 80);
         vt220_close(&t);
     }
     CHECK(vt220_resize(&t, 24, 80) == VT220_CLOSED);
-}
-
-/* DECCOLM leaves the width of any other size than 24 by 80. */
-static void deccolm(void) {
-    vt220 t = opened(VT220_BYTES, 24, 80, "\033[?3h"), u = opened(VT220_BYTES, 30, 100, "x\033[?3h");
-    CHECK(vt220_width(&t) == 132 && vt220_width(&u) == 100);
-    CHECK(vt220_scratch_fit(&s, &u) == VT220_OK && vt220_row_text(&u, &s, 1, out, sizeof out, &written) == VT220_OK && written == 1);
-    vt220_close(&t);
-    vt220_close(&u);
 }
 
 /* The limits of a VT220's size are the macros, and what is written keeps within the limits. */
@@ -70,7 +55,7 @@ static void limits(void) {
     static const size_t repaints[] = {VT220_PAINT_LIMIT, VT220_PAINT_LIMIT, VT220_XTERM_PAINT_LIMIT};
     static const size_t lines[] = {VT220_ROW_TEXT_LIMIT, VT220_UTF8_LINES_LIMIT, VT220_XTERM_LINES_LIMIT};
     for (uint32_t language = VT220_BYTES; language <= VT220_XTERM; language++) {
-        vt220 t = opened(language, 24, 80, "");
+        vt220 t = opened_as(language, 24, 80, "");
         for (uint32_t what = VT220_OF_TEXT; what <= VT220_OF_UPDATE; what++) check_number(macros[what], vt220_limit(&t, what), __func__, "a limit");
         check_number(repaints[language], vt220_limit(&t, VT220_OF_REPAINT), __func__, "a repaint's limit");
         check_number(lines[language], vt220_limit(&t, VT220_OF_LINES), __func__, "the lines' limit");
@@ -103,7 +88,7 @@ static void written_forms(void) {
     static const size_t sizes[][2] = {{2, 2}, {2, 80}, {30, 40}, {40, 120}, {120, 200}, {255, 255}};
     for (size_t i = 0; i < sizeof sizes / sizeof sizes[0]; i++) {
         for (uint32_t language = VT220_BYTES; language <= VT220_XTERM; language += 2) {
-            vt220 t = opened(language, sizes[i][0], sizes[i][1], ""), to = opened(language, sizes[i][0], sizes[i][1], "\033[3 q\033[?7lgarbage\033[1");
+            vt220 t = opened_as(language, sizes[i][0], sizes[i][1], ""), to = opened_as(language, sizes[i][0], sizes[i][1], "\033[3 q\033[?7lgarbage\033[1");
             vt220_scratch small = VT220_INIT;
             CHECK(vt220_scratch_open(&small) == VT220_OK && vt220_scratch_fit(&s, &t) == VT220_OK);
             fill(&t);
@@ -127,8 +112,8 @@ static void written_forms(void) {
 static void updates(void) {
     static const size_t sizes[][2] = {{2, 2}, {2, 80}, {30, 40}, {24, 80}, {40, 120}, {255, 255}};
     for (size_t i = 0; i < sizeof sizes / sizeof sizes[0]; i++) {
-        vt220 shown = opened(VT220_BYTES, sizes[i][0], sizes[i][1], "one"), to = opened(VT220_BYTES, sizes[i][0], sizes[i][1], ""), client = opened(VT220_BYTES, sizes[i][0], sizes[i][1], "one");
-        vt220 before = opened(VT220_BYTES, sizes[i][0], sizes[i][1], "");
+        vt220 shown = opened_as(VT220_BYTES, sizes[i][0], sizes[i][1], "one"), to = opened_as(VT220_BYTES, sizes[i][0], sizes[i][1], ""), client = opened_as(VT220_BYTES, sizes[i][0], sizes[i][1], "one");
+        vt220 before = opened_as(VT220_BYTES, sizes[i][0], sizes[i][1], "");
         CHECK(vt220_scratch_fit(&s, &to) == VT220_OK);
         for (int turn = 0; turn < 3; turn++) {
             if (turn == 0) vt220_feed(&to, BYTES("one two"), NULL, 0, NULL);
@@ -150,7 +135,7 @@ static void updates(void) {
 /* Two sizes: no call mixes them, and nothing changes. */
 static void two_sizes(void) {
     for (uint32_t language = VT220_BYTES; language <= VT220_XTERM; language += 2) {
-        vt220 a = opened(VT220_BYTES, 24, 80, "a"), b = opened(language, 25, 80, "b"), c = opened(language, 24, 80, "c");
+        vt220 a = opened_as(VT220_BYTES, 24, 80, "a"), b = opened_as(language, 25, 80, "b"), c = opened_as(language, 24, 80, "c");
         static bool changed[VT220_MOST_COLUMNS];
         vt220_row_marks marks;
         CHECK(vt220_scratch_fit(&s, &b) == VT220_OK);
@@ -176,7 +161,7 @@ static void two_sizes(void) {
 
 /* The marks of a row, at any size. */
 static void changes(void) {
-    vt220 a = opened(VT220_BYTES, 40, 200, "same\033[40;200Hx"), b = opened(VT220_BYTES, 40, 200, "same\033[40;200Hy\033[40;1Hz");
+    vt220 a = opened_as(VT220_BYTES, 40, 200, "same\033[40;200Hx"), b = opened_as(VT220_BYTES, 40, 200, "same\033[40;200Hy\033[40;1Hz");
     static bool changed[200];
     vt220_row_marks marks;
     CHECK(vt220_changes_of(&a, &b, 40, changed, 200) == VT220_OK);
@@ -199,7 +184,7 @@ static void row_is(const vt220 *t, size_t row, const char *text) {
 /* A resize: what stays, what leaves, and what is brought inside. */
 static void resizes(void) {
     for (uint32_t language = VT220_BYTES; language <= VT220_XTERM; language++) {
-        vt220 t = opened(language, 24, 80, "\a\033[3;9r\033[1;1Htop\033[23;1Hlow\033[24;80Hx\0337\033[24;5Hlast\033[1");
+        vt220 t = opened_as(language, 24, 80, "\a\033[3;9r\033[1;1Htop\033[23;1Hlow\033[24;80Hx\0337\033[24;5Hlast\033[1");
         vt220_cursor_place cursor;
         vt220_margin_rows margins;
         CHECK(vt220_resize(&t, 10, 100) == VT220_OK && vt220_rows(&t) == 10 && vt220_width(&t) == 100 && vt220_bells(&t) == 1);
@@ -214,7 +199,7 @@ static void resizes(void) {
         row_is(&t, 24, "");
         line[80] = '\0';
         row_is(&t, 10, line);
-        vt220 same = opened(language, 24, 80, ""), of_a_vt220 = opened(language, 24, 80, "");
+        vt220 same = opened_as(language, 24, 80, ""), of_a_vt220 = opened_as(language, 24, 80, "");
         CHECK(vt220_resize(&same, 24, 80) == VT220_OK && vt220_copy(&same, &t) == VT220_OK && vt220_copy(&of_a_vt220, &t) == VT220_SIZE);
         CHECK(vt220_feed(&same, BYTES("\033[?40h\033[?3h"), NULL, 0, NULL) == 11 && vt220_width(&same) == 80);
         vt220_close(&same);
@@ -225,13 +210,13 @@ static void resizes(void) {
 
 /* Under TERM=xterm both pages change their size, and what is pending stays. */
 static void resizes_pages(void) {
-    vt220 t = opened(VT220_XTERM, 24, 80, "main\033[?1049h\033[2Jother\033[?2004h\xC3");
+    vt220 t = opened_as(VT220_XTERM, 24, 80, "main\033[?1049h\033[2Jother\033[?2004h\xC3");
     CHECK(vt220_resize(&t, 30, 120) == VT220_OK && kept_by(&t).alternate && kept_by(&t).bracketed_paste && kept_by(&t).pending_len == 1);
     CHECK(vt220_feed(&t, BYTES("\xA9\033[30;120Hx\033[?1049l\033[30;120Hy"), NULL, 0, NULL) == 29);
     row_is(&t, 1, "main");
     CHECK(vt220_rows(&t) == 30 && vt220_width(&t) == 120 && !kept_by(&t).alternate);
     CHECK(vt220_repaint(&t, &s, out, sizeof out, &written) == VT220_OK && written <= vt220_limit(&t, VT220_OF_REPAINT));
-    vt220 u = opened(VT220_XTERM, 30, 120, "old");
+    vt220 u = opened_as(VT220_XTERM, 30, 120, "old");
     CHECK(vt220_feed(&u, out, written, NULL, 0, NULL) == written && vt220_same_state(&t, &u) && vt220_copy(&t, &u) == VT220_OK);
     CHECK(vt220_reset(&u) == VT220_OK && vt220_rows(&u) == 30 && vt220_width(&u) == 120);
     vt220_close(&t);
@@ -241,7 +226,7 @@ static void resizes_pages(void) {
 /* A log's lines are those of the rows that scroll off, at any size. */
 static void logs(void) {
     for (uint32_t language = VT220_BYTES; language <= VT220_XTERM; language++) {
-        vt220 t = opened(language, 3, 255, "");
+        vt220 t = opened_as(language, 3, 255, "");
         size_t logged, need = vt220_limit(&t, VT220_OF_LINES);
         CHECK(vt220_scratch_fit(&s, &t) == VT220_OK);
         CHECK(vt220_feed_log(&t, &s, BYTES("one\r\ntwo\r\nthree\r\nfour\r\n"), NULL, 0, NULL, out, need, &logged) > 0);
@@ -253,7 +238,7 @@ static void logs(void) {
 
 /* A scratch buffer serves one size at a time. */
 static void scratches(void) {
-    vt220 t = opened(VT220_BYTES, 40, 120, ""), u = opened(VT220_BYTES, 24, 80, ""), closed = VT220_INIT;
+    vt220 t = opened_as(VT220_BYTES, 40, 120, ""), u = opened_as(VT220_BYTES, 24, 80, ""), closed = VT220_INIT;
     vt220_scratch room = VT220_INIT;
     CHECK(vt220_scratch_fit(&room, &closed) == VT220_CLOSED && !vt220_scratch_is_open(&room));
     CHECK(vt220_scratch_fit(&room, &u) == VT220_OK && vt220_text(&u, &room, out, sizeof out, &written) == VT220_OK && written == 24);
@@ -267,40 +252,8 @@ static void scratches(void) {
     vt220_close(&u);
 }
 
-/* Feeds bytes in chunks, with their log. Appends the replies and the lines. */
-static void play_part(vt220 *t, const bytes *input, size_t chunk, bytes *replies, bytes *lines) {
-    static uint8_t room[5120];
-    for (size_t at = 0, now, len, off; at < input->len; at += now) {
-        size_t left = input->len - at < chunk ? input->len - at : chunk;
-        CHECK((now = vt220_feed_log(t, &s, input->at + at, left, room, sizeof room, &len, out, sizeof out, &off)) == left);
-        append(replies, room, len), append(lines, out, off);
-    }
-}
-
-/* Plays a row in chunks, and checks what it has then. */
-static void play_size(const sized_row *r, size_t chunk) {
-    uint32_t language = strcmp(r->of.terminal, "xterm") == 0 ? VT220_XTERM : strcmp(r->of.encoding, "utf-8") == 0 ? VT220_UTF8 : VT220_BYTES;
-    vt220 t = opened(language, r->rows, r->columns, "");
-    bytes replies = {0}, lines = {0};
-    CHECK(vt220_scratch_fit(&s, &t) == VT220_OK);
-    play_part(&t, &r->of.input, chunk, &replies, &lines);
-    if (r->other_rows > 0) CHECK(vt220_resize(&t, r->other_rows, r->other_columns) == VT220_OK && vt220_rows(&t) == r->other_rows && vt220_width(&t) == r->other_columns);
-    CHECK(vt220_scratch_fit(&s, &t) == VT220_OK);
-    play_part(&t, &r->more, chunk, &replies, &lines);
-    check_row(&r->of, &t, &s, &replies);
-    check_same(&r->of.lines, lines.at, lines.len, r->of.name, "the lines");
-    check_number(r->of.alternate, kept_by(&t).alternate, r->of.name, "the page");
-    check_same(&r->of.pending, kept_by(&t).pending, kept_by(&t).pending_len, r->of.name, "what is pending");
-    free(replies.at), free(lines.at);
-    vt220_close(&t);
-}
-
-static void play_both(const sized_row *r) { play_size(r, 1000), play_size(r, 1); }
-
-int main(int count, char **words) {
-    if (count != 2) return 2;
-    CHECK(each_size(words[1], play_both) > 30);
-    open_and_read(), no_sizes(), deccolm(), limits(), written_forms(), updates(), two_sizes(), changes(), resizes(), resizes_pages(), logs(), scratches();
+int main(void) {
+    open_and_read(), no_sizes(), limits(), written_forms(), updates(), two_sizes(), changes(), resizes(), resizes_pages(), logs(), scratches();
     vt220_scratch_close(&s);
     return finish("sizes");
 }

@@ -23,48 +23,16 @@ static void *opens(void *unused) {
     return unused;
 }
 
+/* What a feed is of: a terminal, and whether the lines that scroll off and the replies are written. */
+static vt220 *fed = &b;
+static bool with_log, with_replies = true;
+
 static void *feeds(void *unused) {
-    for (size_t at = 0; at < sizeof input;) at += vt220_feed(&b, input + at, sizeof input - at, out, 5120, &written);
-    return unused;
-}
-
-static void *drops(void *unused) {
     static uint8_t lines[400000];
-    size_t lines_written;
-    vt220_feed(&b, input, sizeof input, NULL, 0, NULL);
+    uint8_t *replies = with_replies ? out : NULL;
+    size_t *length = with_replies ? &written : NULL, logged;
     for (size_t at = 0; at < sizeof input;)
-        at += vt220_feed_log(&b, &s, input + at, sizeof input - at, NULL, 0, NULL, lines, sizeof lines, &lines_written);
-    return unused;
-}
-
-static void *logs(void *unused) {
-    static uint8_t lines[400000];
-    size_t lines_written;
-    for (size_t at = 0; at < sizeof input;)
-        at += vt220_feed_log(&b, &s, input + at, sizeof input - at, out, 5120, &written, lines, sizeof lines, &lines_written);
-    return unused;
-}
-
-static void *feeds_utf8(void *unused) {
-    static uint8_t lines[400000];
-    size_t lines_written;
-    vt220_feed(&u, input, sizeof input, NULL, 0, NULL);
-    for (size_t at = 0; at < sizeof input;)
-        at += vt220_feed_log(&u, &s, input + at, sizeof input - at, NULL, 0, NULL, lines, sizeof lines, &lines_written);
-    return unused;
-}
-
-static void *feeds_xterm(void *unused) {
-    vt220_feed(&x, input, sizeof input, NULL, 0, NULL);
-    for (size_t at = 0; at < sizeof input;) at += vt220_feed(&x, input + at, sizeof input - at, out, 5120, &written);
-    return unused;
-}
-
-static void *logs_xterm(void *unused) {
-    static uint8_t lines[400000];
-    size_t lines_written;
-    for (size_t at = 0; at < sizeof input;)
-        at += vt220_feed_log(&x, &s, input + at, sizeof input - at, NULL, 0, NULL, lines, sizeof lines, &lines_written);
+        at += with_log ? vt220_feed_log(fed, &s, input + at, sizeof input - at, replies, 5120, length, lines, sizeof lines, &logged) : vt220_feed(fed, input + at, sizeof input - at, replies, 5120, length);
     return unused;
 }
 
@@ -142,6 +110,12 @@ static void measure(const char *name, void *(*call)(void *), size_t limit, size_
     check(deep <= limit, name, "the stack that the header names");
 }
 
+static void measure_feed(const char *name, vt220 *t, bool logs, bool replies, size_t empty) {
+    fed = t, with_log = logs, with_replies = replies;
+    measure(name, feeds, LIMIT, empty);
+    fed = &b, with_log = false, with_replies = true;
+}
+
 /* Fills the input with text, controls, sequences and any bytes. */
 static void fill(void) {
     uint64_t seed = 7;
@@ -168,11 +142,14 @@ int main(void) {
     measure("open and close", opens, LIMIT, empty);
     measure("feed", feeds, LIMIT, empty);
     /* First the deepest of them, since a first call may also look for functions of the C library, on the same stack. */
-    measure("feed without replies", drops, LIMIT, empty);
-    measure("feed in UTF-8", feeds_utf8, LIMIT, empty);
-    measure("feed under TERM=xterm", feeds_xterm, LIMIT, empty);
-    measure("feed with a log under TERM=xterm", logs_xterm, LIMIT, empty);
-    measure("feed with a log", logs, LIMIT, empty);
+    measure_feed("feed without replies, with a log", &b, true, false, empty);
+    measure_feed("feed without replies", &b, false, false, empty);
+    measure_feed("feed in UTF-8", &u, false, false, empty);
+    measure_feed("feed in UTF-8 with a log", &u, true, false, empty);
+    measure_feed("feed under TERM=xterm", &x, false, false, empty);
+    measure_feed("feed under TERM=xterm with replies", &x, false, true, empty);
+    measure_feed("feed with a log under TERM=xterm", &x, true, false, empty);
+    measure_feed("feed with a log", &b, true, true, empty);
     /* Updates of all kinds: nothing differs, little, much, the width. */
     static const char *const states[] = {"\030", "a", "\033[5;5H\033[1mb\033[24H\n\n", "\033#8", "\033[?3h", "\033[2J\033[3;20rx\033[?6h", "\033[3g"};
     for (size_t i = 0; i < sizeof states / sizeof states[0]; i++) {
@@ -193,7 +170,7 @@ int main(void) {
     vt220_feed(&b, (const uint8_t *)"\030", 1, out, 10, &written);
     measure("update of a large screen", updates, LARGE, empty);
     measure("feed of a large screen", feeds, LIMIT, empty);
-    measure("feed of a large screen with a log", logs_xterm, LIMIT, empty);
+    measure_feed("feed of a large screen with a log", &x, true, false, empty);
     measure("text, row text, show and repaint of a large screen", writes, LIMIT, empty);
     measure("picture of a large screen", draws, LIMIT, empty);
     measure("readers of a large screen", reads, LIMIT, empty);

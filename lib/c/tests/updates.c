@@ -1,5 +1,5 @@
-/* updates FILE VECTORS: the rows of FILE, which is lib/rows/updates.txt, and updates from the state of each vector of VECTORS, which is
- * lib/rows/vectors.txt, to that of each other. */
+/* updates FILE SCREENS: the rows of FILE, which is updates.rows of lib/rows/flat.py, and updates from the state of each vector of a VT220's bytes in SCREENS,
+ * which is screens.rows, to that of each other. */
 #include "rows.h"
 
 enum { ROOM = 400000, MOST_INPUTS = 400 };
@@ -13,14 +13,14 @@ static bytes inputs[MOST_INPUTS];
 static size_t input_count, vector_count, row_count;
 
 static vt220 fed(size_t rows, size_t columns, const bytes *input) {
-    vt220 t = VT220_INIT;
-    CHECK(vt220_open_as(&t, VT220_BYTES, rows, columns) == VT220_OK && vt220_feed(&t, input->at, input->len, NULL, 0, NULL) == input->len);
+    vt220 t = opened_as(VT220_BYTES, rows, columns, "");
+    CHECK(vt220_feed(&t, input->at, input->len, NULL, 0, NULL) == input->len);
     return t;
 }
 
 /* A row of updates: two inputs, and what is sent. */
 typedef struct update_row {
-    const char *name, *wanted;
+    const char *name, *wanted, *value;
     size_t rows, columns;
     bytes from, to;
 } update_row;
@@ -40,15 +40,15 @@ static bool leads(vt220 client, const vt220 *to, const uint8_t *update, size_t l
 
 /* Checks the bytes of an update. */
 static void check_sent(const update_row *r, const vt220 *to, size_t len) {
-    bytes sent = {0};
     size_t painted;
     CHECK(vt220_repaint(to, &s, other, sizeof other, &painted) == VT220_OK);
-    append(&sent, NULL, 0);
-    if (strncmp(r->wanted, "sent=", 5) == 0) append_spelled(&sent, r->wanted + 5), check_same(&sent, out, len, r->name, "an update");
-    else if (strncmp(r->wanted, "fewer=", 6) == 0) check(len < strtoul(r->wanted + 6, NULL, 10) && len < painted, r->name, "few bytes");
+    if (strcmp(r->wanted, "sent") == 0) {
+        bytes sent = unhexed(r->value);
+        check_same(&sent, out, len, r->name, "an update");
+        free(sent.at);
+    } else if (strcmp(r->wanted, "fewer") == 0) check(len < strtoul(r->value, NULL, 10) && len < painted, r->name, "few bytes");
     else if (strcmp(r->wanted, "repaint") == 0) check(len == painted && memcmp(out, other, len) == 0, r->name, "a repaint");
     else check(strcmp(r->wanted, "leads") == 0, r->name, "what is sent");
-    free(sent.at);
 }
 
 /* Returns whether the repaint of what was shown, and then an update, lead a client that shows something else. */
@@ -82,36 +82,24 @@ static void play_update(const update_row *r) {
     vt220_close(&to);
 }
 
-static void keep(const bytes *input) {
+/* Keeps the input of a vector of a VT220's bytes, which the file of screens has with what it leaves. */
+static void keep_vector(char **fields, size_t count) {
+    (void)count;
+    if (strcmp(fields[1], "0") != 0 || strcmp(fields[2], "24") != 0 || strcmp(fields[5], "0") != 0 || fields[9][0] == '-') return;
     if (input_count == MOST_INPUTS) abort();
-    append(&inputs[input_count++], input->at, input->len);
+    inputs[input_count++] = unhexed(fields[4]);
 }
 
-static void keep_vector(const row *r) { keep(&r->input); }
-
-/* Plays a line: an update, or a state, whose input is kept. */
-static void one_line(char *line) {
-    update_row r = {.name = strsep(&line, "\t")};
-    char *second = strsep(&line, "\t\n"), *from = strsep(&line, "\t\n"), *to = strsep(&line, "\t\n");
-    if (to == NULL) {
-        append_spelled(&r.from, second);
-        keep(&r.from);
-    } else {
-        read_size(second, &r.rows, &r.columns);
-        append_spelled(&r.from, from), append_spelled(&r.to, to);
-        r.wanted = strsep(&line, "\n");
-        play_update(&r), row_count++;
+/* Plays an update, or keeps the input of a state. */
+static void one_line(char **fields, size_t count) {
+    if (input_count == MOST_INPUTS) abort();
+    if (count == 2) {
+        inputs[input_count++] = unhexed(fields[1]);
+        return;
     }
+    update_row r = {fields[0], fields[5], fields[6], strtoul(fields[1], NULL, 10), strtoul(fields[2], NULL, 10), unhexed(fields[3]), unhexed(fields[4])};
+    play_update(&r), row_count++;
     free(r.from.at), free(r.to.at);
-}
-
-static void each_line(const char *path) {
-    static char line[4096];
-    FILE *file = fopen(path, "r");
-    if (file == NULL) abort();
-    while (fgets(line, sizeof line, file) != NULL)
-        if (line[0] != '#') one_line(line);
-    fclose(file);
 }
 
 /* Checks that an update leads from one input's state to another's, with no bytes exactly if the two are the same. Inside a sequence there is none. */
@@ -156,9 +144,9 @@ static void many_cells(void) {
 
 int main(int count, char **words) {
     if (count != 3) return 2;
-    each_row(words[2], "dec", "vt220", keep_vector);
+    each_row(words[2], keep_vector);
     vector_count = input_count;
-    each_line(words[1]);
+    each_row(words[1], one_line);
     CHECK(row_count > 40 && vector_count > 160 && input_count == vector_count + 16);
     all_pairs(), many_cells();
     vt220_scratch_close(&s);

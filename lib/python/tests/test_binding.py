@@ -131,7 +131,7 @@ def test_a_closed_terminal_never_keeps_a_thread():
 @pytest.mark.parametrize("wrong", [5, 5.0, "text", None, [65], object()])
 def test_feed_refuses_what_is_not_bytes(wrong):
     terminal = vt220.Terminal()
-    for call in (terminal.feed, terminal.feed_until_report):
+    for call in (terminal.feed, terminal.feed_until_report, terminal.feed_log):
         with pytest.raises(TypeError):
             call(wrong)
     assert terminal.text() == "\n" * 24
@@ -381,18 +381,6 @@ def test_a_screen_is_drawn_anew_after_a_change_of_the_width():
                 drawn[row - 1][column - 1] = rows[row - 1][column - 1]
         assert drawn == rows, step
         shown.update(terminal)
-
-
-def test_lines_that_scroll_off():
-    terminal = vt220.Terminal()
-    assert terminal.feed_log(b"top\x1b[24H\xe9\n\x1b[6n") == (b"\x1b[24;2R", "top\n")
-    reports, lines = terminal.feed_log(b"\r\nx" * 30)
-    assert reports == b"" and lines == "\n" * 22 + "é\n" + "\n" + "x\n" * 6
-    with pytest.raises(TypeError):
-        terminal.feed_log(5)
-    terminal.close()
-    with pytest.raises(vt220.Closed):
-        terminal.feed_log(b"x")
 
 
 def test_a_terminal_of_another_size():

@@ -1,5 +1,4 @@
 """Holds the keyboard against lib/rows/keys.txt, which has the tables of the VT220 Programmer Reference Manual."""
-import pathlib
 import subprocess
 
 import pytest
@@ -8,48 +7,35 @@ import vt220
 from vt220 import Terminal
 from vt220.keyboard import Key, alt, ctrl, shift, spelled, typed
 
-ROWS = pathlib.Path(__file__).parents[2] / "rows/keys.txt"
+from flat import keys
+
 POWER_UP = Terminal().modes()
 MODES = ("lnm", "decckm", "keypad_application", "reports_8bit")
-SETTINGS = [dict(zip(MODES, (bool(setting & bit) for bit in (8, 4, 2, 1)))) for setting in range(16)]
+SETTINGS = [POWER_UP._replace(**dict(zip(MODES, (bool(setting & bit) for bit in (8, 4, 2, 1))))) for setting in range(16)]
 ERRORS = {"no key": vt220.NoKey, "no character": vt220.NoCharacter}
 
 
-def is_under(pattern, setting):
-    return all(wanted in ("-", str(int(is_set))) for wanted, is_set in zip(pattern, setting.values()))
-
-
-def rows():
-    """Returns each key with modes, and the bytes or the error that they lead to."""
-    lines = [line.split("\t") for line in ROWS.read_text(encoding="utf-8").splitlines() if line and line[0] != "#"]
-    return [
-        (name, POWER_UP._replace(**setting), wanted)
-        for pattern, wanted, *names in lines for name in names for setting in SETTINGS if is_under(pattern, setting)
-    ]
-
-
 def test_every_key_under_every_mode():
-    assert len(rows()) > 3000
-    for name, modes, wanted in rows():
+    for language, setting, name, wanted in keys():
+        more = {"terminal": "xterm"} if language == 2 else {}
         if wanted in ERRORS:
             with pytest.raises(ERRORS[wanted]):
-                vt220.key(name, modes)
+                vt220.key(name, SETTINGS[setting], **more)
         else:
-            assert vt220.key(name, modes) == bytes.fromhex(wanted), (name, modes)
+            assert vt220.key(name, SETTINGS[setting], **more) == wanted, (name, setting)
 
 
 def test_each_key_of_the_enumeration_is_a_row_of_its_name():
-    sent = {(name.lower(), modes): wanted for name, modes, wanted in rows()}
+    sent = {(name.lower(), setting): wanted for language, setting, name, wanted in keys() if language == 0}
     for name, key in Key.__members__.items():
-        for setting in SETTINGS:
-            modes = POWER_UP._replace(**setting)
-            row = sent.get((name.replace("_", "").lower(), modes)) or sent[(key.value.lower(), modes)]
+        for setting, modes in enumerate(SETTINGS):
+            row = sent.get((name.replace("_", "").lower(), setting)) or sent[(key.value.lower(), setting)]
             if row in ERRORS:
                 assert key is Key.F5
                 with pytest.raises(ERRORS[row], match="a VT220 has no key F5"):
                     spelled(key, modes)
             else:
-                assert spelled(key, modes) == bytes.fromhex(row), name
+                assert spelled(key, modes) == row, name
 
 
 def test_texts():

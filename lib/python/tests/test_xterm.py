@@ -90,16 +90,6 @@ def test_keys_are_those_of_terminfo():
     assert seen == len(names)
 
 
-@pytest.mark.parametrize("is_8bit", [False, True])
-def test_each_key_sends_what_the_control_sequences_of_xterm_say(is_8bit):
-    rows = xterm_keys.rows(is_8bit)
-    assert len(rows) > 250
-    for name, *sent in rows:
-        for decckm in (False, True):
-            modes = POWER_UP._replace(decckm=decckm, reports_8bit=is_8bit)
-            assert vt220.key(name, modes, terminal="xterm") == vt220.key(name.lower(), modes, terminal="xterm") == sent[decckm], name
-
-
 def test_the_keys_with_modifiers_are_those_of_terminfo():
     """terminfo(5) and user_caps(5) have the names: kLFT is Shift with the cursor key, and kLFT3 to kLFT7 have the number of xterm."""
     entry = subprocess.run(["infocmp", "-1x", "xterm-256color"], capture_output=True, text=True, check=True).stdout

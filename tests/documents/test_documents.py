@@ -32,7 +32,7 @@ RUN_HERE = {
     "docs/C.md": ("Without an installed library", "The keyboard", "UTF-8", "TERM=xterm", "Other sizes", "A server"),
     "docs/man/vt220.1": (),
 }
-# The first words of commands in these that aren't run here: packaging/dist --check installs the packages, lib/c/tests/check builds the library, and the
+# The first words of commands in these that aren't run here: packaging/dist --check installs the packages, lib/c/tests tests the library, and the
 # gate the program.
 NOT_RUN = re.compile(r"^(apt|make lib|make screen)\b")
 # What `make js` builds, without which no page is written.
@@ -240,7 +240,6 @@ def test_tables_of_definitions(option, name):
 def test_contracts():
     made = output("docs/definitions", "--contracts")
     assert made and made == (ROOT / "docs/contracts.txt").read_text(), "docs/definitions --write"
-    passes("tests/released")
 
 
 @each("option", ["--private", "--files"])
@@ -272,19 +271,13 @@ def test_laws():
             assert not law or f"pub fn {law}(" in path.read_text(), f"{path.relative_to(ROOT)} has no law {law}"
 
 
-@each("words", [["tests/struck", "--notes"], ["tests/recipes/check"], ["tests/model/mutants"]], ids=lambda words: words[0])
-def test_lists(words):
-    """The notes of the must-fail edits, the recipes, and the changes of the plain model are as the documents say."""
-    passes(*words)
-
-
 # --- vectors ---
 
 
 def rules(section):
     """Yields the rules of a section of the specification: its title, the titles of its paragraphs, and the names of the rows of its tables.
 
-    A table of characters has none, since its paragraph is the rule. tests/model/mutants breaks each row of it."""
+    A table of characters has none, since its paragraph is the rule. tests/model/mutants.txt breaks each row of it."""
     yield re.match(r"## (.*?) \(", section).group(1)
     yield from (title.rstrip(".") for title in re.findall(r"^\*\*(.+?)\*\*", section, re.M))
     for table in re.findall(r"(?:^\|.*\n)+", section, re.M):

@@ -1,4 +1,4 @@
-"""Inputs that `compare` generates: what hosts send, and what they never should. Some parts are scenes: rules that random bytes seldom meet."""
+"""Inputs that test_library.py generates: what hosts send, and what they never should. Some parts are scenes: rules that random bytes seldom meet."""
 import random
 
 from utf8 import has_known_width
@@ -54,6 +54,10 @@ class Chance(random.Random):
     touched_by = TOUCHING
     rows, columns = 24, 80
 
+    def __init__(self, seed):
+        super().__init__(seed)
+        self.number = seed
+
     def letters(self):
         return bytes(self.choices(b"abcxyzEN#~@[]{|}_` \241\244\327\335\375\377\240\250", k=self.length()))
 
@@ -107,21 +111,15 @@ class Chance(random.Random):
         """Returns rows and columns."""
         return self.choice([2, 3, 5, 10, 23, 24, 25, self.randint(2, 60)]), self.choice([2, 3, 9, 20, 40, 79, 80, 81, 132, self.randint(2, 140)])
 
-    def steps(self):
-        """Returns the pieces of an input, and between them changes of the size, which are pairs of rows and columns."""
+    def generated(self):
+        """Returns a size, and what is played at it: pieces of an input, and between them changes of the size, which are pairs of rows and columns.
+        After an even seed there are none, and the size is a VT220's. Otherwise the edges are those of the size."""
+        if self.number % 2:
+            self.rows, self.columns = self.size()
         made = self.pieces(self.input())
-        for _ in range(self.choice([0, 0, 1, 1, 2, 3])):
+        for _ in range(self.choice([0, 0, 1, 1, 2, 3]) if self.number % 2 else 0):
             made.insert(self.randrange(len(made) + 1), self.size())
-        return made
-
-    def at_usual_size(self):
-        """Returns the size of a VT220's screen, and what is played at it."""
-        return (self.rows, self.columns), self.pieces(self.input())
-
-    def at_a_size(self):
-        """Returns a size, and what is played at it. The edges are those of the size."""
-        self.rows, self.columns = self.size()
-        return (self.rows, self.columns), self.steps()
+        return (self.rows, self.columns), made
 
 
 # Characters by their blocks: what programs send, and what has no cell, two cells or no glyph.

@@ -78,6 +78,9 @@ ATTRIBUTES = {1: "bold", 4: "underline", 5: "blink", 7: "reverse"}
 
 
 class Terminal:
+    blank = BLANK
+    sides = None  # the left and the right margin, if an xterm has them
+
     def __init__(self, size=Size()):
         self.size = size
         self.sequence = None
@@ -100,7 +103,14 @@ class Terminal:
         self.cells = self.blank_cells(width)
 
     def blank_cells(self, width):
-        return [[BLANK] * width for _ in range(self.size.rows)]
+        return [[self.blank] * width for _ in range(self.size.rows)]
+
+    def erased(self):
+        """Returns the cell that comes in when cells are erased or moved."""
+        return self.blank
+
+    def erased_cells(self):
+        return [[self.erased()] * self.width for _ in range(self.size.rows)]
 
     def usual_stops(self):
         return set(range(9, self.size.wide + 1, 8))
@@ -130,9 +140,17 @@ class Terminal:
     def leave(self, n, size):
         """Takes n rows off the top, and what is outside of a size off the rest."""
         self.left_by_resizes += [self.line_text(row) for row in range(1, n + 1)]
-        self.cells = cut(self.cells, n, size)
+        self.cells = self.cut(self.cells, n, size)
         self.row -= n
         self.saved.row = max(self.saved.row - n, 1)
+
+    def cut(self, cells, n, size):
+        """Returns the cells after the first n rows, cut or filled to a size."""
+        rows = [self.cut_row(line, size.wide) for line in cells[n:n + size.rows]]
+        return rows + [[self.blank] * size.wide for _ in range(size.rows - len(rows))]
+
+    def cut_row(self, line, width):
+        return (line + [self.blank] * width)[:width]
 
     def play(self, steps):
         """Plays bytes, and changes to pairs of rows and columns. Returns the reports."""
@@ -235,14 +253,14 @@ class Terminal:
 
     def write(self, glyph):
         if self.wrap:
-            self.column = 1
             self.index()
+            self.column = self.left()
         line = self.cells[self.row - 1]
-        if "IRM" in self.modes:
+        if "IRM" in self.modes and self.is_between():
             line.insert(self.column - 1, BLANK)
-            line.pop()
+            line.pop(self.right())
         line[self.column - 1] = (glyph, self.brush)
-        if self.column < self.width:
+        if self.column < self.last_reached():
             self.column += 1
         else:
             self.wrap = "DECAWM" in self.modes
@@ -251,13 +269,13 @@ class Terminal:
 
     def control(self, byte):
         if byte == 0x08:
-            self.move_to(self.row, max(1, self.column - 1))
+            self.left_by(1)
         elif byte == 0x09:
             self.tab()
         elif byte in (0x0A, 0x0B, 0x0C):
             self.next_line() if "LNM" in self.modes else self.index()
         elif byte == 0x0D:
-            self.move_to(self.row, 1)
+            self.carriage_return()
         elif byte in (0x0E, 0x0F):
             self.sets.left = 0x0F - byte
         elif byte == SUB:
@@ -386,14 +404,20 @@ class Terminal:
 
     def change_cells(self, n, final):
         line, at = self.cells[self.row - 1], self.column - 1
-        n = min(n, self.width - at)
-        if final == "@":
-            line[at:] = ([BLANK] * n + line[at:])[: self.width - at]
+        if final == "X":
+            self.erase_cells(line, at, min(at + n, self.width))
+        elif self.is_between():
+            self.move_cells(line, at, self.right(), min(n, self.right() - at), final == "@")
         elif final == "P":
-            line[at:] = line[at + n:] + [BLANK] * n
-        else:
-            line[at:at + n] = [BLANK] * n
+            return
         self.wrap = False
+
+    def erase_cells(self, line, start, end):
+        line[start:end] = [self.erased()] * (end - start)
+
+    def move_cells(self, line, at, end, n, is_insert):
+        """Moves cells of a row right by n, or left."""
+        line[at:end] = ([self.erased()] * n + line[at:end])[: end - at] if is_insert else line[at + n:end] + [self.erased()] * n
 
     def change_mode(self, number, is_private, is_set):
         if is_private and number == 3:
@@ -437,6 +461,23 @@ class Terminal:
         self.saved = Saved()
         self.wrap = False
 
+    # Left and right margins. Without them, as on a VT220, these are the first and the last column.
+
+    def left(self):
+        return self.sides[0] if self.sides else 1
+
+    def right(self):
+        return self.sides[1] if self.sides else self.width
+
+    def is_between(self):
+        return self.left() <= self.column <= self.right()
+
+    def first_reached(self):
+        return self.left() if self.column >= self.left() else 1
+
+    def last_reached(self):
+        return self.right() if self.column <= self.right() else self.width
+
     # What functions share.
 
     def set_mode(self, name, is_set):
@@ -452,35 +493,46 @@ class Terminal:
         self.row, self.column, self.wrap = row, column, False
 
     def home(self):
-        self.move_to(self.origin(), 1)
+        self.move_to(self.origin(), self.left() if "DECOM" in self.modes else 1)
 
     def tab(self):
         self.move_to(self.row, min([stop for stop in self.stops if self.column < stop <= self.width], default=self.width))
 
+    def carriage_return(self):
+        self.move_to(self.row, self.left() if "DECOM" in self.modes else self.first_reached())
+
     def next_line(self):
-        self.column = 1
         self.index()
+        self.carriage_return()
+
+    def left_by(self, n):
+        self.move_to(self.row, max(self.column - n, self.first_reached()))
+
+    def right_by(self, n):
+        self.move_to(self.row, min(self.column + n, self.last_reached()))
 
     def index(self):
-        if self.row == self.bottom:
+        if self.row != self.bottom:
+            self.move_to(min(self.row + 1, self.size.rows), self.column)
+        elif self.is_between():
             self.scroll_off(1)
             self.scroll(self.top, 1)
-            self.wrap = False
-        else:
-            self.move_to(min(self.row + 1, self.size.rows), self.column)
+        self.wrap = False
 
     def reverse_index(self):
-        if self.row == self.top:
-            self.scroll(self.top, -1)
-            self.wrap = False
-        else:
+        if self.row != self.top:
             self.move_to(max(self.row - 1, 1), self.column)
+        elif self.is_between():
+            self.scroll(self.top, -1)
+        self.wrap = False
 
     def scroll(self, first, n):
-        """Moves the rows from `first` to the bottom margin up by n, or down by -n."""
+        """Moves the rows from `first` to the bottom margin up by n, or down by -n, in the columns between the margins."""
         rows = self.cells[first - 1:self.bottom]
-        gap = [[BLANK] * self.width for _ in range(min(abs(n), len(rows)))]
-        self.cells[first - 1:self.bottom] = rows[n:] + gap if n > 0 else (gap + rows)[: len(rows)]
+        gap = [[self.erased()] * self.width for _ in range(min(abs(n), len(rows)))]
+        moved = rows[n:] + gap if n > 0 else (gap + rows)[: len(rows)]
+        left, right = self.left() - 1, self.right()
+        self.cells[first - 1:self.bottom] = [line[:left] + new[left:right] + line[right:] for line, new in zip(rows, moved)]
 
     def scroll_off(self, n):
         """Logs the rows that a move up by n takes off the screen."""
@@ -493,7 +545,12 @@ class Terminal:
     # Output.
 
     def line_text(self, row):
-        return text_of(self.cells[row - 1])
+        return self.text_of(self.cells[row - 1])
+
+    @staticmethod
+    def text_of(line):
+        """Returns the text of a row, with LF."""
+        return "".join([glyph for glyph, _ in line]).rstrip(" ") + "\n"
 
     def text(self):
         return "".join(self.line_text(row) for row in range(1, self.size.rows + 1))
@@ -506,17 +563,6 @@ class Terminal:
         return {name: part for name, part in vars(self).items() if name not in ("reports", "scrolled_off", "left_by_resizes")}
 
 
-def text_of(cells):
-    """Returns the text of a row, with LF."""
-    return "".join([glyph for glyph, _ in cells]).rstrip(" ") + "\n"
-
-
-def cut(cells, n, size):
-    """Returns the cells after the first n rows, cut or filled to a size."""
-    rows = [(line + [BLANK] * size.wide)[:size.wide] for line in cells[n:n + size.rows]]
-    return rows + [[BLANK] * size.wide for _ in range(size.rows - len(rows))]
-
-
 def bring_inside(place, size):
     place.row = min(place.row, size.rows)
     if place.wrap and place.column < size.wide:
@@ -527,7 +573,7 @@ def bring_inside(place, size):
 MOVES = {
     "A": Terminal.up,
     "B": Terminal.down,
-    "C": lambda terminal, n: terminal.move_to(terminal.row, min(terminal.column + n, terminal.width)),
-    "D": lambda terminal, n: terminal.move_to(terminal.row, max(terminal.column - n, 1)),
+    "C": Terminal.right_by,
+    "D": Terminal.left_by,
 }
 ANSWERS = {("c", 0): "?62;1;6c", (">c", 0): ">1;10;0c", ("n", 5): "0n", ("?n", 15): "?13n", ("?n", 26): "?27;1n"}

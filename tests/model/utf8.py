@@ -127,7 +127,7 @@ class Utf8Terminal(Terminal):
             self.write_character(character, cells_of(character))
 
     def is_at_end(self):
-        return self.column == self.width
+        return self.column == self.last_reached()
 
     def write_character(self, character, cells):
         """Writes a character in its cells. One of two doesn't begin in the last column."""

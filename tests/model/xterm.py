@@ -1,5 +1,5 @@
 """A terminal that plays what programs send under TERM=xterm, by docs/SPECIFICATION.md, 'Under TERM=xterm'."""
-from terminal import BLANK, Saved, Size, bring_inside, cut, text_of
+from terminal import Saved, Size, bring_inside
 from utf8 import Utf8Terminal
 
 COLOURS = (38, 48, 58)
@@ -35,8 +35,8 @@ class Xterm(Utf8Terminal):
         super().leave(n, size)
         if self.is_alternate:
             n = max(self.other_saved.row - size.rows, 0)
-            self.left_by_resizes[logged:] = [text_of(cells) for cells in self.other_cells[:n]]
-        self.other_cells = cut(self.other_cells, n, size)
+            self.left_by_resizes[logged:] = [self.text_of(line) for line in self.other_cells[:n]]
+        self.other_cells = self.cut(self.other_cells, n, size)
         self.other_saved.row = max(self.other_saved.row - n, 1)
 
     # Escape and control sequences. What isn't here has its effect on a VT220.
@@ -46,14 +46,6 @@ class Xterm(Utf8Terminal):
             self.power_up(self.size.narrow if self.allows_columns else self.width)
         else:
             super().plain_escape(final)
-
-    def control(self, byte):
-        if byte == 0x08:
-            self.left_by(1)
-        elif byte == 0x0D:
-            self.carriage_return()
-        else:
-            super().control(byte)
 
     def escape(self, intermediate, final):
         if intermediate + final == "#8":
@@ -82,22 +74,7 @@ class Xterm(Utf8Terminal):
         self.set_mode("DECAWM", True)
         self.sides = None
 
-    # Left and right margins. Without them, these are the first and the last column.
-
-    def left(self):
-        return self.sides[0] if self.sides else 1
-
-    def right(self):
-        return self.sides[1] if self.sides else self.width
-
-    def is_between(self):
-        return self.left() <= self.column <= self.right()
-
-    def first_reached(self):
-        return self.left() if self.column >= self.left() else 1
-
-    def last_reached(self):
-        return self.right() if self.column <= self.right() else self.width
+    # Left and right margins.
 
     def set_sides(self, left, right):
         """DECSLRM."""
@@ -124,22 +101,6 @@ class Xterm(Utf8Terminal):
         return self.wrap and self.column == self.width
 
     # The cursor.
-
-    def carriage_return(self):
-        self.move_to(self.row, self.left() if "DECOM" in self.modes else self.first_reached())
-
-    def next_line(self):
-        self.index()
-        self.carriage_return()
-
-    def left_by(self, n):
-        self.move_to(self.row, max(self.column - n, self.first_reached()))
-
-    def right_by(self, n):
-        self.move_to(self.row, min(self.column + n, self.last_reached()))
-
-    def home(self):
-        self.move_to(self.origin(), self.left() if "DECOM" in self.modes else 1)
 
     def position(self, line, column):
         super().position(line, 1)
@@ -188,56 +149,10 @@ class Xterm(Utf8Terminal):
 
     # The cells.
 
-    def write(self, glyph):
-        if self.wrap:
-            self.index()
-            self.column = self.left()
-        cells = self.cells[self.row - 1]
-        if "IRM" in self.modes and self.is_between():
-            cells.insert(self.column - 1, BLANK)
-            cells.pop(self.right())
-        cells[self.column - 1] = (glyph, self.brush)
-        if self.column < self.last_reached():
-            self.column += 1
-        else:
-            self.wrap = "DECAWM" in self.modes
-
-    def is_at_end(self):
-        return self.column == self.last_reached()
-
-    def index(self):
-        if self.row != self.bottom or self.is_between():
-            super().index()
-        self.wrap = False
-
-    def reverse_index(self):
-        if self.row != self.top or self.is_between():
-            super().reverse_index()
-        self.wrap = False
-
     def insert_or_delete_lines(self, n, is_insert):
         if self.is_between() and self.top <= self.row <= self.bottom:
             super().insert_or_delete_lines(n, is_insert)
             self.column = self.left()
-
-    def change_cells(self, n, final):
-        line = self.cells[self.row - 1]
-        if final == "X":
-            super().change_cells(n, final)
-        elif self.is_between():
-            kept = line[self.right():]
-            del line[self.right():]
-            super().change_cells(min(n, self.right() - self.column + 1), final)
-            line[self.right():] = kept
-        elif final == "@":
-            self.wrap = False
-
-    def scroll(self, first, n):
-        """Moves the rows in the columns between the margins."""
-        old = [list(line) for line in self.cells]
-        super().scroll(first, n)
-        for line, kept in zip(self.cells, old):
-            line[:self.left() - 1], line[self.right():] = kept[:self.left() - 1], kept[self.right():]
 
     def scroll_by(self, n):
         """Moves the rows between the margins up by n, or down by -n."""
@@ -286,7 +201,7 @@ class Xterm(Utf8Terminal):
         is_left = self.is_alternate and not is_alternate
         self.show(is_alternate)
         if is_left:
-            self.other_cells = self.blank_cells(self.width)
+            self.other_cells = self.erased_cells()
 
     def save_or_restore(self, is_saved):
         """?1048."""
@@ -324,8 +239,6 @@ def without_colours(values):
 FUNCTIONS = {
     "G": Xterm.to_column,
     "`": Xterm.to_column,
-    "C": Xterm.right_by,
-    "D": Xterm.left_by,
     "a": Xterm.columns_right,
     "d": Xterm.to_line,
     "e": Xterm.lines_down,

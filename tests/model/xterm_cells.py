@@ -118,27 +118,10 @@ def part(line, at, space):
         line[at - 1:at + 1] = [space(line[at - 1])] * 2
 
 
-def cut_row(line, width):
-    """Returns a row cut or filled to a width. A character that is parted leaves a space with its look."""
-    line = list(line)
-    part(line, width, Cell.space)
-    return line[:width] + [PLAIN_BLANK] * (width - len(line))
-
-
-def cut(cells, n, size):
-    """Returns the rows after the first n, cut or filled to a size."""
-    rows = [cut_row(line, size.wide) for line in cells[n:n + size.rows]]
-    return rows + [[PLAIN_BLANK] * size.wide for _ in range(size.rows - len(rows))]
-
-
-def text_of(line):
-    """Returns the text of a row, with LF. An invisible character is a space for each of its cells."""
-    shown = [" " * cell.width if cell.pen.invisible else cell.character + cell.marks for cell in line]
-    return "".join(shown).rstrip(" ") + "\n"
-
-
 class CellXterm(Xterm):
     """The state beside that of xterm.py: the mouse's mode and coding are their numbers or 0, the shape is 'block', 'underline' or 'bar'."""
+
+    blank = PLAIN_BLANK
 
     def __init__(self, size=Size()):
         self.title, self.string, self.cut_string = b"", None, None
@@ -165,41 +148,27 @@ class CellXterm(Xterm):
 
     # Blank cells.
 
-    def blank_cells(self, width):
-        return [[PLAIN_BLANK] * width for _ in range(self.size.rows)]
-
     def erased(self, _=None):
         """Returns the cell that comes in: a space with the pen's background, and nothing else of the pen."""
         return Cell(pen=Pen(paper=self.brush.paper))
 
-    def erased_cells(self):
-        return [[self.erased()] * self.width for _ in range(self.size.rows)]
-
     # Changes of the size, pages and the width.
 
-    def leave(self, n, size):
-        """The main page goes by its own cursor, and its rows are logged. As many rows leave the alternate page while that isn't shown."""
-        main = self.other_cells if self.is_alternate else self.cells
-        by_main = max(self.other_saved.row - size.rows, 0) if self.is_alternate else n
-        self.left_by_resizes += [text_of(line) for line in main[:by_main]]
-        self.cells, self.other_cells = cut(self.cells, n, size), cut(self.other_cells, by_main, size)
-        self.row -= n
-        self.saved.row = max(self.saved.row - n, 1)
-        self.other_saved.row = max(self.other_saved.row - by_main, 1)
+    def cut_row(self, line, width):
+        """A character that is parted leaves a space with its look."""
+        line = list(line)
+        part(line, width, Cell.space)
+        return super().cut_row(line, width)
 
     def column_mode(self, width):
         super().column_mode(width)
         self.cells = self.erased_cells()
 
-    def show_blank_after(self, _, is_alternate):
-        """?1047."""
-        is_left = self.is_alternate and not is_alternate
-        self.show(is_alternate)
-        if is_left:
-            self.other_cells = self.erased_cells()
-
-    def line_text(self, row):
-        return text_of(self.cells[row - 1])
+    @staticmethod
+    def text_of(line):
+        """Returns the text of a row, with LF. An invisible character is a space for each of its cells."""
+        shown = [" " * cell.width if cell.pen.invisible else cell.character + cell.marks for cell in line]
+        return "".join(shown).rstrip(" ") + "\n"
 
     # Strings: the title.
 
@@ -316,7 +285,8 @@ class CellXterm(Xterm):
                 return False
             self.next_line()
         if "IRM" in self.modes and self.is_between():
-            self.insert_cells(width)
+            at, end = self.column - 1, self.right()
+            self.move_cells(self.cells[self.row - 1], at, end, min(width, end - at), True)
         self.put(character, width)
         self.column += width
         if self.column > (last := self.end_from(self.column - width)):
@@ -356,67 +326,31 @@ class CellXterm(Xterm):
 
     # Editing.
 
-    def change_cells(self, n, final):
-        line, at = self.cells[self.row - 1], self.column - 1
-        if final == "X":
-            self.erase_cells(line, at, min(at + n, self.width))
-        elif self.is_between():
-            n = min(n, self.right() - at)
-            self.insert_cells(n) if final == "@" else self.delete_cells(n)
-        elif final == "P":
-            return
-        self.wrap = False
-
-    def insert_cells(self, n):
-        line, at, end = self.cells[self.row - 1], self.column - 1, self.right()
-        n = min(n, end - at)
-        for border in (at, end - n, end):
+    def move_cells(self, line, at, end, n, is_insert):
+        for border in (at, end - n, end) if is_insert else (at, at + n, end):
             part(line, border, self.erased)
-        line[at:end] = [self.erased()] * n + line[at:end - n]
-
-    def delete_cells(self, n):
-        line, at, end = self.cells[self.row - 1], self.column - 1, self.right()
-        for border in (at, at + n, end):
-            part(line, border, self.erased)
-        line[at:end] = line[at + n:end] + [self.erased()] * n
+        super().move_cells(line, at, end, n, is_insert)
 
     def erase_cells(self, line, start, end):
         part(line, start, self.erased)
         part(line, end, self.erased)
-        line[start:end] = [self.erased()] * (end - start)
+        super().erase_cells(line, start, end)
 
-    def erase(self, which, is_screen, is_selective):
-        if which not in (0, 1, 2):
-            return
-        for row in range(1, self.size.rows + 1) if is_screen else [self.row]:
-            start = self.column - 1 if which == 0 and row == self.row else 0
-            end = self.column if which == 1 and row == self.row else self.width
-            if which == 0 and row < self.row or which == 1 and row > self.row:
-                continue
-            erase = erase_unprotected if is_selective else self.erase_cells
-            erase(self.cells[row - 1], start, end)
-        self.wrap = False
-
-    def scroll(self, first, n):
-        """Moves the rows in the columns between the margins. A character that a margin parts becomes spaces with its look."""
-        left, right = self.left() - 1, self.right()
-        rows = self.cells[first - 1:self.bottom]
-        for line in rows:
-            part(line, left, Cell.space)
-            part(line, right, Cell.space)
-        blocks = [line[left:right] for line in rows]
-        gap = [[self.erased()] * (right - left) for _ in range(min(abs(n), len(rows)))]
-        for line, block in zip(rows, blocks[n:] + gap if n > 0 else gap + blocks):
-            line[left:right] = block
-
-
-def erase_unprotected(line, start, end):
-    """DECSEL in a row: what isn't protected becomes spaces with its look, a wide character as a whole."""
-    for at in range(start, end):
-        if not line[at].pen.protected:
+    def erase_cell(self, line, at, is_selective):
+        """A protected cell stays in DECSED and DECSEL. Of others they make spaces with their look, of a wide character as a whole."""
+        if not is_selective:
+            self.erase_cells(line, at, at + 1)
+        elif not line[at].pen.protected:
             part(line, at, Cell.space)
             part(line, at + 1, Cell.space)
             line[at] = line[at].space()
+
+    def scroll(self, first, n):
+        """A character that a margin parts becomes spaces with its look."""
+        for line in self.cells[first - 1:self.bottom]:
+            part(line, self.left() - 1, Cell.space)
+            part(line, self.right(), Cell.space)
+        super().scroll(first, n)
 
 
 def title_of(text):
@@ -428,7 +362,6 @@ def title_of(text):
 NUMBER_MODES = {
     **dict.fromkeys((9, 1000, 1002, 1003), CellXterm.want_mouse),
     **dict.fromkeys((1005, 1006, 1015, 1016), CellXterm.code_mouse),
-    1047: CellXterm.show_blank_after,
     1004: CellXterm.want_focus,
     2026: CellXterm.synchronize,
     12: CellXterm.blink_cursor,

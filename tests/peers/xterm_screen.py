@@ -27,23 +27,6 @@ MODES = [9, 12, 25, 47, 1000, 1002, 1003, 1004, 1005, 1006, 1015, 1016, 2004]
 ORDER = [1, 2, 3, 4, 5, 7, 8, 9, 21]
 
 
-class Display:
-    def __init__(self, width=3600, height=3600):
-        reader, writer = os.pipe()
-        words = ["Xvfb", "-displayfd", str(writer), "-screen", "0", f"{width}x{height}x24", "-nolisten", "tcp"]
-        self.server = subprocess.Popen(words, pass_fds=[writer], stderr=subprocess.DEVNULL)
-        os.close(writer)
-        with open(reader, "rb") as numbers:
-            self.name = ":" + numbers.readline().decode().strip()
-
-    def __enter__(self):
-        return self
-
-    def __exit__(self, *_):
-        self.server.terminate()
-        self.server.wait()
-
-
 class RealXterm:
     def __init__(self, display, rows=24, columns=80):
         self.rows, self.columns, self.received = rows, columns, b""
@@ -53,7 +36,7 @@ class RealXterm:
         self.socket, theirs = socket.socketpair()
         resources = [word for line in [*RESOURCES, f"printerCommand: cat >{self.work}/page"] for word in ("-xrm", "*" + line)]
         words = ["xterm", f"-Sab{theirs.fileno()}", "-u8", "-geometry", f"{columns}x{rows}", *resources]
-        environment = os.environ | {"DISPLAY": display.name, "LC_ALL": "C.UTF-8"}
+        environment = os.environ | {"DISPLAY": display, "LC_ALL": "C.UTF-8"}
         self.process = subprocess.Popen(words, pass_fds=[theirs.fileno()], env=environment, stderr=subprocess.DEVNULL)
         theirs.close()
         self.answer(re.compile(rb"[0-9a-f]+\n"))

@@ -7,7 +7,6 @@ of the tables of docs/SPECIFICATION.md. The content of raw bytes is these. The r
 import itertools
 import json
 import re
-import subprocess
 
 import pytest
 from samples import RAW, TOP
@@ -233,9 +232,3 @@ def test_log_at_a_change_of_the_size(run, one):
     screen = one.wanted["text"].split("\n")
     wanted = one.left + "".join(line + "\n" for line in screen + [""] * (one.second[0] - len(screen)))
     assert run(f"log --format asciicast --encoding {one.encoding} --terminal {one.terminal}", data=recording).out.decode() == wanted
-
-
-@pytest.mark.parametrize("recording", RAW)
-def test_log_next_to_tmux(program, recording):
-    done = subprocess.run([TOP / "tests/peers/log-with", "tmux", f"{program} log", recording], capture_output=True, text=True)
-    assert done.returncode == 0, done.stdout + done.stderr

@@ -1,40 +1,27 @@
-#!/usr/bin/env python3
-"""Shows that an edit is refused for the clauses that it is meant for: strikes them in a copy, and sees the edit pass.
-
-    tests/struck [CRATE[/EDIT] ..]    tries these edits; of a crate alone those of tests/struck.txt; without a word all of that list
-    tests/struck --on-request [CRATE ..] tries the edits that the gate leaves out, and strikes nothing; without a word those of all crates
-    tests/struck --notes              only looks at the notes, for the gate
-    tests/struck --list               prints each edit with its note, and with the lines that it takes away and puts in
-
-The gate tries the edits in must-fail/ of a crate, and `--on-request` those in on-request/, by `rt must-fail`. docs/decisions/gate.md says which are where.
+"""Checks the edits that the prover must refuse. The gate tries those in must-fail/ of a crate by `rt must-fail`. docs/decisions/gate.md says which are where.
 
 The first line of each edit is a note, '# clause: FUNCTION: CLAUSE, ..': the function of the crate that the prover refuses, and those of
 its clauses that the edit breaks. 'requires' or 'requires CLAUSE' is of a function that the edit calls. A function with one clause without
 a name has none in its note, or 'its clause'. 'invariant FIELD' is a field of a loop's invariant that says the same as the clause. A note
-is right if the function has these clauses and fields. Each edit that tests/struck.txt names is there.
+is right if the function has these clauses and fields. Each edit that struck.txt names is there.
 
-The crates are copied with what their proofs have kept. There the function is checked with the edit, which must be refused, and then without
-the clauses and the hand-written proofs of them, which must be proved. (A clause that is then the only one has a goal of another name. So if
-its proof is written by hand, no edit of that function is for the list.) One check runs at a time. The last line is 'N passed, M failed'.
+`--on-request NAME ..` tries the edits in on-request/ of these crates. `-n 0 --struck NAME ..` shows that an edit is refused for the clauses that it is
+meant for. The crates are copied with what their proofs have kept. There the function is checked with the edit, which must be refused, and then
+without the clauses and the hand-written proofs of them, which must be proved. (A clause that is then the only one has a goal of another name. So
+if its proof is written by hand, no edit of that function is for the list.) One check runs at a time.
 """
 import pathlib
 import re
 import shutil
 import subprocess
-import sys
 import tempfile
 
-ROOT = pathlib.Path(__file__).resolve().parent.parent
-LIST = (ROOT / "tests/struck.txt").read_text()
+import pytest
+
+HERE = pathlib.Path(__file__).resolve().parent
+ROOT = HERE.parents[1]
+LIST = (HERE / "struck.txt").read_text()
 NOTE = re.compile(r"# clause: ([\w:]+?\w)(?:: (.+))?")
-passed = failed = 0
-
-
-def check(is_so, what, is_shown=True):
-    global passed, failed
-    passed, failed = passed + bool(is_so), failed + (not is_so)
-    if is_shown or not is_so:
-        print(f"{'passed' if is_so else 'failed'}: {what}", flush=True)
 
 
 def edits(crate, name="*"):
@@ -100,31 +87,30 @@ def places(source, at, clause):
     return found
 
 
-def check_note(edit):
-    """Checks that an edit's note names clauses that are there, and that each text that it replaces is in its file once."""
-    crate = edit.parent.parent
-    name = f"{crate.name}/{edit.stem}"
-    function, clauses = note_of(edit) or ("", [])
-    found = source_of(crate, function)
-    check(found, f"{name}: its first line names a function, as '# clause: {function or 'screen::Screen::fill: grid'}'", False)
+EDITS = [edit for crate in sorted((ROOT / "crates").iterdir()) for edit in edits(crate)]
+
+
+@pytest.mark.parametrize("edit", EDITS, ids=lambda edit: f"{edit.parents[1].name}/{edit.stem}")
+def test_note(edit):
+    """An edit's note names clauses that are there, and each text that it replaces is in its file once."""
+    crate = edit.parents[1]
+    function, clauses = note_of(edit)
+    path, at = source_of(crate, function)
     for field in fields_of(clauses):
         texts = [path.read_text() for folder in proofs_of(crate, function) for path in folder.glob("Invariants.antt")]
-        check(any(f"  {field} :" in text for text in texts), f"{name}: {function} has an invariant with a field '{field}'", False)
-    for clause in clauses if found else []:
-        if clause.startswith("invariant "):
-            continue
-        check(len(places(found[0].read_text(), found[1], clause)) == 1, f"{name}: {function} has one clause '{clause}'", False)
-    path = None
+        assert any(f"  {field} :" in text for text in texts), f"{function} has no invariant with a field '{field}'"
+    for clause in clauses:
+        assert clause.startswith("invariant ") or len(places(path.read_text(), at, clause)) == 1, f"{function} has one clause '{clause}'"
+    file = None
     for line in edit.read_text().splitlines():
         kind, _, text = line.partition(": ")
-        path = crate / text if kind == "file" else path
-        check(kind != "old" or path.is_file() and path.read_text().count(text) == 1, f"{name}: its '{text}' is in {path} once", False)
+        file = crate / text if kind == "file" else file
+        assert kind != "old" or file.read_text().count(text) == 1, f"'{text}' is in {file} once"
 
 
-def check_list():
-    """Checks that each edit that the list names is there."""
-    for crate, name in re.findall(r"^(?:# )?(vt\w+)/([\w-]+)", LIST, re.M):
-        check(edits(ROOT / "crates" / crate, name), f"tests/struck.txt: {crate} has an edit {name}", False)
+def test_list():
+    """Each edit that the list names is there."""
+    assert not [f"{crate}/{name}" for crate, name in re.findall(r"^(?:# )?(vt\w+)/([\w-]+)", LIST, re.M) if not edits(ROOT / "crates" / crate, name)]
 
 
 def edited(crate, edit):
@@ -163,39 +149,23 @@ def strike(crate, function, names):
 
 
 def verdict(crate, function):
-    """Returns whether the prover accepts a function. A check that comes to no verdict ends the script."""
+    """Returns whether the prover accepts a function. A check that comes to no verdict fails."""
     # A type's function is named by the module of the type, which may be another one.
     _, names = names_of(crate, function)
     name = "::".join(names) if len(names) > 1 else f"{crate.name}::{function.removeprefix('lib::')}"
     done = subprocess.run(["rt", "check", "--jobs", "1", "--only", name], cwd=crate, capture_output=True, text=True)
-    if done.returncode not in (0, 1):
-        sys.exit(f"tests/struck: {crate.name}::{function}: status {done.returncode}\n{done.stdout}{done.stderr}")
+    assert done.returncode in (0, 1), f"{crate.name}::{function}: status {done.returncode}\n{done.stdout}{done.stderr}"
     return done.returncode == 0
 
 
-def try_edit(crate, name):
-    """Tries an edit in a copy of a crate, with its clauses and without them."""
-    [edit] = edits(crate, name)
-    function, clauses = note_of(edit)
-    kept = {path: path.read_text() for part in ("src", "specs", "proofs") for path in (crate / part).rglob("*") if path.is_file()}
-    edited(crate, edit)
-    check(not verdict(crate, function), f"{crate.name}: {name} is refused")
-    strike(crate, function, clauses)
-    check(verdict(crate, function), f"{crate.name}: {name} passes without {function}: {', '.join(clause or 'its clause' for clause in clauses)}")
-    for path, text in kept.items():
-        path.write_text(text)
-
-
-def copied(room, names):
-    """Copies crates, and those below them, with what their proofs have kept. Returns the copy."""
-    copy = pathlib.Path(room) / "copy"
+def copied(folder, names):
+    """Copies crates into a folder, and those below them, with what their proofs have kept."""
     listed = subprocess.run(["make", "-s", "crates", f"OF={' '.join(names)}"], cwd=ROOT, capture_output=True, text=True, check=True)
     for name in listed.stdout.split():
-        shutil.copytree(ROOT / "crates" / name, copy / "crates" / name, symlinks=True)
+        shutil.copytree(ROOT / "crates" / name, folder / "crates" / name, symlinks=True)
     graph = [line for line in (ROOT / "crates.txt").read_text().splitlines() if re.split(r"[ :]", line)[0] in listed.stdout.split()]
-    (copy / "crates.txt").write_text("".join(f"{line}\n" for line in graph))
-    shutil.copy(ROOT / "HANDLES", copy)
-    return copy
+    (folder / "crates.txt").write_text("".join(f"{line}\n" for line in graph))
+    shutil.copy(ROOT / "HANDLES", folder)
 
 
 def edits_of(words):
@@ -205,42 +175,46 @@ def edits_of(words):
     return named + [row for row in listed if row[0] in words or not words]
 
 
-def try_on_request(words):
-    """Tries the edits that the gate leaves out, in copies of their crates. Returns the exit status of `rt must-fail`, which prints the results."""
-    names = words or sorted(path.parent.name for path in ROOT.glob("crates/*/on-request"))
+def pytest_generate_tests(metafunc):
+    """Without the options, there are no edits to try."""
+    words = {name: metafunc.config.getoption(name) for name in ("struck", "on_request")}
+    if metafunc.function is test_struck:
+        metafunc.parametrize("crate, name", edits_of(words["struck"]) if words["struck"] is not None else [])
+    if metafunc.function is test_on_request:
+        metafunc.parametrize("names", [words["on_request"] or sorted(path.parent.name for path in ROOT.glob("crates/*/on-request"))] if words["on_request"] is not None else [])
+
+
+@pytest.fixture(scope="session")
+def copy(pytestconfig):
+    """A copy of the crates whose edits are tried. It is gone after the tests."""
+    struck, names = (pytestconfig.getoption(name) for name in ("struck", "on_request"))
     with tempfile.TemporaryDirectory() as room:
-        copy = copied(room, names)
-        for crate in (copy / "crates").iterdir():
-            shutil.rmtree(crate / "must-fail", ignore_errors=True)
-            if (crate / "on-request").is_dir():
-                (crate / "on-request").rename(crate / "must-fail")
-        return subprocess.run(["rt", "must-fail", *names], cwd=copy).returncode
+        if struck is not None:
+            names = dict(edits_of(struck))
+        copied(pathlib.Path(room), names or sorted(path.parent.name for path in ROOT.glob("crates/*/on-request")))
+        yield pathlib.Path(room)
 
 
-def main():
-    words = sys.argv[1:]
-    if words == ["--help"]:
-        print(__doc__, end="")
-        return 0
-    if words[:1] == ["--on-request"]:
-        return try_on_request(words[1:])
-    if words == ["--list"]:
-        for edit in (edit for crate in sorted(ROOT.glob("crates/*")) for edit in edits(crate)):
-            print(f"{edit.relative_to(ROOT / 'crates')}\n{edit.read_text()}")
-        return 0
-    if words == ["--notes"]:
-        for crate in sorted(ROOT.glob("crates/*")):
-            for edit in edits(crate):
-                check_note(edit)
-        check_list()
-    else:
-        with tempfile.TemporaryDirectory() as room:
-            copy = copied(room, dict(edits_of(words)))
-            for crate, name in edits_of(words):
-                try_edit(copy / "crates" / crate, name)
-    print(f"{passed} passed, {failed} failed")
-    return 1 if failed else 0
+def test_struck(crate, name, copy):
+    """An edit is refused in a copy of its crate, and passes without the clauses of its note."""
+    place = copy / "crates" / crate
+    [edit] = edits(place, name)
+    function, clauses = note_of(edit)
+    kept = {path: path.read_text() for part in ("src", "specs", "proofs") for path in (place / part).rglob("*") if path.is_file()}
+    try:
+        edited(place, edit)
+        assert not verdict(place, function), "it isn't refused"
+        strike(place, function, clauses)
+        assert verdict(place, function), f"it is refused without {function}: {', '.join(clause or 'its clause' for clause in clauses)}"
+    finally:
+        for path, text in kept.items():
+            path.write_text(text)
 
 
-if __name__ == "__main__":
-    sys.exit(main())
+def test_on_request(names, copy):
+    """`rt must-fail` refuses the edits that the gate leaves out."""
+    for crate in (copy / "crates").iterdir():
+        shutil.rmtree(crate / "must-fail", ignore_errors=True)
+        if (crate / "on-request").is_dir():
+            (crate / "on-request").rename(crate / "must-fail")
+    subprocess.run(["rt", "must-fail", *names], cwd=copy, check=True)

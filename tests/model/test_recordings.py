@@ -1,30 +1,18 @@
-#!/usr/bin/env python3
-"""Compares the plain reader of recordings and the plain traces with the program, on generated recordings. The last line is 'N passed, M failed'.
-
-    tests/model/recorded PROGRAM [COUNT [SEED]]
-
-COUNT     the number of recordings (1000)
-SEED      of the first one; the others have the numbers after it (1)
+"""Compares the plain reader of recordings and the plain traces with the program, on generated recordings.
 
 Some recordings break their format. Each is played by a command, whole or up to a moment, or is listed between two moments. The moments are those of
 its events, or next to them. The replays, the log and the trace carry out the changes of the size.
 """
-import concurrent.futures
 import json
-import os
 import struct
 import subprocess
-import sys
-import tempfile
-
-sys.dont_write_bytecode = True
-sys.path.insert(0, os.path.dirname(os.path.realpath(__file__)))
 
 import inputs
 import recordings
 import traces
 from terminal import size_of
 
+COUNT = 1000
 COMMANDS = ["events"] * 3 + ["content"] * 2 + ["trace"] * 3 + ["text", "status", "log", "log", "reports"]
 TERMS = ["xterm", "vt220", "xterm-256color", "vt100", "vt", "", None, 7]
 # Parts of lines of asciinema, of which few are events together, and lines that it and a timing file seldom or never have.
@@ -157,34 +145,17 @@ def wanted(chance, form, recording):
     return words, table(recording, recordings.events(recording, begin, end), "--full" in words)
 
 
-def fault_of(program, seed):
-    """Returns how the program differs from the model on a recording, if it does: in standard output, or in what it says of a break."""
-    chance = RecordingChance(seed)
-    form, data, timing = chance.recording()
-    recording = recordings.FORMATS[form](data, *([] if timing is None else [timing]))
-    words, out = wanted(chance, form, recording)
-    part, place = recording.broken or (None, 0)
-    model = out if isinstance(out, bytes) else out.encode(), f"vt220: the {part.replace('timing', 'timing file')} is broken at byte {place}" if part else ""
-    with tempfile.NamedTemporaryFile() as file:
-        file.write(timing or b"")
-        file.flush()
-        words += ["--format", form, "--quiet"] + ["--timing", file.name] * (timing is not None)
-        done = subprocess.run([program, *words], input=data, capture_output=True)
-    found = done.stdout, done.stderr.decode().partition("\n")[0]
-    if found != model:
-        return f"seed {seed}: {' '.join(words)}\n  data    {data}\n  timing  {timing}\n  model   {model}\n  program {found}"
-
-
-def main():
-    if not 2 <= len(sys.argv) <= 4:
-        print(__doc__, end="", file=sys.stderr)
-        return 2
-    program, count, seed = sys.argv[1:] + ["1000", "1"][len(sys.argv) - 2:]
-    with concurrent.futures.ThreadPoolExecutor(os.cpu_count()) as pool:
-        faults = list(filter(None, pool.map(lambda one: fault_of(program, one), range(int(seed), int(seed) + int(count)))))
-    print(*faults[:5], f"{int(count) - len(faults)} passed, {len(faults)} failed", sep="\n")
-    return len(faults) > 0
-
-
-if __name__ == "__main__":
-    sys.exit(main())
+def test_recordings(program, seeds, tmp_path):
+    """The program writes what the model does, and says of a break what it does."""
+    for seed in seeds:
+        chance = RecordingChance(seed)
+        form, data, timing = chance.recording()
+        recording = recordings.FORMATS[form](data, *([] if timing is None else [timing]))
+        words, out = wanted(chance, form, recording)
+        part, place = recording.broken or (None, 0)
+        fault = f"vt220: the {part.replace('timing', 'timing file')} is broken at byte {place}" if part else ""
+        (tmp_path / "timing").write_bytes(timing or b"")
+        more = ["--format", form, "--quiet", *(["--timing", tmp_path / "timing"] if timing is not None else [])]
+        done = subprocess.run([program, *words, *more], input=data, capture_output=True)
+        found = done.stdout, done.stderr.decode().partition("\n")[0]
+        assert found == (out if isinstance(out, bytes) else out.encode(), fault), f"seed {seed}: {' '.join(words)}\n{data}\ntiming {timing}"

@@ -1,21 +1,16 @@
-#!/usr/bin/env python3
-"""Compares docs/contracts.txt with what the last stored version promised, docs/contracts-VERSION.txt.
-
-    tests/released              names each change that docs/contracts-changes.txt has no reason for
-    tests/released --changes    names each change, with its reason
+"""Compares docs/contracts.txt with what the last stored version promised, docs/contracts-VERSION.txt. `-rP` prints each change, with its reason.
 
 A change is a call, a type or a definition that is gone, a clause, row or field of one that is gone or has other words, or a condition
 (`requires`) that is new. An item that moved to another crate with all its lines is no change. docs/contracts-changes.txt has a line for each
 reason, and below it indented lines 'CRATE: NAME ..' of what changed for it. A name without a change is a fault, too. So is a stored file,
-of contracts or of the C library's interface, that is gone or isn't as its first commit has it. The last line is 'N passed, M failed'.
+of contracts or of the C library's interface, that is gone or isn't as its first commit has it.
 """
 import collections
 import pathlib
 import re
 import subprocess
-import sys
 
-ROOT = pathlib.Path(__file__).resolve().parents[1]
+ROOT = pathlib.Path(__file__).resolve().parents[2]
 DOCS = ROOT / "docs"
 # What is stored of versions. git expands these itself.
 STORED = ["docs/contracts-[0-9]*.txt", "lib/c/tests/abi-[0-9]*.txt"]
@@ -104,21 +99,16 @@ def last_stored():
     return max(DOCS.glob("contracts-[0-9]*.txt"), key=lambda path: [int(part) for part in re.findall(r"\d+", path.stem)])
 
 
-def main():
-    if sys.argv[1:] not in ([], ["--changes"]):
-        print(__doc__, end="")
-        return 0 if sys.argv[1:] == ["--help"] else 2
-    known, files, path = reasons(), stored(), last_stored()
-    before = items(path)
-    changed = changes(before, items(DOCS / "contracts.txt"))
-    if sys.argv[1:]:
-        print(*(f"{path.stem}: {name}: {'; '.join(said)}\n    {known[name]}" for name, said in changed.items() if name in known), sep="\n")
+def test_changes():
+    """Each change has a reason, and each reason a change."""
+    path, known = last_stored(), reasons()
+    changed = changes(items(path), items(DOCS / "contracts.txt"))
+    print(*(f"{path.stem}: {name}: {'; '.join(said)}\n    {known.get(name)}" for name, said in changed.items()), sep="\n")
     faults = [f"{path.stem}: {name}: {'; '.join(said)}" for name, said in changed.items() if name not in known]
     faults += [f"contracts-changes.txt: nothing changed of {name}" for name in sorted(known.keys() - changed)]
-    faults += [f"{name} isn't what was stored" for name, is_kept in files.items() if not is_kept]
-    print(*faults, f"{len(before) + len(known) + len(files) - len(faults)} passed, {len(faults)} failed", sep="\n")
-    return 1 if faults else 0
+    assert not faults, "\n".join(faults)
 
 
-if __name__ == "__main__":
-    sys.exit(main())
+def test_stored_files():
+    faults = [f"{name} isn't what was stored" for name, is_kept in stored().items() if not is_kept]
+    assert not faults, "\n".join(faults)

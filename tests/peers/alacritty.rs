@@ -1,4 +1,4 @@
-//! Prints the text of a screen by the alacritty_terminal crate, which reads UTF-8.
+//! Prints the text of a screen by the alacritty_terminal crate, which reads UTF-8. It keeps no history.
 use alacritty_terminal::ansi::Processor;
 use alacritty_terminal::config::Config;
 use alacritty_terminal::event::VoidListener;
@@ -19,7 +19,9 @@ fn main() -> std::io::Result<()> {
     let (columns, rows) = size().expect("COLUMNSxROWS");
     let mut data = Vec::new();
     std::io::stdin().read_to_end(&mut data)?;
-    let (mut terminal, mut parser) = (Term::new(&Config::default(), &TermSize::new(columns, rows), VoidListener), Processor::new());
+    let mut config = Config::default();
+    config.scrolling.set_history(0);
+    let (mut terminal, mut parser) = (Term::new(&config, &TermSize::new(columns, rows), VoidListener), Processor::new());
     for byte in data {
         parser.advance(&mut terminal, byte);
     }

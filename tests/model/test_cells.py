@@ -1,0 +1,74 @@
+"""Compares the plain model of an xterm's cells, and the proved xterm, with lib/rows/cells.txt. If the profile differs on purpose, the cells are those of the profile."""
+import re
+import subprocess
+
+import pytest
+from cell_inputs import generated
+from cells import cell_rows
+from rows import TOP, singly
+from terminal import size_of
+from xterm_cells import NUMBERS, Cell, CellXterm, Pen, screen_spelled, state_shown
+
+ROWS = list(cell_rows())
+COUNT = 4000  # inputs
+PROGRAM = TOP / "crates/cells/out/cells"
+# The attributes in the order of the program's bits, and the numbers of DECSCUSR by shape and blinking.
+BITS = ("bold", "faint", "italic", "underline", "double", "blink", "reverse", "invisible", "crossed")
+SHAPES = {"01": "1", "00": "2", "11": "3", "10": "4", "21": "5", "20": "6"}
+
+
+@pytest.mark.parametrize("is_whole", [True, False], ids=["whole", "singly"])
+@pytest.mark.parametrize("row", ROWS, ids=lambda row: row.name)
+def test_row(row, is_whole):
+    model = CellXterm(size_of(*row.size))
+    model.play(row.steps() if is_whole else [part for step in row.steps() for part in (singly(step) if isinstance(step, bytes) else [step])])
+    found = state_shown(model) | ({"cells": screen_spelled(model.cells, as_xterm=False)} if "cells" in row.here else {})
+    wanted = row.wanted | row.here
+    assert {of: found[of] for of in wanted} == wanted
+
+
+def test_rules():
+    """Each rule of docs/XTERM.md has a row."""
+    rules = re.findall(r"^\*\*([^*]+)\.\*\*", (TOP / "docs/XTERM.md").read_text(), re.M)
+    assert rules and {*rules} <= {row.name.split(":")[0] for row in ROWS}
+
+
+def colour_of(number):
+    return None if number < 0 else number if number < 256 else tuple((number - 256).to_bytes(3, "big"))
+
+
+def cell_of(character, mark, other, wide, ink, paper, bits, protected):
+    pen = Pen(**{name: bool(bits >> at & 1) for at, name in enumerate(BITS)}, ink=colour_of(ink), paper=colour_of(paper), protected=bool(protected))
+    return Cell(chr(character) if character else "", "".join(map(chr, filter(None, (mark, other)))), 2 if wide else bool(character), pen)
+
+
+def test_attributes():
+    assert {*BITS} == {*NUMBERS}
+
+
+def xterm(size, sent, as_xterm):
+    """Returns what the proved xterm has, by the names of lib/rows/cells.py. It has no title yet, and no change of the size."""
+    rows, columns = size
+    *cells, state = subprocess.run([PROGRAM], input=bytes([columns, rows, *sent]), capture_output=True, check=True).stdout.decode().splitlines()
+    screen = [[Cell()] * columns for _ in range(rows)]
+    for line, column, *cell in (map(int, text.split()) for text in cells):
+        screen[line - 1][column - 1] = cell_of(*cell)
+    _, line, column, wrap, alternate, hidden, mouse, coding, focus, paste, shape, blinks = state.split()
+    return {"cells": screen_spelled(screen, as_xterm), "cursor": f"{line};{column}", "wrap": wrap, "alternate": alternate, "hidden": hidden, "mouse": mouse,
+            "coding": coding, "focus": focus, "paste": paste, "shape": SHAPES[shape + blinks]}
+
+
+@pytest.mark.parametrize("row", [row for row in ROWS if "to" not in row.then], ids=lambda row: row.name)
+def test_xterm(row):
+    found, wanted = xterm(row.size, b"".join(row.steps()), "cells" not in row.here), row.wanted | row.here
+    assert found == {of: wanted[of] for of in found}
+
+
+def test_inputs(seeds):
+    """The model and the proved xterm have the same after generated inputs."""
+    for seed in seeds:
+        _, size, steps = generated(seed)
+        model = CellXterm(size_of(*size))
+        model.play(steps)
+        found, wanted = xterm(size, b"".join(steps), True), state_shown(model)
+        assert found == {of: wanted[of] for of in found}, f"seed {seed}, size {size}, {steps!r}"

@@ -282,9 +282,11 @@ def edits():
 def mutants():
     """Returns the changes of the model, each with its rule."""
     found, rule = [], ""
-    for block in re.split(r"\n\n+", (TOP / "tests/model/mutants.txt").read_text().strip()):
-        rule = " ".join(line[1:].strip() for line in block.split("\n") if line.startswith("#")) or rule
-        found.append((rule, "\n".join(line for line in block.split("\n") if line[:1] in "-+ ")))
+    for line in (TOP / "tests/model/mutants.txt").read_text().splitlines():
+        if not line.startswith("# "):
+            named, old, new = line.split("\t")
+            rule = named or rule
+            found.append((rule, "\n".join(mark + part for mark, side in (("-", old), ("+", new)) for part in side.split("⏎"))))
     return found
 
 

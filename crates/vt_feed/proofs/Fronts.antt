@@ -44,11 +44,11 @@ module _ (split : SplitLaw) where
   read-held held b (c ∷ bytes) =
       read-held (held_from held (b ∷ [])) c bytes ∙ sym (split.held_append held (b ∷ []) (c ∷ bytes))
 
-  events-of : (held : Held) (bytes : List ℕ) → 1 ≤ length bytes → actions eight_bit held bytes ≡ map Function (events_from held bytes)
+  pub events-of : (held : Held) (bytes : List ℕ) → 1 ≤ length bytes → actions eight_bit held bytes ≡ map Function (events_from held bytes)
   events-of held [] some = absurd (omega (arith, some))
   events-of held (b ∷ bytes) some = asked-events held b bytes
 
-  held-of : (held : Held) (bytes : List ℕ) → 1 ≤ length bytes → read_after eight_bit held bytes ≡ held_from held bytes
+  pub held-of : (held : Held) (bytes : List ℕ) → 1 ≤ length bytes → read_after eight_bit held bytes ≡ held_from held bytes
   held-of held [] some = absurd (omega (arith, some))
   held-of held (b ∷ bytes) some = read-held held b bytes
 

@@ -1,3 +1,5 @@
-mod Playing
+pub mod Playing
 mod Fronts
 mod Texts
+mod Pending
+mod Spelled

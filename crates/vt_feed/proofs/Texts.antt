@@ -27,7 +27,7 @@ one-next held b ascii =
     let lower : nat_lt b 0x80 ≡ true = search (arith, ascii) in
     rw (read-ascii b ascii, lower) refl
 
-ascii-asked : (held : Held) (bytes : List ℕ) → All (λ b. b < 0x80) bytes
+pub ascii-asked : (held : Held) (bytes : List ℕ) → All (λ b. b < 0x80) bytes
     → actions utf8 (reading held []) bytes ≡ actions eight_bit held bytes
 ascii-asked held [] ascii = refl
 ascii-asked held (b ∷ bytes) ascii =
@@ -36,7 +36,7 @@ ascii-asked held (b ∷ bytes) ascii =
     (ap (λ (t : List Action). eight_bit.asks held b ++ t)
     (ascii-asked (eight_bit.next held b) bytes (All-tail (λ b. b < 0x80) b bytes ascii)))
 
-ascii-read : (held : Held) (bytes : List ℕ) → All (λ b. b < 0x80) bytes
+pub ascii-read : (held : Held) (bytes : List ℕ) → All (λ b. b < 0x80) bytes
     → read_after utf8 (reading held []) bytes ≡ reading (read_after eight_bit held bytes) []
 ascii-read held [] ascii = refl
 ascii-read held (b ∷ bytes) ascii =
@@ -92,24 +92,24 @@ module _ {S : Type 0} (m : MachineOf S) (held : Held) (pending : List ℕ) (s : 
 
 -- ---- characters in turn
 
-all-asked-append : (held : Held) (xs ys : List ℕ) → all_asked held (xs ++ ys) ≡ all_asked held xs ++ all_asked (held_by_all held xs) ys
+pub all-asked-append : (held : Held) (xs ys : List ℕ) → all_asked held (xs ++ ys) ≡ all_asked held xs ++ all_asked (held_by_all held xs) ys
 all-asked-append held [] ys = refl
 all-asked-append held (x ∷ xs) ys =
     ap (λ (t : List Action). asked held x ++ t) (all-asked-append (held_by held x) xs ys)
     ∙ sym (append_assoc (asked held x) (all_asked (held_by held x) xs) (all_asked (held_by_all (held_by held x) xs) ys))
 
-held-append : (held : Held) (xs ys : List ℕ) → held_by_all held (xs ++ ys) ≡ held_by_all (held_by_all held xs) ys
+pub held-append : (held : Held) (xs ys : List ℕ) → held_by_all held (xs ++ ys) ≡ held_by_all (held_by_all held xs) ys
 held-append held [] ys = refl
 held-append held (x ∷ xs) ys = held-append (held_by held x) xs ys
 
-bytes-asked : (held : Held) (pending bytes : List ℕ) → actions utf8 (reading held pending) bytes ≡ all_asked held (characters pending bytes)
+pub bytes-asked : (held : Held) (pending bytes : List ℕ) → actions utf8 (reading held pending) bytes ≡ all_asked held (characters pending bytes)
 bytes-asked held pending [] = refl
 bytes-asked held pending (b ∷ bytes) =
     let now : Read = read pending b in
     ap (λ (t : List Action). all_asked held now.characters ++ t) (bytes-asked (held_by_all held now.characters) now.pending bytes)
     ∙ sym (all-asked-append held now.characters (characters now.pending bytes))
 
-bytes-read : (held : Held) (pending bytes : List ℕ) → read_after utf8 (reading held pending) bytes
+pub bytes-read : (held : Held) (pending bytes : List ℕ) → read_after utf8 (reading held pending) bytes
     ≡ reading (held_by_all held (characters pending bytes)) (pending_after pending bytes)
 bytes-read held pending [] = refl
 bytes-read held pending (b ∷ bytes) =

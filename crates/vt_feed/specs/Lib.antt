@@ -1,4 +1,5 @@
 pub mod Actions
 pub mod Languages
+pub mod Spelled
 pub mod Observing
 pub mod Observers

@@ -2,6 +2,7 @@
 #![tactic(auto)]
 
 mod feeding;
+pub mod laws;
 mod machine;
 mod observer;
 mod text;

@@ -81,12 +81,12 @@ pub constant_line : {C : Type 0} (k : WideOf C) (w : ℕ) (e : C) → IsNarrow k
 constant_line k w e narrow c cw = apart narrow.wide narrow.second
 
 -- n cells come in at a column
-pub inserted_line : {C : Type 0} (k : WideOf C) (L N : ℕ → C) (e : C) (w col right n : ℕ) → IsNarrow k e → Line k w L → 1 ≤ n → col ≤ right → right ≤ w
+pub inserted_line : {C : Type 0} (k : WideOf C) (L N : ℕ → C) (e : C) (w col right n : ℕ) → IsNarrow k e → Line k w L → col ≤ right → right ≤ w
     → ((c : ℕ) → c < col → N c ≡ L c) → ((c : ℕ) → col ≤ c → c < col + n → c ≤ right → N c ≡ e)
     → ((c d : ℕ) → col + n ≤ c → c ≤ right → d + n ≡ c → N c ≡ L d) → ((c : ℕ) → right < c → N c ≡ L c)
     → k.is_second (L col) ≡ false → ((d : ℕ) → d + n ≡ right → col ≤ d → k.is_second (L (d + 1)) ≡ false) → k.is_second (L (right + 1)) ≡ false
     → Line k w N
-inserted_line {C = C} k L N e w col right n narrow line some low high before gap moved behind left lost edge =
+inserted_line {C = C} k L N e w col right n narrow line low high before gap moved behind left lost edge =
     let M : ℕ → C = λ c. N c in
     spliced k L M N w col (right + 1) line (omega (arith, low)) before (λ c a b. refl) (λ c a. behind c (omega (arith, a)))
     left edge
@@ -102,7 +102,10 @@ inserted_line {C = C} k L N e w col right n narrow line some low high before gap
             (apart narrow.wide narrow.second)
       ]
     ])
-    (ap k.is_second (gap col (omega arith) (omega (arith, some)) low) ∙ narrow.second)
+    (elim (leb_tells 1 n) [
+      | inl f ↦ ap k.is_second (gap col (omega arith) (omega (arith, f.1)) low) ∙ narrow.second
+      | inr f ↦ ap k.is_second (moved col col (omega (arith, f.1)) low (omega (arith, f.1))) ∙ left
+    ])
     (λ c is. elim (leb_tells (col + n) c) [
       | inl f ↦
           let back : c - n + n ≡ c = omega (arith, f) in
@@ -113,12 +116,12 @@ inserted_line {C = C} k L N e w col right n narrow line some low high before gap
     ])
 
 -- n cells go at a column
-pub deleted_line : {C : Type 0} (k : WideOf C) (L N : ℕ → C) (e : C) (w col right n : ℕ) → IsNarrow k e → Line k w L → 1 ≤ n → col ≤ right → right ≤ w
+pub deleted_line : {C : Type 0} (k : WideOf C) (L N : ℕ → C) (e : C) (w col right n : ℕ) → IsNarrow k e → Line k w L → col ≤ right → right ≤ w
     → ((c : ℕ) → c < col → N c ≡ L c) → ((c : ℕ) → col ≤ c → c + n ≤ right → N c ≡ L (c + n))
     → ((c : ℕ) → col ≤ c → right < c + n → c ≤ right → N c ≡ e) → ((c : ℕ) → right < c → N c ≡ L c)
     → k.is_second (L col) ≡ false → (col + n ≤ right → k.is_second (L (col + n)) ≡ false) → k.is_second (L (right + 1)) ≡ false
     → Line k w N
-deleted_line {C = C} k L N e w col right n narrow line some low high before moved gap behind left end edge =
+deleted_line {C = C} k L N e w col right n narrow line low high before moved gap behind left end edge =
     let M : ℕ → C = λ c. N c in
     spliced k L M N w col (right + 1) line (omega (arith, low)) before (λ c a b. refl) (λ c a. behind c (omega (arith, a)))
     left edge
@@ -139,7 +142,13 @@ deleted_line {C = C} k L N e w col right n narrow line some low high before move
       | inl f ↦ ap k.is_second (moved col (omega arith) f.1) ∙ end f.1
       | inr f ↦ ap k.is_second (gap col (omega arith) f.1 low) ∙ narrow.second
     ])
-    (λ c is. ap k.is_wide (gap c (omega (arith, is, low)) (omega (arith, is, some)) (omega (arith, is))) ∙ narrow.wide)
+    (λ c is. elim (leb_tells 1 n) [
+      | inl f ↦ ap k.is_wide (gap c (omega (arith, is, low)) (omega (arith, is, f.1)) (omega (arith, is))) ∙ narrow.wide
+      | inr f ↦
+          let next : c + n + 1 ≡ right + 1 = omega (arith, is, f.1) in
+          ap k.is_wide (moved c (omega (arith, is, low)) (omega (arith, is, f.1))) ∙ (line (c + n) (omega (arith, is, f.1, high))).wide
+          ∙ ap (λ x. k.is_second (L x)) next ∙ edge
+    ])
 
 -- the cells of an area are changed
 pub changed_line : {C : Type 0} (k : WideOf C) (change : C → C) (L N : ℕ → C) (w : ℕ) (A : ℕ → Bool) → AreHalves k → KeepsWhole k change → Line k w L

@@ -61,7 +61,7 @@ filled_whole {C = C} k z s w e nz narrow = record {
 abbrev at_edge : {C : Type 0} → WideOf C → C → GridOf C → (ℕ → Bool) → ℕ → ℕ → ℕ → Bool
 at_edge k z g rows col r c = (rows r && is_parted k z g r col) && is_within (col - 1) col c
 
-parted_at : {C : Type 0} (k : WideOf C) (z : C) (change : C → C) (g : GridOf C) (rows : ℕ → Bool) (col r c : ℕ) → 1 ≤ r → r ≤ g.size.rows
+pub parted_at : {C : Type 0} (k : WideOf C) (z : C) (change : C → C) (g : GridOf C) (rows : ℕ → Bool) (col r c : ℕ) → 1 ≤ r → r ≤ g.size.rows
     → beside z (parted k z change g rows col) r c ≡ (if at_edge k z g rows col r c then change (beside z g r c) else beside z g r c)
 unfolding parted
 parted_at k z change g rows col r c r1 rh =
@@ -283,7 +283,7 @@ out_of_columns z g row from to f c place out =
     made_at z g.size g.width (λ r c. if columns_of row from to r c then f r c else at_or z g r c) row c place.inside.0 place.inside.1
     ∙ rw there refl
 
-beside_in : {C : Type 0} (z : C) (g : GridOf C) (r c : ℕ) → 1 ≤ c → c ≤ g.width → beside z g r c ≡ at_or z g r c
+pub beside_in : {C : Type 0} (z : C) (g : GridOf C) (r c : ℕ) → 1 ≤ c → c ≤ g.width → beside z g r c ≡ at_or z g r c
 beside_in z g r c c1 cw =
     let inside : is_within 1 g.width c ≡ true = grind (arith, nat_tests, c1, cw) in
     rw inside refl
@@ -336,9 +336,9 @@ opened {C = C} k z e g row a b c halves nz narrow whole r1 rh a1 b1 c1 =
     }
 
 pub inserted_whole : {C : Type 0} (k : WideOf C) (z e : C) (g : GridOf C) (row col right n : ℕ) → AreHalves k → IsNarrow k z → IsNarrow k e
-    → AreIn g row col right → 1 ≤ n → IsWhole k z g → IsWhole k z (inserted k z e g row col right n)
+    → AreIn g row col right → IsWhole k z g → IsWhole k z (inserted k z e g row col right n)
 unfolding parted
-inserted_whole {C = C} k z e g row col right n halves nz narrow place some whole =
+inserted_whole {C = C} k z e g row col right n halves nz narrow place whole =
     let m = max col (right + 1 - n) in
     let G = parted_thrice k z (λ cell. e) g row col m (right + 1) in
     let o = opened k z e g row col m (right + 1) halves nz narrow whole place.inside.0 place.inside.1 place.some.0 (omega (arith, place.some.0)) (omega arith) in
@@ -346,7 +346,7 @@ inserted_whole {C = C} k z e g row col right n halves nz narrow place some whole
     let on : AreIn G row col right = record { inside = place.inside; some = place.some } in
     given_row_whole k z G row _ o.whole (λ r c other. elim (eqb_tells r row) [ inl e ↦ absurd (other e.1) | inr e ↦ rw e.0 refl ]) (λ r1 rh.
     inserted_line k (beside z G row) (beside z (given_any z G (columns_of row col right) f) row) e g.width col right n narrow
-    (λ c cw. o.whole.fit row c r1 rh cw) some (omega (arith, place.some)) (omega (arith, place.some))
+    (λ c cw. o.whole.fit row c r1 rh cw) (omega (arith, place.some)) (omega (arith, place.some))
     (λ c low. out_of_columns z G row col right f c on (inl low))
     (λ c low high most. in_columns z G row col right f c on low most ∙ grind (arith, nat_tests, high))
     (λ c d low most back.
@@ -362,9 +362,9 @@ inserted_whole {C = C} k z e g row col right n halves nz narrow place some whole
     o.last)
 
 pub deleted_whole : {C : Type 0} (k : WideOf C) (z e : C) (g : GridOf C) (row col right n : ℕ) → AreHalves k → IsNarrow k z → IsNarrow k e
-    → AreIn g row col right → 1 ≤ n → IsWhole k z g → IsWhole k z (deleted k z e g row col right n)
+    → AreIn g row col right → IsWhole k z g → IsWhole k z (deleted k z e g row col right n)
 unfolding parted
-deleted_whole {C = C} k z e g row col right n halves nz narrow place some whole =
+deleted_whole {C = C} k z e g row col right n halves nz narrow place whole =
     let m = min (col + n) (right + 1) in
     let G = parted_thrice k z (λ cell. e) g row col m (right + 1) in
     let o = opened k z e g row col m (right + 1) halves nz narrow whole place.inside.0 place.inside.1 place.some.0 (omega (arith, place.some.0)) (omega arith) in
@@ -372,7 +372,7 @@ deleted_whole {C = C} k z e g row col right n halves nz narrow place some whole 
     let on : AreIn G row col right = record { inside = place.inside; some = place.some } in
     given_row_whole k z G row _ o.whole (λ r c other. elim (eqb_tells r row) [ inl e ↦ absurd (other e.1) | inr e ↦ rw e.0 refl ]) (λ r1 rh.
     deleted_line k (beside z G row) (beside z (given_any z G (columns_of row col right) f) row) e g.width col right n narrow
-    (λ c cw. o.whole.fit row c r1 rh cw) some (omega (arith, place.some)) (omega (arith, place.some))
+    (λ c cw. o.whole.fit row c r1 rh cw) (omega (arith, place.some)) (omega (arith, place.some))
     (λ c low. out_of_columns z G row col right f c on (inl low))
     (λ c low most.
     let test : nat_le (c + n) right ≡ true = grind (arith, nat_tests, most) in
@@ -433,7 +433,7 @@ between_whole k z g top bottom left right halves whole =
     parted_whole k z k.spaced (parted k z k.spaced g (is_within top bottom) left) (is_within top bottom) (right + 1) halves keeps
     (parted_whole k z k.spaced g (is_within top bottom) left halves keeps whole)
 
-between_open : {C : Type 0} (k : WideOf C) (z : C) (g : GridOf C) (top bottom left right r : ℕ) → AreHalves k → IsNarrow k z → IsWhole k z g
+pub between_open : {C : Type 0} (k : WideOf C) (z : C) (g : GridOf C) (top bottom left right r : ℕ) → AreHalves k → IsNarrow k z → IsWhole k z g
     → 1 ≤ left → 1 ≤ r → r ≤ g.size.rows → is_within top bottom r ≡ true
     → (k.is_second (beside z (parted_between k z g top bottom left right) r left) ≡ false)
     × (k.is_second (beside z (parted_between k z g top bottom left right) r (right + 1)) ≡ false)
@@ -513,7 +513,7 @@ opened_twice {C = C} k z e g row a b halves nz narrow whole r1 rh a1 b1 =
     }
 
 -- a row gets cells of a formula
-in_row : {C : Type 0} (z : C) (g : GridOf C) (row : ℕ) (p : ℕ → C) (c : ℕ) → 1 ≤ row → row ≤ g.size.rows
+pub in_row : {C : Type 0} (z : C) (g : GridOf C) (row : ℕ) (p : ℕ → C) (c : ℕ) → 1 ≤ row → row ≤ g.size.rows
     → beside z (row_any z g row p) row c ≡ (if is_within 1 g.width c then p c else z)
 in_row z g row p c r1 rh =
     let this : (row == row) ≡ true = grind (arith, nat_tests) in
@@ -622,7 +622,7 @@ unfolding parted
 written_inserting_whole k z e g row col right cell halves nz narrow first place room whole =
     written_whole k z e (inserted k z e g row col right (columns k cell)) row col cell halves nz narrow first
     (record { inside = place.inside; some = (place.some.0, omega (arith, some), omega (arith, place.some, room)) })
-    (inserted_whole k z e g row col right (columns k cell) halves nz narrow place some whole)
+    (inserted_whole k z e g row col right (columns k cell) halves nz narrow place whole)
   where
     any : (x : Bool) → 1 ≤ (if x then 2 else 1)
     any true = omega arith
@@ -633,20 +633,14 @@ written_inserting_whole k z e g row col right cell halves nz narrow first place 
 
 -- ---- marks
 
-pub joined_whole : {C : Type 0} (k : WideOf C) (z : C) (g : GridOf C) (row col : ℕ) (wrap : Bool) (mark : ℕ) → AreHalves k → IsNarrow k z
-    → AreIn g row col col → IsWhole k z g → IsWhole k z (joined k z g row (joined_column k z g row col wrap) mark)
-joined_whole {C = C} k z g row col wrap mark halves nz place whole = row_whole k z g row _ whole (λ r1 rh.
+-- the cell that a mark joins is in the row, and no second one
+pub joined_place : {C : Type 0} (k : WideOf C) (z : C) (g : GridOf C) (row col : ℕ) (wrap : Bool) → AreHalves k → IsNarrow k z → AreIn g row col col
+    → IsWhole k z g → (1 ≤ joined_column k z g row col wrap) × (joined_column k z g row col wrap ≤ g.width)
+    × (k.is_second (beside z g row (joined_column k z g row col wrap)) ≡ false)
+joined_place {C = C} k z g row col wrap halves nz place whole =
     let at = if wrap || col == 1 then col else col - 1 in
     let inside = within (wrap || col == 1) refl in
-    let o = first_of at inside.0 inside.1 (is_parted k z g row at) refl in
-    let j = first_column k z g row at in
-    let p : ℕ → C = λ c. if c == j then k.marked (at_or z g row j) mark else at_or z g row c in
-    let here : is_within 1 g.width j ≡ true = grind (arith, nat_tests, o) in
-    let test : (j == j) ≡ true = grind (arith, nat_tests) in
-    joined_line k (beside z g row) (beside z (row_any z g row p) row) g.width j mark halves (λ c cw. whole.fit row c r1 rh cw)
-    (in_row z g row p j r1 rh ∙ rw (here, test) refl)
-    (λ c other. in_row z g row p c r1 rh ∙ elim (eqb_tells c j) [ inl e ↦ absurd (other e.1) | inr e ↦ rw e.0 refl ])
-    o.2)
+    first_of at inside.0 inside.1 (is_parted k z g row at) refl
   where
     within : (x : Bool) → (wrap || col == 1) ≡ x → (1 ≤ (if x then col else col - 1)) × ((if x then col else col - 1) ≤ g.width)
     within true is = (omega (arith, place.some), omega (arith, place.some))
@@ -676,3 +670,23 @@ joined_whole {C = C} k z g row col wrap mark halves nz place whole = row_whole k
             ap (λ x. k.is_second (beside z g row x)) one ∙ first_second k z g row nz whole place.inside.0 place.inside.1
       ],
     )
+
+pub joined_whole : {C : Type 0} (k : WideOf C) (z : C) (g : GridOf C) (row col : ℕ) (wrap : Bool) (mark : ℕ) → AreHalves k → IsNarrow k z
+    → AreIn g row col col → IsWhole k z g → IsWhole k z (joined k z g row (joined_column k z g row col wrap) mark)
+joined_whole {C = C} k z g row col wrap mark halves nz place whole = row_whole k z g row _ whole (λ r1 rh.
+    let j = joined_column k z g row col wrap in
+    let o = joined_place k z g row col wrap halves nz place whole in
+    let p : ℕ → C = λ c. if c == j then k.marked (at_or z g row j) mark else at_or z g row c in
+    let here : is_within 1 g.width j ≡ true = grind (arith, nat_tests, o) in
+    let test : (j == j) ≡ true = grind (arith, nat_tests) in
+    joined_line k (beside z g row) (beside z (row_any z g row p) row) g.width j mark halves (λ c cw. whole.fit row c r1 rh cw)
+    (in_row z g row p j r1 rh ∙ rw (here, test) refl)
+    (λ c other. in_row z g row p c r1 rh ∙ elim (eqb_tells c j) [ inl e ↦ absurd (other e.1) | inr e ↦ rw e.0 refl ])
+    o.2)
+
+-- REP repeats a first cell, or that of a narrow character
+pub joined_first : {C : Type 0} (k : WideOf C) (z : C) (g : GridOf C) (row col : ℕ) (wrap : Bool) → AreHalves k → IsNarrow k z → AreIn g row col col
+    → IsWhole k z g → k.is_second (at_or z g row (joined_column k z g row col wrap)) ≡ false
+joined_first k z g row col wrap halves nz place whole =
+    let o = joined_place k z g row col wrap halves nz place whole in
+    sym (ap k.is_second (beside_in z g row (joined_column k z g row col wrap) o.0 o.1)) ∙ o.2

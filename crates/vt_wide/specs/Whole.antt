@@ -34,9 +34,9 @@ pub record WholeLaws {C : Type 0} (k : WideOf C) (cells : CellsOf C) : Type 0 wh
       → IsWhole k cells.blank g → IsWhole k cells.blank (erased k cells.blank change g row from to)
   pub erased_span : (change : C → C) (g : GridOf C) (row col to_row to_col : ℕ) → KeepsWhole k change → 1 ≤ col → 1 ≤ to_col
       → IsWhole k cells.blank g → IsWhole k cells.blank (erased_span k cells.blank change g row col to_row to_col)
-  pub inserted : (empty : C) (g : GridOf C) (row col right n : ℕ) → IsNarrow k empty → AreIn g row col right → 1 ≤ n
+  pub inserted : (empty : C) (g : GridOf C) (row col right n : ℕ) → IsNarrow k empty → AreIn g row col right
       → IsWhole k cells.blank g → IsWhole k cells.blank (inserted k cells.blank empty g row col right n)
-  pub deleted : (empty : C) (g : GridOf C) (row col right n : ℕ) → IsNarrow k empty → AreIn g row col right → 1 ≤ n
+  pub deleted : (empty : C) (g : GridOf C) (row col right n : ℕ) → IsNarrow k empty → AreIn g row col right
       → IsWhole k cells.blank g → IsWhole k cells.blank (deleted k cells.blank empty g row col right n)
   pub moved_up : (empty : C) (g : GridOf C) (top bottom left right n : ℕ) → IsNarrow k empty → 1 ≤ left → left ≤ right → right ≤ g.width
       → bottom ≤ g.size.rows

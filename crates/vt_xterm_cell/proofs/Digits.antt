@@ -1,10 +1,12 @@
 -- The parts of the two numbers of a cell.
-use Rattle.std.proofs.Common.{◌≡◌, ℕ, ◌+◌, ◌*◌, ◌/◌, ◌%◌, ◌<◌, Bool, true, IsTrue, nat_eq, arith, ap, ap₂, sym, ◌∙◌, refl}
-use Rattle.std.specs.Prelude.{◌&&◌}
+use Rattle.std.proofs.Common.{◌≡◌, ℕ, ◌+◌, ◌*◌, ◌/◌, ◌%◌, ◌<◌, true, false, IsTrue, nat_eq, arith, ap, ap₂, sym, ◌∙◌, refl}
+use Rattle.std.specs.Prelude.{◌&&◌, ◌==◌, not, nat_le}
 use Rattle.std.proofs.lemmas.Bool.Decides.{nat_tests}
 use lib.Utf8.{scalar}
 use Rattle.vt_xterm_cell.specs.Words.{COLOURS, look_of, look_by, word_of_look, parts_of, IsText, IsLook}
+use Rattle.vt_xterm_cell.specs.Characters.{is_mark}
 use Rattle.vt_xterm_cell.specs.Back.{look_back}
+use Rattle.vt_xterm_cell.proofs.Writable.{text_is, marked_once, marked_twice}
 
 low : (a b c : ℕ) → a < COLOURS → (a + 0x4000000 * (b + 0x4000000 * c)) % 0x4000000 ≡ a
 low a b c small = omega arith
@@ -21,31 +23,19 @@ joined_is a b c small little = rw (low a b c small, above a (b + 0x4000000 * c) 
 
 -- ---- marks
 
-also : (a b c d : Bool) → IsTrue (a && (b && c)) → d ≡ true → IsTrue (a && (d && c))
-also a b c d h is = grind arith
+pub first_marked : (t x : ℕ) → IsText t → (not (nat_le 0x8000000000000000 t) && t % 0x200000 == 0) ≡ false → scalar x ≡ true → is_mark x ≡ true → x < 0x110000
+    → t / 0x200000 % 0x200000 ≡ 0 → IsText (t + x * 0x200000)
+first_marked t x is first known mark small none =
+    text_is _ (t % 0x200000) x (t / 0x40000000000 % 0x200000) (nat_le 0x8000000000000000 t) (omega arith) (omega arith) (omega arith)
+    (grind (arith, nat_tests)) (omega (arith, is.small))
+    (marked_once _ _ x _ (rw (← none) is.writable) first known mark)
 
-last : (a b c d : Bool) → IsTrue (a && (b && c)) → d ≡ true → IsTrue (a && (b && d))
-last a b c d h is = grind arith
-
-pub first_marked : (t m : ℕ) → IsText t → scalar m ≡ true → m < 0x110000 → t / 0x200000 % 0x200000 ≡ 0 → IsText (t + m * 0x200000)
-first_marked t m is known small none =
-    let a : (t + m * 0x200000) % 0x200000 ≡ t % 0x200000 = omega arith in
-    let b : (t + m * 0x200000) / 0x200000 % 0x200000 ≡ m = omega arith in
-    let c : (t + m * 0x200000) / 0x40000000000 % 0x200000 ≡ t / 0x40000000000 % 0x200000 = omega arith in
-    record {
-      scalars = rw (a, b, c) (also _ _ _ _ is.scalars known);
-      small = omega (arith, is.small);
-    }
-
-pub second_marked : (t m : ℕ) → IsText t → scalar m ≡ true → m < 0x110000 → t / 0x40000000000 % 0x200000 ≡ 0 → IsText (t + m * 0x40000000000)
-second_marked t m is known small none =
-    let a : (t + m * 0x40000000000) % 0x200000 ≡ t % 0x200000 = omega arith in
-    let b : (t + m * 0x40000000000) / 0x200000 % 0x200000 ≡ t / 0x200000 % 0x200000 = omega arith in
-    let c : (t + m * 0x40000000000) / 0x40000000000 % 0x200000 ≡ m = omega arith in
-    record {
-      scalars = rw (a, b, c) (last _ _ _ _ is.scalars known);
-      small = omega (arith, is.small);
-    }
+pub second_marked : (t x : ℕ) → IsText t → (not (nat_le 0x8000000000000000 t) && t % 0x200000 == 0) ≡ false → scalar x ≡ true → is_mark x ≡ true → x < 0x110000
+    → (t / 0x200000 % 0x200000 ≡ 0 → ⊥) → t / 0x40000000000 % 0x200000 ≡ 0 → IsText (t + x * 0x40000000000)
+second_marked t x is first known mark small some none =
+    text_is _ (t % 0x200000) (t / 0x200000 % 0x200000) x (nat_le 0x8000000000000000 t) (omega arith) (omega arith) (omega arith)
+    (grind (arith, nat_tests)) (omega (arith, is.small))
+    (marked_twice _ _ x _ (rw (← none) is.writable) first some known mark)
 
 -- ---- equality
 

@@ -1,4 +1,5 @@
 mod Numbers
 mod Digits
 mod Readings
+pub mod Writable
 pub mod Shown

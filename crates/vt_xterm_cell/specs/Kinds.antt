@@ -4,12 +4,13 @@ use Rattle.vt_screen.specs.Kinds.{CellsOf}
 use Rattle.vt_term.specs.Kinds.{OwnOf}
 use Rattle.vt_xterm_cell.specs.declared.look.Look.{Look}
 use Rattle.vt_xterm_cell.specs.Look.{plain_look}
-use Rattle.vt_xterm_cell.specs.Words.{CellParts, are_scalars}
+use Rattle.vt_xterm_cell.specs.Characters.{is_shown, has_columns, is_mark_or_none}
+use Rattle.vt_xterm_cell.specs.Words.{CellParts, is_writable}
 use Rattle.vt_xterm_cell.specs.Cells.{written_cell, blank_cell, erased_cell, selectively_erased_cell}
 use Rattle.vt_xterm_cell.specs.Rendition.{rendered, attribute_numbers}
 
 abbrev pub xterm_cells : CellsOf CellParts
-xterm_cells = record { blank = blank_cell; selectively_erased = selectively_erased_cell; shown = are_scalars }
+xterm_cells = record { blank = blank_cell; selectively_erased = selectively_erased_cell; shown = is_writable }
 
 abbrev pub xterm_own : OwnOf CellParts Look
 xterm_own = record {
@@ -24,10 +25,12 @@ xterm_own = record {
 
 -- for screens: a blank cell is sound
 pub blank_cell_shown : IsTrue (xterm_cells.shown xterm_cells.blank)
+unfolding is_shown has_columns is_mark_or_none
 blank_cell_shown = refl
 
-erased_by : (protected : Bool) (cell : CellParts) → protected ≡ cell.look.protected → IsTrue (are_scalars cell)
-    → IsTrue (are_scalars (selectively_erased_cell cell))
+erased_by : (protected : Bool) (cell : CellParts) → protected ≡ cell.look.protected → IsTrue (is_writable cell)
+    → IsTrue (is_writable (selectively_erased_cell cell))
+unfolding is_shown has_columns is_mark_or_none
 erased_by true cell is h = rw (← is) h
 erased_by false cell is h = rw (← is) refl
 

@@ -1,4 +1,5 @@
 pub mod Look
+pub mod Characters
 pub mod Words
 pub mod Back
 pub mod Cells

@@ -1,9 +1,10 @@
 -- The xterm's cells as halves of wide characters.
-use Rattle.std.specs.Prelude.{◌≡◌, refl, ℕ, nat_le, ◌⊎◌, ◌==◌, ◌&&◌, not, Bool, true, false, if◌then◌else◌}
+use Rattle.std.specs.Prelude.{◌≡◌, refl, ℕ, nat_le, ◌⊎◌, ◌==◌, ◌&&◌, ◌||◌, not, Bool, true, false, if◌then◌else◌}
 use Rattle.std.proofs.Common.{sym, ap, ◌∙◌, inl, inr}
 use Rattle.std.proofs.lemmas.Bool.{false≢true}
 use Rattle.std.proofs.lemmas.Bool.Decides.{eqb_tells}
 use Rattle.vt_wide.specs.Kinds.{WideOf, IsNarrow, AreHalves, KeepsWhole}
+use Rattle.vt_xterm_cell.specs.Characters.{is_mark}
 use Rattle.vt_xterm_cell.specs.Words.{CellParts}
 use Rattle.vt_xterm_cell.specs.Cells.{written_cell, second_cell, is_second, blank_cell, space_with, selectively_erased_cell, marked}
 
@@ -35,14 +36,16 @@ record KeepsHalves (before after : CellParts) : Type 0 where
   second : is_second after ≡ is_second before
   other : second_cell after.look ≡ second_cell before.look
 
-marked_by : (cell : CellParts) (mark : ℕ) (none one : Bool) → KeepsHalves cell
-    (if none then record cell { mark = mark } else (if one then record cell { other_mark = mark } else cell))
-marked_by cell mark true one = record { wide = refl; second = refl; other = refl }
-marked_by cell mark false true = record { wide = refl; second = refl; other = refl }
-marked_by cell mark false false = record { wide = refl; second = refl; other = refl }
+marked_by : (cell : CellParts) (mark : ℕ) (stays none one : Bool) → KeepsHalves cell
+    (if stays then cell else (if none then record cell { mark = mark } else (if one then record cell { other_mark = mark } else cell)))
+marked_by cell mark true none one = record { wide = refl; second = refl; other = refl }
+marked_by cell mark false true one = record { wide = refl; second = refl; other = refl }
+marked_by cell mark false false true = record { wide = refl; second = refl; other = refl }
+marked_by cell mark false false false = record { wide = refl; second = refl; other = refl }
 
 marked_halves : (cell : CellParts) (mark : ℕ) → KeepsHalves cell (marked cell mark)
-marked_halves cell mark = marked_by cell mark (cell.mark == 0) (cell.other_mark == 0)
+marked_halves cell mark =
+    marked_by cell mark (is_second cell || not (is_mark mark)) (cell.mark == 0) (cell.other_mark == 0)
 
 letter_narrow : (pen : CellParts) (b : ℕ) → nat_le 0x20 b ≡ true → IsNarrow xterm_wide (written_cell pen.look b false)
 letter_narrow pen b is = record { wide = refl; second = shown b is }

@@ -1,10 +1,10 @@
 -- A cell as two numbers of 64 bits. (this profile)
-use Rattle.std.specs.Prelude.{ℕ, ◌+◌, ◌-◌, ◌*◌, ◌/◌, ◌%◌, ◌<◌, Bool, ◌&&◌, ◌==◌, nat_lt, nat_le, IsTrue, if◌then◌else◌}
-use lib.Utf8.{scalar}
+use Rattle.std.specs.Prelude.{ℕ, ◌+◌, ◌-◌, ◌*◌, ◌/◌, ◌%◌, ◌<◌, Bool, ◌==◌, nat_lt, nat_le, IsTrue, if◌then◌else◌}
 use Rattle.vt_xterm_cell.specs.declared.look.Colour.{Colour}
 use Rattle.vt_xterm_cell.specs.declared.look.Colour.TheVariants.{Default, Indexed, Rgb}
 use Rattle.vt_xterm_cell.specs.declared.look.Attributes.{Attributes}
 use Rattle.vt_xterm_cell.specs.declared.look.Look.{Look}
+use Rattle.vt_xterm_cell.specs.Characters.{is_shown}
 
 -- a character, its marks, its width and its look. A mark of number 0 is none. The second cell of a wide character has the
 -- character 0, which no cell shows
@@ -90,13 +90,13 @@ parts_of text look = record {
 abbrev pub text_word : CellParts → ℕ
 text_word p = p.character + 0x200000 * p.mark + 0x40000000000 * p.other_mark + 0x8000000000000000 * flag p.wide
 
--- each is a Unicode scalar value
-abbrev pub are_scalars : CellParts → Bool
-are_scalars p = scalar p.character && (scalar p.mark && scalar p.other_mark)
+-- a cell can be written again
+abbrev pub is_writable : CellParts → Bool
+is_writable p = is_shown p.character p.mark p.other_mark p.wide
 
 -- what the numbers of a cell are
 pub record IsText (text : ℕ) : Type 0 where
-  pub scalars : IsTrue (are_scalars (parts_of text 0))
+  pub writable : IsTrue (is_writable (parts_of text 0))
   pub small : text < 0x10000000000000000
 
 pub record IsLook (look : ℕ) : Type 0 where

@@ -1,11 +1,14 @@
 //! A cell of an xterm, in two numbers.
-ghost use Rattle.std.specs.Prelude.{◌≡◌, ◌<◌, ◌↔◌, IsTrue, false, nat_le};
-ghost use Rattle.vt_xterm_cell.specs.Cells.{written_cell, second_cell, is_second, blank_cell, space_with, erased_cell, marked};
+ghost use Rattle.std.specs.Prelude.{◌≡◌, ◌<◌, ◌↔◌, IsTrue, IfSome, false, nat_le};
+ghost use Rattle.vt_xterm_cell.specs.Cells.{written_cell, character_cell, second_cell, is_second, blank_cell, space_with, erased_cell, marked};
+ghost use Rattle.vt_xterm_cell.specs.Characters.{is_format, is_mark};
 ghost use Rattle.vt_xterm_cell.specs.Words.{COLOURS, attributes_of, look_of, look_by, IsLook};
 
 use crate::look::{Attributes, Colour, Look};
 use std::marker::Model;
+use vt_glyph::Glyph;
 use vt_screen::Cells;
+use vt_utf8::cells;
 use vt_wide::Wide;
 
 /// The number of values of the bits that a colour has in a cell.
@@ -46,6 +49,29 @@ fn with_protection(flags: u64, on: bool) -> u64
     flags % 0x200 + 0x200 * on as u64
 }
 
+/// Returns whether a character is one of format.
+fn is_format(c: char) -> bool
+    ensures { result ≡ is_format c }
+{
+    match c as u32 {
+        0x200B..=0x200F => true,
+        0x202A..=0x202E => true,
+        0x2060..=0x2064 => true,
+        0x2066..=0x206F => true,
+        0xFEFF => true,
+        0xFFF9..=0xFFFB => true,
+        _ => false,
+    }
+}
+
+/// Returns whether a character is a mark, which joins the character before it.
+#[tactic(auto, unfolding(crate::specs::Characters::is_mark))]
+fn is_mark(c: char) -> bool
+    ensures { result ≡ is_mark c }
+{
+    cells(c) == 0 && c as u32 > 0x2FF && !is_format(c)
+}
+
 impl Model for XtermCell {
     ghost use Rattle.vt_xterm_cell.specs.Words.{CellParts, parts_of, text_word, word_of_look, IsText, IsLook};
 
@@ -65,6 +91,7 @@ impl Model for XtermCell {
 impl XtermCell {
     /// Returns a plain space.
     #[inline(always)]
+    #[tactic(auto, using(crate::proofs::Writable::space_text))]
     pub fn blank() -> XtermCell
         ensures { result ≡ blank_cell }
     {
@@ -87,19 +114,38 @@ impl XtermCell {
         cell
     }
 
-    /// Returns the cell of a character in the look of this one. `wide` says whether it is the first cell of a wide one.
+    /// Returns the cell of a glyph in the look of this one.
     #[inline(always)]
-    pub fn written(self, character: char, wide: bool) -> XtermCell
-        ensures { result ≡ written_cell self.look character wide }
+    pub fn written(self, glyph: Glyph) -> XtermCell
+        ensures cell { result ≡ written_cell self.look glyph false }
+        ensures first { is_second result ≡ false }
     {
         XtermCell {
-            text: character as u64 + (wide as u64) * 0x8000_0000_0000_0000,
+            text: glyph.to_char() as u64,
             look: self.look,
         }
     }
 
+    /// Returns the cell of a character beyond ASCII in the look of this one: the first cell, if it is a wide one. Returns `None` if it has no
+    /// width.
+    #[inline(always)]
+    pub fn with_character(self, c: char) -> Option<XtermCell>
+        ensures cell { result ≡ character_cell self.look c }
+        ensures first { IfSome result (λ cell. is_second cell ≡ false) }
+    {
+        let width = cells(c);
+        if width == 0 {
+            return None;
+        }
+        Some(XtermCell {
+            text: c as u64 + (width == 2) as u64 * 0x8000_0000_0000_0000,
+            look: self.look,
+        })
+    }
+
     /// Returns the second cell of a wide character in the look of this one.
     #[inline(always)]
+    #[tactic(auto, using(crate::proofs::Writable::empty_text))]
     pub fn second(self) -> XtermCell
         ensures { result ≡ second_cell self.look }
     {
@@ -122,14 +168,19 @@ impl XtermCell {
 
     /// Returns a space in the look of this cell.
     #[inline(always)]
+    #[tactic(auto, using(crate::proofs::Writable::space_text))]
     pub fn cleared(self) -> XtermCell
         ensures { result ≡ space_with self.look }
     {
-        self.written(' ', false)
+        XtermCell {
+            text: 0x20,
+            look: self.look,
+        }
     }
 
     /// Returns a space with the background of this cell, and nothing else of it.
     #[inline(always)]
+    #[tactic(auto, using(crate::proofs::Writable::space_text))]
     pub fn erased(self) -> XtermCell
         ensures { result ≡ erased_cell self.look }
     {
@@ -139,11 +190,17 @@ impl XtermCell {
         }
     }
 
-    /// Returns this cell with one more mark. A third one is lost.
+    /// Returns this cell with one more mark. A third one is lost. A character that isn't a mark, and a second cell, change nothing.
     #[inline(always)]
     pub fn marked(self, mark: char) -> XtermCell
         ensures { result ≡ marked self mark }
     {
+        if self.is_second() {
+            return self;
+        }
+        if !is_mark(mark) {
+            return self;
+        }
         let mut text = self.text;
         if text / CHARACTER % CHARACTER == 0 {
             text += mark as u64 * CHARACTER;
@@ -381,6 +438,9 @@ impl Wide for XtermCell {
 
     #[inline(always)]
     fn with_byte(self, byte: u8) -> XtermCell {
-        self.written(byte as char, false)
+        XtermCell {
+            text: byte as u64,
+            look: self.look,
+        }
     }
 }

@@ -31,7 +31,7 @@ impl Kind for XtermCell {
 
     #[inline(always)]
     fn written(self, glyph: Glyph) -> XtermCell {
-        XtermCell::written(self, glyph.to_char(), false)
+        XtermCell::written(self, glyph)
     }
 
     #[inline(always)]

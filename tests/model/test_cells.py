@@ -46,29 +46,42 @@ def test_attributes():
     assert {*BITS} == {*NUMBERS}
 
 
-def xterm(size, sent, as_xterm):
-    """Returns what the proved xterm has, by the names of lib/rows/cells.py. It has no title yet, and no change of the size."""
+def step_of(size, sent=b""):
+    """Returns a step of the program's input."""
     rows, columns = size
-    *cells, state = subprocess.run([PROGRAM], input=bytes([columns, rows, *sent]), capture_output=True, check=True).stdout.decode().splitlines()
+    return bytes([columns, rows, *len(sent).to_bytes(2, "little"), *sent])
+
+
+def xterm(size, steps, as_xterm):
+    """Returns what the proved xterm has after bytes and changes of the size, by the names of lib/rows/cells.py, and its text. It has no title yet."""
+    sent = step_of(size)
+    for step in steps:
+        size, played = (size, step) if isinstance(step, bytes) else (step, b"")
+        sent += step_of(size, played)
+    printed = subprocess.run([PROGRAM], input=sent, capture_output=True, check=True).stdout.decode()
+    shown, state, text = re.fullmatch(r"(.*?)^(state .*?)\n(.*)", printed, re.M | re.S).groups()
+    rows, columns = size
+    cells = shown.splitlines()
     screen = [[Cell()] * columns for _ in range(rows)]
     for line, column, *cell in (map(int, text.split()) for text in cells):
         screen[line - 1][column - 1] = cell_of(*cell)
     _, line, column, wrap, alternate, hidden, mouse, coding, focus, paste, shape, blinks = state.split()
     return {"cells": screen_spelled(screen, as_xterm), "cursor": f"{line};{column}", "wrap": wrap, "alternate": alternate, "hidden": hidden, "mouse": mouse,
-            "coding": coding, "focus": focus, "paste": paste, "shape": SHAPES[shape + blinks]}
+            "coding": coding, "focus": focus, "paste": paste, "shape": SHAPES[shape + blinks]}, text
 
 
-@pytest.mark.parametrize("row", [row for row in ROWS if "to" not in row.then], ids=lambda row: row.name)
+@pytest.mark.parametrize("row", ROWS, ids=lambda row: row.name)
 def test_xterm(row):
-    found, wanted = xterm(row.size, b"".join(row.steps()), "cells" not in row.here), row.wanted | row.here
+    (found, _), wanted = xterm(row.size, row.steps(), "cells" not in row.here), row.wanted | row.here
     assert found == {of: wanted[of] for of in found}
 
 
 def test_inputs(seeds):
     """The model and the proved xterm have the same after generated inputs."""
     for seed in seeds:
-        _, size, steps = generated(seed)
+        _, size, steps = generated(seed, is_own=True)
         model = CellXterm(size_of(*size))
         model.play(steps)
-        found, wanted = xterm(size, b"".join(steps), True), state_shown(model)
+        (found, text), wanted = xterm(size, steps, True), state_shown(model)
         assert found == {of: wanted[of] for of in found}, f"seed {seed}, size {size}, {steps!r}"
+        assert text == model.text(), f"seed {seed}, size {size}, {steps!r}"

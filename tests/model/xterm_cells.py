@@ -164,6 +164,25 @@ class CellXterm(Xterm):
         super().column_mode(width)
         self.cells = self.erased_cells()
 
+    def show(self, is_alternate):
+        """Shows a page. If the pages are exchanged, a pending wrap is dropped unless the right margin is the last column."""
+        if is_alternate != self.is_alternate:
+            super().show(is_alternate)
+            self.drop_wrap_left_of_edge()
+
+    def show_page(self, _, is_alternate):
+        """?47."""
+        self.show(is_alternate)
+
+    def restore(self):
+        """DECRC. A pending wrap comes back if the right margin is the last column."""
+        super().restore()
+        self.drop_wrap_left_of_edge()
+
+    def drop_wrap_left_of_edge(self):
+        if self.right() < self.width:
+            self.wrap = False
+
     @staticmethod
     def text_of(line):
         """Returns the text of a row, with LF. An invisible character is a space for each of its cells."""
@@ -266,6 +285,15 @@ class CellXterm(Xterm):
         if intermediate + final == "#8":
             self.cells = [[Cell("E")] * self.width for _ in range(self.size.rows)]
 
+    # Moving the cursor.
+
+    def tab(self):
+        """A pending wrap goes to the right margin. It is dropped if the margin parts a character there."""
+        super().tab()
+        line, right = self.cells[self.row - 1], self.right()
+        if right < self.width and line[right].width == 0:
+            self.wrap = False
+
     # Writing.
 
     def write_character(self, character, cells):
@@ -365,6 +393,7 @@ NUMBER_MODES = {
     1004: CellXterm.want_focus,
     2026: CellXterm.synchronize,
     12: CellXterm.blink_cursor,
+    47: CellXterm.show_page,
 }
 
 

@@ -1,15 +1,20 @@
-//! Prints the cells of an xterm after the bytes of standard input, for tests.
+//! Prints the cells of an xterm after the steps of standard input, for tests.
 //!
-//! The first two bytes of the input are the columns and the rows of the screen, 2 to 255. Each cell that isn't a plain blank has a line: its row
-//! and column, the numbers of its character and of its marks, 1 if it is wide, its foreground, its background, its attributes as bits, and 1 if it
-//! is protected. A colour is -1 for the default, an index, or 256 and red, green and blue as one number. The second cell of a wide character has
-//! the character 0. The last line has the cursor, whether a wrap is pending, and the modes.
+//! A step has the columns and the rows of the screen, 2 to 255, the number of its bytes in two bytes, the low one first, and these bytes. Another size
+//! than before is a change of the size, and then the bytes are played. Each cell that isn't a plain blank has a line: its row and column, the numbers of
+//! its character and of its marks, 1 if it is wide, its foreground, its background, its attributes as bits, and 1 if it is protected. A colour is -1 for the
+//! default, an index, or 256 and red, green and blue as one number. The second cell of a wide character has the character 0. The line after the cells
+//! has the cursor, whether a wrap is pending, and the modes. After it comes the text of the screen.
 #![tactic(auto)]
 
-use std::io::{self, Input, Read};
+ghost use Rattle.std.specs.Prelude.{IfSome};
+ghost use Rattle.vt_screen.specs.Sizes.{IsSize};
+
+use std::alloc::{AllocError, Global};
+use std::io::{self, Input, Read, Write};
 use vt_screen::Size;
 use vt_xterm_cell::{Attributes, Colour, XtermCell};
-use vt_xterm_display::Xterm;
+use vt_xterm_display::{Coding, Mouse, Shape, Xterm};
 
 /// Returns a colour as a number: -1 for the default, an index, or 256 and red, green and blue.
 fn number_of(colour: Colour) -> i64 {
@@ -34,6 +39,37 @@ fn bits_of(a: Attributes) -> u32 {
         + 64 * a.reverse as u32
         + 128 * a.invisible as u32
         + 256 * a.crossed_out as u32
+}
+
+/// Returns the number of the mode of the mouse, or 0.
+fn mouse_number(mouse: Mouse) -> u32 {
+    match mouse {
+        Mouse::Off => 0,
+        Mouse::Presses => 9,
+        Mouse::Buttons => 1000,
+        Mouse::Drags => 1002,
+        Mouse::Motion => 1003,
+    }
+}
+
+/// Returns the number of the mode of a coding, or 0.
+fn coding_number(coding: Coding) -> u32 {
+    match coding {
+        Coding::Bytes => 0,
+        Coding::Utf8 => 1005,
+        Coding::Sgr => 1006,
+        Coding::Urxvt => 1015,
+        Coding::Pixels => 1016,
+    }
+}
+
+/// Returns 0 for a block, 1 for an underline, 2 for a bar.
+fn shape_number(shape: Shape) -> u32 {
+    match shape {
+        Shape::Block => 0,
+        Shape::Underline => 1,
+        Shape::Bar => 2,
+    }
 }
 
 /// Prints a cell, unless it is a plain blank.
@@ -63,7 +99,8 @@ fn print_state(rt: &impl Print, terminal: &Xterm) -> io::Result<()> {
     let (row, col, wrap) = (cursor.row, cursor.col, cursor.wrap as u32);
     let alternate = terminal.is_alternate() as u32;
     let hidden = !terminal.modes().dectcem as u32;
-    let (mouse, coding, shape) = (settings.mouse, settings.coding, settings.shape);
+    let (mouse, coding) = (mouse_number(settings.mouse), coding_number(settings.coding));
+    let shape = shape_number(settings.shape);
     let (focus, paste, blinks) = (
         settings.focus as u32,
         settings.brackets as u32,
@@ -74,23 +111,87 @@ fn print_state(rt: &impl Print, terminal: &Xterm) -> io::Result<()> {
     )
 }
 
+/// Returns the size that a step names, if a screen may have it.
+fn size_of(columns: u8, rows: u8) -> Option<Size>
+    ensures { IfSome result (λ size. IsSize size) }
+{
+    if columns < 2 {
+        return None;
+    }
+    if rows < 2 {
+        return None;
+    }
+    Some(Size {
+        rows: rows as usize,
+        narrow: columns as usize,
+        wide: columns as usize,
+    })
+}
+
+/// Changes the size of an xterm, unless it has that size, and plays bytes. Returns `Err` if allocation fails.
+fn play(
+    alloc: Global,
+    terminal: &mut Xterm,
+    size: Size,
+    sent: &[u8],
+    reports: &mut Vec<u8>,
+) -> Result<(), AllocError>
+    requires { IsSize size }
+{
+    if size != terminal.size() {
+        let mut made = Xterm::new(alloc, size)?;
+        terminal.resize_into(&mut made);
+        *terminal = made;
+    }
+    terminal.feed(sent, reports)
+}
+
+/// Carries out steps, up to one that isn't complete. Returns `Err` if allocation fails.
+fn play_steps(
+    alloc: Global,
+    terminal: &mut Xterm,
+    steps: &[u8],
+    reports: &mut Vec<u8>,
+) -> Result<(), AllocError> {
+    let mut rest = steps;
+    for _ in 0..steps.len() {
+        if rest.len() < 4 {
+            return Ok(());
+        }
+        let Some(size) = size_of(rest[0], rest[1]) else {
+            return Ok(());
+        };
+        let end = (4 + rest[2] as usize + 256 * rest[3] as usize).min(rest.len());
+        play(alloc, terminal, size, &rest[4..end], reports)?;
+        rest = &rest[end..];
+    }
+    Ok(())
+}
+
+/// Prints the cells, the state and the text.
+fn print_screen(rt: &impl Print, terminal: &Xterm) -> io::Result<()> {
+    for row in 1..=terminal.size().rows {
+        print_row(rt, row, terminal.row(row))?;
+    }
+    print_state(rt, terminal)
+}
+
 fn main(rt: HostRuntime) -> io::Result<()> {
-    let mut bytes = Vec::new(rt.alloc());
-    rt.reader().read_to_end(&mut bytes)?;
-    if bytes.len() < 2 || bytes[0] < 2 || bytes[1] < 2 {
+    let mut steps = Vec::new(rt.alloc());
+    rt.reader().read_to_end(&mut steps)?;
+    if steps.len() < 2 {
         return Ok(());
     }
-    let (columns, rows) = (bytes[0] as usize, bytes[1] as usize);
-    let size = Size {
-        rows,
-        narrow: columns,
-        wide: columns,
+    let Some(size) = size_of(steps[0], steps[1]) else {
+        return Ok(());
     };
     let mut terminal = Xterm::new(rt.alloc(), size)?;
     let mut reports = Vec::new(rt.alloc());
-    terminal.feed(&bytes[2..], &mut reports)?;
-    for row in 1..=terminal.size().rows {
-        print_row(&rt, row, terminal.row(row))?;
-    }
-    print_state(&rt, &terminal)
+    play_steps(rt.alloc(), &mut terminal, &steps, &mut reports)?;
+    print_screen(&rt, &terminal)?;
+    let mut text = Vec::new(rt.alloc());
+    terminal.text(&mut text)?;
+    let mut writer = io::writer(&rt);
+    writer.write_all(&text)?;
+    writer.flush()
 }

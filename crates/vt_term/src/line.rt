@@ -129,7 +129,7 @@ fn push_glyph(glyph: Glyph, text: &mut RowText)
 
 /// Returns how many of the codes are left without the spaces at their end.
 #[inline(always)]
-fn end_of_text(codes: &[u8]) -> usize
+pub fn end_of_text(codes: &[u8]) -> usize
     ensures within { result ≤ length codes.now }
     ensures text { take result codes.now ≡ trimmed codes.now }
 {

@@ -36,7 +36,7 @@ fn cursor_on(cursor: Cursor, rows: usize, width: usize) -> Cursor
 
 /// Returns what DECSC saved after `off` rows have left at the top. Its place moves up with its row, and is brought inside in the
 /// same way.
-fn saved_on<B: Copy>(saved: SavedOf<B>, rows: usize, width: usize, off: usize) -> SavedOf<B>
+pub fn saved_on<B: Copy>(saved: SavedOf<B>, rows: usize, width: usize, off: usize) -> SavedOf<B>
     ensures { result ≡ saved_on rows width off saved }
 {
     let mut inside = saved;
@@ -57,7 +57,7 @@ impl<K: Kind> Display<K> {
     }
 
     /// Returns whether a screen of another size has as many rows and columns as this one.
-    fn is_as_large(&self, size: Size) -> bool
+    pub fn is_as_large(&self, size: Size) -> bool
         ensures { result ≡ is_as_large size self.now }
     {
         self.screen.size().rows == size.rows && self.screen.width() == self.screen.width_on(size)

@@ -23,7 +23,8 @@ fn same_designations(a: &[Set; 4], b: &[Set; 4]) -> bool
     a == b
 }
 
-pub(crate) fn same_saved<K: Kind>(a: &SavedOf<K::Brush>, b: &SavedOf<K::Brush>) -> bool
+/// Returns whether what DECSC saved is equal in every part.
+pub fn same_saved<K: Kind>(a: &SavedOf<K::Brush>, b: &SavedOf<K::Brush>) -> bool
     ensures { IsTrue result ↔ (a.now ≡ b.now) }
 {
     a.row == b.row

@@ -161,9 +161,10 @@ impl<K: Kind> Display<K> {
 }
 
 /// Returns the next stop to the right of a column, or the last column if there is none.
-fn next_stop(stops: &[bool], col: usize, last: usize) -> usize
+pub fn next_stop(stops: &[bool], col: usize, last: usize) -> usize
     requires { (1 ≤ col) × (col ≤ last) × (last ≤ length stops.now) }
     ensures stop { result ≡ next_stop_of stops.now col last }
+    ensures after { col ≤ result }
     ensures in_row { (1 ≤ result) × (result ≤ last) }
 {
     for c in col + 1..last + 1 {

@@ -1,4 +1,5 @@
 pub mod State
+pub mod Whole
 pub mod Sound
 pub mod Moving
 pub mod Tabs
@@ -9,3 +10,5 @@ pub mod Pages
 pub mod Resets
 pub mod Functions
 pub mod Session
+pub mod Text
+pub mod Resizing

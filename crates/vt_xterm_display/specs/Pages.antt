@@ -10,6 +10,12 @@ use Rattle.vt_xterm_cell.specs.Words.{CellParts}
 use Rattle.vt_xterm_cell.specs.Cells.{blank_cell}
 use Rattle.vt_xterm_display.specs.declared.sides.Sides.{Sides}
 use Rattle.vt_xterm_display.specs.declared.settings.Settings.{Settings}
+use Rattle.vt_xterm_display.specs.declared.settings.Mouse.{Mouse}
+use Rattle.vt_xterm_display.specs.declared.settings.Mouse.TheVariants.{Off, Presses, Buttons, Drags, Motion}
+use Rattle.vt_xterm_display.specs.declared.settings.Coding.{Coding}
+use Rattle.vt_xterm_display.specs.declared.settings.Coding.TheVariants.{Bytes, Utf8, Sgr, Urxvt, Pixels}
+use Rattle.vt_xterm_display.specs.declared.settings.Shape.{Shape}
+use Rattle.vt_xterm_display.specs.declared.settings.Shape.TheVariants.{Block, Underline, Bar}
 use Rattle.vt_xterm_display.specs.State.{Shown, PageState, XtermState, xterm_kind, on_shown, moved, full_sides}
 use Rattle.vt_xterm_display.specs.Moving.{brought, origin_mode}
 use Rattle.vt_xterm_display.specs.Rows.{incoming}
@@ -17,9 +23,15 @@ use Rattle.vt_xterm_display.specs.Editing.{erase_in_display}
 
 -- DECSC is a VT220's, and saves a pending wrap in the last column alone
 
+-- the wrap flag of a cursor on another page, or of a saved one: it stays if the right margin is the last column (this profile)
+abbrev pub kept_wrap : Sides → Shown → Bool → Bool
+kept_wrap m s wrap = wrap && m.right == last_column s
+
 -- DECRC: under DECOM the cursor is brought between the margins; a wrap that was pending at the right margin isn't restored
 abbrev pub restored : Sides → Shown → Shown
-restored m s = brought m (restore_cursor s)
+restored m s = brought m (record (restore_cursor s) {
+  cursor = record (restore_cursor s).cursor { wrap = kept_wrap m s (restore_cursor s).cursor.wrap };
+})
 
 abbrev pub restore : XtermState → XtermState
 restore s = moved restored s
@@ -43,14 +55,17 @@ fitted width page = if page.grid.width == width then page else record {
   saved = record page.saved { col = min page.saved.col (width_of page.grid.size (width == page.grid.size.wide)); wrap = false };
 }
 
--- the other page is shown, in the width of the screen; everything else stays
+-- the other page is shown, in the width of the screen. A wrap stays pending in a last column that is the right margin's, and everything else stays
+-- (this profile)
 abbrev pub exchanged : Bool → XtermState → XtermState
 exchanged alternate s = record s {
   shown = record s.shown {
     grid = (fitted s.shown.grid.width s.other).grid;
     saved = (fitted s.shown.grid.width s.other).saved;
+    cursor = record s.shown.cursor { wrap = kept_wrap s.sides s.shown s.shown.cursor.wrap };
   };
   other = record { grid = s.shown.grid; saved = s.shown.saved };
+  waits = false;
   alternate = alternate;
 }
 
@@ -97,12 +112,21 @@ abbrev pub with_settings : (Settings → Settings) → XtermState → XtermState
 with_settings change s = record s { settings = change s.settings }
 
 -- a mode of the mouse; resetting any turns it off (xterm)
-abbrev pub mouse_mode : ℕ → Bool → XtermState → XtermState
-mouse_mode p on = with_settings (λ x. record x { mouse = if on then p else 0 })
+abbrev pub mouse_mode : Mouse → Bool → XtermState → XtermState
+mouse_mode mouse on = with_settings (λ x. record x { mouse = if on then mouse else Off })
 
 -- a coding of the mouse's positions; resetting one turns it off if it is the one that was set (xterm)
-abbrev pub mouse_coding : ℕ → Bool → XtermState → XtermState
-mouse_coding p on = with_settings (λ x. record x { coding = if on then p else (if x.coding == p then 0 else x.coding) })
+abbrev pub same_coding : Coding → Coding → Bool
+same_coding Bytes Bytes = true
+same_coding Utf8 Utf8 = true
+same_coding Sgr Sgr = true
+same_coding Urxvt Urxvt = true
+same_coding Pixels Pixels = true
+same_coding _ _ = false
+
+abbrev pub mouse_coding : Coding → Bool → XtermState → XtermState
+mouse_coding coding on =
+    with_settings (λ x. record x { coding = if on then coding else (if same_coding x.coding coding then Bytes else x.coding) })
 
 -- the private modes that differ from those of a VT220, or that it lacks
 abbrev pub xterm_modes : List (ℕ × (Bool → XtermState → XtermState))
@@ -110,19 +134,19 @@ xterm_modes =
     (3, column_mode)  -- DECCOLM
     ∷ (6, λ on. moved (origin_mode on))  -- DECOM
     ∷ (7, wrap_mode)  -- DECAWM
-    ∷ (9, mouse_mode 9)  -- X10 mouse
+    ∷ (9, mouse_mode Presses)  -- X10 mouse
     ∷ (12, λ on. with_settings (λ x. record x { blinks = on }))  -- a blinking cursor
     ∷ (40, λ on s. record s { resizes = on })  -- DECCOLM is allowed
     ∷ (47, show_page)  -- the alternate screen buffer
     ∷ (69, side_mode)  -- DECLRMM
-    ∷ (1000, mouse_mode 1000)  -- buttons of the mouse
-    ∷ (1002, mouse_mode 1002)  -- and motion while one is pressed
-    ∷ (1003, mouse_mode 1003)  -- and any motion
+    ∷ (1000, mouse_mode Buttons)  -- buttons of the mouse
+    ∷ (1002, mouse_mode Drags)  -- and motion while one is pressed
+    ∷ (1003, mouse_mode Motion)  -- and any motion
     ∷ (1004, λ on. with_settings (λ x. record x { focus = on }))  -- focus
-    ∷ (1005, mouse_coding 1005)  -- UTF-8
-    ∷ (1006, mouse_coding 1006)  -- SGR
-    ∷ (1015, mouse_coding 1015)  -- urxvt
-    ∷ (1016, mouse_coding 1016)  -- SGR, in pixels
+    ∷ (1005, mouse_coding Utf8)  -- UTF-8
+    ∷ (1006, mouse_coding Sgr)  -- SGR
+    ∷ (1015, mouse_coding Urxvt)  -- urxvt
+    ∷ (1016, mouse_coding Pixels)  -- SGR, in pixels
     ∷ (1047, show_or_clear)  -- the alternate screen buffer, cleared
     ∷ (1048, save_or_restore)  -- the saved cursor
     ∷ (1049, show_and_save)  -- both
@@ -139,13 +163,13 @@ abbrev pub change_modes : Bool → List ℕ → XtermState → XtermState
 change_modes on params s = fold (λ s p. with_xterm_mode on p s) s params
 
 -- DECSCUSR: 0 to 2 a block, 3 and 4 an underline, 5 and 6 a bar; 0, 1, 3 and 5 blink. Other numbers have no effect (ctlseqs)
-abbrev pub cursor_shape : ℕ → Bool → XtermState → XtermState
+abbrev pub cursor_shape : Shape → Bool → XtermState → XtermState
 cursor_shape shape blinks = with_settings (λ x. record x { shape = shape; blinks = blinks })
 
 abbrev pub cursor_shapes : List (ℕ × (XtermState → XtermState))
 cursor_shapes =
-    (0, cursor_shape 0 true) ∷ (1, cursor_shape 0 true) ∷ (2, cursor_shape 0 false) ∷ (3, cursor_shape 1 true)
-    ∷ (4, cursor_shape 1 false) ∷ (5, cursor_shape 2 true) ∷ (6, cursor_shape 2 false) ∷ []
+    (0, cursor_shape Block true) ∷ (1, cursor_shape Block true) ∷ (2, cursor_shape Block false) ∷ (3, cursor_shape Underline true)
+    ∷ (4, cursor_shape Underline false) ∷ (5, cursor_shape Bar true) ∷ (6, cursor_shape Bar false) ∷ []
 
 unfoldable pub set_cursor_style : ℕ → XtermState → XtermState
 set_cursor_style p = unwrap_or (look_up cursor_shapes p) (λ s. s)

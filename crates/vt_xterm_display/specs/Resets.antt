@@ -4,6 +4,7 @@ use Rattle.vt_term.specs.State.{display_any, last_column}
 use Rattle.vt_term.specs.Modes.{autowrap_mode, column_mode_any, report_form}
 use Rattle.vt_term.specs.Resets.{screen_alignment_any, soft_reset_any, conformance_level_any, is_level}
 use Rattle.vt_xterm_display.specs.State.{Shown, XtermState, xterm_kind, full_sides, behind}
+use Rattle.vt_xterm_display.specs.declared.settings.Shape.TheVariants.{Block}
 use Rattle.vt_xterm_display.specs.Pages.{with_settings}
 
 -- DECALN: the left and right margins are full, too (xterm 379)
@@ -30,7 +31,7 @@ without_sides shown s = record s {
   sides = full_sides (last_column s.shown);
   bounded = false;
   waits = false;
-  settings = record s.settings { shape = 0; blinks = false };
+  settings = record s.settings { shape = Block; blinks = false };
 }
 
 -- DECSTR

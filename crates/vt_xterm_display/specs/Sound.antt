@@ -1,5 +1,5 @@
 -- The facts that hold of each state that a host leaves. (this profile)
-use Rattle.std.specs.Prelude.{◌≡◌, ℕ, ◌≤◌, ◌<◌, Bool, true, false}
+use Rattle.std.specs.Prelude.{◌≡◌, ℕ, ◌+◌, ◌≤◌, ◌<◌, Bool, true, false}
 use Rattle.vt_glyph.specs.GraphicSets.{AreSoundSets}
 use Rattle.vt_screen.specs.Grid.{IsSoundGridOf}
 use Rattle.vt_screen.specs.declared.size.Size.{Size}
@@ -8,6 +8,8 @@ use Rattle.vt_term.specs.Sound.{IsPlace}
 use Rattle.vt_xterm_cell.specs.Kinds.{xterm_cells}
 use Rattle.vt_xterm_display.specs.declared.sides.Sides.{Sides}
 use Rattle.vt_xterm_display.specs.State.{PageState, XtermState, full_sides}
+use Rattle.vt_xterm_display.specs.Whole.{IsKept, parts_none}
+use Rattle.vt_xterm_display.specs.Tabs.{is_pending}
 
 -- a page of this size
 pub record IsSoundPageAt (size : Size) (page : PageState) : Type 0 where
@@ -36,3 +38,7 @@ pub record IsSoundXterm (s : XtermState) : Type 0 where
   pub waiting : s.waits ≡ true → IsWaiting s
   -- under DECOM the cursor is between the margins
   pub origin : s.shown.modes.decom ≡ true → (s.sides.left ≤ s.shown.cursor.col) × (s.shown.cursor.col ≤ s.sides.right)
+  pub kept : IsKept s
+  -- the right margin parts no character at which a wrap is pending
+  pub fits : is_pending s ≡ true → s.shown.cursor.col ≤ s.sides.right + 1
+      → parts_none s.shown.grid s.shown.cursor.row s.sides.right ≡ true

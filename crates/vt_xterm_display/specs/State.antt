@@ -12,6 +12,9 @@ use Rattle.vt_xterm_cell.specs.Cells.{blank_cell}
 use Rattle.vt_xterm_cell.specs.Kinds.{xterm_cells, xterm_own}
 use Rattle.vt_xterm_display.specs.declared.sides.Sides.{Sides}
 use Rattle.vt_xterm_display.specs.declared.settings.Settings.{Settings}
+use Rattle.vt_xterm_display.specs.declared.settings.Mouse.TheVariants.{Off}
+use Rattle.vt_xterm_display.specs.declared.settings.Coding.TheVariants.{Bytes}
+use Rattle.vt_xterm_display.specs.declared.settings.Shape.TheVariants.{Block}
 
 abbrev pub xterm_kind : KindOf CellParts Look
 xterm_kind = kind_of xterm_cells xterm_own
@@ -64,7 +67,7 @@ full_sides width = record { left = 1; right = width }
 -- a steady block, and nothing else
 abbrev pub settings_at_power_up : Settings
 settings_at_power_up =
-    record { brackets = false; focus = false; synchronized = false; mouse = 0; coding = 0; shape = 0; blinks = false }
+    record { brackets = false; focus = false; synchronized = false; mouse = Off; coding = Bytes; shape = Block; blinks = false }
 
 abbrev pub blank_page : Size → PageState
 blank_page size = record { grid = blank_any blank_cell size false; saved = saved_any xterm_kind }

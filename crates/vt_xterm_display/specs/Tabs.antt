@@ -1,10 +1,11 @@
 -- Tabs. (ECMA-48: HT, CHT, CBT; between margins and under a pending wrap, xterm 379)
-use Rattle.std.specs.Prelude.{ℕ, List, Bool, min, max, true, ◌||◌, ◌&&◌, nat_lt, if◌then◌else◌}
+use Rattle.std.specs.Prelude.{ℕ, List, Bool, min, max, ◌||◌, ◌&&◌, nat_lt, if◌then◌else◌}
 use Rattle.std.proofs.Common.{zero, suc}
 use Rattle.vt_term.specs.State.{at_place, last_column, has_stop_at}
 use Rattle.vt_term.specs.Tabs.{next_stop_of}
 use Rattle.vt_xterm_display.specs.declared.sides.Sides.{Sides}
 use Rattle.vt_xterm_display.specs.State.{Shown, XtermState, moved}
+use Rattle.vt_xterm_display.specs.Whole.{parts_none}
 
 -- a function so many times
 abbrev pub times : ℕ → (XtermState → XtermState) → XtermState → XtermState
@@ -20,11 +21,11 @@ horizontal_tab m s =
 abbrev pub is_pending : XtermState → Bool
 is_pending s = s.waits || s.shown.cursor.wrap
 
--- HT and CHT under a pending wrap: it stays, and is at the right margin then (xterm 379)
+-- HT and CHT under a pending wrap: it is at the right margin then (xterm 379), unless that margin parts a character there (this profile)
 abbrev pub waiting : XtermState → XtermState
 waiting s =
     if nat_lt s.sides.right (last_column s.shown)
-    then record s { shown = record s.shown { cursor = at_place s.shown.cursor.row s.sides.right }; waits = true } else s
+    then record s { shown = record s.shown { cursor = at_place s.shown.cursor.row s.sides.right }; waits = parts_none s.shown.grid s.shown.cursor.row s.sides.right } else s
 
 -- CHT: n times HT, which more often than there are columns changes nothing
 abbrev pub cursor_forward_tabulation : ℕ → XtermState → XtermState

@@ -1,8 +1,7 @@
 -- Writing characters and marks. (docs/XTERM.md: Writing. xterm 379, but for what names another source)
-use Rattle.std.specs.Prelude.{◌≡◌, ◌≤◌, ℕ, List, length, ◌+◌, ◌-◌, Bool, true, false, min, max, Option, Some, None, ◌==◌, ◌/◌, ◌&&◌, ◌||◌, nat_le, nat_lt, if◌then◌else◌}
-use Rattle.vt_glyph.specs.GraphicSets.{GraphicSets}
+use Rattle.std.specs.Prelude.{◌≡◌, ◌≤◌, ℕ, List, length, ◌+◌, ◌-◌, Bool, true, false, min, Option, Some, None, ◌==◌, ◌/◌, ◌&&◌, ◌||◌, nat_le, nat_lt, if◌then◌else◌}
 use Rattle.vt_glyph.specs.Invocation.{glyph_read, after_read}
-use Rattle.vt_screen.specs.Grid.{at_or, is_within}
+use Rattle.vt_screen.specs.Grid.{at_or}
 use Rattle.vt_term.specs.State.{at_place, last_column}
 use Rattle.vt_term.specs.declared.state.Cursor.{Cursor}
 use Rattle.vt_utf8.specs.Cells.{cells}
@@ -27,12 +26,17 @@ after_wrap s = if is_pending s then moved wrapped s else s
 abbrev pub room : Sides → Shown → ℕ
 room m s = last_reached m s - s.cursor.col + 1
 
--- the character that begins with a cell, at the cursor; under IRM, between the margins, the cells at and after it move right first
+-- the character that begins with a cell, at the cursor, over what is there
+abbrev pub with_over : CellParts → Shown → Grid
+with_over cell s = written xterm_wide blank_cell (incoming s) s.grid s.cursor.row s.cursor.col cell
+
+-- the same, after the cells at and after the cursor moved right
+abbrev pub with_inserted : CellParts → Sides → Shown → Grid
+with_inserted cell m s = written_inserting xterm_wide blank_cell (incoming s) s.grid s.cursor.row s.cursor.col m.right cell
+
+-- under IRM, between the margins, the cells move right first
 abbrev pub with_character : CellParts → Sides → Shown → Grid
-with_character cell m s =
-    if s.modes.irm && is_between m s
-    then written_inserting xterm_wide blank_cell (incoming s) s.grid s.cursor.row s.cursor.col m.right cell
-    else written xterm_wide blank_cell (incoming s) s.grid s.cursor.row s.cursor.col cell
+with_character cell m s = if s.modes.irm && is_between m s then with_inserted cell m s else with_over cell s
 
 -- the cursor after the column that it would go to: it doesn't pass the last one that it reaches, and under DECAWM a wrap is pending there. In
 -- the last column of the screen the cursor's flag says so, and at the right margin left of it the cursor waits
@@ -87,25 +91,19 @@ mark c s = on_shown (λ d. record d {
       (joined_column xterm_wide blank_cell d.grid d.cursor.row d.cursor.col (is_pending s)) c;
 }) s
 
--- characters of format: joiners, directional marks and others
-abbrev pub is_format : ℕ → Bool
-is_format c =
-    is_within 0x200B 0x200F c || (is_within 0x202A 0x202E c || (is_within 0x2060 0x2064 c || (is_within 0x2066 0x206F c
-    || (c == 0xFEFF || is_within 0xFFF9 0xFFFB c))))
-
--- a character without a width: a mark beyond U+02FF, but for those of format. The others have no effect
-abbrev pub is_mark : ℕ → Bool
-is_mark c = nat_lt 0x2FF c && (if is_format c then false else true)
-
 -- a single shift is no longer pending
 abbrev pub unshifted : Shown → Shown
 unshifted d = record d { sets = record d.sets { pending = None } }
 
--- a character beyond ASCII, of so many columns; it uses up a single shift
+-- a character of so many columns is written: under DECAWM always, otherwise if it has room
+abbrev pub is_written : ℕ → XtermState → Bool
+is_written width s = s.shown.modes.decawm || nat_le width (room s.sides s.shown)
+
+-- a character beyond ASCII, of so many columns, uses up a single shift if it is written. One without a width joins as a mark, if it is one
 abbrev pub write_of_width : ℕ → ℕ → XtermState → XtermState
 write_of_width width c s =
-    if width == 0 then (if is_mark c then mark c s else s)
-    else write (written_cell s.shown.brush c (width == 2)) (on_shown unshifted s)
+    if width == 0 then mark c s else (
+    if is_written width s then write (written_cell s.shown.brush c (width == 2)) (on_shown unshifted s) else s)
 
 abbrev pub write_character : ℕ → XtermState → XtermState
 write_character c = write_of_width (cells c) c

@@ -65,7 +65,7 @@ impl XtermDisplay {
     }
 
     /// Carries out CR: moves the cursor to the left margin. From left of it, without DECOM, the cursor moves to column 1.
-    pub fn carriage_return(&mut self)
+    pub(crate) fn carriage_return(&mut self)
         ensures { self.new ≡ moved carriage_return self.old }
     {
         let col = if self.shown.modes.decom {
@@ -77,7 +77,7 @@ impl XtermDisplay {
     }
 
     /// Carries out CUF: moves the cursor right by `n`, not past the last column that it reaches.
-    pub fn cursor_forward(&mut self, n: u16)
+    pub(crate) fn cursor_forward(&mut self, n: u16)
         ensures { self.new ≡ moved (cursor_forward n) self.old }
     {
         let col = (self.shown.cursor.col + n as usize).min(self.last_reached());
@@ -85,7 +85,7 @@ impl XtermDisplay {
     }
 
     /// Carries out CUB, and BS by one: moves the cursor left by `n`, not past the first column that it reaches.
-    pub fn cursor_backward(&mut self, n: u16)
+    pub(crate) fn cursor_backward(&mut self, n: u16)
         ensures { self.new ≡ moved (cursor_backward n) self.old }
     {
         let col = self.shown.cursor.col.saturating_sub(n as usize);
@@ -93,7 +93,7 @@ impl XtermDisplay {
     }
 
     /// Carries out CUP and HVP: moves the cursor to a line and a column, for which 0 means 1. Under DECOM they count from the margins.
-    pub fn cursor_position(&mut self, line: u16, col: u16)
+    pub(crate) fn cursor_position(&mut self, line: u16, col: u16)
         ensures { self.new ≡ moved (cursor_position line col) self.old }
     {
         let row = self.row_of((line as usize).max(1));
@@ -102,7 +102,7 @@ impl XtermDisplay {
     }
 
     /// Carries out CHA and HPA: moves the cursor to a column, which under DECOM counts from the left margin.
-    pub fn cursor_character_absolute(&mut self, n: u16)
+    pub(crate) fn cursor_character_absolute(&mut self, n: u16)
         requires { 1 ≤ n }
         ensures { self.new ≡ moved (cursor_character_absolute n) self.old }
     {
@@ -111,7 +111,7 @@ impl XtermDisplay {
     }
 
     /// Carries out HPR: moves the cursor right by `n`, not past the last column, or under DECOM not past the right margin.
-    pub fn character_position_forward(&mut self, n: u16)
+    pub(crate) fn character_position_forward(&mut self, n: u16)
         ensures { self.new ≡ moved (character_position_forward n) self.old }
     {
         let last = if self.shown.modes.decom {
@@ -124,7 +124,7 @@ impl XtermDisplay {
     }
 
     /// Carries out VPA: moves the cursor to a line, in the same column.
-    pub fn line_position_absolute(&mut self, n: u16)
+    pub(crate) fn line_position_absolute(&mut self, n: u16)
         requires { 1 ≤ n }
         ensures { self.new ≡ moved (line_position_absolute n) self.old }
     {
@@ -133,7 +133,7 @@ impl XtermDisplay {
     }
 
     /// Carries out VPR: moves the cursor down by `n`, not past the last row, or under DECOM not past the bottom margin.
-    pub fn line_position_forward(&mut self, n: u16)
+    pub(crate) fn line_position_forward(&mut self, n: u16)
         ensures { self.new ≡ moved (line_position_forward n) self.old }
     {
         let last = if self.shown.modes.decom {
@@ -146,7 +146,7 @@ impl XtermDisplay {
     }
 
     /// Carries out CUU, as on a VT220.
-    pub fn cursor_up(&mut self, n: u16)
+    pub(crate) fn cursor_up(&mut self, n: u16)
         ensures { self.new ≡ moved (cursor_up_between n) self.old }
     {
         self.shown.cursor_up(n);
@@ -154,7 +154,7 @@ impl XtermDisplay {
     }
 
     /// Carries out CUD, as on a VT220.
-    pub fn cursor_down(&mut self, n: u16)
+    pub(crate) fn cursor_down(&mut self, n: u16)
         ensures { self.new ≡ moved (cursor_down_between n) self.old }
     {
         self.shown.cursor_down(n);
@@ -162,7 +162,7 @@ impl XtermDisplay {
     }
 
     /// Carries out CNL: CUD, and then CR.
-    pub fn cursor_next_line(&mut self, n: u16)
+    pub(crate) fn cursor_next_line(&mut self, n: u16)
         ensures { self.new ≡ moved (cursor_next_line n) self.old }
     {
         self.cursor_down(n);
@@ -170,7 +170,7 @@ impl XtermDisplay {
     }
 
     /// Carries out CPL: CUU, and then CR.
-    pub fn cursor_preceding_line(&mut self, n: u16)
+    pub(crate) fn cursor_preceding_line(&mut self, n: u16)
         ensures { self.new ≡ moved (cursor_preceding_line n) self.old }
     {
         self.cursor_up(n);
@@ -178,7 +178,7 @@ impl XtermDisplay {
     }
 
     /// Carries out DECSTBM: sets margins of at least two rows, and moves the cursor home. Other margins have no effect.
-    pub fn set_margins(&mut self, top: u16, bottom: u16)
+    pub(crate) fn set_margins(&mut self, top: u16, bottom: u16)
         ensures { self.new ≡ set_margins top bottom self.old }
     {
         let rows = self.shown.screen.size().rows;
@@ -204,7 +204,7 @@ impl XtermDisplay {
     }
 
     /// Carries out DECSLRM: sets margins of at least two columns, and moves the cursor home. Other margins have no effect.
-    pub fn set_sides(&mut self, left: u16, right: u16)
+    pub(crate) fn set_sides(&mut self, left: u16, right: u16)
         requires { self.old.bounded ≡ true }
         ensures { self.new ≡ set_sides left right self.old }
     {

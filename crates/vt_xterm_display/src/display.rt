@@ -5,7 +5,9 @@ ghost use Rattle.vt_term.specs.State.{at_place};
 ghost use Rattle.vt_xterm_display.specs.State.{xterm_of, Shown, moved};
 ghost use Rattle.vt_xterm_display.specs.Sound.{IsSoundXterm, IsSoundPageAt};
 ghost use Rattle.vt_term.specs.Sound.{IsSoundDisplayOf};
+ghost use Rattle.vt_wide.specs.Kinds.{IsNarrow};
 ghost use Rattle.vt_xterm_cell.specs.Kinds.{xterm_cells};
+ghost use Rattle.vt_xterm_cell.specs.Wide.{xterm_wide};
 ghost use Rattle.vt_xterm_display.specs.Moving.{is_between, last_reached, first_reached};
 ghost use Rattle.vt_xterm_display.specs.Tabs.{is_pending};
 ghost use Rattle.vt_xterm_display.specs.Rows.{incoming};
@@ -23,20 +25,21 @@ use vt_xterm_cell::XtermCell;
 #[derive(Drop)]
 pub struct XtermDisplay {
     /// The page that is shown, and what both pages share with a VT220.
-    pub(crate) shown: Display<XtermCell>,
+    pub shown: Display<XtermCell>,
     /// The page that isn't shown.
-    pub(crate) other: Page,
+    pub other: Page,
     /// The left and right margins: all columns, if DECLRMM is reset.
-    pub(crate) sides: Sides,
+    pub sides: Sides,
     /// DECLRMM.
-    pub(crate) bounded: bool,
+    pub bounded: bool,
     /// A wrap is pending in the right margin's column, left of the last one.
-    pub(crate) waits: bool,
+    pub waits: bool,
     /// The alternate page is the one that is shown.
-    pub(crate) alternate: bool,
+    pub alternate: bool,
     /// DECCOLM has an effect.
-    pub(crate) resizes: bool,
-    pub(crate) settings: Settings,
+    pub resizes: bool,
+    /// The settings that a multiplexer hands on.
+    pub settings: Settings,
 }
 
 impl Model for XtermDisplay {
@@ -70,7 +73,7 @@ impl Model for XtermDisplay {
 
 impl XtermDisplay {
     /// Returns the screen of a size at power-up. Returns `Err` if allocation fails.
-    pub fn new(alloc: Global, size: Size) -> Result<XtermDisplay, AllocError>
+    pub(crate) fn new(alloc: Global, size: Size) -> Result<XtermDisplay, AllocError>
         requires { IsSize size }
         ensures { IfOk result (λ d. d ≡ xterm_of size) }
     {
@@ -160,7 +163,8 @@ impl XtermDisplay {
     /// Returns the cell that comes in where the pen erases.
     #[inline(always)]
     pub(crate) fn incoming(&self) -> XtermCell
-        ensures { result ≡ incoming self.now.shown }
+        ensures cell { result ≡ incoming self.now.shown }
+        ensures narrow { IsNarrow xterm_wide result }
     {
         self.shown.pen.erased()
     }

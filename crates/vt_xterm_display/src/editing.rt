@@ -22,7 +22,7 @@ impl XtermDisplay {
     }
 
     /// Carries out ECH: erases `n` characters starting at the cursor, not past the last column.
-    pub fn erase_character(&mut self, n: u16)
+    pub(crate) fn erase_character(&mut self, n: u16)
         requires { 1 ≤ n }
         ensures { self.new ≡ moved (erase_character n) self.old }
     {
@@ -32,7 +32,7 @@ impl XtermDisplay {
     }
 
     /// Carries out EL, and DECSEL, which is selective: 0 erases starting at the cursor, 1 up to the cursor, 2 the whole row.
-    pub fn erase_in_line(&mut self, selective: bool, p: u16)
+    pub(crate) fn erase_in_line(&mut self, selective: bool, p: u16)
         ensures { self.new ≡ erase_in_line selective p self.old }
     {
         let Cursor { col, .. } = self.shown.cursor;
@@ -74,7 +74,7 @@ impl XtermDisplay {
     }
 
     /// Carries out ED, and DECSED, which is selective: 0 erases starting at the cursor, 1 up to the cursor, 2 the whole screen.
-    pub fn erase_in_display(&mut self, selective: bool, p: u16)
+    pub(crate) fn erase_in_display(&mut self, selective: bool, p: u16)
         ensures { self.new ≡ erase_in_display selective p self.old }
     {
         let Cursor { row, col, .. } = self.shown.cursor;
@@ -88,20 +88,20 @@ impl XtermDisplay {
     }
 
     /// Carries out ICH: inserts `n` cells at the cursor, between the margins. Elsewhere it only resets a pending wrap.
-    pub fn insert_character(&mut self, n: u16)
+    pub(crate) fn insert_character(&mut self, n: u16)
         ensures { self.new ≡ moved (insert_character n) self.old }
     {
-        let Cursor { row, col, .. } = self.shown.cursor;
+        self.shown.cursor.wrap = false;
+        self.waits = false;
         if self.is_between() {
+            let Cursor { row, col, .. } = self.shown.cursor;
             let empty = self.incoming();
             insert(&mut self.shown.screen, row, col, self.sides.right, n, empty);
         }
-        self.shown.cursor.wrap = false;
-        self.waits = false;
     }
 
     /// Carries out DCH: deletes `n` cells starting at the cursor, between the margins. Elsewhere it has no effect.
-    pub fn delete_character(&mut self, n: u16)
+    pub(crate) fn delete_character(&mut self, n: u16)
         ensures { self.new ≡ delete_character n self.old }
     {
         let Cursor { row, col, .. } = self.shown.cursor;

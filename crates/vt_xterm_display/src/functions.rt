@@ -88,13 +88,13 @@ impl XtermDisplay {
     fn write_substitute(&mut self)
         ensures { self.new ≡ substitute self.old }
     {
-        let cell = self.shown.pen.written(Glyph::substitute().to_char(), false);
+        let cell = self.shown.pen.written(Glyph::substitute());
         self.write(cell);
     }
 
     /// Carries out a control.
     #[tactic(auto, unfolding(crate::specs::Functions::function_in, vt_term::specs::Functions::control_any))]
-    pub fn control(&mut self, b: u8)
+    pub(crate) fn control(&mut self, b: u8)
         ensures { self.new ≡ function_in controls (Control b) b [] self.old }
     {
         match b {

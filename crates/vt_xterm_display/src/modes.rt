@@ -8,12 +8,13 @@ ghost use Rattle.vt_xterm_display.specs.Pages.{set_cursor_style};
 
 use crate::cursor::home_between;
 use crate::display::XtermDisplay;
+use crate::settings::{Coding, Mouse, Shape, same_coding};
 use crate::sides::Sides;
 use vt_term::Cursor;
 
 impl XtermDisplay {
     /// Carries out ?6: sets or resets DECOM, and moves the cursor home.
-    pub fn origin_mode(&mut self, on: bool)
+    pub(crate) fn origin_mode(&mut self, on: bool)
         ensures { self.new ≡ moved (origin_mode on) self.old }
     {
         let (row, col) = home_between(on, self.shown.margins.top, self.sides.left);
@@ -27,7 +28,7 @@ impl XtermDisplay {
     }
 
     /// Carries out ?7: sets or resets DECAWM, without which no wrap is pending.
-    pub fn wrap_mode(&mut self, on: bool)
+    pub(crate) fn wrap_mode(&mut self, on: bool)
         ensures { self.new ≡ wrap_mode on self.old }
     {
         self.shown.autowrap_mode(on);
@@ -35,7 +36,7 @@ impl XtermDisplay {
     }
 
     /// Carries out ?69: sets or resets DECLRMM. Without it the left and right margins are all columns.
-    pub fn side_mode(&mut self, on: bool)
+    pub(crate) fn side_mode(&mut self, on: bool)
         ensures { self.new ≡ side_mode on self.old }
     {
         self.bounded = on;
@@ -46,20 +47,20 @@ impl XtermDisplay {
     }
 
     /// Sets a mode of the mouse, or none.
-    fn mouse_mode(&mut self, p: u16, on: bool)
-        ensures { self.new ≡ mouse_mode p on self.old }
+    fn mouse_mode(&mut self, mouse: Mouse, on: bool)
+        ensures { self.new ≡ mouse_mode mouse on self.old }
     {
-        self.settings.mouse = if on { p } else { 0 };
+        self.settings.mouse = if on { mouse } else { Mouse::Off };
     }
 
     /// Sets a coding of the mouse's positions, or resets it if it is set.
-    fn mouse_coding(&mut self, p: u16, on: bool)
-        ensures { self.new ≡ mouse_coding p on self.old }
+    fn mouse_coding(&mut self, coding: Coding, on: bool)
+        ensures { self.new ≡ mouse_coding coding on self.old }
     {
         if on {
-            self.settings.coding = p;
-        } else if self.settings.coding == p {
-            self.settings.coding = 0;
+            self.settings.coding = coding;
+        } else if same_coding(self.settings.coding, coding) {
+            self.settings.coding = Coding::Bytes;
         }
     }
 
@@ -72,19 +73,19 @@ impl XtermDisplay {
             3 => self.column_mode(on),
             6 => self.origin_mode(on),
             7 => self.wrap_mode(on),
-            9 => self.mouse_mode(9, on),
+            9 => self.mouse_mode(Mouse::Presses, on),
             12 => self.settings.blinks = on,
             40 => self.resizes = on,
             47 => self.show_page(on),
             69 => self.side_mode(on),
-            1000 => self.mouse_mode(1000, on),
-            1002 => self.mouse_mode(1002, on),
-            1003 => self.mouse_mode(1003, on),
+            1000 => self.mouse_mode(Mouse::Buttons, on),
+            1002 => self.mouse_mode(Mouse::Drags, on),
+            1003 => self.mouse_mode(Mouse::Motion, on),
             1004 => self.settings.focus = on,
-            1005 => self.mouse_coding(1005, on),
-            1006 => self.mouse_coding(1006, on),
-            1015 => self.mouse_coding(1015, on),
-            1016 => self.mouse_coding(1016, on),
+            1005 => self.mouse_coding(Coding::Utf8, on),
+            1006 => self.mouse_coding(Coding::Sgr, on),
+            1015 => self.mouse_coding(Coding::Urxvt, on),
+            1016 => self.mouse_coding(Coding::Pixels, on),
             1047 => self.show_or_clear(on),
             1048 => self.save_or_restore(on),
             1049 => self.show_and_save(on),
@@ -100,7 +101,7 @@ impl XtermDisplay {
     }
 
     /// Carries out SM and RM of private modes: each parameter in order.
-    pub fn change_modes(&mut self, params: &[u16], on: bool)
+    pub(crate) fn change_modes(&mut self, params: &[u16], on: bool)
         ensures { self.new ≡ change_modes on params.now self.old }
     {
         for p in params {
@@ -123,7 +124,7 @@ impl XtermDisplay {
     }
 
     /// Carries out SM and RM of ANSI modes: each parameter in order.
-    pub fn change_ansi_modes(&mut self, params: &[u16], on: bool)
+    pub(crate) fn change_ansi_modes(&mut self, params: &[u16], on: bool)
         ensures { self.new ≡ on_shown (change_modes_of ansi_modes_any on params.now) self.old }
     {
         for p in params {
@@ -133,17 +134,17 @@ impl XtermDisplay {
 
     /// Carries out DECSCUSR: sets the shape of the cursor, and whether it blinks.
     #[tactic(auto, unfolding(crate::specs::Pages::set_cursor_style))]
-    pub fn set_cursor_style(&mut self, p: u16)
+    pub(crate) fn set_cursor_style(&mut self, p: u16)
         ensures { self.new ≡ set_cursor_style p self.old }
     {
         let (shape, blinks) = match p {
-            0 => (0, true),
-            1 => (0, true),
-            2 => (0, false),
-            3 => (1, true),
-            4 => (1, false),
-            5 => (2, true),
-            6 => (2, false),
+            0 => (Shape::Block, true),
+            1 => (Shape::Block, true),
+            2 => (Shape::Block, false),
+            3 => (Shape::Underline, true),
+            4 => (Shape::Underline, false),
+            5 => (Shape::Bar, true),
+            6 => (Shape::Bar, false),
             _ => return,
         };
         self.settings.shape = shape;

@@ -16,8 +16,10 @@ use vt_xterm_cell::{Look, XtermCell};
 /// A page: the cells of a screen, and the state that DECSC saved on it. `new` allocates its memory, and nothing else does.
 #[derive(Drop)]
 pub struct Page {
-    pub(crate) screen: Screen<XtermCell>,
-    pub(crate) saved: SavedOf<Look>,
+    /// The cells.
+    pub screen: Screen<XtermCell>,
+    /// The state that DECSC saved.
+    pub saved: SavedOf<Look>,
 }
 
 impl Model for Page {

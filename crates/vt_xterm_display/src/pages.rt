@@ -11,18 +11,20 @@ use vt_term::Cursor;
 
 impl XtermDisplay {
     /// Carries out DECSC. A wrap that is pending at the right margin isn't saved.
-    pub fn save_cursor(&mut self)
+    pub(crate) fn save_cursor(&mut self)
         ensures { self.new ≡ on_shown save_cursor self.old }
     {
         self.shown.save_cursor();
     }
 
     /// Carries out DECRC. If DECOM is restored, the cursor is brought between the margins.
-    pub fn restore_cursor(&mut self)
+    pub(crate) fn restore_cursor(&mut self)
         ensures { self.new ≡ restore self.old }
     {
         self.shown.restore_cursor();
         self.waits = false;
+        let is_last = self.sides.right == self.shown.screen.width();
+        self.shown.cursor.wrap = self.shown.cursor.wrap && is_last;
         let Cursor { row, col, .. } = self.shown.cursor;
         if self.shown.modes.decom && !(self.sides.left <= col && col <= self.sides.right) {
             self.shown.cursor = Cursor {
@@ -41,11 +43,13 @@ impl XtermDisplay {
         self.other.fit(width);
         std::mem::swap(&mut self.shown.screen, &mut self.other.screen);
         std::mem::swap(&mut self.shown.saved, &mut self.other.saved);
+        self.shown.cursor.wrap = self.shown.cursor.wrap && self.sides.right == width;
+        self.waits = false;
         self.alternate = alternate;
     }
 
     /// Carries out ?47: shows the alternate page, or the main one.
-    pub fn show_page(&mut self, alternate: bool)
+    pub(crate) fn show_page(&mut self, alternate: bool)
         ensures { self.new ≡ show_page alternate self.old }
     {
         if self.alternate {
@@ -58,7 +62,7 @@ impl XtermDisplay {
     }
 
     /// Carries out ?1047: shows the alternate page, or leaves it erased and shows the main one.
-    pub fn show_or_clear(&mut self, alternate: bool)
+    pub(crate) fn show_or_clear(&mut self, alternate: bool)
         ensures { self.new ≡ show_or_clear alternate self.old }
     {
         if alternate {
@@ -71,7 +75,7 @@ impl XtermDisplay {
     }
 
     /// Carries out ?1048: saves the cursor, or restores it.
-    pub fn save_or_restore(&mut self, save: bool)
+    pub(crate) fn save_or_restore(&mut self, save: bool)
         ensures { self.new ≡ save_or_restore save self.old }
     {
         if save {
@@ -82,7 +86,7 @@ impl XtermDisplay {
     }
 
     /// Carries out ?1049: saves the cursor and shows the alternate page erased, or shows the main one and restores the cursor.
-    pub fn show_and_save(&mut self, alternate: bool)
+    pub(crate) fn show_and_save(&mut self, alternate: bool)
         ensures { self.new ≡ show_and_save alternate self.old }
     {
         if alternate {
@@ -96,7 +100,7 @@ impl XtermDisplay {
     }
 
     /// Carries out ?3: DECCOLM, if it has an effect. The screen is erased, and all margins are full.
-    pub fn column_mode(&mut self, wide: bool)
+    pub(crate) fn column_mode(&mut self, wide: bool)
         ensures { self.new ≡ column_mode wide self.old }
     {
         if self.resizes {

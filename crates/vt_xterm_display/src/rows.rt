@@ -47,7 +47,7 @@ impl XtermDisplay {
     }
 
     /// Carries out IND: moves the cursor down by one, not past the last row. At the bottom margin the rows move up instead.
-    pub fn index(&mut self)
+    pub(crate) fn index(&mut self)
         ensures { self.new ≡ moved index self.old }
     {
         let Cursor { row, col, .. } = self.shown.cursor;
@@ -64,7 +64,7 @@ impl XtermDisplay {
     }
 
     /// Carries out RI: moves the cursor up by one, not past row 1. At the top margin the rows move down instead.
-    pub fn reverse_index(&mut self)
+    pub(crate) fn reverse_index(&mut self)
         ensures { self.new ≡ moved reverse_index self.old }
     {
         let Cursor { row, col, .. } = self.shown.cursor;
@@ -80,7 +80,7 @@ impl XtermDisplay {
     }
 
     /// Carries out NEL: IND, and then CR.
-    pub fn next_line(&mut self)
+    pub(crate) fn next_line(&mut self)
         ensures { self.new ≡ moved next_line self.old }
     {
         self.index();
@@ -88,7 +88,7 @@ impl XtermDisplay {
     }
 
     /// Carries out LF, VT and FF: IND, and under LNM NEL.
-    pub fn line_feed(&mut self)
+    pub(crate) fn line_feed(&mut self)
         ensures { self.new ≡ moved line_feed self.old }
     {
         if self.shown.modes.lnm {
@@ -99,7 +99,7 @@ impl XtermDisplay {
     }
 
     /// Carries out SU: moves the rows between the margins up by `n`. The cursor stays.
-    pub fn rows_up(&mut self, n: u16)
+    pub(crate) fn rows_up(&mut self, n: u16)
         ensures { self.new ≡ between (rows_up n) self.old }
     {
         let Margins { top, .. } = self.shown.margins;
@@ -107,7 +107,7 @@ impl XtermDisplay {
     }
 
     /// Carries out SD: moves the rows between the margins down by `n`. The cursor stays.
-    pub fn rows_down(&mut self, n: u16)
+    pub(crate) fn rows_down(&mut self, n: u16)
         ensures { self.new ≡ between (rows_down n) self.old }
     {
         let Margins { top, .. } = self.shown.margins;
@@ -123,7 +123,7 @@ impl XtermDisplay {
     }
 
     /// Carries out IL: inserts `n` rows at the cursor's row, and moves the cursor to the left margin. Outside the margins it has no effect.
-    pub fn insert_line(&mut self, n: u16)
+    pub(crate) fn insert_line(&mut self, n: u16)
         ensures { self.new ≡ insert_line n self.old }
     {
         let Cursor { row, .. } = self.shown.cursor;
@@ -136,7 +136,7 @@ impl XtermDisplay {
 
     /// Carries out DL: deletes `n` rows starting at the cursor's row, and moves the cursor to the left margin. Outside the margins it has
     /// no effect.
-    pub fn delete_line(&mut self, n: u16)
+    pub(crate) fn delete_line(&mut self, n: u16)
         ensures { self.new ≡ delete_line n self.old }
     {
         let Cursor { row, .. } = self.shown.cursor;

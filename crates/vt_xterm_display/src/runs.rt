@@ -80,7 +80,9 @@ impl XtermDisplay {
         let Cursor { row, col, .. } = self.shown.cursor;
         let empty = self.incoming();
         let pen = self.shown.pen.cleared();
-        self.advance(run.len());
+        let (cursor, waits) = self.advanced(run.len());
+        self.shown.cursor = cursor;
+        self.waits = waits;
         put_bytes(&mut self.shown.screen, row, col, run, pen, empty);
     }
 

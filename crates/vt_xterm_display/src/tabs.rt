@@ -1,13 +1,12 @@
 //! Tabs.
 ghost use Rattle.std.specs.Prelude.{◌≡◌, ◌≤◌, true, length};
-ghost use Rattle.vt_term.specs.Tabs.{next_stop_of};
 ghost use Rattle.vt_xterm_display.specs.State.{moved};
 ghost use Rattle.vt_xterm_display.specs.Tabs.{horizontal_tab, waiting, cursor_forward_tabulation, stop_before, back_tab, times, is_pending};
 ghost use Rattle.vt_xterm_display.specs.Tabs.{cursor_backward_tabulation};
 
 use crate::display::XtermDisplay;
 use crate::sides::Sides;
-use vt_term::Cursor;
+use vt_term::{Cursor, next_stop};
 
 /// Returns the nearest stop left of a column, or else column 1.
 fn stop_before(stops: &[bool], col: usize) -> usize
@@ -26,21 +25,6 @@ fn stop_before(stops: &[bool], col: usize) -> usize
     1
 }
 
-/// Returns the next stop to the right of a column, or the last column if there is none.
-fn next_stop(stops: &[bool], col: usize, last: usize) -> usize
-    requires { (1 ≤ col) × (col ≤ last) × (last ≤ length stops.now) }
-    ensures stop { result ≡ next_stop_of stops.now col last }
-    ensures after { col ≤ result }
-    ensures in_row { (1 ≤ result) × (result ≤ last) }
-{
-    for c in col + 1..last + 1 {
-        if stops[c - 1] {
-            return c;
-        }
-    }
-    last
-}
-
 impl XtermDisplay {
     /// Moves the cursor to the next stop, and not past the right margin.
     fn horizontal_tab(&mut self)
@@ -54,7 +38,8 @@ impl XtermDisplay {
         self.place(row, stop.min(right));
     }
 
-    /// Moves the cursor to the right margin, where the pending wrap waits.
+    /// Moves the cursor to the right margin, where the pending wrap waits unless the margin parts a character.
+    #[tactic(auto, unfolding(crate::specs::Whole::parts_none))]
     fn wait(&mut self)
         requires { is_pending self.old ≡ true }
         ensures { self.new ≡ waiting self.old }
@@ -62,17 +47,18 @@ impl XtermDisplay {
         let Sides { right, .. } = self.sides;
         self.soundness();
         if right < self.shown.screen.width() {
+            let Cursor { row, .. } = self.shown.cursor;
+            self.waits = !self.shown.screen.cell(row, right + 1).is_second();
             self.shown.cursor = Cursor {
-                row: self.shown.cursor.row,
+                row,
                 col: right,
                 wrap: false,
             };
-            self.waits = true;
         }
     }
 
     /// Carries out CHT, and HT with 1: moves the cursor to the next stop, `n` times.
-    pub fn cursor_forward_tabulation(&mut self, n: u16)
+    pub(crate) fn cursor_forward_tabulation(&mut self, n: u16)
         ensures { self.new ≡ cursor_forward_tabulation n self.old }
     {
         if self.is_pending() {
@@ -108,7 +94,7 @@ impl XtermDisplay {
     }
 
     /// Carries out CBT: moves the cursor to the stop before it, `n` times.
-    pub fn cursor_backward_tabulation(&mut self, n: u16)
+    pub(crate) fn cursor_backward_tabulation(&mut self, n: u16)
         ensures { self.new ≡ cursor_backward_tabulation n self.old }
     {
         let count = (n as usize).min(self.shown.screen.width());

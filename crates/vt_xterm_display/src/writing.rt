@@ -1,13 +1,16 @@
 //! Writing characters and marks.
-ghost use Rattle.std.specs.Prelude.{◌≡◌, ◌≤◌, ◌⊎◌, ◌+◌, ◌-◌, ◌*◌, true, false};
+ghost use Rattle.std.specs.Prelude.{◌≡◌, ◌≤◌, ◌<◌, ◌⊎◌, ◌+◌, ◌-◌, ◌*◌, true, false};
+ghost use Rattle.vt_screen.specs.Grid.{at_or};
+ghost use Rattle.vt_term.specs.Sound.{IsPlace};
 ghost use Rattle.vt_wide.specs.Edits.{columns, joined_column};
-ghost use Rattle.vt_xterm_cell.specs.Cells.{blank_cell};
+ghost use Rattle.vt_xterm_cell.specs.Cells.{blank_cell, is_second};
 ghost use Rattle.vt_xterm_cell.specs.Wide.{xterm_wide};
 ghost use Rattle.vt_xterm_display.specs.State.{moved};
 ghost use Rattle.vt_xterm_display.specs.Moving.{last_reached};
 ghost use Rattle.vt_xterm_display.specs.Tabs.{times, is_pending};
-ghost use Rattle.vt_xterm_display.specs.Writing.{wrapped, after_wrap, room, advanced, put, put_if_room, write, print};
-ghost use Rattle.vt_xterm_display.specs.Writing.{mark, is_format, is_mark, write_character, cell_before, repeated, room_after_wrap};
+ghost use Rattle.vt_xterm_display.specs.Writing.{wrapped, after_wrap, room, advanced, put};
+ghost use Rattle.vt_xterm_display.specs.Writing.{put_if_room, write, print};
+ghost use Rattle.vt_xterm_display.specs.Writing.{mark, write_character, cell_before, repeated, room_after_wrap};
 ghost use Rattle.vt_xterm_display.specs.Writing.{count_in, repeat};
 ghost use Rattle.vt_xterm_display.specs.Rows.{incoming};
 
@@ -26,28 +29,6 @@ fn columns(cell: XtermCell) -> usize
     ensures few { result ≤ 2 }
 {
     if cell.is_wide() { 2 } else { 1 }
-}
-
-/// Returns whether a character is one of format.
-fn is_format(c: char) -> bool
-    ensures { result ≡ is_format c }
-{
-    match c as u32 {
-        0x200B..=0x200F => true,
-        0x202A..=0x202E => true,
-        0x2060..=0x2064 => true,
-        0x2066..=0x206F => true,
-        0xFEFF => true,
-        0xFFF9..=0xFFFB => true,
-        _ => false,
-    }
-}
-
-/// Returns whether a character without a width is a mark.
-fn is_mark(c: char) -> bool
-    ensures { result ≡ is_mark c }
-{
-    c as u32 > 0x2FF && !is_format(c)
 }
 
 impl XtermDisplay {
@@ -71,38 +52,55 @@ impl XtermDisplay {
         self.last_reached() - self.shown.cursor.col + 1
     }
 
-    /// Moves the cursor right by `n`. From the last column that it reaches it doesn't go on, and under DECAWM a wrap is pending there.
-    pub(crate) fn advance(&mut self, n: usize)
+    /// Returns the cursor `n` columns on, and whether it waits there. From the last column that it reaches it doesn't go on, and under DECAWM
+    /// a wrap is pending there.
+    #[inline(always)]
+    pub(crate) fn advanced(&self, n: usize) -> (Cursor, bool)
         requires some { 1 ≤ n }
         requires few { n ≤ 500 }
-        ensures { self.new ≡ advanced n self.old }
+        ensures cursor { result.0 ≡ (advanced n self.now).shown.cursor }
+        ensures waits { result.1 ≡ (advanced n self.now).waits }
+        ensures place { IsPlace self.now.shown.grid.size.rows self.now.shown.grid.width result.0.row result.0.col result.0.wrap }
+        ensures wraps { result.0.wrap ≡ true → self.now.shown.modes.decawm ≡ true }
+        ensures waiting { result.1 ≡ true → (self.now.shown.modes.decawm ≡ true) × (result.0.col ≡ self.now.sides.right)
+            × (self.now.sides.right < self.now.shown.grid.width) }
+        ensures row { result.0.row ≡ self.now.shown.cursor.row }
+        ensures columns { self.now.shown.modes.decom ≡ true → (self.now.sides.left ≤ result.0.col) × (result.0.col ≤ self.now.sides.right) }
     {
+        self.soundness();
         let Cursor { row, col, .. } = self.shown.cursor;
         let last = self.last_reached();
         if col + n <= last {
-            self.place(row, col + n);
-            return;
+            let cursor = Cursor {
+                row,
+                col: col + n,
+                wrap: false,
+            };
+            return (cursor, false);
         }
         let is_last = last == self.shown.screen.width();
-        self.shown.cursor = Cursor {
+        let cursor = Cursor {
             row,
             col: last,
             wrap: self.shown.modes.decawm && is_last,
         };
-        self.waits = self.shown.modes.decawm && !is_last;
+        (cursor, self.shown.modes.decawm && !is_last)
     }
 
     /// Writes a character that has room. Under IRM, between the margins, the cells at and after the cursor move right first.
     #[tactic(auto, unfolding(crate::specs::Writing::put))]
     fn put(&mut self, cell: XtermCell)
-        requires { self.old.shown.cursor.col + columns xterm_wide cell ≤ last_reached self.old.sides self.old.shown + 1 }
+        requires room { self.old.shown.cursor.col + columns xterm_wide cell ≤ last_reached self.old.sides self.old.shown + 1 }
+        requires first { is_second cell ≡ false }
         ensures { self.new ≡ put cell self.old }
     {
         let Cursor { row, col, .. } = self.shown.cursor;
         let Sides { right, .. } = self.sides;
         let empty = self.incoming();
         let inserts = self.shown.modes.irm && self.is_between();
-        self.advance(columns(cell));
+        let (cursor, waits) = self.advanced(columns(cell));
+        self.shown.cursor = cursor;
+        self.waits = waits;
         if inserts {
             put_inserting(&mut self.shown.screen, row, col, right, cell, empty);
         } else {
@@ -114,6 +112,7 @@ impl XtermDisplay {
     /// without DECAWM isn't written.
     #[tactic(auto, unfolding(crate::specs::Writing::put_if_room))]
     fn put_if_room(&mut self, cell: XtermCell)
+        requires first { is_second cell ≡ false }
         ensures { self.new ≡ put_if_room cell self.old }
     {
         if columns(cell) <= self.room() {
@@ -126,7 +125,8 @@ impl XtermDisplay {
 
     /// Writes the character that begins with a cell, after a pending wrap.
     #[tactic(auto, unfolding(crate::specs::Writing::write))]
-    pub fn write(&mut self, cell: XtermCell)
+    pub(crate) fn write(&mut self, cell: XtermCell)
+        requires first { is_second cell ≡ false }
         ensures { self.new ≡ write cell self.old }
     {
         self.carry_out_wrap();
@@ -134,12 +134,12 @@ impl XtermDisplay {
     }
 
     /// Writes the glyph of a graphic byte, which is read through the sets.
-    pub fn print(&mut self, b: u8)
+    pub(crate) fn print(&mut self, b: u8)
         requires graphic { ((0x20 ≤ b) × (b ≤ 0x7E)) ⊎ (0xA0 ≤ b) }
         ensures { self.new ≡ print b self.old }
     {
         if let Some(glyph) = self.shown.sets.read(b) {
-            let cell = self.shown.pen.written(glyph.to_char(), false);
+            let cell = self.shown.pen.written(glyph);
             self.write(cell);
         }
     }
@@ -158,23 +158,26 @@ impl XtermDisplay {
         ensures column { result ≡ joined_column xterm_wide blank_cell self.now.shown.grid self.now.shown.cursor.row self.now.shown.cursor.col
             (is_pending self.now) }
         ensures bounds { (1 ≤ result) × (result ≤ self.now.shown.grid.width) }
+        ensures first { is_second (at_or blank_cell self.now.shown.grid self.now.shown.cursor.row result) ≡ false }
     {
+        self.soundness();
         let Cursor { row, col, .. } = self.shown.cursor;
         joined_column(&self.shown.screen, row, col, self.is_pending())
     }
 
-    /// Writes a character beyond ASCII, or lets it join the one before. It uses up a single shift, unless it has no width.
+    /// Writes a character beyond ASCII, or lets it join the one before. It uses up a single shift if it is written.
     #[tactic(auto, unfolding(vt_glyph::specs::Invocation::after_read))]
-    pub fn write_character(&mut self, c: char)
+    pub(crate) fn write_character(&mut self, c: char)
         ensures { self.new ≡ write_character c self.old }
     {
         let width = cells(c);
-        if width > 0 {
-            let _ = self.shown.sets.read(0x20);
-            let cell = self.shown.pen.written(c, width == 2);
-            self.write(cell);
-        } else if is_mark(c) {
+        if width == 0 {
             self.mark(c);
+        } else if self.shown.modes.decawm || width <= self.room() {
+            let _ = self.shown.sets.read(0x20);
+            if let Some(cell) = self.shown.pen.with_character(c) {
+                self.write(cell);
+            }
         }
     }
 
@@ -191,6 +194,7 @@ impl XtermDisplay {
 
     /// Writes the character that begins with a cell, so many times.
     fn write_times(&mut self, cell: XtermCell, n: usize)
+        requires first { is_second cell ≡ false }
         ensures { self.new ≡ times n (write cell) self.old }
     {
         for _ in 0..n {
@@ -199,7 +203,7 @@ impl XtermDisplay {
     }
 
     /// Carries out REP: writes the character before the cursor `n` times, and not past the last column that the cursor reaches.
-    pub fn repeat(&mut self, n: u16)
+    pub(crate) fn repeat(&mut self, n: u16)
         ensures { self.new ≡ repeat n self.old }
     {
         if self.shown.cursor.col == 1 && !self.is_pending() {

@@ -23,9 +23,9 @@ use vt_xterm_cell::XtermCell;
 /// An xterm of any size, which reads UTF-8. `new` allocates its memory, and nothing else does.
 #[derive(Drop)]
 pub struct Xterm {
-    screen: XtermDisplay,
-    parser: Parser,
-    decoder: Decoder,
+    pub(crate) screen: XtermDisplay,
+    pub(crate) parser: Parser,
+    pub(crate) decoder: Decoder,
 }
 
 impl Model for Xterm {
@@ -107,6 +107,13 @@ impl Xterm {
         )
     }
 
+    /// Returns the screen.
+    pub fn screen(&self) -> &XtermDisplay
+        ensures { result.now ≡ self.now.screen }
+    {
+        &self.screen
+    }
+
     /// Returns the cells of a row, from 1.
     pub fn row(&self, row: usize) -> &[XtermCell]
         requires { (1 ≤ row) × (row ≤ self.now.screen.shown.grid.size.rows) }
@@ -117,7 +124,8 @@ impl Xterm {
 
     /// Returns the size: the rows, and the columns of the narrow and of the wide screen.
     pub fn size(&self) -> Size
-        ensures { result ≡ self.now.screen.shown.grid.size }
+        ensures size { result ≡ self.now.screen.shown.grid.size }
+        ensures sound { IsSize self.now.screen.shown.grid.size }
     {
         self.screen.shown.screen.size()
     }

@@ -1,0 +1,17 @@
+mod Rendered
+mod LookBytes
+mod Spelled
+mod Selected
+mod Painted
+mod Parts
+mod Drawing
+mod Rows
+mod Pages
+mod Chain
+mod Last
+mod Again
+mod Rebuilt
+mod Sendable
+mod Sizes
+mod Played
+mod Written

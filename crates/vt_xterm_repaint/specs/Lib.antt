@@ -1,0 +1,10 @@
+pub mod Looks
+pub mod Colours
+pub mod GraphicCells
+pub mod Cells
+pub mod Items
+pub mod Limits
+pub mod Repaint
+pub mod Painted
+pub mod Makeable
+pub mod Private

@@ -308,20 +308,22 @@ static void put_state(void) {
     free(state);
 }
 
-/* Looks for a daemon. */
-static void meet_daemon(void) {
+/* Looks for a daemon. Returns 0, or why there is none: EAGAIN if it has no room for another connection yet. */
+static int meet_daemon(void) {
     struct sockaddr_un address = {.sun_family = AF_UNIX};
     snprintf(address.sun_path, sizeof address.sun_path, "%s", it.socket);
     it.link = socket(AF_UNIX, SOCK_STREAM | SOCK_CLOEXEC | SOCK_NONBLOCK, 0);
     if (it.link < 0 || connect(it.link, (struct sockaddr *)&address, sizeof address) != 0) {
+        int why = errno;
         part(AGAIN);
-        return;
+        return why;
     }
     drop(&it.out, it.out.len);
     it.out_at = it.in_len = 0;
     it.heard = it.told = 0;
     it.may_send = false;
     put_state();
+    return 0;
 }
 
 static void refuse(int status, const uint8_t *why, size_t len) {
@@ -448,12 +450,8 @@ void publish_leave(void) {
     if (it.its.is_on && it.its.leave_at == 0) it.its.leave_at = now() + it.its.patience;
 }
 
-/* Returns 1 once the daemon has named the session, -1 if it never will, and 0 otherwise. */
+/* Returns 1 once the daemon has named the session, -1 if it never will, and 0 otherwise: the next daemon is waited for, if this one ends. */
 int publish_beginning(void) {
-    if (it.refused == 0 && it.link < 0 && it.its.incarnation[0] == 0) {
-        fprintf(stderr, "fleet: there is no host daemon at %s; fleet daemon is one\n", it.socket);
-        it.refused = NO_STORE;
-    }
     return it.refused != 0 ? -1 : it.its.incarnation[0] != 0;
 }
 
@@ -463,7 +461,11 @@ void publish_begin(const struct publication *wanted, const struct beginning *beg
     it.socket = strdup(wanted->socket);
     it.name = strdup(wanted->name);
     it.command = beginning->command;
-    meet_daemon();
+    int why = meet_daemon();
+    if (why == EAGAIN) fputs("fleet: the host daemon has no room yet; the session waits\n", stderr);
+    if (why == 0 || why == EAGAIN) return;
+    fprintf(stderr, "fleet: there is no host daemon at %s; fleet daemon is one\n", it.socket);
+    it.refused = NO_STORE;
 }
 
 /* --- an upgrade --- */

@@ -113,13 +113,22 @@ static void earlier(long long *until, long long time) {
     if (time < *until) *until = time;
 }
 
+/* Waits for an event up to a time; LLONG_MAX for any. */
+static void wait_until(long long until, struct pollfd *polled, nfds_t count, const sigset_t *open_mask) {
+    long long time = now(), rest = until <= time ? 0 : until - time;
+    struct timespec timeout = {rest / 1000, rest % 1000 * 1000000};
+    if (ppoll(polled, count, until == LLONG_MAX ? NULL : &timeout, open_mask) >= 0) return;
+    for (nfds_t i = 0; i < count; i++) polled[i].revents = 0;
+    if (errno != EINTR) is_told_to_end = has_child_ended = 2; /* it can't go on, and no signal will be seen */
+}
+
 enum { FIRST = 3 }; /* of the clients' places among what is waited for */
 
 /* Waits for an event: of the listener, of the program, of the host daemon, and of each client that is here, in this order. */
 static void wait_for_event(struct pollfd *polled, const size_t *place, const sigset_t *open_mask) {
-    long long time = now(), until = LLONG_MAX;
+    long long until = LLONG_MAX;
     nfds_t count = FIRST;
-    bool is_resting = time < the.listens_at;
+    bool is_resting = now() < the.listens_at;
     polled[0] = (struct pollfd){is_resting ? -1 : the.listener, POLLIN, 0};
     polled[1] = (struct pollfd){the.master, (short)((publish_has_room() ? POLLIN : 0) | (the.waiting > 0 ? POLLOUT : 0)), 0};
     polled[2] = publish_polled(&until);
@@ -134,11 +143,7 @@ static void wait_for_event(struct pollfd *polled, const size_t *place, const sig
         earlier(&until, next_time(c));
         count = place[i] + 1;
     }
-    long long rest = until <= time ? 0 : until - time;
-    struct timespec timeout = {rest / 1000, rest % 1000 * 1000000};
-    if (ppoll(polled, count, until == LLONG_MAX ? NULL : &timeout, open_mask) >= 0) return;
-    for (nfds_t i = 0; i < count; i++) polled[i].revents = 0;
-    if (errno != EINTR) is_told_to_end = has_child_ended = 2; /* it can't go on, and no signal will be seen */
+    wait_until(until, polled, count, open_mask);
 }
 
 static void obey_signals(long long time) {
@@ -294,7 +299,7 @@ static bool is_named(void) {
     while (beginning == 0 && !is_told_to_end) {
         long long until = LLONG_MAX;
         struct pollfd polled = publish_polled(&until);
-        if (ppoll(&polled, 1, NULL, &open_mask) < 0) polled.revents = 0;
+        wait_until(until, &polled, 1, &open_mask);
         publish_turn(polled.revents, now());
         beginning = publish_beginning();
     }

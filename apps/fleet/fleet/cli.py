@@ -13,48 +13,35 @@ import sys
 import fleet
 from redis.exceptions import AuthenticationError, NoPermissionError, RedisError
 
-from .config import CHOICES, Beyond, Settings, Unclear, screen, seconds, within
+from .config import CHOICES, Settings, Unclear, screen, seconds, within
 
 LEAVING = 10.0  # seconds to wait for a store after a signal to end, at most
-HEALTH = 2.0  # seconds to wait for a store that the page's /healthz asks
+HEALTH = 2.0  # seconds to wait for a store that the metrics and the page's /healthz ask, at most
 ENDS = (signal.SIGHUP, signal.SIGTERM, signal.SIGINT)
 TAKEN, FAULT, NONE, REFUSED, UNFIT, DENIED, CONFIGURATION = 5, 4, 3, 6, 69, 77, 78
 
 
 def option(read, name):
     """Returns a reader of an option's number, which is within its bounds."""
-    return explained(lambda word: within(name, read(word)))
+    return lambda word: within(name, read(word))
 
 
-def explained(read):
-    """Returns a reader of an option that says what is beyond its bounds."""
-
-    def explaining(word):
-        try:
-            return read(word)
-        except Beyond as error:
-            raise argparse.ArgumentTypeError(error) from None
-
-    return explaining
-
-
-def override(chosen, words, *names):
-    """Replaces settings by the options that were given."""
-    for name in names:
-        if getattr(words, name) is not None:
-            setattr(chosen, name, getattr(words, name))
+def command_of(words):
+    """Returns the command of a session, which may come after `--`."""
+    return words.command[1:] if words.command[:1] == ["--"] else words.command
 
 
 def do_run(words, settings):
-    return fleet.local.run(words.command)
+    return fleet.local.run(command_of(words))
 
 
 def do_host(words, settings):
-    if not words.command:
+    if not (command := command_of(words)):
         raise Unclear("host needs a command")
     language, chosen = chosen_language(words, settings.host), settings.host
-    chosen.input, chosen.user = words.input or chosen.input, words.user or chosen.user
-    fleet.program.become_keeper(words.name, words.command, language, chosen, min(LEAVING, settings.store.give_up))
+    chosen.input = words.input or chosen.input
+    patience = LEAVING if settings.store.give_up is None else min(LEAVING, settings.store.give_up)
+    fleet.program.become_keeper(words.name, command, language, chosen, patience)
 
 
 def do_daemon(words, settings):
@@ -89,6 +76,8 @@ def of_session(call):
 
 @of_session
 def do_view(store, incarnation, words):
+    if words.type and not sys.stdin.isatty():
+        raise ValueError("--type reads keys from a terminal")
     store.patience = None
     for ends in (signal.SIGHUP, signal.SIGTERM):  # the terminal is restored on the way out
         signal.signal(ends, lambda number, _: sys.exit(128 + number))
@@ -110,7 +99,7 @@ def do_log(store, incarnation, words):
 
 @of_session
 def do_export(store, incarnation, words):
-    export = fleet.export.ttyrec if words.ttyrec else fleet.export.page if words.page else fleet.export.asciicast
+    export = fleet.export.page if words.page else fleet.export.asciicast
     export(store, incarnation, words.name, sys.stdout.buffer)
 
 
@@ -146,21 +135,27 @@ def do_check(words, settings):
 
 
 def do_prepare(words, settings):
-    store = settings.connect(is_examined=True)
-    print(f"the store has the functions of {store.prepare(words.alone)} version(s)")
+    settings.connect(is_examined=True).load()
     return 0
 
 
+def impatient(settings):
+    """Returns the store, which is soon given up: Prometheus and a balancer wait for an answer."""
+    store = settings.connect()
+    store.patience = HEALTH if store.patience is None else min(store.patience, HEALTH)
+    return store
+
+
 def do_metrics(words, settings):
-    fleet.metrics.server(fleet.metrics.WholeFleet(settings.connect()), words.address).serve_forever()
+    fleet.metrics.server(fleet.metrics.WholeFleet(impatient(settings)), words.address).serve_forever()
     return 0
 
 
 def do_web(words, settings):
-    override(settings.web, words, "address", "port", "typing")
-    asked = settings.connect()
-    asked.patience = min(asked.patience, HEALTH)
-    return fleet.web.serve(settings.connect(waits=True), asked, settings.web)
+    for name in ("address", "port", "typing"):
+        if getattr(words, name) is not None:
+            setattr(settings.web, name, getattr(words, name))
+    return fleet.web.serve(settings.connect(waits=True), impatient(settings), settings.web)
 
 
 # What several commands have, for `add`.
@@ -177,8 +172,7 @@ def add_hosts(add):
     each.add_argument("--input", action="store_true", help="allows viewers to type")
     each.add_argument("--encoding", choices=CHOICES["encoding"], help="what the command writes: the VT220's own bytes, or UTF-8 (dec)")
     each.add_argument("--terminal", choices=CHOICES["terminal"], help="the terminal that the command writes for; xterm is in UTF-8 (vt220)")
-    each.add_argument("--size", type=explained(screen), metavar="COLUMNSxROWS", help="the size of its screen, from 2x2 to 255x255 (80x24)")
-    each.add_argument("--user", help="runs the command and its keeper as this user, which needs root")
+    each.add_argument("--size", type=screen, metavar="COLUMNSxROWS", help="the size of its screen, from 2x2 to 255x255 (80x24)")
     each.add_argument("command", nargs=argparse.REMAINDER)
 
 
@@ -188,10 +182,8 @@ def add_viewers(add):
     add("text", do_screen, "prints the screen as text", NAME)
     add("repaint", do_screen, "writes bytes that leave a terminal in the session's state", NAME)
     add("log", do_log, "writes the bytes that the session's program wrote", NAME)
-    each = add("export", do_export, "writes a recording with its times, as asciicast 2 or ttyrec, or a page that plays it", NAME)
-    form = each.add_mutually_exclusive_group()
-    form.add_argument("--ttyrec", action="store_true", help="writes ttyrec instead of asciicast 2")
-    form.add_argument("--page", action="store_true", help="writes a page that plays it in a browser; needs what make js builds")
+    each = add("export", do_export, "writes a recording with its times, as asciicast 2, or a page that plays it", NAME)
+    each.add_argument("--page", action="store_true", help="writes a page that plays it in a browser; needs what make js builds")
     each = add("type", do_type, "types into a session, as on a terminal; gives up if the program reads nothing for ten seconds", NAME)
     each.add_argument("--enter", action="store_true", help="sends Return after the text")
     each.add_argument("text", nargs="?", help="the text; without it, standard input")
@@ -207,15 +199,14 @@ def add_operators(add):
     each = add("kill", of_operator("kill", "name", "signal", "patience"), "sends a signal to a session's program, and waits until it ends", PATIENCE, NAME)
     each.add_argument("--signal", choices=("HUP", "INT", "TERM", "KILL"), default="HUP", help="the signal (HUP)")
     each = add("resize", of_operator("resize", "name", "size", "patience"), "changes the size of a session's screen, and waits until the session has it", PATIENCE, NAME)
-    each.add_argument("size", type=explained(screen), metavar="COLUMNSxROWS", help="the columns and rows, from 2x2 to 255x255")
+    each.add_argument("size", type=screen, metavar="COLUMNSxROWS", help="the columns and rows, from 2x2 to 255x255")
     each = add("end", of_operator("end", "name", "keep", "force"), "ends a session that has no host", NAME)
     each.add_argument("--keep", type=option(seconds, "keep"), help="how long it stays in the store, such as 7d; 0 removes it at once (for ever)")
     each.add_argument("--force", action="store_true", help="also if its host is alive, which then hangs up on the program")
     each = add("metrics", do_metrics, "serves metrics of the whole fleet for Prometheus, at /metrics, and /healthz")
     each.add_argument("address", metavar="HOST:PORT", help="the address on which it listens")
     add("check-store", do_check, "checks whether the store can keep a fleet, and has connections left")
-    each = add("prepare-store", do_prepare, "loads this version's functions into the store; its user is the operator")
-    each.add_argument("--alone", action="store_true", help="removes the functions of other versions")
+    add("prepare-store", do_prepare, "loads this version's functions into the store; its user is the operator")
 
 
 def parser():
@@ -275,7 +266,9 @@ def main(arguments=None):
     level = logging.ERROR if words.quiet else logging.INFO
     logging.basicConfig(stream=sys.stderr, level=level, format="%(asctime)s %(levelname)s %(message)s")
     try:
-        return words.do(words, Settings(words.config))
+        status = words.do(words, Settings(words.config))
+        sys.stdout.flush()
+        return status
     except KeyboardInterrupt:
         return 130
     except BrokenPipeError:

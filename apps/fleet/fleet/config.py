@@ -3,6 +3,7 @@
 The file is the first of these that is given or exists: that of --config, that of FLEET_CONFIG, ~/.config/vt220-fleet.conf, and
 /etc/vt220-fleet.conf.
 """
+import argparse
 import configparser
 import os
 import re
@@ -20,15 +21,15 @@ class Unclear(Exception):
     """Reports a wrong configuration."""
 
 
-class Beyond(ValueError):
-    """Reports a number that a setting can't be."""
+class Beyond(argparse.ArgumentTypeError):
+    """Reports a number that a setting or an option can't be."""
 
 
 @dataclass
 class Store:
     url: str = ""
     password_file: str = ""
-    replicas: int = 0
+    replicas: int = None
     timeout: float = 5.0
     give_up: float = 10.0
 
@@ -41,7 +42,6 @@ class Host:
     keep: int = None
     retain: float = None
     input: bool = False
-    user: str = ""
     encoding: str = "dec"
     terminal: str = "vt220"
     size: str = "80x24"
@@ -68,7 +68,7 @@ def seconds(word):
 
 
 EXPECTED = {bool: "yes or no", int: "a number", float: "a time, such as 30, 10m or 7d"}
-NO_LIMIT = ("all", "never", "")
+NO_LIMIT, UNLIMITED = ("all", "never", ""), ("give_up", "keep", "replicas", "retain")  # words for no limit, and the settings that may have none
 # The least number and the largest of a setting or an option. Others have 0 and MOST.
 BOUNDS = {"every": (1, 10**9), "lease": (0.01, 10**7), "timeout": (0.01, 10**7), "port": (0, 65535)}
 MOST = 10**12
@@ -100,13 +100,13 @@ def value_of(kind, text, where, name):
     try:
         if kind is bool:
             return YES[text.lower()]
-        if text.lower() in NO_LIMIT and kind in (int, float):
+        if name in UNLIMITED and text.lower() in NO_LIMIT:
             return None
         if name in CHOICES and text not in CHOICES[name]:
             raise Beyond(f"expected one of {', '.join(CHOICES[name])}")
         if name == "size":
             return screen(text)
-        return kind(text) if kind is str else within(name, seconds(text) if kind is float else kind(text))
+        return text if kind is str else within(name, seconds(text) if kind is float else int(text))
     except Beyond as error:
         raise Unclear(f"{where} = {text}: {error}") from None
     except (KeyError, ValueError):

@@ -3,7 +3,6 @@ program and its keeper run under the session's own user, so they reach neither t
 
 It has two connections to the store: one over which all sessions say what they have to say, and one that waits for what comes for their programs.
 """
-import collections
 import contextlib
 import logging
 import os
@@ -19,7 +18,7 @@ from . import wire
 from .host import is_dead_here, name_of_host
 from .keys import key, lease, new_id, text, version
 from .program import Link, Program
-from .store import ResponseError, is_of_session
+from .store import is_of_session, raised
 
 log = logging.getLogger("fleet.host")
 
@@ -50,7 +49,7 @@ class Shared:
                 while len(some) < TOGETHER:
                     some.append(self.asked.get_nowait())
             try:
-                answers = self.store.run_all([words for words, _ in some])
+                answers = self.store.run_all([words for words, _ in some], are_one=False)
             except Exception as error:
                 answers = [error] * len(some)
             for (_, asked), answer in zip(some, answers):
@@ -58,10 +57,7 @@ class Shared:
 
     def ask(self, *words):
         """Returns the answer to a command, or raises the error that it is."""
-        answer = self.post(*words).result()
-        if isinstance(answer, Exception):
-            raise answer
-        return answer
+        return raised(self.post(*words).result())
 
     def run(self, name, *arguments):
         return self.store.checked(self.ask(*self.store.call_of(name, *arguments)))
@@ -96,7 +92,7 @@ class Daemon:
         self.sessions = {}  # (user, name) -> Program: the store decides between users
         self.links = {}  # file -> (Link, its Program, or None until its state has come)
         self.keepers = {}  # the file of a keeper's process -> (the process, its Program)
-        self.lock, self.counts = threading.RLock(), collections.Counter()  # the counts are of sessions that are over
+        self.lock, self.over = threading.RLock(), 0  # the bytes that sessions have stored which are over
         self.complained = {}  # user -> when that was logged
         self.cursor = "0"  # of the audit
         self.wakes = key(new_id(), "signals").encode()  # a stream of this daemon alone
@@ -219,17 +215,17 @@ class Daemon:
     def forget(self, program):
         """The thread of a session has ended."""
         with self.lock:
-            self.counts.update(program.counts())
+            self.over += program.stored
             self.sessions = {name: each for name, each in self.sessions.items() if each is not program}
 
     def all(self):
         with self.lock:
             return list(self.sessions.values())
 
-    def totals(self):
-        """Returns how much all sessions gave and were given, those that are over included: each one is counted once."""
+    def stored(self):
+        """Returns how many bytes all sessions gave to the store, those that are over included."""
         with self.lock:
-            return sum((collections.Counter(each.counts()) for each in self.sessions.values()), collections.Counter(self.counts))
+            return self.over + sum(each.stored for each in self.sessions.values())
 
     # The store.
 
@@ -249,15 +245,11 @@ class Daemon:
         """Waits for what comes for the programs, and passes it on. A stream that isn't one is removed, and harms no other session."""
         programs = {stream: (program, last) for program in self.all() for stream, last in program.streams().items()}
         streams = {self.wakes: b"0-0"} | {stream: last for stream, (_, last) in programs.items()}
-        try:
-            came, read = self.store.read_streams(COUNT, streams, min(BEAT, self.chosen.lease / 3)), streams
-        except ResponseError as error:
-            log.error("the streams can't be read at once: %s", error)
-            alone = {stream: self.read_one(stream, last) for stream, last in streams.items()}
-            read = [stream for stream, found in alone.items() if found is not None]
-            came = [each for stream in read for each in alone[stream]]
-            time.sleep(0.2)
-        for program, _ in (programs[stream] for stream in read if stream in programs):
+        came, wrong = self.store.read_each(COUNT, streams, min(BEAT, self.chosen.lease / 3))
+        for stream, error in wrong.items():
+            if is_of_session(error):
+                self.shared.ask("DEL", stream)
+        for program in {program for stream, (program, _) in programs.items() if stream not in wrong}:
             program.read_at = time.monotonic()
         for stream, entries in came:
             try:
@@ -267,15 +259,6 @@ class Daemon:
                     programs[stream][0].pass_on(stream, entries)
             except Exception:
                 log.exception("what came in %s", stream)
-
-    def read_one(self, stream, last):
-        """Returns what came in a stream, without waiting; None if it can't be read. What somebody wrote in its place is removed."""
-        try:
-            return self.store.read_streams(COUNT, {stream: last})
-        except ResponseError as error:
-            if is_of_session(error):
-                self.shared.ask("DEL", stream)
-            return None
 
     def renew_on(self):
         while True:

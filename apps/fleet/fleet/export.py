@@ -1,6 +1,5 @@
-"""What a session wrote, for other programs: its bytes, or a recording with the moments, as asciicast 2, ttyrec or a page that plays it."""
+"""What a session wrote, for other programs: its bytes, or a recording with the moments, as asciicast 2 or a page that plays it."""
 import itertools
-import struct
 
 import vt220.cast
 import vt220.page
@@ -38,12 +37,6 @@ def asciicast(store, incarnation, title, out):
     head = {**size, "timestamp": begin // 1000, "title": title, "env": {"TERM": TERMS[written.terminal]}}
     events = (((moment - begin) / 1000, code, data) for _, moment, code, data in itertools.chain([first], parts))
     out.writelines(vt220.cast.asciicast(head, events, written.encoding))
-
-
-def ttyrec(store, incarnation, _title, out):
-    """Writes a ttyrec: frames of seconds, microseconds, length and bytes. It has no title, and no sizes."""
-    for _, moment, code, data in events_of(store, incarnation):
-        out.write(struct.pack("<III", moment // 1000, moment % 1000 * 1000, len(data)) + data if code == "o" else b"")
 
 
 def page(store, incarnation, title, out):

@@ -1,6 +1,7 @@
 """The pictures of all sessions, for the page: a thread follows them, and each client is told only what changed since it was told
 last."""
 import base64
+import collections
 import itertools
 import logging
 import threading
@@ -10,14 +11,17 @@ import vt220
 
 from . import keys
 from .operate import about
-from .session import whole
-from .store import ResponseError
+from .session import as_it_is, whole
+from .store import raised
 from .view import Viewer
 
 log = logging.getLogger("fleet.web")
 
 MOST = 400  # sessions that the page shows: the latest ones
 LISTED = 1.0  # seconds between looks at which sessions there are
+AGAIN = 3.0  # seconds until a session with a fault is read again
+KEPT = 1 << 16  # bytes of a picture's updates that are kept: who lacks more gets a repaint
+
 
 class Picture:
     """A session's screen, for clients that have terminals of their own: each one is told bytes that lead its terminal there. Changes are
@@ -29,7 +33,8 @@ class Picture:
         self.incarnation, self.number, self.shown = incarnation, 0, -1
         self.terminal, self.size = vt220.Terminal(), ("", "")  # until there is one to show; the size that it has, and the one to which it was changed
         self.modes = self.terminal.modes()
-        self.begin, self.updates = 0, []  # since which number an update led from each screen to the next: (number, bytes)
+        self.begin, self.updates = 0, collections.deque()  # since which number an update led from each screen to the next: (number, bytes)
+        self.kept = 0  # bytes of them
         self.facts, self.facts_changed = {}, 0
 
     def follow(self, terminal, size, update=None):
@@ -38,8 +43,13 @@ class Picture:
         self.modes, self.size = terminal.modes(), size
         if update is not None and terminal is self.terminal:
             self.updates.append((self.number, update))
+            self.kept += len(update)
+            while self.kept > KEPT:
+                self.begin, gone = self.updates.popleft()
+                self.kept -= len(gone)
         else:
-            self.terminal, self.begin, self.updates = terminal, self.number, []
+            self.terminal, self.begin, self.kept = terminal, self.number, 0
+            self.updates.clear()
 
     def learn(self, facts):
         if facts != self.facts:
@@ -67,7 +77,13 @@ class Followed(Viewer):
 
     def __init__(self, store, incarnation):
         super().__init__(store, incarnation)
-        self.picture = Picture(incarnation)
+        self.picture, self.failed = Picture(incarnation), 0.0  # when it couldn't be read
+
+    def begin_again(self):
+        """Reads the session anew, and ends its fault. Raises what is wrong still."""
+        self.session = as_it_is(self.store, self.incarnation)
+        self.last, self.fault = f"{self.session.at}-0", ""
+        self.show()
 
     def show(self):
         update = super().show()
@@ -120,7 +136,9 @@ class Gallery:
         if not watched:
             time.sleep(0.2)
             return
-        came = self.entries_of(watched)
+        came, wrong = self.store.read_each(Viewer.COUNT, {stream: each.last.encode() for stream, each in watched.items()}, 0.25)
+        for stream, error in wrong.items():
+            self.guarded(watched[stream], raised, error)
         for stream, entries in came:
             each = watched[stream]
             with self.lock:
@@ -128,17 +146,6 @@ class Gallery:
         if came:
             self.on_change()
             time.sleep(0.03)  # what comes meanwhile is one change
-
-    def entries_of(self, watched):
-        """Returns what came for sessions, with {stream: session}. If that is refused, each one is read by itself."""
-        try:
-            return self.store.read_streams(Viewer.COUNT, {stream: each.last.encode() for stream, each in watched.items()}, 0.25)
-        except ResponseError:
-            came = []
-            for stream, each in watched.items():
-                self.guarded(each, lambda: came.extend(self.store.read_streams(Viewer.COUNT, {stream: each.last.encode()})))
-            time.sleep(0.2)
-            return came
 
     def list(self):
         """Learns which sessions there are, and asks for the frames of all that are shown."""
@@ -148,7 +155,10 @@ class Gallery:
         with self.lock:
             self.order, self.followed = order, {i: self.followed.get(i) or Followed(self.store, i) for i in order}
             for each in listed:  # so no client is told of a session without its facts
-                self.followed[each["incarnation"]].learn(each)
+                followed = self.followed[each["incarnation"]]
+                if followed.fault and time.monotonic() - followed.failed > AGAIN:
+                    self.guarded(followed, followed.begin_again)
+                followed.learn(each)
 
     def guarded(self, each, call, *arguments):
         """Calls something for a session. Whatever is wrong with that one harms no other: `list` has its fault."""
@@ -158,7 +168,7 @@ class Gallery:
             said = f"{type(fault).__name__}: {fault}"
             if said != each.fault:
                 log.warning("%s can't be shown: %s", keys.shown(each.incarnation), keys.shown(said))
-            each.fault = said
+            each.fault, each.failed = said, time.monotonic()
 
     def since(self, told):
         """Returns what a client is to be told, and brings `told` (numbers by session) up to that."""

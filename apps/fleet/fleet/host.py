@@ -122,7 +122,7 @@ class Host:
         """Yields what of a stream is for the program, as (kind, stream, id, what). What isn't for it is removed."""
         name = part.decode().rpartition(":")[2]
         for entry_id, fields in entries:
-            self.last[name], fields = entry_id, dict(zip(fields[::2], fields[1::2]))
+            self.last[name] = entry_id
             found = self.read_entry(name, fields)
             if found and self.is_new((name, fields.get(b"by")), keys.number(fields.get(b"n"), 0)):
                 yield found[0], name, entry_id, found[1]

@@ -35,11 +35,6 @@ FORMATS = range(2, 8)  # the formats that this program reads; it writes the last
 FORMAT = max(FORMATS)
 
 
-def size_of(screen):
-    """Returns the rows and the columns of a size, by these names."""
-    return dict(zip(("columns", "rows"), map(int, screen.split("x"))))
-
-
 class Language(NamedTuple):
     """What a session's program writes: the encoding, the terminal that it writes for, and the columns and rows of that one's screen."""
 
@@ -49,15 +44,11 @@ class Language(NamedTuple):
 
     def size(self):
         """Returns the rows and the columns, by these names."""
-        return size_of(self.screen)
+        return dict(zip(("columns", "rows"), map(int, self.screen.split("x"))))
 
     def opened(self):
         """Returns a terminal of this language."""
         return vt220.Terminal(self.encoding, self.terminal, **self.size())
-
-    def viewed(self):
-        """Returns a terminal for what viewers get of one of this language."""
-        return vt220.Terminal(**self.size())
 
 
 DEC, UTF8, XTERM = Language(), Language("utf-8"), Language("utf-8", "xterm")

@@ -33,7 +33,6 @@ def counted(kind, name, words, label, counts):
 def of_store(store):
     """Yields what each process knows of its store."""
     yield counter("store_outages", "How often the store was away", store.outages)
-    yield counter("store_connections", "Connections to the store that were made", store.connections)
     yield gauge("store_is_away", "1 while the store doesn't answer", int(store.away_since is not None))
 
 
@@ -55,14 +54,12 @@ class DaemonMetrics:
         return found
 
     def collect(self):
-        programs, totals, now = self.daemon.all(), self.daemon.totals(), time.monotonic()
+        programs, now = self.daemon.all(), time.monotonic()
         yield gauge("host_lag_bytes", "Bytes of its programs that the store doesn't have", sum(each.waiting for each in programs))
         yield gauge("host_lag_seconds", "Seconds for which the same bytes of a program are being sent, at most", max((now - since for each in programs if (since := each.sends_since) is not None), default=0))
         yield gauge("host_unread_seconds", "Seconds for which keys and signals for a program weren't looked for, at most", max((now - each.read_at for each in programs if each.streams()), default=0))
         yield gauge("host_refused", "Its programs that aren't in the store, since another one has the name or the session", sum(not each.is_named for each in programs))
-        yield counter("host_bytes", "Bytes of its programs that the store has taken from this daemon", totals["bytes"])
-        yield counter("host_inputs", "Keys that its programs were given", totals["inputs"])
-        yield counter("host_resizes", "Changes of the size that its programs were given", totals["resizes"])
+        yield counter("host_bytes", "Bytes of its programs that the store has taken from this daemon", self.daemon.stored())
         yield counted(GaugeMetricFamily, "host_programs", "Its programs by their state: slowed if too much waits for the store", "state", self.states())
         yield from of_store(self.daemon.store)
 

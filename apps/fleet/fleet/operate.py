@@ -7,6 +7,7 @@ import time
 
 from . import keys
 from .keys import key
+from .store import RedisError, raised
 
 FIELDS = ("name", "host", "end", "seen", "closed", "started", "input", "command", "resized", *keys.DEC._fields)
 COLUMNS = ("NAME", "STATE", "HOST", "SIZE", "SCREEN", "LAST OUTPUT")
@@ -109,19 +110,11 @@ def show_list(store, is_json, is_all):
 
 REFUSALS = {
     "refused": "the host of this session allows no input: start it with --input",
-    "silent": "the host of this session is silent",
+    "silent": "the host of this session is silent; fleet end ends a session that has none",
     "closed": "the session has ended",
     "lost": "the session has ended",
 }
-
-
-PAUSE = 0.05  # seconds between two tries to send what there was no room for
-
-
-def parts(data):
-    """Yields keys in parts of which each is sent at once."""
-    for at in range(0, len(data), 1024):
-        yield data[at : at + 1024]
+PIECE = 1024  # bytes of keys that are sent at once
 
 
 class Typist:
@@ -132,39 +125,34 @@ class Typist:
 
     def __init__(self, store, incarnation, patience=PATIENCE):
         self.store, self.incarnation, self.patience = store, incarnation, patience
-        self.me, self.number, self.lacks = keys.new_id(), 1, False  # whether replicas lack the last thing
+        self.me, self.number, self.wanted, self.lacks = keys.new_id(), 1, 0, False  # how many replicas are to have the last thing, and whether they don't
 
     def offer(self, field, value):
         """Sends one thing. Returns whether there was room for it, and so many replicas have it as the configuration says. Raises Refused if it can't
         be sent at all."""
+        self.wanted = self.store.wanted_replicas()
         call = self.store.call_of("type", self.incarnation, self.me, self.number, self.LIMIT, field, value)
-        waits = [("WAIT", self.store.replicas, 1000)] if self.store.replicas else []
-        answers = self.store.run_all([call, *waits])
-        for wrong in (each for each in answers if isinstance(each, Exception)):
-            raise wrong
+        answers = list(map(raised, self.store.run_all([call, ("WAIT", self.wanted, 1000)] if self.wanted else [call])))
         answer = keys.text(answers[0][0])
         if answer in REFUSALS:
             raise Refused(REFUSALS[answer])
-        self.lacks = answer == "ok" and answers[-1] < self.store.replicas if waits else False
+        self.lacks = answer == "ok" and answers[-1] < self.wanted if self.wanted else False
         self.number += (is_there := answer == "ok" and not self.lacks)
         return is_there
 
     def send(self, field, value):
-        if not comes(lambda: self.offer(field, value), self.patience, PAUSE):
-            raise self.give_up()
-
-    def give_up(self):
-        """Returns why a thing isn't sent. What replicas lack is there, so the next thing has another number."""
-        self.number += self.lacks
-        return self.unread()
+        if not comes(lambda: self.offer(field, value), self.patience):
+            self.number += self.lacks  # what replicas lack is there, so the next thing has another number
+            raise self.unread()
 
     def unread(self):
-        why = f"fewer than {self.store.replicas} replicas have" if self.lacks else "the program read none of"
+        """Returns why a thing isn't sent."""
+        why = f"fewer than {self.wanted} replicas have" if self.lacks else "the program read none of"
         return Refused(f"{why} what was typed for {self.patience:g} s")
 
     def type(self, data):
-        for part in parts(data):
-            self.send("keys", part)
+        for at in range(0, len(data), PIECE):
+            self.send("keys", data[at : at + PIECE])
 
     def signal(self, number):
         self.send("signal", number)
@@ -179,11 +167,11 @@ class Typist:
 
 
 class Sender(threading.Thread):
-    """Types in a thread, so that a keyboard is read on whatever the store and the program do."""
+    """Types in a thread, so that a keyboard is read on whatever the store and the program do. `fault` says why the last thing wasn't typed."""
 
-    def __init__(self, typist):
+    def __init__(self, typist, on_fault=lambda error: None):
         super().__init__(daemon=True)
-        self.typist, self.waiting, self.fault = typist, queue.SimpleQueue(), ""
+        self.typist, self.on_fault, self.waiting, self.fault = typist, on_fault, queue.SimpleQueue(), ""
         self.start()
 
     def type(self, data):
@@ -195,20 +183,21 @@ class Sender(threading.Thread):
             try:
                 self.typist.type(data)
                 self.fault = ""
-            except Refused as refused:
-                self.fault = str(refused)
+            except (Refused, RedisError) as error:
+                self.fault = str(error)
                 self.drop()
+                self.on_fault(error)
         self.typist.leave()
 
     def drop(self):
-        """Forgets what waits: it was typed for a program that reads nothing."""
+        """Forgets what waits: it was typed after what wasn't sent."""
         while not self.waiting.empty():
             if self.waiting.get() is None:
                 self.waiting.put(None)
                 return
 
-    def finish(self, patience=1.0):
-        """Sends what waits, for at most so many seconds."""
+    def finish(self, patience):
+        """Sends what waits, and waits for that, for at most so many seconds."""
         self.waiting.put(None)
         self.join(patience)
 
@@ -221,9 +210,6 @@ def is_over(store, incarnation):
 def kill(store, name, signal, patience):
     """Has the host send a signal to the program, and waits until the session is over."""
     incarnation = find(store, name)
-    state = about(store, [incarnation])[0]["state"]
-    if state == "no host":
-        raise Refused(f"the host of {name} is silent; end the session with fleet end")
     typist = Typist(store, incarnation, patience)
     typist.signal(SIGNALS[signal])
     typist.leave()

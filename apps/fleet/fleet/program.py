@@ -4,7 +4,6 @@ import contextlib
 import ctypes
 import logging
 import os
-import pwd
 import queue
 import select
 import socket
@@ -17,16 +16,16 @@ from vt220.process import LOCALES
 from . import wire
 from .config import is_screen
 from .host import Behind, Closed, Host, Taken, user_of
-from .keys import checked_name, language_of, new_id, text
+from .keys import PIECE, checked_name, language_of, new_id, text
 
 log = logging.getLogger("fleet.host")
 
 HERE = os.path.dirname(os.path.abspath(__file__))
 KEEPERS = [os.path.join(HERE, place, "vt220-keep") for place in ("..", "../../../out", "../../../bin")]  # of the repository, or as it is installed
 GATHER = 0.003  # seconds that more of the same output is waited for
-PIECE = 16384  # bytes of an entry of the store
 AGAIN = 1.0  # seconds until a session that another one keeps from its name is registered again
 TRIES = 3  # to go on with a session whose store takes nothing. Then it is another one
+PART = 256  # bytes that a part takes which waits for the store, besides those that it has
 CHOKED = 256  # inputs that a program may not have read; more stay in the store
 PR_SET_DUMPABLE = 4
 
@@ -41,36 +40,24 @@ def keeper():
     return os.environ.get("VT220_KEEP") or next(filter(os.path.exists, KEEPERS), "/usr/bin/vt220-keep")
 
 
-def environment_of(user):
-    """Returns the environment for a program, and gives this process to a user, if there is one. Nothing of the fleet's is in it, where an
-    address or a password may be."""
-    kept = {name: value for name, value in os.environ.items() if not name.startswith("FLEET_") and "REDIS" not in name}
-    if not user:
-        return kept
-    try:
-        found = pwd.getpwnam(user)
-    except KeyError:
-        raise ValueError(f"no such user: {user}") from None
-    os.initgroups(user, found.pw_gid)
-    os.setgid(found.pw_gid)
-    os.setuid(found.pw_uid)
-    kept.pop("XDG_RUNTIME_DIR", None)
-    return kept | {"HOME": found.pw_dir, "USER": user, "LOGNAME": user, "SHELL": found.pw_shell}
+def environment():
+    """Returns the environment for a program. Nothing of the fleet's is in it, where an address or a password may be."""
+    return {name: value for name, value in os.environ.items() if not name.startswith("FLEET_") and "REDIS" not in name}
 
 
 def become_keeper(name, command, language, chosen, patience):
     """Becomes the keeper of a program, which ends with the program's status."""
     path, program = wire.path_of(chosen), keeper()
     words = [path, int(patience * 1000), int(chosen.input), chosen.every, LOCALES[language.encoding], *language, checked_name(name), *command]
-    os.execve(program, [program, "publish", "--", *map(str, words)], environment_of(chosen.user))
+    os.execve(program, [program, "publish", "--", *map(str, words)], environment())
 
 
 class Link:
-    """A connection to a keeper. Nobody waits for a keeper that doesn't read: the bytes wait."""
+    """A connection to a keeper. Nobody waits for a keeper that doesn't read: the bytes wait, and if they are too many, it has to come again."""
 
     def __init__(self, made, events):
         self.socket, self.events, self.reader, self.out, self.lock = made, events, wire.Reader(), bytearray(), threading.Lock()
-        self.is_open, self.waits = True, False
+        self.is_open, self.is_full, self.watched = True, False, select.EPOLLIN  # is_full: the daemon has more of it than it may hold, and doesn't read on
         self.pid, self.user, _ = struct.unpack("3i", made.getsockopt(socket.SOL_SOCKET, socket.SO_PEERCRED, 12))
         events.register(made, select.EPOLLIN)
 
@@ -84,13 +71,27 @@ class Link:
                 pass
             except OSError:  # it has ended: what it said last is still read
                 self.out.clear()
-            if self.waits != bool(self.out):
-                self.waits = bool(self.out)
-                self.events.modify(self.socket, select.EPOLLIN | (select.EPOLLOUT if self.waits else 0))
+            if len(self.out) > wire.WAITING:
+                self.out.clear()
+                with contextlib.suppress(OSError):
+                    self.socket.shutdown(socket.SHUT_RDWR)
+            self.watch()
+
+    def fill(self, is_full):
+        with self.lock:
+            self.is_full = is_full
+            self.watch()
+
+    def watch(self):
+        """Waits for what the keeper says, unless too much of it is here, and for room if something is to be said."""
+        wanted = (0 if self.is_full else select.EPOLLIN) | (select.EPOLLOUT if self.out else 0)
+        if self.is_open and wanted != self.watched:
+            self.watched = wanted
+            self.events.modify(self.socket, wanted)
 
     def close(self):
         with self.lock:
-            self.is_open, self.waits = False, False
+            self.is_open = False
             self.out.clear()
             self.events.unregister(self.socket)
             self.socket.close()
@@ -126,7 +127,7 @@ class Program(threading.Thread):
         self.came, self.ahead = queue.SimpleQueue(), []  # what the keeper said for the store: (what, position, ..); and what was put back
         self.waiting = 0  # bytes of it
         self.is_named = self.is_gone = self.is_left = self.is_over = False
-        self.given = self.taken = self.resizes = self.stored = 0  # inputs that the keeper was sent, and that the program has read; and what was stored
+        self.taken = self.stored = 0  # inputs that the program has read, and bytes that were stored
         self.unread, self.lock = [], threading.Lock()  # inputs that the program may not have read: (stream, id)
         self.sends_since = None  # since when the same bytes are being sent
         self.read_at = time.monotonic()  # when what comes for the program was last read
@@ -153,14 +154,14 @@ class Program(threading.Thread):
             self.put(letter, number, repaint, text(screen))
 
     def put(self, letter, number, data, *more):
-        self.count(len(data))
-        if self.waiting > wire.WAITING + wire.LONGEST:
-            raise wire.Strange("more than a keeper sends before it is stored")
         self.came.put((letter, number, data, *more))
+        self.count(len(data))
 
     def count(self, length):
+        """Counts bytes that wait for the store. The keeper is read on if there is room for more, also of many small parts."""
         with self.lock:
             self.waiting += length
+            self.link.fill(self.waiting + PART * self.came.qsize() > wire.WAITING)
 
     def drop_stale(self):
         """Forgets what the keeper sent before it is told to send it again."""
@@ -195,10 +196,6 @@ class Program(threading.Thread):
         self.is_left = True
         self.came.put(None)
 
-    def counts(self):
-        """Returns how much of this session went to the store, and to its program."""
-        return {"bytes": self.stored, "inputs": self.given, "resizes": self.resizes}
-
     # What goes to the store.
 
     def run(self):
@@ -207,10 +204,7 @@ class Program(threading.Thread):
                 self.before.join()
                 self.before = None
             language_of(*(each.encode() for each in self.host.language))
-            if self.state.incarnation:
-                self.register()
-            else:
-                self.begin()
+            self.register()
             self.publish_on()
             self.link.say(wire.framed(wire.DONE))
         except Left:
@@ -220,31 +214,29 @@ class Program(threading.Thread):
         finally:
             self.fleet.forget(self)
 
-    def begin(self):
-        """Takes the name for a program that doesn't run yet. It waits for the lease of a keeper of its user that died with its daemon."""
-        end = time.monotonic() + 2 * self.host.chosen.lease
-        while True:
-            try:
-                self.host.register()
-                return self.go_on()
-            except Taken:
-                if time.monotonic() > end or not self.fleet.is_dead_here(self.host.name):
-                    raise
-                self.pause()
-
     def register(self):
-        """Takes the name once more, for a program that runs. Whoever has it is waited for. A session that was lost is another one from now on."""
+        """Takes the name. Whoever has it is waited for, if the program runs. One that doesn't run yet waits only for the lease of a keeper of its user that
+        died with its daemon. A session that was lost is another one from now on."""
+        said, end = "", time.monotonic() + 2 * self.host.chosen.lease
         while True:
             try:
                 self.host.register()
                 return self.go_on()
             except Taken as taken:
-                log.warning("%s: %s", self.host.name, taken)
+                if not self.runs() and (time.monotonic() > end or not self.fleet.is_dead_here(self.host.name)):
+                    raise
+                if str(taken) != said:
+                    said = str(taken)
+                    log.warning("%s: %s", self.host.name, said)
                 self.pause()
             except Closed as closed:
                 if closed.status == "ended":
                     raise
                 self.host.incarnation = new_id()
+
+    def runs(self):
+        """Returns whether the program has begun."""
+        return self.is_named or bool(self.state.incarnation)
 
     def pause(self):
         time.sleep(AGAIN)
@@ -299,7 +291,6 @@ class Program(threading.Thread):
             return True
         elif letter == wire.RESIZED and number == host.at + 1:
             host.append(data, "screen")
-            self.resizes += 1
         elif letter == wire.BYTES and number - len(data) <= host.at < number:
             for at in range(host.at - number + len(data), len(data), PIECE):
                 host.append(data[at : at + PIECE])
@@ -355,9 +346,7 @@ class Program(threading.Thread):
         from .cli import message_of, status_of
 
         log.error("%s: %s: %s", self.host.name, type(error).__name__, error, exc_info=None if status_of(error) else error)
-        if not self.is_named and not self.state.incarnation:
-            self.link.refuse(status_of(error) or 1, message_of(error))
-        elif isinstance(error, Closed) and error.status == "ended":
+        if self.runs() and isinstance(error, Closed) and error.status == "ended":
             self.link.say(wire.packed(wire.STOP) + wire.framed(wire.DONE))
         else:
             self.link.refuse(status_of(error) or 1, message_of(error))
@@ -381,6 +370,5 @@ class Program(threading.Thread):
                 self.fleet.shared.post("XDEL", part, entry_id)
                 continue
             with self.lock:
-                self.given += 1
                 self.unread.append((stream, entry_id))
             self.link.say(wire.framed(wire.INPUT, wire.entry(stream, entry_id, what)))

@@ -4,6 +4,8 @@ A terminal's state is a function of the bytes. Its repaint, played on any termin
 state. Bytes may be cut anywhere. So a checkpoint and the bytes after its position are the session, for any process that has both. In UTF-8
 a checkpoint's position is before the bytes that begin a character and wait for its other bytes.
 """
+import vt220
+
 from .config import is_screen
 from .keys import DEC, FORMATS, PIECE, Damaged, Lost, Trimmed, Version, Wrong
 from .keys import format_of, key, language_of, number as number_of, position, read_checkpoint, text
@@ -26,7 +28,10 @@ class Session:
 
     def viewed(self):
         """Returns a terminal for what viewers get of this session, as it is now."""
-        return viewed(self.language, self.resized)
+        made = vt220.Terminal(**self.language.size())
+        if self.resized:
+            made.resize(**self.language.size())
+        return made
 
     def data_of(self, entry_id, fields):
         """Returns what of an entry wasn't played yet: of a change of the size one byte. Raises a fault if it isn't a host's, or if bytes before it are
@@ -67,14 +72,6 @@ def whole(terminal):
     return made
 
 
-def viewed(language, resized):
-    """Returns a terminal for what viewers get of a session of a language, whose size may have been changed."""
-    made = language.viewed()
-    if resized:
-        made.resize(**language.size())
-    return made
-
-
 def is_formed(at, number, fields):
     """Returns whether an entry is of one of the four forms that hosts write."""
     if b"screen" in fields:
@@ -104,7 +101,7 @@ def look_up(store, incarnation):
     end, *said = about
     if end is None or not is_there:
         raise Lost("the store no longer has this session")
-    return restored(incarnation, dict(zip(fields[::2], fields[1::2])), language_of(*said)), number_of(end)
+    return restored(incarnation, fields, language_of(*said)), number_of(end)
 
 
 def play_on(store, session, end):

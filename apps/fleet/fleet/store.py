@@ -1,5 +1,4 @@
 """The store: Redis, whose calls wait for as long as it is away, and which has our functions."""
-import contextlib
 import functools
 import hashlib
 import logging
@@ -18,7 +17,8 @@ from redis.sentinel import Sentinel, SentinelConnectionPool
 log = logging.getLogger("fleet")
 
 GONE = (BusyLoadingError, ConnectionError, TimeoutError, ReadOnlyError)
-FOR_NOW = ("OOM", "MISCONF", "MASTERDOWN", "NOREPLICAS", "CLUSTERDOWN", "TRYAGAIN", "BUSY ", "UNBLOCKED")
+MISSING = "Function not found"
+FOR_NOW = (MISSING, "OOM", "MISCONF", "MASTERDOWN", "NOREPLICAS", "CLUSTERDOWN", "TRYAGAIN", "BUSY ", "UNBLOCKED")
 DENIALS = ("WRONGPASS", "NOPERM", "can't run this command", "can't access")
 OF_SESSION = ("WRONGTYPE", "not an integer", "not a number")
 TIMEOUT = 5.0  # seconds until a connection that says nothing counts as dead
@@ -26,9 +26,9 @@ LUA = os.path.join(os.path.dirname(os.path.abspath(__file__)), "lua")
 LIBRARY = "fleet_"
 SECTIONS = ("server", "clients", "stats", "persistence", "memory")  # of what the store says of itself
 CROWDED = 0.8  # of the connections that a store allows: more are too many
-MISSING = "Function not found"
 UNPREPARED = "the store lacks the functions of this version: an operator loads them with fleet prepare-store"
 UNSAFE = "appendonly is off: what the store acknowledges is lost when it stops"
+redis.UnixDomainSocketConnection.host = redis.UnixDomainSocketConnection.port = "unix"  # redis-py 4.3 names both in an error, and has none
 
 
 def read_password(path):
@@ -58,6 +58,13 @@ def is_missing(error):
     return isinstance(error, ResponseError) and MISSING in str(error)
 
 
+def raised(answer):
+    """Returns an answer, or raises the error that it is."""
+    if isinstance(answer, Exception):
+        raise answer
+    return answer
+
+
 def is_denial(error):
     """Returns whether an error says that the store's user has no right to something."""
     return isinstance(error, NoPermissionError) or any(word in str(error) for word in DENIALS)
@@ -85,51 +92,17 @@ def library():
     return mark, f"#!lua name={LIBRARY}{mark}\n" + made.replace("_HASH", f"_{mark}")
 
 
-def packed(words):
-    """Returns a command as the store reads it."""
-    return b"*%d\r\n" % len(words) + b"".join([b"$%d\r\n%b\r\n" % (len(word), word) for word in words])
-
-
-def as_bytes(word):
-    """Returns a word of a command: bytes, text or a number."""
-    return word if isinstance(word, bytes) else word.encode() if isinstance(word, str) else b"%d" % word
-
-
-def words_of_read(count, streams, patience):
-    """Returns the words of XREAD, with {stream: the last id}."""
-    wait = [b"BLOCK", b"%d" % max(1, int(patience * 1000))] if patience else []
-    return [b"XREAD", b"COUNT", b"%d" % count, *wait, b"STREAMS", *streams.keys(), *streams.values()]
-
-
-def has_come(connection, patience):
-    """Returns whether something comes over a connection within some seconds. If a connection over a Unix socket is reset, redis-py 4.3 looks
-    for a host to name in its error, and finds none."""
-    try:
-        return connection.can_read(patience)
-    except AttributeError as error:
-        raise ConnectionError(f"the connection was reset: {error.__context__}") from error
-
-
-def answer_of(connection):
-    """Returns the next answer over a connection, which may be an error."""
-    try:
-        return connection.read_response()
-    except ResponseError as error:
-        return error
-
-
 class Store(redis.Redis):
     """Redis. Whatever is called waits until the store answers, for any time. So all that is written must bear being written
     twice."""
 
-    replicas = 0  # that must have what a viewer typed before it counts as typed
+    replicas = 0  # that must have what a viewer typed before it counts as typed; None for all that are there
     had_functions = False  # they were there once: if they aren't any more, the store lost them
 
     def __init__(self, *words, **options):
         super().__init__(*words, **options)
         self.away_since = None
         self.outages = 0  # how often the store was away
-        self.connections = 0  # that were made
         self.run_id = None
         self.password_file = self.user = None
         self.was_let_in = False  # a password was accepted once: if it isn't any more, it is being changed
@@ -158,7 +131,6 @@ class Store(redis.Redis):
         if self.run_id not in (None, run_id):
             log.warning("the store was started again, or is another one")
         self.run_id, self.was_let_in = run_id, True
-        self.connections += 1
 
     def execute_command(self, *words, **options):
         return self.patiently(lambda: super(Store, self).execute_command(*words, **options))
@@ -192,62 +164,59 @@ class Store(redis.Redis):
             log.warning("the store is away: %s: %s", type(error).__name__, error)
         return since
 
-    def sound(self, answers):
-        """Returns answers, errors among them. Raises those errors that concern the store and no single command."""
-        for answer in answers:
-            if not isinstance(answer, Exception):
-                continue
-            if is_missing(answer):
-                self.load()
-                raise ConnectionError("the store had no functions")
-            if is_for_now(answer):
-                raise answer
-            if is_denial(answer):
-                raise NoPermissionError(str(answer))
-        return answers
+    def run_all(self, calls, are_one=True):
+        """Runs commands with one message. Returns their answers, errors among them. Functions are loaded if the store lacks them. If they are one thing
+        for this user, and no right to one of them is there, that is raised."""
 
-    @contextlib.contextmanager
-    def lent(self, word):
-        """Lends a connection. It is closed if more may come over it than was read: after any error but one that the store answered."""
-        connection = self.connection_pool.get_connection(word)
-        try:
-            yield connection
-        except ResponseError:
-            raise
-        except BaseException:
-            connection.disconnect()
-            raise
-        finally:
-            self.connection_pool.release(connection)
-
-    def run_all(self, calls):
-        """Runs commands with one message. Returns their answers, errors among them. The client's own pipeline packs each word by itself,
-        which takes as long as all else that a worker does for an entry."""
-        words = b"".join([packed([as_bytes(word) for word in call]) for call in calls])
+        def sent():
+            pipeline = self.pipeline(transaction=False)
+            for words in calls:
+                pipeline.execute_command(*words)
+            return pipeline.execute(raise_on_error=False)
 
         def once():
-            with self.lent("FCALL") as connection:
-                connection.send_packed_command([words])
-                answers = [answer_of(connection) for _ in calls]
-            return self.sound(answers)
+            answers = sent()
+            if any(map(is_missing, answers)):
+                self.load()
+                answers = sent()
+            for wrong in (each for each in answers if isinstance(each, Exception)):
+                if is_for_now(wrong) or are_one and is_denial(wrong):
+                    raise wrong
+            return answers
 
         return self.patiently(once) if calls else []
 
+    def ask(self, *words):
+        """Returns the answer to a command, or raises the error that it is."""
+        return raised(self.run_all([words])[0])
+
     def read_streams(self, count, streams, patience=0):
-        """Returns what came in streams, as [[stream, [[id, [field, value, ..]], ..]], ..], with {stream: the last id}. With patience it
-        waits for something, for at most so many seconds. The client's own call packs and unpacks each word by itself, which takes as
-        long as playing what was read."""
-        words = packed(words_of_read(count, streams, patience))
+        """Returns what came in streams, as [[stream, [(id, {field: value}), ..]], ..], with {stream: the last id}. With patience it waits for something, for
+        at most so many seconds, and no longer than half of what a connection may say nothing."""
+        silence = self.connection_pool.connection_kwargs["socket_timeout"] or TIMEOUT
+        return self.xread(streams, count, max(1, int(1000 * min(patience, silence / 2))) if patience else None)
 
-        def once():
-            with self.lent("XREAD") as connection:
-                connection.send_packed_command([words])
-                timeout = connection.socket_timeout or TIMEOUT
-                if patience and not has_come(connection, max(timeout, patience + timeout / 2)):
-                    raise TimeoutError("the store says nothing")
-                return connection.read_response() or []
+    def read_each(self, count, streams, patience):
+        """Reads streams as read_streams does, and if the store refuses that, each of them alone. Returns what came, and {stream: error} of what can't be read."""
+        try:
+            return self.read_streams(count, streams, patience), {}
+        except ResponseError as error:
+            log.error("the streams can't be read at once: %s", error)
+        came, wrong = [], {}
+        for stream, last in streams.items():
+            try:
+                came += self.read_streams(count, {stream: last})
+            except ResponseError as error:
+                wrong[stream] = error
+        time.sleep(0.2)
+        return came, wrong
 
-        return self.patiently(once)
+    def wanted_replicas(self):
+        """Returns how many replicas are to have what is typed now."""
+        if self.replicas is not None:
+            return self.replicas
+        facts = self.execute_command("INFO", "replication").values()
+        return sum(isinstance(each, dict) and each.get("state") == "online" for each in facts)
 
     # Functions.
 
@@ -261,35 +230,13 @@ class Store(redis.Redis):
                 raise
             raise ConnectionError(UNPREPARED) if self.had_functions else Unfit(UNPREPARED)
 
-    def prepare(self, is_alone=False):
-        """Loads the functions. If `is_alone` is true, removes those of other versions. Returns how many versions there are."""
-        self.load()
-        mine = (LIBRARY + library()[0]).encode()
-        listed = self.execute_command("FUNCTION", "LIST", "LIBRARYNAME", LIBRARY + "*")
-        others = {each[each.index(b"library_name") + 1] for each in listed} - {mine}
-        for each in others if is_alone else ():
-            self.execute_command("FUNCTION", "DELETE", each)
-        return 1 if is_alone else 1 + len(others)
-
     def call_of(self, name, *arguments):
         """Returns the words of a function's call, for a pipeline."""
         return ("FCALL", f"{name}_{library()[0]}", 0, *arguments)
 
     def run(self, name, *arguments):
         """Runs a function. Returns its answer, whose first word is text."""
-        words = self.call_of(name, *arguments)
-        return self.patiently(lambda: self.call(words))
-
-    def call(self, words):
-        """Calls a function, which is loaded if the store lacks it."""
-        try:
-            answer = super().execute_command(*words)
-        except ResponseError as error:
-            if not is_missing(error):
-                raise
-            self.load()
-            answer = super().execute_command(*words)
-        return self.checked(answer)
+        return self.checked(self.ask(*self.call_of(name, *arguments)))
 
     def checked(self, answer):
         """Returns a function's answer, whose first word becomes text. The store has the functions."""

@@ -148,7 +148,7 @@ class Viewer:
                 entries = []
         for entry_id, fields in entries:
             try:
-                self.session.play_entry(entry_id, dict(zip(fields[::2], fields[1::2])))
+                self.session.play_entry(entry_id, fields)
             except keys.Trimmed:  # there is a newer checkpoint then
                 before = self.session.at
                 self.begin()
@@ -195,7 +195,7 @@ class Keyboard:
 
     def leave(self):
         termios.tcsetattr(0, termios.TCSADRAIN, self.saved)
-        self.sender.finish()
+        self.sender.finish(1.0)
 
 
 def state_line(viewer, keyboard):

@@ -5,7 +5,6 @@ A session's screen reaches the page as bytes, which a terminal there plays. The 
 ever markup.
 """
 import asyncio
-import collections
 import errno
 import hmac
 import json
@@ -15,7 +14,6 @@ import re
 import secrets
 import sys
 import threading
-from concurrent.futures import ThreadPoolExecutor
 from urllib.parse import urlsplit
 
 import vt220
@@ -24,12 +22,13 @@ from vt220.keyboard import spelled
 from vt220.page import hashed
 
 from .gallery import Gallery
-from .operate import PAUSE as PAUSE_OF_KEYS, Typist, parts
+from .operate import Sender, Typist
 
 log = logging.getLogger("fleet.web")
 
 HERE = os.path.join(os.path.dirname(os.path.abspath(__file__)), "page")
 PAUSE = 0.04  # seconds between two messages to a client
+TYPED = 64  # messages of keys for one session that wait, at most: a program that reads nothing holds up nobody's keys for others
 ENTERING = 10.0  # seconds that a client has to say the token
 UNKNOWN = 4403  # the code with which a connection without the token is closed; page.js knows it
 BUILT = os.path.join(HERE, "..", "..", "..", "..", "out", "js")  # of this repository
@@ -67,45 +66,6 @@ def token_of(path):
     return token
 
 
-class Typing:
-    """A browser's keys for one session, in order. A program that reads nothing holds up nobody's keys for other sessions."""
-
-    MOST = 64  # messages of keys that wait
-
-    def __init__(self, page, socket, incarnation):
-        self.page, self.socket, self.typist = page, socket, Typist(page.store, incarnation)
-        self.waiting, self.task = collections.deque(), None
-
-    def add(self, data):
-        if len(self.waiting) >= self.MOST:
-            raise self.typist.unread()
-        self.waiting.append(data)
-        if self.task is None or self.task.done():
-            self.task = asyncio.ensure_future(self.run())
-
-    async def run(self):
-        try:
-            while self.waiting:
-                for part_of_keys in parts(self.waiting.popleft()):
-                    await self.send(part_of_keys)
-        except Exception as error:
-            self.waiting.clear()
-            await self.socket.send_str(problem(error))
-
-    async def send(self, data):
-        loop = asyncio.get_running_loop()
-        end = loop.time() + self.typist.patience
-        while not await loop.run_in_executor(self.page.threads, self.typist.offer, "keys", data):
-            if loop.time() > end:
-                raise self.typist.give_up()
-            await asyncio.sleep(PAUSE_OF_KEYS)
-
-    def cancel(self):
-        if self.task:
-            self.task.cancel()
-        asyncio.get_running_loop().run_in_executor(self.page.threads, self.typist.leave)
-
-
 def problem(error):
     return json.dumps({"error": f"{type(error).__name__}: {error}"})
 
@@ -117,7 +77,6 @@ class Page:
         self.text, self.policy = document()
         self.gallery = Gallery(store, self.changed)
         self.loop, self.events = None, set()
-        self.threads = ThreadPoolExecutor(16)  # typing waits for the store
 
     def changed(self):
         if self.loop:
@@ -205,8 +164,8 @@ class Page:
                 except Exception as error:
                     await socket.send_str(problem(error))
         finally:
-            for typing in typed.values():
-                typing.cancel()
+            for sender in typed.values():
+                sender.finish(0)
 
     def hear(self, said, socket, typed):
         """Takes keys: {"session": .., "text": characters} or {"session": .., "key": a name of vt220-keys.h}."""
@@ -219,8 +178,12 @@ class Page:
         encoding, terminal, _ = followed.language
         data = vt220.key(str(said["key"]), modes, terminal=terminal) if "key" in said else spelled(str(said["text"])[:4096], modes, encoding)
         if followed.incarnation not in typed:
-            typed[followed.incarnation] = Typing(self, socket, followed.incarnation)
-        typed[followed.incarnation].add(data)
+            typist = Typist(self.store, followed.incarnation)
+            typed[followed.incarnation] = Sender(typist, lambda error: asyncio.run_coroutine_threadsafe(socket.send_str(problem(error)), self.loop))
+        sender = typed[followed.incarnation]
+        if sender.waiting.qsize() >= TYPED:
+            raise sender.typist.unread()
+        sender.type(data)
 
     async def start(self, app):
         self.loop = asyncio.get_running_loop()

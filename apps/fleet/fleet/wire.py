@@ -11,7 +11,7 @@ import struct
 
 HEAD, NUMBER, ENTRY = struct.Struct("=cI"), struct.Struct("=Q"), struct.Struct("=BQQ")
 LONGEST = 1 << 21  # of a frame of a keeper: the checkpoint of the largest screen is shorter
-WAITING = 8 << 20  # bytes of one keeper that wait for the store: it sends no more before they are stored
+WAITING = 8 << 20  # bytes of one keeper that wait for the store, or for the keeper, at most
 MOST = 1 << 63  # no number of a state is so large. Redis refuses to read any stream if it is asked for an id of more than 64 bits
 VERSION = "5"  # of these frames
 STREAMS = ("keys", "signals")  # an input has the number of its stream here

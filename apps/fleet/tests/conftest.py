@@ -8,7 +8,7 @@ from harness import PATIENT, configured, local, recordings, started
 
 def pytest_addoption(parser):
     parser.addoption("--seed", type=int, default=1, help="of the storm, and of what is random in others")
-    parser.addoption("--rounds", type=int, default=8, help="of the storm")
+    parser.addoption("--rounds", type=int, default=9, help="of the storm")
     parser.addoption("--sessions", type=int, default=12, help="of the storm")
 
 

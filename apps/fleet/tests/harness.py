@@ -43,11 +43,6 @@ started = contextlib.ExitStack()  # what a test has started, which ends with it
 ports = []  # sockets that hold ports as long as this process lives
 
 
-def children_of(pid):
-    with open(f"/proc/{pid}/task/{pid}/children") as children:
-        return [int(each) for each in children.read().split()]
-
-
 def incarnation_of(store, name):
     """Returns the incarnation of a name, once it has one."""
     wait_for(lambda: store.hexists(keys.NAMES, name))
@@ -124,6 +119,20 @@ class Source:
         return key(self.incarnation, name)
 
 
+def type_once(typist, word):
+    """Types, once the session has a host: its lease may have ended in an outage."""
+
+    def is_typed():
+        try:
+            typist.type(word)
+        except Refused as refused:
+            assert "silent" in str(refused), str(refused)
+            return False
+        return True
+
+    wait_for(is_typed)
+
+
 class Told:
     """A program that writes bytes, asks for reports and reads keys, as a session. It notes all in files: what it wrote, what reports and what keys it read."""
 
@@ -149,18 +158,8 @@ class Told:
         return path.read_bytes() if path.exists() else b""
 
     def type(self, word):
-        """Types, once the session has a host: its lease may have ended in an outage."""
-
-        def is_typed():
-            try:
-                self.typist.type(word)
-            except Refused as refused:
-                assert "silent" in str(refused), f"{self.name}: {refused}"
-                return False
-            return True
-
         self.typed += word
-        wait_for(is_typed)
+        type_once(self.typist, word)
 
     def aim(self, steps):
         """Has it do so many steps more."""
@@ -303,11 +302,17 @@ class OnTerminal:
     """The command on a terminal of its own, and what it drew there."""
 
     def __init__(self, url, *words, window=(0, 0)):
+        self.window, self.drawn = window, b""
         self.child, self.master = pty.fork()
         if self.child == 0:
             termios.tcsetwinsize(0, window)  # its rows and columns
             os.execve(local.COMMAND, [local.COMMAND, *words], os.environ | {"FLEET_REDIS": url, "TERM": "xterm"})
-        self.drawn = b""
+
+    def resize(self, rows, columns):
+        """Changes the window's size. What was drawn before is forgotten: all is drawn again."""
+        self.has(b"")
+        self.window, self.drawn = (rows, columns), b""
+        termios.tcsetwinsize(self.master, self.window)
 
     def has(self, wanted):
         while select.select([self.master], [], [], 0.02)[0]:
@@ -317,12 +322,12 @@ class OnTerminal:
                 break
         return wanted in self.drawn
 
-    def shows(self, text):
-        """Returns whether an xterm shows a text after what was drawn, which has no spaces where spaces were."""
+    def text(self):
+        """Returns what an xterm shows after what was drawn, which has no spaces where spaces were."""
         self.has(b"")
-        screen = vt220.Terminal(terminal="xterm")
+        screen = vt220.Terminal(terminal="xterm", rows=self.window[0] or 24, columns=self.window[1] or 80)
         screen.feed(self.drawn)
-        return text in screen.text()
+        return screen.text()
 
     def status(self):
         wait_for(lambda: self.has(b"\033[?1049l"))
@@ -368,14 +373,18 @@ def end_all(sessions, is_whole=True):
 
 
 def fill_disk(machine):
-    """Has the file of a machine's store grow no more, as on a full disk. Waits until the store has ended, which it does at the next write."""
-    resource.prlimit(machine.server.pid, resource.RLIMIT_FSIZE, (file_of(machine).stat().st_size + 100, resource.RLIM_INFINITY))
-    store = stores.connect(machine.url)
+    """Has the file of a machine's store grow no more, as on a full disk. The store ends at the next write, also when it is started again without room."""
+    most, store, under = file_of(machine).stat().st_size + 100, stores.connect(machine.url), machine.under
     store.patience = 0
-    with contextlib.suppress(stores.ConnectionError):
-        while True:
-            store.append("filler", "x" * 100)
-    machine.server.wait()
+    resource.prlimit(machine.server.pid, resource.RLIMIT_FSIZE, (most, resource.RLIM_INFINITY))
+    for is_last in (False, True):
+        while machine.server.poll() is None:
+            with contextlib.suppress(stores.RedisError):
+                store.append("filler", "x" * 100)
+        if not is_last:
+            machine.under = ("prlimit", f"--fsize={most}", *under)
+            machine.launch()
+    machine.under = under
 
 
 def shimmed(machine):
@@ -383,11 +392,8 @@ def shimmed(machine):
     library, file = os.path.join(machine.folder, "clock.so"), os.path.join(machine.folder, "clock")
     subprocess.run(["gcc", "-O2", "-shared", "-fPIC", "-o", library, os.path.join(HERE, "clock.c")], check=True)
     machine.kill()
-    os.environ.update(LD_PRELOAD=library, CLOCK_FILE=file)
-    try:
-        machine.start()
-    finally:
-        del os.environ["LD_PRELOAD"], os.environ["CLOCK_FILE"]
+    machine.under = ("env", f"LD_PRELOAD={library}", f"CLOCK_FILE={file}", *machine.under)
+    machine.start()
 
     def move(seconds):
         with open(file + ".new", "w") as moved:

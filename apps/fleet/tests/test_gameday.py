@@ -12,7 +12,7 @@ from prometheus_client import CollectorRegistry, generate_latest
 
 from harness import (
     ANSWERS, HERE, PATIENCE, PATIENT, Clock, Proxy, Source, Told, another_daemon, asked, begun, conf, configured, end_all, end_of, ending, fill_disk, fleet, free_port, keys, launched, local,
-    metrics_at, started, state, stores, text_of, wait_for, written,
+    metrics_at, started, state, stores, text_of, type_once, wait_for, written,
 )
 from fleet import metrics
 from fleet.metrics import WholeFleet
@@ -20,19 +20,6 @@ from fleet.operate import Typist
 
 ALERTS = os.path.join(HERE, "..", "alerts.yml")
 SAMPLES = 80  # of each phase, 15 seconds apart: no alert looks back further, or waits longer
-
-
-def of_collector(collector):
-    """Returns what reads a collector's metrics in this process."""
-    registry = CollectorRegistry()
-    registry.register(collector)
-
-    def read():
-        if isinstance(collector, WholeFleet):
-            collector.read = -1e9
-        return generate_latest(registry).decode()
-
-    return read
 
 
 def of_port(port):
@@ -51,24 +38,14 @@ class Day:
     """What the targets said in each phase: the metrics of the whole fleet, by a store that gives up at once, and more that a case adds."""
 
     def __init__(self, machine):
-        self.whole, self.phases = WholeFleet(stores.connect(machine.url)), []
+        self.whole, self.phases, registry = WholeFleet(stores.connect(machine.url)), [], CollectorRegistry()
         self.whole.store.patience = 0.1
-        self.targets = {"all": of_collector(self.whole)}
-
-    def look(self, metric="", value=""):
-        """Notes what each target says, once a metric of the whole fleet has a value."""
-        found = {}
-
-        def is_so():
-            found.update(self.read())
-            return not metric or found.get(f'{metric}instance="all",job="fleet"}}') == value
-
-        wait_for(is_so)
-        self.phases.append(found)
+        registry.register(self.whole)
+        self.targets = {"all": lambda: generate_latest(registry).decode()}
 
     def read(self):
         """Returns what each target says, as Prometheus names it."""
-        phase = {}
+        phase, self.whole.read = {}, -1e9
         for target, read in self.targets.items():
             said = read()
             labels = f'instance="{target}",job="fleet"'
@@ -94,7 +71,7 @@ class Day:
         named = f",alertname='{alert}'" + "".join(f",{name}='{value}'" for name, value in labels.items())
         return [at(0, named, False), at(1, named, True), at(2, named, False)]
 
-    def judge(self, machine, alert, **labels):
+    def judge(self, machine, alert, labels):
         series = sorted(set().union(*self.phases))
         made = {"interval": "15s", "input_series": [{"series": each, "values": self.values(each)} for each in series]}
         made["promql_expr_test"] = self.expect(alert, labels)
@@ -104,17 +81,15 @@ class Day:
         assert done.returncode == 0, f"{alert}: it isn't there, fires, and ends: {done.stdout[-3000:]}{done.stderr}"
 
 
-def day_of(alert, *labels):
-    """Makes a case of a generator, which stops three times, each time for a look: before the fault, while it is there, and once it is cured.
-    It may yield a metric and the value that is waited for. An alert that has labels fires for each of them."""
+def day_of(alert, **labels):
+    """Makes a case of a generator, which stops three times, each time for a look: before the fault, while it is there, and once it is cured."""
 
     def decorate(case):
         def judged(machine):
             day = Day(machine)
-            for awaited in case(machine, day):
-                day.look(*awaited or ())
-            for each in labels or ({},):
-                day.judge(machine, alert, **each)
+            for _ in case(machine, day):
+                day.phases.append(day.read())
+            day.judge(machine, alert, labels)
 
         judged.__name__ = case.__name__
         return judged
@@ -144,9 +119,13 @@ def run_of(section, machine):
     text = re.search(rf"^## {section}\n(.*?)(?=^## |\Z)", text_of("RUNBOOK.md"), re.MULTILINE | re.DOTALL)[1]
     commands, serves = [line[4:] for line in text.splitlines() if line.startswith("    ")], local.is_listening(machine.socket)
     for command in commands:
-        if command in ("systemctl stop redis-server", "systemctl start redis-server"):
-            serves = not serves
-            machine.start() if serves else ended(machine)
+        if command == "systemctl stop redis-server":
+            machine.server.terminate()
+            machine.server.wait()
+            serves = False
+        if command == "systemctl start redis-server":
+            machine.start()
+            serves = True
         if command.startswith("systemctl"):
             continue
         command = command.replace("redis-cli", f"redis-cli -s {machine.socket}").replace("/var/lib/redis", machine.folder)
@@ -156,15 +135,6 @@ def run_of(section, machine):
             machine.server.wait()
             machine.start()
     assert commands, f"{section} has commands"
-
-
-def ended(machine):
-    machine.server.terminate()
-    machine.server.wait()
-
-
-def owners(place):
-    return {file.stat().st_uid for file in [place, *place.iterdir()]}
 
 
 def prepared(machine, content):
@@ -198,7 +168,7 @@ def test_a_backup_is_restored(machine, data):
     store = stores.connect(machine.url)
     store.set("after-the-backup", 1)
     run_of("Restore of the store", machine)
-    assert owners(place) == {user}, f"the files are those of the user of Redis: {owners(place)}"
+    assert {file.stat().st_uid for file in [place, *place.iterdir()]} == {user}, "the files are those of the user of Redis"
     assert not store.exists("after-the-backup"), "the store is the copy"
     assert stored(sessions), "what it lacks is sent again"
     end_all(sessions)
@@ -219,7 +189,7 @@ def test_a_store_is_upgraded(machine, data):
     end_all(sessions)
 
 
-@day_of("FleetTargetDown", {"instance": "one"})
+@day_of("FleetTargetDown", instance="one")
 def test_a_target_is_down(machine, day):
     """`fleet metrics` ends, and that of another fleet doesn't."""
     port = free_port()
@@ -248,32 +218,32 @@ def test_the_store_is_away(machine, _):
 def test_the_store_is_slow(machine, day):
     """Each ping takes longer than it should, by the clock of the metrics."""
     clock, store = Clock(), day.whole.store
-    ping = store.ping
-    yield
+    ping, metrics.time = store.ping, clock
     started.callback(setattr, metrics, "time", time)
-    metrics.time, store.ping = clock, lambda: setattr(clock, "now", clock.now + 0.7)
     yield
-    metrics.time, store.ping = time, ping
+    store.ping = lambda: setattr(clock, "now", clock.now + 0.7)
+    yield
+    store.ping = ping
     yield
 
 
 @day_of("FleetHostsSilent")
 def test_hosts_are_silent(machine, _):
     """A host daemon is killed, and the next one goes on with its programs."""
-    silent = 'fleet_states{state="no host",'
-    with configured(machine, "[host]", "lease = 1"):
+    with configured(machine, "[host]", "lease = 3"):
         host, store, incarnation = begun(machine, "silent", ["sh", "-c", "echo on; read x; exit 3"], "--input")
-        yield silent, "0.0"
+        yield
         machine.kill_daemon()
-        yield silent, "1.0"
+        wait_for(lambda: state(store, "silent")["state"] == "no host")
+        yield
         machine.start_daemon()
     wait_for(lambda: state(store, "silent")["state"] == "running")  # it has a host again
-    yield silent, "0.0"
-    Typist(store, incarnation).type(b"\r")
+    yield
+    type_once(Typist(store, incarnation), b"\r")
     assert host.wait(PATIENCE) == 3, f"and its program lives: {host.returncode}"
 
 
-@day_of("FleetFaults", {"fault": "Wrong"})
+@day_of("FleetFaults", fault="Wrong")
 def test_sessions_have_faults(machine, _):
     """Another program writes into the store. An operator ends the session."""
     yield
@@ -294,7 +264,7 @@ def of_daemon(machine, day, *lines, url=None, port=None):
     return port
 
 
-@day_of("FleetCutOff", {"instance": "one"})
+@day_of("FleetCutOff", instance="one")
 def test_a_daemon_is_cut_off(machine, day):
     """Its link ends, and is back. Its program goes on meanwhile."""
     proxy = Proxy(machine)
@@ -316,7 +286,7 @@ def test_a_daemon_is_cut_off(machine, day):
     assert wait_for(lambda: b"got x" in written(store, "cut off")) and host.poll() is None, "and so does its session"
 
 
-@day_of("FleetHostBehind", {"instance": "one"})
+@day_of("FleetHostBehind", instance="one")
 def test_a_host_is_behind(machine, day):
     """The store is full, and takes nothing."""
     port = of_daemon(machine, day)
@@ -334,7 +304,7 @@ def test_a_host_is_behind(machine, day):
     yield
 
 
-@day_of("FleetRefused", {"instance": "one"})
+@day_of("FleetRefused", instance="one")
 def test_a_session_is_refused(machine, day):
     """While its daemon was away for longer than `lease` and `linger`, another machine took its name. Its program goes on."""
     short = "lease = 1", "linger = 0"
@@ -354,7 +324,7 @@ def test_a_session_is_refused(machine, day):
     wait_for(lambda: fleet(machine.url, "text", "taken")[1].startswith("on\n"))
 
 
-@day_of("FleetHostDeaf", {"instance": "one"})
+@day_of("FleetHostDeaf", instance="one")
 def test_a_daemon_is_deaf(machine, day):
     """Its user of the store may not read the streams any more. What programs write is stored all the same, and what was typed arrives afterwards."""
     port = of_daemon(machine, day)

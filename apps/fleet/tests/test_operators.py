@@ -6,17 +6,17 @@ import json
 import os
 import re
 import socket
-import struct
 import subprocess
 import tempfile
 import threading
 import types
 
 from harness import (
-    HERE, PATIENCE, PATIENT, OnTerminal, Proxy, Source, another_daemon, asked, begun, children_of, commands, conf, configured, fleet, fleet_bytes, free_port, key,
+    HERE, PATIENCE, PATIENT, OnTerminal, Proxy, Source, another_daemon, asked, begun, commands, conf, configured, fleet, fleet_bytes, free_port, key,
     keys, local, metrics_at, program, state, stores, text_of, wait_for, wanted, written,
 )
 from fleet import metrics
+from fleet.cli import impatient
 from fleet.config import Settings
 from fleet.metrics import DaemonMetrics, WholeFleet, server
 from fleet.operate import Typist
@@ -39,7 +39,8 @@ def test_run_leaves_nothing_when_it_is_killed(machine):
     runs = subprocess.Popen(words, env=os.environ | {"TMPDIR": machine.folder}, stderr=subprocess.PIPE, text=True)
     url = next(found[1] for found in map(re.compile(r"export FLEET_REDIS=(\S+)").match, runs.stderr) if found)
     assert stores.connect(url).ping(), "its store lives"
-    started = children_of(runs.pid)
+    with open(f"/proc/{runs.pid}/task/{runs.pid}/children") as children:
+        started = [int(each) for each in children.read().split()]
     assert len(started) == 2 and all(map(is_there, started)), f"a store and a host daemon: {started}"
     runs.kill()
     runs.wait()
@@ -64,31 +65,47 @@ def test_a_list_asks_little_of_sessions_that_ended(machine):
     assert (facts["ended"], len(facts["listed"])) == (60, 2), "the metrics count them"
 
 
-def test_list_tells_how_sessions_are(machine, data):
-    url = machine.url
+def test_list_and_metrics_tell_how_sessions_are(machine, data):
+    url, strange = machine.url, "bad\u00e4 <b>&"
     store = stores.connect(url)
     Source(url, "runs").send(b"abc")
-    assert (state(store, "runs")["state"], state(store, "runs")["size"]) == ("running", 3), "one that runs, and its size"
-    Source(url, "gone", lease=0.01).send(b"x")
-    wait_for(lambda: state(store, "gone")["state"] == "no host")  # one whose host is silent
+    Source(url, "gone").send(b"x")
+    store.delete(keys.lease("gone"))
     Source(url, "over").end(3)
-    assert state(store, "over")["state"] == "ended 3", "one that ended"
-    bad = Source(url, "bad\u00e4 <b>&")
+    bad = Source(url, strange)
     store.hset(bad.part("about"), "seen", "\033[31m")
-    assert state(store, "bad\u00e4 <b>&")["state"] == "fault", "one with a wrong field"
+    states = {"runs": "running", "gone": "no host", "over": "ended 3", strange: "fault"}
+    assert {name: state(store, name)["state"] for name in states} == states and state(store, "runs")["size"] == 3
     status, out, said = fleet(url, "list", "--all")
     lines = out.splitlines()
     assert status == 0 and lines[0].split() == "NAME STATE HOST SIZE SCREEN LAST OUTPUT".split(), "a table"
     assert len(lines) == 5 and "Wrong: " in said and "\033" not in out + said, f"a line for each, and the fault: {len(lines)} {said}"
     assert "over" not in fleet(url, "list")[1], "ended ones only with --all"
     listed = [json.loads(line) for line in fleet(url, "list", "--all", "--json")[1].splitlines()]
-    assert {each["name"] for each in listed} == {"runs", "gone", "over", "bad\u00e4 <b>&"}, "JSON"
+    assert {each["name"] for each in listed} == set(states), "JSON"
+    whole, metrics.SILENT = WholeFleet(stores.connect(url, socket_timeout=2)), 0.2
+    served = server(whole, "127.0.0.1:0")
+    metrics.SILENT = 10.0
+    threading.Thread(target=served.serve_forever, daemon=True).start()
+    port = served.server_address[1]
+    with socket.create_connection(("127.0.0.1", port), PATIENCE) as silent:
+        assert silent.recv(1) == b"", "a connection that asks nothing is closed"
+    assert asked(port, "healthz") == (200, "ok\n"), "it is well"
+    found = metrics_at(port)
+    wanted = {f'fleet_states{{state="{each}"}}': 1 for each in ("running", "no host", "fault", "ended")}
+    wanted |= {'fleet_session_faults{fault="Wrong"}': 1, "fleet_store_up": 1}
+    assert wanted.items() <= found.items() and found["fleet_store_round_trip_seconds"] > 0, str(found)
+    machine.kill()
+    whole.read, whole.store.patience = -1e9, 0.1
+    assert asked(port, "healthz")[0] == 503 and "fleet_store_up 0.0" in asked(port, "metrics")[1], "without a store"
+    assert impatient(Settings(conf(machine, "ever", "[store]", "give-up = never"))).patience <= 2, "Prometheus waits no longer"
+    machine.start()
+    served.shutdown()
 
 
 def test_kill_end_and_their_statuses(machine, data):
     url = machine.url
     host, store, _ = begun(machine, "runs", ["sh", "-c", "echo on; while read x; do echo got $x; done; exit 9"])
-    assert program(machine, "runs", ["true"]).wait(PATIENCE) == 5, "a second host of the name: 5"
     assert fleet(url, "end", "runs")[0] == 6, "a session whose host lives isn't ended: 6"
     patiently = ("--patience", str(PATIENCE))
     assert fleet(url, "kill", *patiently, "runs")[0] == 0 and host.wait(PATIENCE) == 129, f"kill hangs up: {host.returncode}"
@@ -179,13 +196,14 @@ def test_a_viewer_follows_and_types_on_a_terminal(machine):
     name = "view"
     command = ["sh", "-c", "printf '\\033[1mhello\\033[m'; while read x; do echo \"got $x\"; done; exit 3"]
     host, *_ = begun(machine, name, command, "--input", says=b"hello")
+    assert fleet(machine.url, "view", "--type", name)[0] == 2, "keys are read from a terminal: 2"
     types, looks = OnTerminal(machine.url, "view", "--type", name), OnTerminal(machine.url, "view", name)
     wait_for(lambda: types.has(b"\033[0;1mhello"))  # it draws the session
     os.write(types.master, b"by \xc3\xa4 viewer\r")
-    wait_for(lambda: looks.shows("got by ä viewer"))  # what one viewer types, the other sees
+    wait_for(lambda: "got by ä viewer" in looks.text())  # what one viewer types, the other sees
     another_daemon(machine)
     os.write(types.master, b"after a kill\r")
-    wait_for(lambda: looks.shows("got after a kill"))  # over the death of a daemon, too
+    wait_for(lambda: "got after a kill" in looks.text())  # over the death of a daemon, too
     os.write(types.master, b"\x1d")
     assert types.status() == 0, "Ctrl-] leaves"
     typed = fleet(machine.url, "type", name, "\x04")
@@ -221,7 +239,9 @@ def test_sessions_are_looked_at_and_exported(machine, data):
     assert "".join(event[2] for event in events).encode("latin-1") == sent, "all bytes"
     times = [event[0] for event in events]
     assert times == sorted(times) and set(times) == {0, 0.15, 0.3}, "at their pace"
-    check_ttyrec(fleet_bytes(url, "export", "--ttyrec", name)[1], source.sent)
+    with open("/dev/full", "w") as full:
+        done = subprocess.run([local.COMMAND, "text", name], env=os.environ | {"FLEET_REDIS": url}, stdout=full, stderr=subprocess.PIPE, text=True)
+    assert (done.returncode, done.stderr) == (1, "fleet: No space left on device\n"), f"what can't be written is said: {done}"
     check_page(name, url, source.sent)
 
 
@@ -241,48 +261,36 @@ def check_page(name, url, sent):
     assert status == 1 and "make js" in said and out == "", "without a template there is no page"
 
 
-def check_ttyrec(data, sent):
-    at, bytes_, moments = 0, b"", []
-    while at < len(data):
-        seconds, micros, length = struct.unpack_from("<III", data, at)
-        bytes_ += data[at + 12 : at + 12 + length]
-        moments.append(seconds * 1000 + micros / 1000 - BEGUN)
-        at += 12 + length
-    assert bytes_ == sent, "a ttyrec"
-    assert moments == sorted(moments) and set(moments) == {0, 150, 300}, "at its pace"
-
-
 def test_a_daemon_has_metrics(machine):
-    name, port, steps = "host metrics", free_port(), [os.path.join(machine.folder, each) for each in ("first", "second")]
+    """Of a program that writes, then waits for a store that is away, and ends without one."""
+    port, steps = free_port(), [os.path.join(machine.folder, each) for each in ("first", "second")]
     waits = ["while [ ! -e %s ]; do sleep 0.05; done" % step for step in steps]
     script = f"printf begins; {waits[0]}; printf ' and on'; {waits[1]}; exit 3"
     with configured(machine, *PATIENT, "[host]", "lease = 3600", f"metrics = 127.0.0.1:{port}"):
         machine.start_daemon()
-    host, now = begun(machine, name, ["sh", "-c", script], says=b"begins")[0], lambda: metrics_at(port)
-    wait_for(lambda: now()["fleet_host_bytes_total"] == 6)
-    before = now()
-    wanted = {'fleet_host_programs{state="running"}': 1, 'fleet_host_programs{state="slowed"}': 0, 'fleet_host_programs{state="ended"}': 0}
-    wanted |= {"fleet_host_lag_bytes": 0, "fleet_host_refused": 0, "fleet_store_is_away": 0, "fleet_store_outages_total": 0}
-    assert wanted.items() <= before.items() and before["fleet_store_connections_total"] > 0, str(before)
-    assert asked(port, "healthz") == (200, "ok\n"), "it is well"
+    host = begun(machine, "host metrics", ["sh", "-c", script], says=b"begins")[0]
+
+    def come(running, ended, is_away, **others):
+        """Waits until the metrics are these, and /healthz says the same."""
+        wanted = {"fleet_host_refused": 0, 'fleet_host_programs{state="slowed"}': 0, "fleet_store_is_away": is_away}
+        wanted |= {'fleet_host_programs{state="running"}': running, 'fleet_host_programs{state="ended"}': ended} | others
+        wait_for(lambda: wanted.items() <= metrics_at(port).items())
+        assert asked(port, "healthz") == ((503, "the store is away\n") if is_away else (200, "ok\n"))
+
+    come(1, 0, 0, fleet_host_bytes_total=6, fleet_host_lag_bytes=0, fleet_store_outages_total=0)
     machine.kill()
     open(steps[0], "w").close()
-    wanted = {'fleet_host_programs{state="running"}': 1, "fleet_host_bytes_total": 6, "fleet_store_is_away": 1}
-    wait_for(lambda: wanted.items() <= now().items())
-    # The host begins to send these bytes a moment after it has them.
-    wait_for(lambda: now()["fleet_host_lag_seconds"] > 0)
-    assert asked(port, "healthz") == (503, "the store is away\n"), "and not well"
+    come(1, 0, 1, fleet_host_bytes_total=6)
+    wait_for(lambda: metrics_at(port)["fleet_host_lag_seconds"] > 0)  # it begins to send a moment after it has something
     machine.start()
-    wanted = {'fleet_host_programs{state="running"}': 1, "fleet_host_lag_bytes": 0, "fleet_host_lag_seconds": 0, "fleet_host_bytes_total": 13}
-    wait_for(lambda: wanted.items() <= now().items())
-    after = now()
-    assert all(after[each] > before[each] for each in ("fleet_store_outages_total", "fleet_store_connections_total")), f"over a new connection: {after}"
+    come(1, 0, 0, fleet_host_bytes_total=13, fleet_host_lag_bytes=0, fleet_host_lag_seconds=0)
+    assert metrics_at(port)["fleet_store_outages_total"] > 0, "over a new connection"
     machine.kill()
     open(steps[1], "w").close()
-    wait_for(lambda: now()['fleet_host_programs{state="ended"}'] == 1)
+    come(0, 1, 1)
     machine.start()
     assert host.wait(PATIENCE) == 3, f"and so does its keeper: {host.returncode}"
-    assert wait_for(lambda: now()['fleet_host_programs{state="ended"}'] == 0) and now()["fleet_host_bytes_total"] == 13, f"the counts stay: {now()}"
+    come(0, 0, 0, fleet_host_bytes_total=13)
     machine.kill_daemon()
     with configured(machine, "[host]", "metrics = 127.0.0.1:99999"):
         machine.start_daemon()
@@ -303,22 +311,15 @@ def test_the_install_of_the_readme_works(machine):
     assert done.stdout.startswith("vt220-fleet "), f"and the command runs: {done}"
 
 
-def names_of(collector):
-    """Returns the names of what a collector serves, with the endings of counters alone."""
-    found = ((family, [sample.name for sample in family.samples] or [family.name]) for family in collector.collect())
-    return {family.name if family.type == "histogram" else each for family, names in found for each in names}
-
-
 def test_alerts_and_documents_name_the_metrics_that_there_are(machine):
     store = stores.connect(machine.url)
     Source(machine.url, "one")
-    of_daemon = DaemonMetrics(types.SimpleNamespace(store=store, all=list, totals=lambda: {"bytes": 0, "inputs": 0, "resizes": 0}))
-    known = set().union(*map(names_of, (of_daemon, WholeFleet(store))))
-    texts = {file: text_of(file) for file in ("alerts.yml", "README.md", "RUNBOOK.md", "tests/test_gameday.py")}
-    used = {re.sub(r"_bucket$", "", each) for each in re.findall(r"\bfleet_\w+", texts["alerts.yml"])}
+    of_daemon = DaemonMetrics(types.SimpleNamespace(store=store, all=list, stored=lambda: 0))
+    families = [*of_daemon.collect(), *WholeFleet(store).collect()]
+    known = {name for family in families for name in [*(sample.name for sample in family.samples), family.name]}
+    texts = {file: text_of(file) for file in ("alerts.yml", "RUNBOOK.md", "tests/test_gameday.py")}
+    used = set(re.findall(r"\bfleet_\w+", texts["alerts.yml"]))
     assert len(used) > 8 and used <= known, f"the alerts are of metrics that there are: {used - known}"
-    listed = set(re.findall(r"`(fleet_\w+)`", texts["README.md"]))
-    assert listed == known, f"README lists each metric: {listed ^ known}"
     alerts = re.findall(r"- alert: (\w+)", texts["alerts.yml"])
     assert len(alerts) == len(set(alerts)) == texts["alerts.yml"].count("summary:"), f"each alert has a summary: {alerts}"
     pages = set(re.findall(r"^## (\w+)", texts["RUNBOOK.md"], re.MULTILINE))
@@ -326,32 +327,6 @@ def test_alerts_and_documents_name_the_metrics_that_there_are(machine):
     judged = set(re.findall(r'^@day_of\("(\w+)"', texts["tests/test_gameday.py"], re.MULTILINE))
     assert judged == set(alerts), f"the game day has each alert: {judged ^ set(alerts)}"
     assert faults <= pages, f"the runbook has a page for each fault and each alert: {faults - pages}"
-
-
-def test_metrics_of_the_whole_fleet(machine):
-    whole, metrics.SILENT = WholeFleet(stores.connect(machine.url, socket_timeout=2)), 0.2
-    served = server(whole, "127.0.0.1:0")
-    metrics.SILENT = 10.0
-    threading.Thread(target=served.serve_forever, daemon=True).start()
-    port = served.server_address[1]
-    with socket.create_connection(("127.0.0.1", port), PATIENCE) as silent:
-        assert silent.recv(1) == b"", "a connection that asks nothing is closed"
-    Source(machine.url, "runs").send(b"abc")
-    bad, gone = Source(machine.url, "bad"), Source(machine.url, "gone")
-    bad.store.hset(bad.part("about"), "end", "x")
-    gone.store.delete(keys.lease("gone"))
-    Source(machine.url, "over").end(0)
-    assert asked(port, "healthz") == (200, "ok\n"), "it is well"
-    whole.read = -1e9
-    found = metrics_at(port)
-    wanted = {f'fleet_states{{state="{each}"}}': 1 for each in ("running", "no host", "fault", "ended")}
-    wanted |= {'fleet_session_faults{fault="Wrong"}': 1, "fleet_store_up": 1}
-    assert wanted.items() <= found.items() and found["fleet_store_round_trip_seconds"] > 0, str(found)
-    machine.kill()
-    whole.read, whole.store.patience = -1e9, 0.1
-    assert asked(port, "healthz")[0] == 503 and "fleet_store_up 0.0" in asked(port, "metrics")[1], "without a store"
-    machine.start()
-    served.shutdown()
 
 
 def test_the_configuration_is_read_and_checked(machine):
@@ -367,6 +342,8 @@ def test_the_configuration_is_read_and_checked(machine):
         "[host]\nlease = 0\n": "lease",
         "[host]\nevery = 0\n": "every",
         "[host]\nkeep = -5\n": "keep",
+        "[host]\nlinger = never\n": "linger",
+        "[host]\nevery = all\n": "every",
         "[web]\nport = 99999\n": "port",
     }
     for number, (text, word) in enumerate(wrong.items()):

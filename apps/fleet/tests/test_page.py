@@ -12,6 +12,7 @@ import aiohttp
 from yarl import URL
 
 from harness import PATIENCE, PATIENT, ROOT, Source, asked, conf, ending, free_port, keys, launched, program, session, started, stores, vt220, wait_for, wanted
+from fleet import gallery
 from fleet.gallery import Picture
 from fleet.web import UNKNOWN
 
@@ -133,7 +134,8 @@ def looking_at(served, name, count_of=1):
 
 
 def test_sessions_of_several_sizes_in_the_browser(machine):
-    """Each has the size of its session: a large one, and then a VT220 in its place, and back."""
+    """Each has the size of its session: a large one, and then a VT220 in its place, and back. It is resized, also to the size of a VT220. Another page that
+    comes later shows the same."""
     served = Served(machine)
     large = Source(machine.url, "large", screen="120x40").send(b"first\r\n\033[40;100Hlast")
     Source(machine.url, "usual").send(b"a VT220\033[24;80H*")
@@ -143,22 +145,11 @@ def test_sessions_of_several_sizes_in_the_browser(machine):
         choose(browser, "usual")
         shows(browser, "a VT220", *[""] * 22, " " * 79 + "*")
         choose(browser, "large")
-    large.send(b"\033[39;120H+")
-    shows(browser, "first", *[""] * 37, " " * 119 + "+", " " * 99 + "last")
-    assert browser.said == [], "the browser complains of nothing"
-
-
-def test_a_session_that_is_resized_in_the_browser(machine):
-    """To a larger size, and then to that of a VT220. Another page that comes later shows the same."""
-    served = Served(machine)
-    source = Source(machine.url, "resized").send(b"first")
-    browser = looking_at(served, "resized")
-    shows(browser, "first", *[""] * 23)
-    source.resize("120x40").send(b"\033[40;117Hlast")
-    later = looking_at(served, "resized")
+    large.resize("130x42").send(b"\033[42;130H+")
+    later = looking_at(served, "large", 2)
     for each in (browser, later):
-        shows(each, "first", *[""] * 38, " " * 116 + "last")
-    source.resize("80x24").send(b"\033[24;79Hup")
+        shows(each, "first", *[""] * 38, " " * 99 + "last", "", " " * 129 + "+")
+    large.resize("80x24").send(b"\033[24;79Hup")
     for each in (browser, later):
         shows(each, *[""] * 23, " " * 78 + "up")
         assert each.said == [], "the browser complains of nothing"
@@ -295,6 +286,8 @@ def test_ended_and_faulty_sessions_are_shown(machine, data):
     said = lambda: dict(browser.evaluate(facts))
     wait_for(lambda: said()["bad"].startswith("fault: Version"))
     wait_for(lambda: said()["done"] == "ended 7" and said()["gone"] == "no host")
+    bad.store.xdel(bad.part("bytes"), "3-0")
+    wait_for(lambda: said()["bad"] == "running")  # a fault ends with its cause
     choose(browser, "done")
     text = wanted("text", data)[1].decode().splitlines()
     wait_for(lambda: [line.rstrip() for line in lines(browser)] == text)  # the screen of one that ended
@@ -316,8 +309,9 @@ def tell(client, picture):
 USUAL = "80x24", ""  # the size of a session that wasn't resized
 
 
-def test_clients_are_led_where_a_session_is(data):
-    """One is told each change, others some of them; one knew another picture, and one comes at the end."""
+def test_clients_are_led_where_a_session_is(data, monkeypatch):
+    """One is told each change, others some of them; one knew another picture, and one comes at the end. Few updates are kept."""
+    monkeypatch.setattr(gallery, "KEPT", 500)
     picture, session, shown = Picture("x"), vt220.Terminal(), vt220.Terminal()
     clients = {every: [vt220.Terminal(), -1] for every in (1, 7, len(data))}
     other = Picture("x")
@@ -328,6 +322,7 @@ def test_clients_are_led_where_a_session_is(data):
         if session.is_between():
             update = shown.update(session)
             picture.follow(shown, USUAL, update if step % 20 else None)
+            assert sum(len(update) for _, update in picture.updates) == picture.kept <= 500
         for every, client in clients.items():
             if step % every == every - 1:
                 tell(client, picture)
@@ -359,6 +354,15 @@ def test_the_page_sends_the_keys_of_a_vt220(machine):
         wait_for(lambda: source.keys() == wanted)
     browser.type("÷")
     wait_for(lambda: "no key of a VT220 sends '÷'" in said(browser, "problem"))
+    asyncio.run(is_refused(served, Source(machine.url, "read-only").send(b"x").incarnation))
+
+
+async def is_refused(served, session):
+    """Waits until the page is told why what it typed isn't sent."""
+    async with served.live(session) as socket:
+        await socket.send_json({"session": session, "text": "y"})
+        while "allows no input" not in (await socket.receive(PATIENCE)).data:
+            pass
 
 
 FIRST = ("", "x", "[]", "{}", '{"token": 1}', '{"token": ""}', '{"token": "a guess"}', '{"token": "\\ud800"}')

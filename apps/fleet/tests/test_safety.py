@@ -2,20 +2,23 @@
 import contextlib
 import os
 import random
+import select
 import signal
 import socket
 import stat
 import subprocess
 import sys
+import types
 
 import pytest
 
 from harness import (
-    ANSWERS, KEEPER, PATIENCE, PATIENT, Source, Told, begun, conf, configured, ending, fleet, free_port, incarnation_of, key, launched, local, played, program,
+    ANSWERS, KEEPER, PATIENCE, PATIENT, OnTerminal, Source, Told, begun, conf, configured, ending, fleet, free_port, incarnation_of, key, launched, local, played, program,
     seen, stores, text_of, wait_for, written,
 )
-from fleet import wire
+from fleet import config, wire
 from fleet.operate import Typist
+from fleet.program import Link, Program
 from fleet.view import Viewer
 
 def test_the_store_of_run_is_this_users_alone(machine):
@@ -86,6 +89,12 @@ def test_users_have_the_rights_that_they_need(machine):
 
 def rights_of_commands(urls):
     assert fleet(urls["viewer"], "type", "--enter", "roles", "hello")[0] == 77, "a viewer cannot type"
+    types = OnTerminal(urls["viewer"], "view", "--type", "roles")
+    wait_for(lambda: types.has(b"answered"))
+    os.write(types.master, b"x")
+    wait_for(lambda: types.has(b"not typed: "))  # and is told so on the terminal
+    os.write(types.master, b"\x1d")
+    assert types.status() == 0, "and goes on looking"
     assert fleet(urls["typist"], "type", "--enter", "roles", "hello")[0] == 0, "a typist can"
     wait_for(lambda: "got hello" in fleet(urls["viewer"], "text", "roles")[1])  # and the program reads it
     assert fleet(urls["typist"], "kill", "roles")[0] == 77, "but sends no signal"
@@ -109,6 +118,10 @@ def rights_of_calls(urls):
         for words in calls:
             call = stores.connect(urls[user]).execute_command
             pytest.raises(stores.NoPermissionError, call, *words)
+    viewer, calls = stores.connect(urls["viewer"]), [("SET", "fleet:live", "x"), ("GET", "fleet:lease:x")]
+    pytest.raises(stores.NoPermissionError, viewer.run_all, calls)
+    refused, answer = viewer.run_all(calls, are_one=False)
+    assert isinstance(refused, stores.NoPermissionError) and answer is None, "what one session of a daemon may not do is no matter of others"
 
 
 def state_of(name="other", incarnation="", version=wire.VERSION, encoding="dec", terminal="vt220", screen="80x24", base="0", end="0", last="0"):
@@ -201,6 +214,32 @@ def test_what_is_no_keeper_harms_no_session(machine):
         each.close()
 
 
+def test_what_waits_of_a_keeper_has_a_bound(machine):
+    """It sends many small frames while the store takes nothing, and reads nothing."""
+    mine, other = socket.socketpair()
+    events, state = select.epoll(), state_of()[wire.HEAD.size :]
+    daemon = types.SimpleNamespace(shared=stores.connect(machine.url), chosen=config.Host(), me="me", wake=lambda: None)
+    link = Link(mine, events)
+    flooded, frame = Program(daemon, link, wire.State(state), None), wire.packed(wire.CHECKPOINT) * 1000
+    other.setblocking(False)
+    with contextlib.suppress(BlockingIOError):
+        while other.send(frame):
+            while events.poll(0):
+                for letter, data in link.hear():
+                    flooded.hear(letter, data)
+    most = flooded.came.qsize()
+    assert 1000 < most < wire.WAITING // 100, f"it isn't read on: {most} frames wait"
+    while not events.poll(0):
+        flooded.next_part()
+    assert flooded.came.qsize() > most / 2, "until some of it is stored"
+    for _ in range(2 * wire.WAITING // 1000):
+        link.say(b"x" * 1000)
+    assert not link.out, "what it doesn't read is dropped"
+    other.setblocking(True)
+    while other.recv(1 << 20):  # with the connection
+        pass
+
+
 def false_frames(chance):
     """Returns what no daemon says, but for what ends a program."""
     ids = [each for each in EXTREME if each < 1 << 63]
@@ -210,19 +249,34 @@ def false_frames(chance):
     return chance.sample(frames, len(frames)) + [chance.choice((b"", b"A", wire.HEAD.pack(b"I", 1 << 30), chance.randbytes(40)))]
 
 
+def connections_until_full(path):
+    """Yields connections that wait to be accepted, until there is no room for another one."""
+    with contextlib.suppress(BlockingIOError):
+        while True:
+            made = socket.socket(socket.AF_UNIX)
+            made.setblocking(False)
+            made.connect(path)
+            yield made
+
+
 def test_what_is_no_daemon_harms_no_program(machine):
-    """The keeper leaves it, and comes again. The next daemon publishes the session."""
+    """The keeper waits while it has no room, leaves it, and comes again, also before it was named. The next daemon publishes the session."""
     path, chance = machine.where()["FLEET_DAEMON"], random.Random(2)
     with socket.socket(socket.AF_UNIX) as listener:
         listener.bind(path)
-        listener.listen()
+        listener.listen(0)
         listener.settimeout(PATIENCE)
-        host = launched(machine, "host", "--input", "bold", "sh", "-c", ANSWERS)
-        for _ in range(40):
+        others = list(connections_until_full(path))
+        host = launched(machine, "host", "--input", "bold", "--", "sh", "-c", ANSWERS, stderr=subprocess.PIPE, text=True)
+        assert "no room yet" in host.stderr.readline(), "it finds no room, and waits"
+        for each in others:
+            listener.accept()[0].close()
+            each.close()
+        for number in range(40):
             with listener.accept()[0] as link:
                 assert link.recv(1 << 16).startswith(wire.STATE), "it says its state"
                 with contextlib.suppress(ConnectionError):
-                    link.sendall(wire.framed(wire.NAMED, b"0" * 16) + wire.packed(wire.FROM) + b"".join(false_frames(chance)))
+                    link.sendall(b"" if number == 0 else wire.framed(wire.NAMED, b"0" * 16) + wire.packed(wire.FROM) + b"".join(false_frames(chance)))
                     link.shutdown(socket.SHUT_WR)
                     while link.recv(1 << 16):
                         pass

@@ -11,10 +11,11 @@ import subprocess
 import pytest
 
 from harness import (
-    ANSWERS, KEEPER, PATIENCE, PROGRAM, QUERIES, Source, Told, another_daemon, begun, commands, configured, end_of, fleet, fleet_bytes, incarnation_of, key, keys, made_up,
-    program, proportional, recordings, seen, session, stores, vt220, wait_for, written,
+    ANSWERS, KEEPER, PATIENCE, PROGRAM, QUERIES, Source, Told, another_daemon, begun, commands, configured, end_all, fleet, fleet_bytes, incarnation_of, key, keys, made_up,
+    played, program, proportional, recordings, seen, session, stores, wait_for, written,
 )
 from fleet import export
+from fleet.host import Behind, Host
 from fleet.operate import Refused, Typist
 from fleet.view import Viewer
 
@@ -66,7 +67,6 @@ def test_names_are_used_once(machine):
     assert program(machine, "name", ["true"]).wait(PATIENCE) == 0, "and the name is free"
     assert incarnation_of(store, "name") != first, "for another session"
     assert fleet(machine.url, "text", f"@{first}")[1].startswith("on\n"), "the first one is still there"
-    assert fleet(machine.url, "host", "x", config=None, FLEET_DAEMON="/nonexistent")[0] == 78, "no command: 78"
     status, _, said = fleet(machine.url, "host", "x", "true", FLEET_DAEMON="/nonexistent", KEEP_DIR=os.path.join(machine.folder, "keep"))
     assert status == 69 and "no host daemon" in said, f"no daemon: {status} {said}"
 
@@ -150,14 +150,14 @@ def test_viewers_see_what_there_is(machine, data):
     """From the beginning, in the midst, through a flood and over a change of the size."""
     source = Source(machine.url, "seen").send(data[:3000])
     first = Viewer(source.store, source.incarnation)
-    assert seen(first) == vt_of(source.sent).text(), "from the beginning"
+    assert seen(first) == played(source.sent)[0].text(), "from the beginning"
     source.send(data[3000:] + b"\033[")
     late = Viewer(source.store, source.incarnation)
     for each in (first, late):
-        assert seen(each) == vt_of(source.sent + b"\030").text(), "inside a sequence"
+        assert seen(each) == played(source.sent + b"\030")[0].text(), "inside a sequence"
     source.send(b"1;1Hend")
     source.resize("90x30").send(b"\033[30;90H*")
-    whole = vt_of(source.sent[:-9])
+    whole, _ = played(source.sent[:-9])
     whole.resize(rows=30, columns=90)
     whole.feed(b"\033[30;90H*")
     for each in (first, late, Viewer(source.store, source.incarnation)):
@@ -169,12 +169,6 @@ def test_viewers_see_what_there_is(machine, data):
     assert host.wait(PATIENCE) == 1 or host.returncode == 0, "which ends"
     log = fleet_bytes(machine.url, "log", "flood")[1]
     assert log == b"".join(b"%d\r\n" % number for number in range(1, 400001)) + b"end\r\n\r\n", f"its log is whole: {len(log)}"
-
-
-def vt_of(data):
-    terminal = vt220.Terminal()
-    terminal.feed(data)
-    return terminal
 
 
 def test_a_signal_reaches_a_program_that_reads_nothing(machine):
@@ -200,16 +194,19 @@ def test_a_large_screen_writes_no_more_than_its_bytes(machine):
     assert wrote <= 3 * len(picture) * 6, f"bytes of the store for each of the program: {wrote / len(picture) / 6:.2f}"
 
 
-def test_only_so_much_waits_for_the_store(machine):
-    """The program waits then, and goes on."""
-    host, store, incarnation = begun(machine, "waits", ["sh", "-c", "echo on; read x; head -c 9000000 /dev/zero | tr '\\0' x; exit 3"], "--input")
-    proxy_size = end_of(store, incarnation)
-    Typist(store, incarnation).type(b"\r")
-    wait_for(lambda: end_of(store, incarnation) > proxy_size)
+def test_only_so_much_waits_for_the_store(machine, data):
+    """A store is full, and evicts nothing. A flood waits beside a quiet session, and then goes on to its end."""
     machine.kill()
-    machine.start()
-    assert host.wait(PATIENCE) == 3, "it ends"
-    wait_for(lambda: written(store, "waits").count(b"x") == 9000000)  # and all is there
+    machine.start("--maxmemory", "6mb", "--maxmemory-policy", "noeviction")
+    quiet = Told(machine, "quiet", data)
+    host = program(machine, "flood", ["sh", "-c", "head -c 9000000 /dev/zero | tr '\\0' x; exit 5"])
+    store = stores.connect(machine.url)
+    wait_for(lambda: int(store.info("errorstats").get("errorstat_OOM", "count=0").removeprefix("count=")) > 5)
+    assert quiet.go_on(3) and host.poll() is None, "programs go on, and the flood waits"
+    store.config_set("maxmemory", "200mb")
+    assert host.wait(PATIENCE) == 5, "it goes on to its end"
+    wait_for(lambda: written(store, "flood").count(b"x") == 9000000)  # and all is there
+    end_all([quiet])
 
 
 def test_bytes_before_a_checkpoint_go(machine):
@@ -240,17 +237,12 @@ def test_many_sessions_cost_little(machine):
 
 
 def test_an_old_host_writes_nothing_once_there_is_a_new_one(machine):
-    """A daemon that was stopped comes to itself when another one has its sessions."""
-    host, store, incarnation = begun(machine, "two", ["sh", "-c", ANSWERS], "--input")
-    old = machine.daemon
-    old.send_signal(signal.SIGSTOP)
-    os.unlink(machine.where()["FLEET_DAEMON"])
-    machine.daemon = None
-    machine.start_daemon()
-    before = store.hget(key(incarnation, "about"), "host")
-    with open(f"/proc/{old.pid}/stat"):
-        old.kill()
-        old.wait()
-    wait_for(lambda: store.hget(key(incarnation, "about"), "host") != before)  # the new one has it
-    Typist(store, incarnation).type(b"x\r")
-    wait_for(lambda: b"got x" in written(store, "two"))  # and goes on
+    """A daemon that was stopped comes to itself when another one has its session: what it sends arrives late."""
+    source = Source(machine.url, "two").send(b"first")
+    new = Host(source.store, "two", source.host.chosen, incarnation=source.incarnation)
+    new.register()
+    for late in (lambda: source.send(b"late"), lambda: source.resize("90x30"), lambda: source.host.check(5, b"late"), lambda: source.end(1)):
+        pytest.raises(Behind, late)
+    assert new.at == 5, "the new one goes on where the old one stopped"
+    new.append(b", second")
+    assert written(source.store, "two") == b"first, second", "and nothing else is there"

@@ -1,37 +1,19 @@
-"""Faults of the store: away, silent, gone back, full, with another clock, failed over. Programs go on, and what the store lacks is sent again."""
+"""What a store lacks that went back, was emptied, lost keys or was failed over is sent again; and stores that are refused."""
 import os
-import pathlib
 import signal
 import subprocess
-import time
 
 import pytest
 
 from harness import (
-    ANSWERS, PATIENCE, Proxy, Source, Told, another_daemon, begun, conf, configured, cut_back, end_all, end_of, ending, file_of,
-    fill_disk, fleet, free_port, incarnation_of, key, keys, program, session, shimmed, stores, vt220, wait_for, written,
+    ANSWERS, Source, Told, begun, conf, configured, cut_back, end_all, end_of, ending, fleet, free_port, incarnation_of, key, keys, session, stores, vt220, wait_for,
+    written,
 )
 from fleet.operate import Refused, Typist
-from fleet.view import Viewer
 
 
 def told(machine, data, count=3, **options):
     return [Told(machine, f"told-{number}", data[number * 300 :], **options) for number in range(count)]
-
-
-def test_half_open_connections_are_left(machine, data):
-    """All connections say nothing any more, in either direction, and stay open. New ones work."""
-    proxy = Proxy(machine)
-    with configured(machine, "[store]", "timeout = 2", "[host]", "lease = 3600"):
-        machine.start_daemon(url=proxy.url)
-    sessions = told(machine, data)
-    for number in range(3):
-        proxy.signal(signal.SIGUSR1)
-        for each in sessions:
-            each.type(b"%d;" % number)
-            each.go_on(2)
-            wait_for(lambda: each.read("keys") == each.typed)  # keys arrive
-    end_all(sessions)
 
 
 def test_a_store_that_went_back_gets_what_it_lacks(machine, data):
@@ -101,71 +83,12 @@ def test_keys_that_are_gone_are_made_again(machine, data):
         end_all([one])
 
 
-def test_a_full_store_is_waited_for(machine, data):
-    """maxmemory, and no eviction: a flood beside a quiet session."""
-    machine.kill()
-    machine.start("--maxmemory", "6mb", "--maxmemory-policy", "noeviction")
-    [quiet] = told(machine, data, 1)
-    host = program(machine, "flood", ["sh", "-c", "yes 0123456789012345678901234567890123456789 | head -c 8000000; exit 5"])
-    store = stores.connect(machine.url)
-    wait_for(lambda: int(store.info("errorstats").get("errorstat_OOM", "count=0").removeprefix("count=")) > 5)
-    assert quiet.go_on(3) and host.poll() is None, "programs go on, and the flood waits"
-    store.config_set("maxmemory", "200mb")
-    assert host.wait(PATIENCE) == 5, "the flood goes on to its end"
-    end_all([quiet])
-
-
-def test_a_full_disk_is_waited_for(machine, data):
-    """The store ends at each write, and is started again and again, as systemd does it. Programs go on, and what was acknowledged is there."""
-    sessions, store = told(machine, data), stores.connect(machine.url)
-    with configured(machine, "[host]", "lease = 1"):
-        another_daemon(machine)
-    for number in range(3):
-        for each in sessions:
-            each.type(b"%d;" % number)
-            each.go_on(2)
-        acknowledged = sum(end_of(store, each.incarnation) for each in sessions)
-        fill_disk(machine)
-        for _ in range(2):
-            assert sessions[0].go_on(1), "programs go on"
-            machine.under = ("prlimit", f"--fsize={file_of(machine).stat().st_size + 100}", *type(machine).under)
-            machine.launch()
-            machine.server.wait()
-        del machine.under
-        machine.start()
-        assert sum(end_of(store, each.incarnation) for each in sessions) >= acknowledged, "what was acknowledged is there"
-    assert "AOF write error" in pathlib.Path(machine.folder, "log").read_text(), "the store's log says why"
-    end_all(sessions)
-
-
-def test_the_clock_may_jump(machine, data):
-    """Back and forward, beside a viewer and keys. The last time the store is empty, too."""
-    move, store = shimmed(machine), stores.connect(machine.url)
-    with configured(machine, "[host]", "lease = 2"):
-        [one] = told(machine, data, 1)
-    viewer = Viewer(stores.connect(machine.url), one.incarnation)
-    for seconds in (-3600, 3600, -3600, 7200, -7200):
-        move(seconds)
-        wait_for(lambda: abs(store.time()[0] - time.time() - seconds) < 60)  # the clock jumped
-        if seconds == -7200:  # an id of a new stream is that of the clock
-            store.flushall()
-        one.go_on(3)
-        wait_for(lambda: end_of(store, one.incarnation) == len(one.read("sent")))
-        viewer.ask()
-        viewer.follow(0)
-        assert viewer.session.at > 0 and not viewer.fault, f"{seconds}: a viewer sees it"
-        wait_for(lambda: store.exists(keys.lease(one.name)))
-        one.type(b"%d;" % seconds)
-        wait_for(lambda: one.read("keys") == one.typed)
-    end_all([one])
-
-
 def test_a_failover_to_a_replica_that_is_behind(machine, data):
     """The store's address is that of a sentinel. The master is killed after its replica was cut off and the daemon was restarted: the replica has neither
-    this daemon nor the last bytes. No program is ended. A viewer that asks for a replica is told that it has no key, and types it again."""
+    this daemon nor the last bytes. No program is ended. A viewer is told that no replica has its key, and types it again."""
     ports = [free_port() for _ in range(3)]
     machine.kill()
-    machine.start("--port", str(ports[0]), "--repl-diskless-sync-delay", "0")
+    machine.start("--port", str(ports[0]), "--repl-diskless-sync-delay", "0", "--repl-timeout", "3600")
     replica, times = os.path.join(machine.folder, "replica"), "sentinel down-after-milliseconds fleet 3000\nsentinel failover-timeout fleet 10000"
     os.mkdir(replica)
     sentinel = conf(machine, "sentinel.conf", f"port {ports[2]}", f"sentinel monitor fleet 127.0.0.1 {ports[0]} 1", times)
@@ -191,7 +114,7 @@ def test_a_failover_to_a_replica_that_is_behind(machine, data):
             each.go_on(5)
             wait_for(lambda: end_of(each.store, each.incarnation) == len(each.read("sent")))
     careful, hasty = (Typist(stores.connect(machine.url), each.incarnation, 0) for each in sessions[:2])
-    careful.store.replicas = hasty.store.replicas = 1
+    careful.store.replicas, hasty.store.replicas = None, 1  # all that are there, as without a configuration, and one
     assert not careful.offer("keys", b"once;"), "no replica has it"
     with pytest.raises(Refused, match="fewer than 1 replicas"):
         hasty.type(b"unsure;")
@@ -205,7 +128,7 @@ def test_a_failover_to_a_replica_that_is_behind(machine, data):
         each.store = second
         each.typist.store = second
         wait_for(lambda: end_of(second, each.incarnation) == len(each.read("sent")))
-    careful.store = second
+    careful.store, second.replicas = second, None  # there is none
     wait_for(lambda: second.exists(keys.lease(sessions[0].name)) and careful.offer("keys", b"once;"))
     end_all(sessions)
 

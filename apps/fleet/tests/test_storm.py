@@ -1,13 +1,16 @@
-"""All faults at once: sessions of real programs, while daemons are killed and stopped, and a store behind a bad link is killed, goes back, has no memory or no disk, is
-silent, is cut off and has another clock. Each fault lasts until the programs have gone on through it: nothing waits for a time."""
+"""All faults of a store: sessions of real programs go on through each, while daemons are stopped and killed, and keepers upgraded. Each fault lasts until the
+programs have gone on through it: nothing waits for a time."""
 import os
+import pathlib
 import random
 import signal
 import subprocess
+import time
 
 import pytest
 
-from harness import KEEPER, Proxy, Told, configured, cut_back, end_all, end_of, fill_disk, key, made_up, recordings, shimmed, stores, wait_for
+from harness import KEEPER, Proxy, Told, configured, cut_back, end_all, end_of, fill_disk, key, made_up, recordings, seen, shimmed, stores, wait_for
+from fleet.view import Viewer
 
 EVERY = 2  # steps of each session in a round
 BEGINS, ENDS = [b"\033", b"\033[", b"\033[1;", b"\033[?", b"\033(", b"\x9b", b"\033P1"], [b"", b"\030", b"x"]
@@ -21,7 +24,7 @@ KINDS = (
 
 
 class Weather:
-    """The faults of a round: each begins one, and returns what ends it."""
+    """The faults: each begins one, and returns what ends it."""
 
     def __init__(self, machine, proxy, move, chance):
         self.machine, self.proxy, self.move, self.chance, self.store = machine, proxy, move, chance, stores.connect(machine.url)
@@ -42,48 +45,58 @@ class Weather:
 
     def fill_the_disk(self):
         fill_disk(self.machine)
+        assert "AOF write error" in pathlib.Path(self.machine.folder, "log").read_text(), "the store's log says why"
         return self.machine.start
 
     def cut_the_link(self):
         self.proxy.signal(signal.SIGUSR2)
         return lambda: self.proxy.signal(signal.SIGUSR2)
 
-    def jump(self):
-        self.move(self.chance.choice([-3600, 3600, 7200]))
+    def jump(self, *choices):
+        seconds = self.chance.choice(choices or [-3600, 3600, 7200])
+        self.move(seconds)
+        wait_for(lambda: abs(self.store.time()[0] - time.time() - seconds) < 60)  # the clock jumped
+
+    def begin_anew(self):
+        """The store is empty, and its clock is behind: an id of a new stream is that of the clock."""
+        self.jump(-7200)
+        self.store.flushall()
 
     def stop_the_daemon(self):
         self.machine.daemon.send_signal(signal.SIGSTOP)
         return lambda: self.machine.daemon.send_signal(signal.SIGCONT)
 
-    def all(self):
-        return self.kill_the_store, self.go_back, self.make_holes, self.fill_the_memory, self.fill_the_disk, self.cut_the_link, self.jump, self.stop_the_daemon
+    FAULTS = kill_the_store, go_back, make_holes, fill_the_memory, fill_the_disk, cut_the_link, jump, begin_anew, stop_the_daemon
+    FORGETFUL = go_back, begin_anew  # what the store has lost before a daemon read it is lost
 
 
-@pytest.mark.storm
-def test_a_storm(machine, pytestconfig, seed):
-    chance, pieces, rounds = random.Random(seed), recordings(), pytestconfig.getoption("--rounds")
-    move, proxy = shimmed(machine), Proxy(machine, 0.01)
+@pytest.mark.parametrize("is_long", [False, pytest.param(True, marks=pytest.mark.storm)])
+def test_a_storm(machine, pytestconfig, seed, is_long):
+    """A short one has each fault once. In a long one the link is bad all the time."""
+    chance, pieces = random.Random(seed), recordings()
+    rounds, count = (pytestconfig.getoption("--rounds"), pytestconfig.getoption("--sessions")) if is_long else (len(Weather.FAULTS), 3)
+    move, proxy = shimmed(machine), Proxy(machine, 0.01 if is_long else 0.0)
     with configured(machine, "[store]", "timeout = 2", "[host]", "lease = 3", "every = 512"):
         machine.start_daemon(url=proxy.url)
-        count = pytestconfig.getoption("--sessions")
         sessions = [Told(machine, f"storm-{number}", KINDS[number % len(KINDS)](chance, pieces), steps=rounds * EVERY, waits=False) for number in range(count)]
         for each in sessions:
             each.begin()
-        weather = Weather(machine, proxy, move, chance).all()
+        weather, viewer = Weather(machine, proxy, move, chance), Viewer(stores.connect(machine.url), sessions[0].incarnation)
         for number in range(rounds):
-            blows = weather[number % len(weather)]
+            fault = Weather.FAULTS[number % len(Weather.FAULTS)]
             for each in sessions:
                 each.type(b"%d;" % number)
-            if blows.__name__ == "go_back":  # what the store has lost before a daemon read it is lost
+            if fault in Weather.FORGETFUL:
                 arrive(sessions)
-            ends = blows()
-            go_on(machine, chance.choice(sessions), sessions, blows.__name__)
+            ends = fault(weather)
+            go_on(machine, chance.choice(sessions), sessions, fault.__name__)
             if ends:
                 ends()
             if number % 2:
                 machine.kill_daemon()
                 machine.start_daemon(url=proxy.url)
             arrive(sessions)
+            assert seen(viewer) is not None and not viewer.fault, f"{fault.__name__}: a viewer sees it: {viewer.fault}"
         end_all(sessions, False)
         lost = [each.name for each in sessions if end_of(each.store, each.incarnation) != len(each.read("sent"))]
         assert not lost, "the store has all in the end"

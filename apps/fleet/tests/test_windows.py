@@ -1,40 +1,10 @@
 """Windows of viewers that are smaller than a session: which part of it they show, and how it is drawn."""
 import io
-import os
 import random
 import re
-import subprocess
 
-from harness import OnTerminal, Source, conf, keys, local, started, vt220, wait_for
+from harness import OnTerminal, Source, keys, vt220, wait_for
 from fleet import view
-
-
-
-class Window:
-    """The command in a window of tmux, whose screen is that of another program."""
-
-    def __init__(self, machine, columns, rows, *words):
-        name = keys.new_id()
-        self.tmux = ["tmux", "-u", "-S", os.path.join(machine.folder, f"tmux-{name}"), "-f", conf(machine, f"tmux-{name}.conf", "set -g status off")]
-        words = ["new-session", "-d", "-x", str(columns), "-y", str(rows), local.COMMAND, *words]
-        subprocess.run([*self.tmux, *words], check=True, env=os.environ | machine.where() | {"LC_ALL": "C.UTF-8"})
-        started.callback(self.close)
-
-    def call(self, *words):
-        return subprocess.run([*self.tmux, *words], capture_output=True, text=True).stdout
-
-    def lines(self):
-        return [line.rstrip() for line in self.call("capture-pane", "-p").split("\n")[:-1]]
-
-    def shows(self, *wanted):
-        """Waits until the window has these lines."""
-        wait_for(lambda: self.lines() == [line.rstrip() for line in wanted])
-
-    def resize(self, columns, rows):
-        self.call("resize-window", "-x", str(columns), "-y", str(rows))
-
-    def close(self):
-        self.call("kill-server")
 
 
 def numbered(rows, columns):
@@ -49,40 +19,32 @@ def parts(lines, top, bottom, left, right):
 
 
 def test_a_window_of_any_size(machine):
-    """A window that is smaller than the session shows the part with the cursor. tmux shows the window."""
+    """A window that is smaller than the session shows the part with the cursor."""
     source, (content, lines) = Source(machine.url, "parts", screen="120x40"), numbered(40, 120)
     source.send(content + b"\033[1;1H")
-    window = Window(machine, 60, 11, "view", "parts")
-    window.shows(*parts(lines, 1, 11, 1, 60))
+    look = OnTerminal(machine.url, "view", "parts", window=(11, 60))
+
+    def shows(*wanted):
+        wait_for(lambda: [line.rstrip() for line in look.text().rstrip().split("\n")] == [line.rstrip() for line in wanted])
+
+    shows(*parts(lines, 1, 11, 1, 60))
     source.send(b"\033[20;100H")
-    window.shows(*parts(lines, 10, 20, 61, 120))
+    shows(*parts(lines, 10, 20, 61, 120))
     source.send(b"\033[15;80H")
-    window.shows(*parts(lines, 10, 20, 61, 120))  # it stays while the cursor is in it
+    shows(*parts(lines, 10, 20, 61, 120))  # it stays while the cursor is in it
     for columns, rows, shown in (
-        (60, 45, [*parts(lines, 1, 40, 61, 120), *[""] * 5]), (120, 40, lines), (130, 5, lines[10:15]), (150, 50, [*lines, *[""] * 10]), (20, 2, parts(lines, 14, 15, 71, 90)),
+        (60, 45, parts(lines, 1, 40, 61, 120)), (120, 40, lines), (130, 5, lines[10:15]), (150, 50, lines), (20, 2, parts(lines, 14, 15, 71, 90)),
     ):
-        window.resize(columns, rows)
-        window.shows(*shown)
-    window.resize(60, 11)
+        look.resize(rows, columns)
+        shows(*shown)
+    look.resize(11, 60)
     source.send(b"\033[?5h\033[40;120H\033[K")
-    window.shows(*parts(lines, 30, 39, 61, 120), lines[39][60:119])  # a reverse screen
+    shows(*parts(lines, 30, 39, 61, 120), lines[39][60:119])  # a reverse screen
+    for size in ("80x24", "90x25"):  # the session's
+        source.send(b"\033[?5l\033[1;1H").resize(size).send(b"\033[3;1H" + size.encode() + b"\033[1;1H")
+        shows(*parts(lines, 1, 2, 1, 60), size + lines[2][len(size) : 60], *parts(lines, 4, 11, 1, 60))
     source.store.delete(keys.lease("parts"))
-    wait_for(lambda: "silent" in window.call("display-message", "-p", "#{pane_title}"))
-
-
-def test_a_smaller_window_after_a_change(machine):
-    """The session gets another size while a viewer looks, and its window another one, too."""
-    source, (content, lines) = Source(machine.url, "both"), numbered(30, 100)
-    source.send(b"first")
-    window = Window(machine, 80, 24, "view", "both")
-    window.shows("first", *[""] * 23)
-    source.resize("100x30")
-    source.send(content + b"\033[1;1H")
-    window.shows(*parts(lines, 1, 24, 1, 80))
-    for size in ("80x24", "90x25"):
-        source.resize(size)
-        source.send(b"\033[24;1H" + size.encode() + b"\033[1;1H")
-        window.shows(*parts(lines, 1, 23, 1, 80), size + lines[23][len(size) : 80])
+    wait_for(lambda: look.has(b"silent"))  # in the window's title
 
 
 def is_shown(outer, terminal, drawing, window):
